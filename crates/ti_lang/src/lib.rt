@@ -1,0 +1,8 @@
+//! The language: its tokens, its trees and their meaning.
+#![tactic(auto)]
+
+mod spelled;
+mod token;
+
+pub use spelled::Spelled;
+pub use token::{Token, TokenKind};
