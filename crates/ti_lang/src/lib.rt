@@ -3,6 +3,7 @@
 
 mod spelled;
 mod token;
+pub mod tree;
 
 pub use spelled::Spelled;
 pub use token::{Token, TokenKind};
