@@ -1,1 +1,2 @@
+pub mod Tokenizing
 pub mod Tokens
