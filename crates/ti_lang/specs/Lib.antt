@@ -1,3 +1,4 @@
+pub mod Tokenizing
 pub mod Tokens
 pub mod Trees
 pub mod Spelling
