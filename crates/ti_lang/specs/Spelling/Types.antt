@@ -49,14 +49,11 @@ pub data Typed : List Token → TypeTree → Type 0 where
   field : {l : List Token} {ty : TypeTree} → FieldType l ty → Typed l ty
   wide : {l : List Token} {ty : TypeTree} → WideType l ty → Typed l ty
 
--- a name with nothing behind it
-abbrev pub is_name_alone : TypeTree → Bool
-is_name_alone ty = alone ty.base ty.qualifiers ty.grids
-  where
-    alone : Base → List Qualifier → List GridTree → Bool
-    alone (base.Named at name) [] [] = true
-    alone _ _ _ = false
+-- whether a type is a name with nothing behind it
+abbrev pub is_name_alone : Base → List Qualifier → List GridTree → Bool
+is_name_alone (base.Named at name) [] [] = true
+is_name_alone _ _ _ = false
 
 -- what a cast stands for: the type of a field that begins with a reserved word, or a name and more of such a type behind it
 pub data CastType : List Token → TypeTree → Type 0 where
-  cast_type : {l : List Token} {ty : TypeTree} → FieldType l ty → is_name_alone ty ≡ false → CastType l ty
+  cast_type : {l : List Token} {ty : TypeTree} → FieldType l ty → is_name_alone ty.base ty.qualifiers ty.grids ≡ false → CastType l ty
