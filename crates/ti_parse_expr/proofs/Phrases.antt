@@ -127,3 +127,7 @@ pub prefixed_some : {l : List Token} {x : Exp} → Prefixed l x → 0 < length l
 prefixed_some (grammar.unary t h s) = omega arith
 prefixed_some (grammar.cast o c h s h2 q) = omega arith
 prefixed_some (grammar.postfixed s) = postfixed_some s
+
+pub whole_some : {n : ℕ} {l : List Token} {x : Exp} → Whole n l x → 0 < length l
+whole_some (grammar.operand p) = prefixed_some p
+whole_some (grammar.operation {a = a} {b = b} t is above s q) = omega (arith, length-append a (t ∷ b))
