@@ -1,9 +1,10 @@
 -- How far a list is read: up to and including the first token that weighs too much or stands in no expression.
-use Rattle.std.specs.Prelude.{ℕ, zero, suc, ◌+◌, Bool, true, false, if◌then◌else◌, List, [], ◌∷◌, Option, Some, None}
+use Rattle.std.specs.Prelude.{◌≡◌, ◌⊎◌, ℕ, zero, suc, ◌+◌, ◌<◌, Bool, true, false, if◌then◌else◌, List, [], ◌∷◌, ◌++◌, Option, Some, None}
 use Rattle.ti_lang.specs.declared.token.Token.{Token}
 use Rattle.ti_lang.specs.declared.token.TokenKind.{TokenKind}
 use Rattle.ti_lang.specs.declared.token.TokenKind.TheVariants as k
-use Rattle.ti_lang.specs.Spelling.Weights.{counts, arity_behind}
+use Rattle.ti_lang.specs.Spelling.Weights.{counts, arity_behind, weigh}
+use Rattle.ti_parse_expr.specs.Answers.{IsLight, most_weight}
 
 -- tokens that stand in no expression
 abbrev pub ends_expression : TokenKind → Bool
@@ -32,3 +33,14 @@ reach_by more (Some p) = more p.0 p.1
 unfoldable pub reach : ℕ → ℕ → List Token → ℕ
 reach arity left [] = 0
 reach arity left (t ∷ l) = suc (if ends_expression t.kind then 0 else reach_by (λ a w. reach a w l) (onward t.kind arity left))
+
+-- The front of the list that is read: its last token is the first that weighs too much, where the weight is counted on
+-- from a number, or stands in no expression.
+pub record IsCut (weight : ℕ) (list cut : List Token) : Type 0 where
+  pub front : List Token
+  pub last : Token
+  pub rest : List Token
+  pub is : list ≡ front ++ last ∷ rest
+  pub made : cut ≡ front ++ last ∷ []
+  pub light : IsLight weight front
+  pub stops : (ends_expression last.kind ≡ true) ⊎ (most_weight < weight + weigh (front ++ last ∷ []))

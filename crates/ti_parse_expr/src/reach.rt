@@ -2,11 +2,15 @@
 
 ghost use Rattle.std.specs.Prelude.{[], ◌≡◌, ◌≤◌, ◌+◌};
 ghost use Rattle.ti_lang.specs.Spelling.Weights.{weigh as weigh_spec};
-ghost use Rattle.ti_parse_expr.specs.Answers.{most_weight};
+ghost use Rattle.ti_parse_expr.specs.Answers.{EndsAtEnd, most_weight};
+ghost use Rattle.ti_parse_expr.specs.Reach.{IsCut};
 ghost use Rattle.ti_parse_expr.specs.Reach as spec;
 
 use crate::operators::{arity_behind, counts};
 use ti_lang::{Token, TokenKind};
+
+/// The most that a token may weigh.
+const MOST_WEIGHT: u32 = 256;
 
 /// Whether a token stands in no expression.
 fn ends_expression(kind: &TokenKind) -> bool
@@ -36,7 +40,7 @@ fn onward(kind: &TokenKind, arity: u32, left: u32) -> Option<(u32, u32)>
 
 /// How many tokens there are up to and including the first that weighs more than the limit or stands in no expression.
 #[tactic(auto, unfolding(crate::specs::Reach::reach))]
-pub fn reach(list: &[Token], limit: u32) -> usize
+fn reach(list: &[Token], limit: u32) -> usize
     ensures { result ≡ spec.reach 0 limit list.now }
 {
     let mut arity = 0;
@@ -56,6 +60,18 @@ pub fn reach(list: &[Token], limit: u32) -> usize
         }
     }
     list.len()
+}
+
+/// The tokens up to and including the first that weighs too much, where the weight is counted on from a number, or
+/// stands in no expression.
+pub fn cut(list: &[Token], weight: u32) -> &[Token]
+    requires { EndsAtEnd list.now }
+    ensures { IsCut weight list.now result.now }
+{
+    if weight > MOST_WEIGHT {
+        return &list[..1];
+    }
+    &list[..reach(list, MOST_WEIGHT - weight)]
 }
 
 /// The weight of the last token.
