@@ -1,6 +1,7 @@
 -- Weights of fronts, and where a list is cut.
 use Rattle.std.proofs.Common.{◌≡◌, ◌⊎◌, inl, inr, ℕ, zero, suc, ◌+◌, ◌-◌, ◌<◌, ◌≤◌, List, [], ◌∷◌, ◌++◌, length, Option, Some, None, refl, sym, ap, ◌∙◌, subst, arith, length-append, true, false, Bool, if◌then◌else◌, take, drop, append_assoc}
 use Rattle.std.proofs.Math.Seq.{take-append_seam}
+use Rattle.std.proofs.lemmas.List.{take_all, length-drop}
 use Rattle.ti_lang.specs.declared.token.Token.{Token}
 use Rattle.ti_lang.specs.declared.token.TokenKind.{TokenKind}
 use Rattle.ti_lang.specs.declared.token.TokenKind.TheVariants as k
@@ -121,3 +122,27 @@ first_cut weight (t ∷ l) at_end heavy = record {
   light = λ front u rest none. absurd (omega (arith, ap length none, length-append front (u ∷ rest)));
   stops = inr (omega (arith, heavy));
 }
+
+-- the list from some token on, as a slice is seen
+pub whole_rest : (at : ℕ) (l : List Token) → take (length l - at) (drop at l) ≡ drop at l
+whole_rest at l = let long = length-drop at l in take_all (length l - at) (drop at l) (omega arith)
+
+abbrev pub cut_rest : (weight at : ℕ) (l c : List Token) → IsCut weight (take (length l - at) (drop at l)) c → IsCut weight (drop at l) c
+cut_rest weight at l c cut = record {
+  front = cut.front;
+  last = cut.last;
+  rest = cut.rest;
+  is = sym (whole_rest at l) ∙ cut.is;
+  made = cut.made;
+  light = cut.light;
+  stops = cut.stops;
+}
+
+ends_behind : (at : ℕ) (l : List Token) → at < length l → EndsAtEnd l → EndsAtEnd (drop at l)
+ends_behind zero l within at_end = at_end
+ends_behind (suc at) [] within at_end = absurd (omega (arith, within))
+ends_behind (suc at) (t ∷ l) within ([], la, is, h) = absurd (omega (arith, within, ap length is))
+ends_behind (suc at) (t ∷ l) within (x ∷ fr, la, is, h) = let tails : l ≡ fr ++ la ∷ [] = cc in ends_behind at l (omega (arith, within)) (fr, la, tails, h)
+
+pub rest_ends : (at : ℕ) (l : List Token) → at < length l → EndsAtEnd l → EndsAtEnd (take (length l - at) (drop at l))
+rest_ends at l within at_end = subst EndsAtEnd (sym (whole_rest at l)) (ends_behind at l within at_end)

@@ -1,6 +1,7 @@
 // The tree of an expression.
 
-ghost use Rattle.std.specs.Prelude.{◌≡◌, ◌<◌, ◌^◌, length};
+ghost use Rattle.std.specs.Prelude.{[], ◌∷◌, ◌++◌, ◌≡◌, ◌<◌, List, length};
+ghost use Rattle.ti_lang.specs.declared.token.Token.{Token as TokenSeen};
 ghost use Rattle.ti_lang.specs.Trees.Views.{exp_of};
 ghost use Rattle.ti_parse_expr.specs.Answers.{Answers, EndsAtEnd};
 ghost use Rattle.ti_parse_expr.specs.Input.{ReadsAs, take_within};
@@ -44,6 +45,14 @@ pub fn phrase(
     }
 }
 
+/// The place of the last token.
+fn last_place(list: &[Token]) -> Place
+    requires { 0 < length list.now }
+    ensures { (front : List TokenSeen) (last : TokenSeen) → list.now ≡ front ++ last ∷ [] → result ≡ last.place }
+{
+    list[list.len() - 1].place
+}
+
 fn refused(rule: Rule, place: Place) -> ParseErr
     ensures { result ≡ ParseErr.Refused (record { rule = rule; place = place }) }
 {
@@ -75,6 +84,6 @@ pub fn parse_expr(
         }
         Err(Stop::Memory) => Err(ParseErr::Memory),
         Err(Stop::Refused) => Err(refused(Rule::G1, tokens.place())),
-        Err(Stop::Spent) => Err(refused(Rule::G2, front[front.len() - 1].place)),
+        Err(Stop::Spent) => Err(refused(Rule::G2, last_place(front))),
     }
 }
