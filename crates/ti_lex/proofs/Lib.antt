@@ -1,2 +1,10 @@
+pub mod Bytes
+pub mod Comments
+pub mod Fronts
+pub mod Numbers
+pub mod Runs
+pub mod Signs
+pub mod StringPieces
 pub mod Strings
 pub mod Tables
+pub mod Words
