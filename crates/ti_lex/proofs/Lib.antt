@@ -1,10 +1,12 @@
 pub mod Bytes
 pub mod Comments
 pub mod Fronts
+pub mod Longest
 pub mod Numbers
 pub mod Runs
 pub mod Signs
 pub mod StringPieces
 pub mod Strings
 pub mod Tables
+pub mod Texts
 pub mod Words
