@@ -1,5 +1,5 @@
 -- The pieces of a text.
-use Rattle.std.proofs.Common.{◌≡◌, ◌≢◌, ℕ, ◌+◌, ◌≤◌, ◌<◌, Result, Ok, Err, List, [], ◌∷◌, ◌++◌, length, take, drop, refl, sym, ap, ◌∙◌, subst, arith, length-drop}
+use Rattle.std.proofs.Common.{◌≡◌, ◌≢◌, ℕ, ◌+◌, ◌-◌, ◌≤◌, ◌<◌, Result, Ok, Err, List, [], ◌∷◌, ◌++◌, length, take, drop, refl, sym, ap, ◌∙◌, subst, arith, length-drop}
 use Rattle.std.proofs.lemmas.List.{drop_all}
 use Rattle.ti_base.specs.Places.{place_of}
 use Rattle.ti_lang.specs.declared.token.Token.{Token}
@@ -12,8 +12,9 @@ use Rattle.ti_rules.specs.LexicalRefusals.{most_bytes, rule_of, IsLexicalRefusal
 use Rattle.ti_rules.specs.LexicalRefusals as refusals
 use Rattle.ti_lex.specs.declared.error.LexErr.{LexErr}
 use Rattle.ti_lex.specs.declared.error.LexErr.TheVariants as e
+use Rattle.ti_lex.specs.declared.piece.Piece as read
 use Rattle.ti_lex.specs.declared.piece.Piece.TheVariants as p
-use Rattle.ti_lex.specs.Answer.{Reads, meant}
+use Rattle.ti_lex.specs.Answer.{Reads, Lexes}
 use Rattle.ti_lex.specs.Cursor.{Spot, rest}
 use Rattle.ti_lex.specs.Reading.{Reading, Takes, Refuses, first}
 use Rattle.ti_lex.proofs.Longest.{Tells, first_tells, longest_read, none_empty}
@@ -39,7 +40,13 @@ pub record IsReadTo (text : List ℕ) (tokens : List Token) (spot : Spot) : Type
   pub within : spot.at ≤ length text
   pub pieces : Pieces text 0 tokens spot.at
 
-module _ (text : List ℕ) (tokens : List Token) (spot new : Spot) (before : IsReadTo text tokens spot) (some : 0 < length (rest spot)) where
+pub some : (spot : Spot) (b : ℕ) (l : List ℕ) → rest spot ≡ b ∷ l → 0 < length (rest spot)
+some spot b l h = let long = ap length h in omega arith
+
+pub nothing_read : (text : List ℕ) → IsReadTo text [] (record { text = text; at = 0 })
+nothing_read text = record { same = refl; within = omega arith; pieces = pieces.no_piece }
+
+module _ (text : List ℕ) (tokens : List Token) (spot new : Spot) (before : IsReadTo text tokens spot) (more : 0 < length (rest spot)) where
 
   abbrev front : List ℕ
   front = drop spot.at text
@@ -49,7 +56,7 @@ module _ (text : List ℕ) (tokens : List Token) (spot new : Spot) (before : IsR
 
   told : (r : Reading) → first spot.at (rest spot) ≡ r → Tells spot.at front r
   told r h =
-      subst (Tells spot.at front) (ap (first spot.at) (sym front_is) ∙ h) (first_tells spot.at front (subst (λ l. 0 < length l) front_is some))
+      subst (Tells spot.at front) (ap (first spot.at) (sym front_is) ∙ h) (first_tells spot.at front (subst (λ l. 0 < length l) front_is more))
 
   moves : (end size : ℕ) → end ≡ spot.at + size → size ≤ length front → new ≡ record spot { at = end } → (new.text ≡ text) × (new.at ≤ length text) × (spot.at + size ≡ new.at)
   moves end size to within h =
@@ -89,3 +96,21 @@ module _ (text : List ℕ) (tokens : List Token) (spot new : Spot) (before : IsR
           let (stuck, (back, to, flawed)) = told (Refuses flaw fault) is in
           let here : refusal ≡ record { rule = rule_of flaw; place = place_of text fault } = refused ∙ ap (λ t. record { rule = rule_of flaw; place = place_of t fault }) before.same in
           subst (IsLexicalRefusal text) (sym here) (refusals.flawed short (record { spelled = tokens; end = spot.at; pieces = before.pieces; stuck = stuck; before = back; flawed = flawed; place = to }))
+
+  -- so is any error that isn't want of memory
+  pub error_read : length text ≤ most_bytes → (error : LexErr) → Reads (first spot.at (rest spot)) spot new (Err error) → Lexes text (Err error)
+  error_read short (e.Refused refusal) h = refusal_read short refusal h
+  error_read short e.Memory h = tt
+
+  -- what is read makes the rest shorter
+  pub reads_further : (found : read.Piece) → Reads (first spot.at (rest spot)) spot new (Ok found) → length (rest new) < length (rest spot)
+  reads_further found h = by (first spot.at (rest spot)) refl h
+    where
+      by : (r : Reading) → first spot.at (rest spot) ≡ r → Reads r spot new (Ok found) → length (rest new) < length (rest spot)
+      by (Takes piece end) is (found, to_new) =
+          let (size, to, positive, longest) = told (Takes piece end) is in
+          let there : rest new ≡ drop end spot.text = ap rest to_new in
+          let here : length (rest spot) ≡ length spot.text - spot.at = length-drop spot.at spot.text in
+          let further : length (rest new) ≡ length spot.text - end = ap length there ∙ length-drop end spot.text in
+          omega arith
+      by (Refuses flaw fault) is h = absurd h

@@ -1,5 +1,5 @@
 // Texts become tokens.
-ghost use Rattle.std.specs.Prelude.{◌≡◌, ◌<◌, List, length};
+ghost use Rattle.std.specs.Prelude.{◌≡◌, ◌∷◌, drop};
 ghost use Rattle.ti_lang.specs.Tokenizing.{IsTokenized};
 ghost use Rattle.ti_rules.specs.LexicalRefusals.{most_bytes, IsLexicalRefusal};
 ghost use Rattle.ti_lex.specs.Answer.{Lexes, Reads};
@@ -19,15 +19,12 @@ use ti_rules::Rule;
 const MOST_BYTES: usize = 1048576;
 
 impl Cursor<'_> {
-    /// The piece at the front.
+    /// The piece at the front, which begins with this byte.
     #[tactic(auto, unfolding(crate::specs::Reading::first))]
-    fn piece(&mut self, alloc: Global) -> Result<Piece, LexErr>
-        requires { 0 < length (rest self.old) }
+    fn piece(&mut self, alloc: Global, byte: u8) -> Result<Piece, LexErr>
+        requires { rest self.old ≡ byte ∷ drop 1 (rest self.old) }
         ensures { Reads (first self.old.at (rest self.old)) self.old self.new result }
     {
-        let Some(byte) = self.peek() else {
-            unreachable!();
-        };
         match class_of(byte) {
             Class::Blank => {
                 self.advance();
@@ -51,10 +48,11 @@ pub fn lex(alloc: Global, text: &[u8]) -> Result<Vec<Token>, LexErr>
     }
     let mut tokens = Vec::new(alloc);
     let mut cursor = Cursor::new(text);
-    while cursor.peek().is_some() {
+    while let Some(byte) = cursor.peek() {
         let place = cursor.place();
-        if let Piece::Token(kind) = cursor.piece(alloc)? {
-            tokens.push(Token { kind, place })?;
+        match cursor.piece(alloc, byte)? {
+            Piece::Space => {}
+            Piece::Token(kind) => tokens.push(Token { kind, place })?,
         }
     }
     let place = cursor.place();
