@@ -6,7 +6,7 @@ use Rattle.std.specs.List.{list_all, prefix_len}
 use Rattle.ti_lang.specs.Tokenizing.{Space, IsPiece, ClosesAtEnd, Flaw, OpenComment, HasFlaw}
 use Rattle.ti_lang.specs.Tokenizing as pieces
 use Rattle.ti_lex.specs.Reading.{Reading, Takes, Refuses, comment_from, line_left}
-use Rattle.ti_lex.proofs.Fronts.{Beats, IsSound, beats_same}
+use Rattle.ti_lex.proofs.Fronts.{Beats, IsSound, IsRefusal, beats_same}
 use Rattle.ti_lex.proofs.Runs.{run_covers, run_passes}
 
 -- the rest of a line is read as far as it goes
@@ -129,6 +129,14 @@ module _ (slash : ℕ) where
   rest_of star at [] = (refl, refl)
   rest_of star at (b ∷ l) =
       rest_by star at b l (rest_of (b == 42) (at + 1) l) (star && (b == 47)) refl
+
+-- a comment is refused at its slash alone
+pub only_open : (at : ℕ) (l : List ℕ) → IsRefusal OpenComment at (comment_from at false (at + 2) l)
+only_open at l = by (comment_from at false (at + 2) l) (rest_of at false (at + 2) l)
+  where
+    by : (r : Reading) → IsRest at false (at + 2) l r → IsRefusal OpenComment at r
+    by (Takes piece end) h = tt
+    by (Refuses flaw fault) h = h
 
 -- what is read of a comment stands at the front
 pub comment_sound : (at : ℕ) (l : List ℕ) → IsSound at (codes "/*" ++ l) (comment_from at false (at + 2) l)

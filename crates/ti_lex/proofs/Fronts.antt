@@ -1,7 +1,7 @@
 -- What a reading says of the front of a list.
 use Rattle.std.proofs.Common.{◌≡◌, ◌⊎◌, inl, inr, ℕ, ◌+◌, ◌<◌, ◌≤◌, List, ◌++◌, length, refl, sym, arith}
 use Rattle.std.proofs.lemmas.Bool.{cases_lt}
-use Rattle.ti_lang.specs.Tokenizing.{Piece, IsPiece, HasFlaw}
+use Rattle.ti_lang.specs.Tokenizing.{Piece, IsPiece, Flaw, HasFlaw}
 use Rattle.ti_lex.specs.Reading.{Reading, Takes, Refuses}
 
 -- the reading takes more than a piece of this size, or it takes that piece
@@ -19,3 +19,8 @@ IsSound at l (Refuses flaw fault) = (before : ℕ) × (fault ≡ at + before) ×
 pub beats_same : (at size end : ℕ) (piece : Piece) → at + size ≤ end → Beats at size piece (Takes piece end)
 beats_same at size end piece le =
     elim (cases_lt (at + size) end) [ inl longer ↦ inl longer | inr short ↦ inr (omega arith, refl) ]
+
+-- the reading refuses nothing but this
+abbrev pub IsRefusal : Flaw → ℕ → Reading → Type 0
+IsRefusal flaw fault (Takes piece end) = Unit {0}
+IsRefusal flaw fault (Refuses other at) = (other ≡ flaw) × (at ≡ fault)

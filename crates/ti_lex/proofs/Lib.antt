@@ -3,6 +3,7 @@ pub mod Comments
 pub mod Fronts
 pub mod Longest
 pub mod Numbers
+pub mod Only
 pub mod Runs
 pub mod Signs
 pub mod StringPieces

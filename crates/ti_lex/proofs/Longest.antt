@@ -27,7 +27,7 @@ line_longer at [] h = cc
 line_longer at (b ∷ l) h =
     subst (λ d. Beats at 1 (Spells k.Slash) (Takes Space (at + line_left (47 ∷ d ∷ l)))) (sym (eqb-true b 47 h)) (inl (omega arith))
 
-opens : (l : List ℕ) → first_passes (λ b. b == 42) l ≡ true → OpensComment (47 ∷ l)
+pub opens : (l : List ℕ) → first_passes (λ b. b == 42) l ≡ true → OpensComment (47 ∷ l)
 opens [] h = cc
 opens (b ∷ l) h = (l, ap (λ d. 47 ∷ d ∷ l) (eqb-true b 42 h))
 

@@ -10,7 +10,7 @@ use Rattle.ti_lang.specs.Tokens.{sign_of}
 use Rattle.ti_lang.specs.Tokenizing.{Piece, Spells, IsPiece, OpensComment}
 use Rattle.ti_lang.specs.Tokenizing as pieces
 use Rattle.ti_lex.specs.Reading.{Reading, Takes, Refuses, first_signs, first_sign, longer_sign, sign_from, sign, first}
-use Rattle.ti_lex.proofs.Fronts.{Beats, IsSound}
+use Rattle.ti_lex.proofs.Fronts.{Beats, IsSound, IsRefusal}
 
 -- an operator or a longer one is read behind it
 from_by : (at size : ℕ) (kind : TokenKind) (rest : List ℕ) (b : ℕ) → ((p : ℕ) (longer : TokenKind) → p ≡ at + size + 1 → Beats (at + 1) size (Spells longer) (sign_from longer p rest)) → (longer : Option TokenKind) → Beats at size (Spells kind) (if is_some longer then sign_from (unwrap_or longer kind) (at + size + 1) rest else Takes (Spells kind) (at + size))
@@ -173,3 +173,14 @@ sign_sound at b l no_comment stray = by (first_sign b) refl (first_of b first_si
     by : (first : Option TokenKind) → first_sign b ≡ first → IsFirst b first → IsSound at (b ∷ l) (option_map_or (λ kind. sign_from kind (at + 1) l) first (Refuses pieces.StrayByte at))
     by (Some kind) h is = whole (sign_from kind (at + 1) l) (rest_of l (at + 1) (b ∷ []) kind is)
     by None h is = stray h
+
+-- an operator or mark is refused at its first byte alone
+pub sign_refusal : (at b : ℕ) (l : List ℕ) → IsRefusal pieces.StrayByte at (sign at (b ∷ l))
+sign_refusal at b l = by (first_sign b)
+  where
+    taken : (kind : TokenKind) (r : Reading) → Beats at 1 (Spells kind) r → IsRefusal pieces.StrayByte at r
+    taken kind (Takes piece end) h = tt
+    taken kind (Refuses flaw fault) h = absurd h
+    by : (found : Option TokenKind) → IsRefusal pieces.StrayByte at (option_map_or (λ kind. sign_from kind (at + 1) l) found (Refuses pieces.StrayByte at))
+    by (Some kind) = taken kind (sign_from kind (at + 1) l) (from_beats l at 1 kind (at + 1) refl)
+    by None = (refl, refl)

@@ -20,7 +20,7 @@ escape_read quote before at b byte l h =
     ap (λ o. if is_some o then string_from quote (before ++ unwrap_or o 0 ∷ []) (at + 2) l else Refuses StrayByte at) h
 
 -- items are read one after the other
-items_read : {items bytes : List ℕ} → AreItems items bytes → (quote : ℕ) (before : List ℕ) (at : ℕ) (rest : List ℕ) → string_from quote before at (items ++ rest) ≡ string_from quote (before ++ bytes) (at + length items) rest
+pub items_read : {items bytes : List ℕ} → AreItems items bytes → (quote : ℕ) (before : List ℕ) (at : ℕ) (rest : List ℕ) → string_from quote before at (items ++ rest) ≡ string_from quote (before ++ bytes) (at + length items) rest
 items_read pieces.no_items quote before at rest =
     ap (λ b. string_from quote b at rest) (sym (append-nil before)) ∙ ap (λ p. string_from quote (before ++ []) p rest) (omega arith)
 items_read (pieces.more_items {items = items} {bytes = bytes} (pieces.plain b h) more) quote before at rest =

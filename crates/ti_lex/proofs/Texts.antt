@@ -20,7 +20,7 @@ use Rattle.ti_lex.specs.Reading.{Reading, Takes, Refuses, first}
 use Rattle.ti_lex.proofs.Longest.{Tells, first_tells, longest_read, none_empty}
 
 -- one more piece behind others
-more_space : {text : List ℕ} {i j : ℕ} {tokens : List Token} → Pieces text i tokens j → (size : ℕ) → IsLongest (drop j text) size Space → Pieces text i tokens (j + size)
+pub more_space : {text : List ℕ} {i j : ℕ} {tokens : List Token} → Pieces text i tokens j → (size : ℕ) → IsLongest (drop j text) size Space → Pieces text i tokens (j + size)
 more_space pieces.no_piece size longest = pieces.space_and longest pieces.no_piece
 more_space (pieces.space_and first others) size longest =
     pieces.space_and first (more_space others size longest)
