@@ -1,11 +1,13 @@
 -- A text is read in one way.
-use Rattle.std.proofs.Common.{◌≡◌, ◌≢◌, ◌⊎◌, inl, inr, ℕ, suc, ◌+◌, ◌-◌, ◌≤◌, ◌<◌, ◌==◌, Bool, true, false, ◌||◌, ◌&&◌, cond, if◌then◌else◌, Option, Some, None, is_some, unwrap_or, List, [], ◌∷◌, ◌++◌, length, drop, codes, pos, refl, sym, ap, ◌∙◌, subst, arith, length-drop, length-append}
-use Rattle.std.proofs.lemmas.Bool.{cond_both, eqb-true}
+use Rattle.std.proofs.Common.{◌≡◌, ◌≢◌, ◌⊎◌, inl, inr, Result, Ok, Err, ℕ, zero, suc, ◌+◌, ◌-◌, ◌≤◌, ◌<◌, ◌==◌, Bool, true, false, ◌||◌, ◌&&◌, cond, if◌then◌else◌, Option, Some, None, is_some, unwrap_or, List, [], ◌∷◌, ◌++◌, length, drop, codes, pos, refl, sym, ap, ◌∙◌, subst, arith, length-drop, length-append}
+use Rattle.std.proofs.lemmas.Bool.{cond_both, cases_lt, eqb-true}
 use Rattle.std.proofs.lemmas.Bool.Decides.{nat_tests}
 use Rattle.std.proofs.lemmas.List.{drop_all}
 use Rattle.std.specs.Char.{is_ascii_digit}
 use Rattle.std.specs.List.{prefix_len}
 use Rattle.std.specs.Option.{option_map_or}
+use Rattle.std.specs.declared.vec.Vec.{Vec}
+use Rattle.std.specs.declared.alloc.Global.{Global}
 use Rattle.ti_base.specs.Places.{place_of, end_place}
 use Rattle.ti_lang.specs.declared.token.Token.{Token}
 use Rattle.ti_lang.specs.declared.token.TokenKind.{TokenKind}
@@ -15,6 +17,9 @@ use Rattle.ti_lang.specs.Tokenizing as pieces
 use Rattle.ti_rules.specs.declared.refusal.Refusal.{Refusal}
 use Rattle.ti_rules.specs.LexicalRefusals.{most_bytes, rule_of, IsLexicalRefusal}
 use Rattle.ti_rules.specs.LexicalRefusals as refusals
+use Rattle.ti_lex.specs.declared.error.LexErr.{LexErr}
+use Rattle.ti_lex.specs.declared.error.LexErr.TheVariants as e
+use Rattle.ti_lex.specs.Answer.{Lexes, GivesOnly, RefusesOnly}
 use Rattle.ti_lex.specs.declared.class.Class.{Class}
 use Rattle.ti_lex.specs.declared.class.Class.TheVariants as c
 use Rattle.ti_lex.specs.Reading.{Reading, Takes, Refuses, class_of, dimension, value_from, is_number, digits, number, string_from, escape_from, comment_from, line_left, longer_sign, first_sign, sign_from, sign, slash, first_by, first}
@@ -152,3 +157,98 @@ same_pieces {text} {i} {l = l} (pieces.token_and {size = n} {kind = kind} {token
     let (rest, there) = same_pieces others stuck (subst (λ x. Pieces text x us l) (sym to) more) stop in
     let named : kind ≡ other = cc in
     (ap (λ (q : TokenKind). record { kind = q; place = place_of text i } ∷ ts) named ∙ ap (λ t. record { kind = other; place = place_of text i } ∷ t) rest, there)
+
+-- no piece stands behind the last byte
+end_stuck : (text : List ℕ) → BeginsNoPiece (drop (length text) text)
+end_stuck text =
+    subst BeginsNoPiece (sym (drop_all (length text) text (omega arith))) none_empty
+
+-- a text has one list of tokens
+pub one_list : (text : List ℕ) (a b : List Token) → IsTokenized text a → IsTokenized text b → a ≡ b
+one_list text a b this that =
+    let (same, to) = same_pieces this.pieces (end_stuck text) that.pieces (end_stuck text) in
+    this.ended ∙ ap (λ ts. ts ++ record { kind = k.End; place = end_place text } ∷ []) same ∙ sym that.ended
+
+flaw_some : {l : List ℕ} {flaw : Flaw} {before : ℕ} → HasFlaw l flaw before → 0 < length l
+flaw_some (pieces.open_comment rest) = omega arith
+flaw_some (pieces.open_string rest are breaks) = omega arith
+flaw_some (pieces.stray_in_string rest are breaks none) = omega arith
+flaw_some (pieces.wrong_number digit rest h) = omega arith
+flaw_some (pieces.stray_byte b rest no_comment quote no_digit) = omega arith
+
+-- a text that has tokens isn't flawed
+tokens_no_flaw : (text : List ℕ) (tokens : List Token) (flaw : Flaw) (at : ℕ) → IsTokenized text tokens → IsFlawed text flaw at → ⊥
+tokens_no_flaw text tokens flaw at this that =
+    let (same, to) = same_pieces this.pieces (end_stuck text) that.pieces that.stuck in
+    let some = flaw_some that.flawed in
+    omega (arith, length-drop that.end text)
+
+pub never_both : (text : List ℕ) (tokens : List Token) (refusal : Refusal) → length text ≤ most_bytes → IsTokenized text tokens → IsLexicalRefusal text refusal → ⊥
+never_both text tokens refusal short this (refusals.too_long long) = omega arith
+never_both text tokens refusal short this (refusals.flawed {flaw = flaw} {at = at} _ flawed) =
+    tokens_no_flaw text tokens flaw at this flawed
+
+-- a text has one flaw
+one_flaw : (text : List ℕ) (flaw other : Flaw) (at place : ℕ) → IsFlawed text flaw at → IsFlawed text other place → (flaw ≡ other) × (at ≡ place)
+one_flaw text flaw other at place this that =
+    let (same, to) = same_pieces this.pieces this.stuck that.pieces that.stuck in
+    let here : first this.end (drop this.end text) ≡ Refuses flaw at = flaw_refused this.flawed this.stuck this.end ∙ ap (Refuses flaw) (sym this.place) in
+    let there : first that.end (drop that.end text) ≡ Refuses other place = flaw_refused that.flawed that.stuck that.end ∙ ap (Refuses other) (sym that.place) in
+    let both : Refuses flaw at ≡ Refuses other place = sym here ∙ ap (λ x. first x (drop x text)) to ∙ there in
+    (cc, ap end_of both)
+
+-- a text has one refusal
+pub one_refusal : (text : List ℕ) (a b : Refusal) → IsLexicalRefusal text a → IsLexicalRefusal text b → a ≡ b
+one_refusal text a b (refusals.too_long _) (refusals.too_long _) = refl
+one_refusal text a b (refusals.too_long long) (refusals.flawed short _) = absurd (omega arith)
+one_refusal text a b (refusals.flawed short _) (refusals.too_long long) = absurd (omega arith)
+one_refusal text a b (refusals.flawed {flaw = flaw} {at = at} _ this) (refusals.flawed {flaw = other} {at = place} _ that) =
+    let (same, there) = one_flaw text flaw other at place this that in
+    ap (λ f. record { rule = rule_of f; place = place_of text at }) same ∙ ap (λ x. record { rule = rule_of other; place = place_of text x }) there
+
+-- from a place on a text has tokens or a flaw
+abbrev GoesOn : List ℕ → ℕ → Type 0
+GoesOn text i =
+    ((tokens : List Token) × Pieces text i tokens (length text)) ⊎ ((tokens : List Token) × (end : ℕ) × (flaw : Flaw) × (before : ℕ) × Pieces text i tokens end × BeginsNoPiece (drop end text) × HasFlaw (drop end text) flaw before)
+
+go_space : (text : List ℕ) (i size : ℕ) → IsLongest (drop i text) size Space → GoesOn text (i + size) → GoesOn text i
+go_space text i size longest (inl (tokens, to_end)) = inl (tokens, pieces.space_and longest to_end)
+go_space text i size longest (inr (tokens, end, flaw, before, to, stuck, flawed)) =
+    inr (tokens, end, flaw, before, pieces.space_and longest to, stuck, flawed)
+
+go_token : (text : List ℕ) (i size : ℕ) (kind : TokenKind) → IsLongest (drop i text) size (Spells kind) → GoesOn text (i + size) → GoesOn text i
+go_token text i size kind longest (inl (tokens, to_end)) =
+    inl (record { kind = kind; place = place_of text i } ∷ tokens, pieces.token_and longest to_end)
+go_token text i size kind longest (inr (tokens, end, flaw, before, to, stuck, flawed)) =
+    inr (record { kind = kind; place = place_of text i } ∷ tokens, end, flaw, before, pieces.token_and longest to, stuck, flawed)
+
+goes_on : (text : List ℕ) (left i : ℕ) → i ≤ length text → length text ≤ i + left → GoesOn text i
+goes_on text zero i within near =
+    let at_end : i ≡ length text = omega arith in
+    inl ([], subst (Pieces text i []) at_end pieces.no_piece)
+goes_on text (suc left) i within near =
+    elim (cases_lt i (length text)) [ inl more ↦ by (first i (drop i text)) (first_tells i (drop i text) (omega (arith, length-drop i text))) (λ size some fits. goes_on text left (i + size) (omega (arith, length-drop i text)) (omega arith)) | inr done ↦ (let at_end : i ≡ length text = omega arith in inl ([], subst (Pieces text i []) at_end pieces.no_piece)) ]
+  where
+    by : (r : Reading) → Tells i (drop i text) r → ((size : ℕ) → 0 < size → size ≤ length (drop i text) → GoesOn text (i + size)) → GoesOn text i
+    by (Takes Space end) (size, to, some, longest) more =
+        go_space text i size longest (more size some longest.within)
+    by (Takes (Spells kind) end) (size, to, some, longest) more =
+        go_token text i size kind longest (more size some longest.within)
+    by (Refuses flaw fault) (stuck, (before, to, flawed)) more =
+        inr ([], i, flaw, before, pieces.no_piece, stuck, flawed)
+
+-- a text has tokens or a refusal
+pub some_reading : (text : List ℕ) → ((tokens : List Token) × (length text ≤ most_bytes) × IsTokenized text tokens) ⊎ ((refusal : Refusal) × IsLexicalRefusal text refusal)
+some_reading text =
+    elim (cases_lt most_bytes (length text)) [ inl long ↦ inr (_, refusals.too_long long) | inr short ↦ elim (goes_on text (length text) 0 (omega arith) (omega arith)) [ inl (tokens, to_end) ↦ inl (_, short, record { spelled = tokens; pieces = to_end; ended = refl }) | inr (tokens, end, flaw, before, to, stuck, flawed) ↦ inr (_, refusals.flawed short (record { spelled = tokens; end = end; pieces = to; stuck = stuck; before = before; flawed = flawed; place = refl })) ] ]
+
+-- from the answer: no other is possible
+pub only_tokens : (text : List ℕ) (result : Result (Vec Token Global) LexErr) → Lexes text result → (tokens : List Token) → length text ≤ most_bytes → IsTokenized text tokens → GivesOnly result tokens
+only_tokens text (Ok found) (short, is) tokens _ this = one_list text found.items tokens is this
+only_tokens text (Err (e.Refused refusal)) is tokens short this = absurd (never_both text tokens refusal short this is)
+only_tokens text (Err e.Memory) is tokens short this = refl
+
+pub only_refusal : (text : List ℕ) (result : Result (Vec Token Global) LexErr) → Lexes text result → (refusal : Refusal) → IsLexicalRefusal text refusal → RefusesOnly result refusal
+only_refusal text (Ok found) (short, is) refusal this = never_both text found.items refusal short is this
+only_refusal text (Err (e.Refused other)) is refusal this = inl (ap e.Refused (one_refusal text other refusal is this))
+only_refusal text (Err e.Memory) is refusal this = inr refl

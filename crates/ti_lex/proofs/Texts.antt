@@ -1,7 +1,8 @@
 -- The pieces of a text.
 use Rattle.std.proofs.Common.{◌≡◌, ◌≢◌, ℕ, ◌+◌, ◌-◌, ◌≤◌, ◌<◌, Result, Ok, Err, List, [], ◌∷◌, ◌++◌, length, take, drop, refl, sym, ap, ◌∙◌, subst, arith, length-drop}
 use Rattle.std.proofs.lemmas.List.{drop_all}
-use Rattle.ti_base.specs.Places.{place_of}
+use Rattle.ti_base.specs.declared.place.Place.{Place}
+use Rattle.ti_base.specs.Places.{place_of, end_place}
 use Rattle.ti_lang.specs.declared.token.Token.{Token}
 use Rattle.ti_lang.specs.declared.token.TokenKind.{TokenKind}
 use Rattle.ti_lang.specs.declared.token.TokenKind.TheVariants as k
@@ -43,8 +44,18 @@ pub record IsReadTo (text : List ℕ) (tokens : List Token) (spot : Spot) : Type
 pub some : (spot : Spot) (b : ℕ) (l : List ℕ) → rest spot ≡ b ∷ l → 0 < length (rest spot)
 some spot b l h = let long = ap length h in omega arith
 
-pub nothing_read : (text : List ℕ) → IsReadTo text [] (record { text = text; at = 0 })
-nothing_read text = record { same = refl; within = omega arith; pieces = pieces.no_piece }
+pub nothing_read : (spot : Spot) → spot.at ≡ 0 → IsReadTo spot.text [] spot
+nothing_read spot h = record { same = refl; within = omega arith; pieces = subst (Pieces spot.text 0 []) (sym h) pieces.no_piece }
+
+-- where nothing is left, the tokens and the end are those of the text
+pub all_read : (text : List ℕ) (tokens : List Token) (spot : Spot) → IsReadTo text tokens spot → rest spot ≡ [] → IsTokenized text (tokens ++ record { kind = k.End; place = place_of spot.text spot.at } ∷ [])
+all_read text tokens spot before none =
+    let left : length (drop spot.at spot.text) ≡ 0 = ap length none in
+    let long : length spot.text ≡ length text = ap length before.same in
+    let le = before.within in
+    let done : spot.at ≡ length text = omega (arith, length-drop spot.at spot.text) in
+    let end : place_of spot.text spot.at ≡ end_place text = ap (λ t. place_of t spot.at) before.same ∙ ap (place_of text) done in
+    record { spelled = tokens; pieces = subst (Pieces text 0 tokens) done before.pieces; ended = ap (λ (p : Place). tokens ++ record { kind = k.End; place = p } ∷ []) end }
 
 module _ (text : List ℕ) (tokens : List Token) (spot new : Spot) (before : IsReadTo text tokens spot) (more : 0 < length (rest spot)) where
 

@@ -45,3 +45,13 @@ abbrev pub Lexes : List ℕ → Result (Vec Token Global) LexErr → Type 0
 Lexes text (Ok tokens) = (length text ≤ most_bytes) × IsTokenized text tokens.items
 Lexes text (Err (Refused refusal)) = IsLexicalRefusal text refusal
 Lexes text (Err Memory) = Unit {0}
+
+-- the answer is these tokens, or want of memory
+abbrev pub GivesOnly : Result (Vec Token Global) LexErr → List Token → Type 0
+GivesOnly (Ok found) tokens = found.items ≡ tokens
+GivesOnly (Err error) tokens = error ≡ Memory
+
+-- the answer is this refusal, or want of memory
+abbrev pub RefusesOnly : Result (Vec Token Global) LexErr → Refusal → Type 0
+RefusesOnly (Ok found) refusal = ⊥
+RefusesOnly (Err error) refusal = (error ≡ Refused refusal) ⊎ (error ≡ Memory)
