@@ -144,6 +144,7 @@ slash_sound at l =
     line [] h = cc
     line (b ∷ l) h =
         subst (λ d. IsSound at (47 ∷ d ∷ l) (Takes Space (at + line_left (47 ∷ d ∷ l)))) (sym (eqb-true b 47 h)) (line_sound at l)
+
     comment : (l : List ℕ) → first_passes (λ b. b == 42) l ≡ true → IsSound at (47 ∷ l) (comment_from at false (at + 2) (drop 1 l))
     comment [] h = cc
     comment (b ∷ l) h =
@@ -190,12 +191,16 @@ first_tells at (b ∷ l) some = by (first at (b ∷ l)) (first_sound at b l) ref
     by (Takes piece end) (front, rest, is, some, to, stands) h =
         let taken : take (length front) (b ∷ l) ≡ front = ap (take (length front)) is ∙ take-append_seam front rest in
         let left : drop (length front) (b ∷ l) ≡ rest = ap (drop (length front)) is ∙ drop-append_seam front rest in
-        let long : length (b ∷ l) ≡ length front + length rest = ap length is ∙ length-append front rest in
-        (length front, to, some, record {
-          within = omega arith;
-          is_piece = subst (λ t. IsPiece t (drop (length front) (b ∷ l)) piece) (sym taken) (subst (λ t. IsPiece front t piece) (sym left) stands);
-          longest = λ other another within other_is. longest other another within other_is
-        })
+        let long : length (b ∷ l) ≡ length front + length rest = ap length is ∙ length-append front rest in (
+          length front,
+          to,
+          some,
+          record {
+            within = omega arith;
+            is_piece = subst (λ t. IsPiece t (drop (length front) (b ∷ l)) piece) (sym taken) (subst (λ t. IsPiece front t piece) (sym left) stands);
+            longest = λ other another within other_is. longest other another within other_is;
+          },
+        )
       where
         longest : (other : ℕ) (another : Piece) → other ≤ length (b ∷ l) → IsPiece (take other (b ∷ l)) (drop other (b ∷ l)) another → other ≤ length front
         longest other another within other_is =

@@ -37,6 +37,7 @@ number_refusal at l = by (dimension l)
     cases : (t : Bool) → IsRefusal WrongNumber at (cond t (Takes (Spells (k.Int (pos (value_from 0 l)))) (at + prefix_len is_ascii_digit l)) (Refuses WrongNumber at))
     cases true = tt
     cases false = (refl, refl)
+
     by : (found : Option ℕ) → IsRefusal WrongNumber at (option_map_or (λ n. Takes (Spells (k.Dim n)) (at + 2)) found (digits at l))
     by (Some n) = tt
     by None =

@@ -21,7 +21,6 @@ behind quote bytes at l Breaks = Refuses OpenString quote
 behind quote bytes at l Strays = Refuses StrayByte at
 
 module _ (quote : ℕ) (bytes : List ℕ) (at : ℕ) where
-
   escape_from-item : (b : ℕ) (l : List ℕ) → escape_from quote bytes at l ≡ behind quote bytes at (b ∷ l) (escape l)
   escape_from-item b [] = refl
   escape_from-item b (c ∷ l) = by (escaped c)
@@ -45,7 +44,6 @@ module _ (quote : ℕ) (bytes : List ℕ) (at : ℕ) where
       chosen l b (b == 34) (b == 92) (is_plain b) (b == 10 || b == 13) (escape_from quote bytes at l) (escape l) (escape_from-item b l)
 
 module _ (quote : ℕ) (bytes : List ℕ) (spot after : Spot) where
-
   given : (place : Place) (byte : ℕ) (i : Item) → ReadsItem i place spot after (Ok (Some byte)) → (after.text ≡ spot.text) × (string_from quote (bytes ++ byte ∷ []) after.at (rest after) ≡ behind quote bytes spot.at (rest spot) i)
   given place byte (Gives b size) (same, to) =
       let x : byte ≡ b = ap (λ o. unwrap_or o byte) same in

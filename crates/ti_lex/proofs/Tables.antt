@@ -5,7 +5,6 @@ use Rattle.std.proofs.lemmas.Option.{slice_get_within, get_or_from_slice_get}
 use Rattle.std.specs.Map.{lookup}
 
 module _ {K X : Type 0} (test : K → Bool) (rows : List (K × X)) (i : ℕ) (row : K × X) where
-
   drop-row : slice_get rows i ≡ Some row → drop i rows ≡ row ∷ drop (i + 1) rows
   drop-row h =
       drop_more rows i row (slice_get_within rows i row h) ∙ ap (λ r. r ∷ drop (i + 1) rows) (get_or_from_slice_get rows i row row h)

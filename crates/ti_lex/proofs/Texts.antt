@@ -58,7 +58,6 @@ all_read text tokens spot before none =
     record { spelled = tokens; pieces = subst (Pieces text 0 tokens) done before.pieces; ended = ap (λ (p : Place). tokens ++ record { kind = k.End; place = p } ∷ []) end }
 
 module _ (text : List ℕ) (tokens : List Token) (spot new : Spot) (before : IsReadTo text tokens spot) (more : 0 < length (rest spot)) where
-
   abbrev front : List ℕ
   front = drop spot.at text
 

@@ -137,6 +137,7 @@ abbrev mutual
       else (if is_plain b then string_from quote (bytes ++ b ∷ []) (at + 1) l
       else (if b == 10 || b == 13 then Refuses OpenString quote
       else Refuses StrayByte at)))
+
   pub escape_from : ℕ → List ℕ → ℕ → List ℕ → Reading
   escape_from quote bytes at [] = Refuses StrayByte at
   escape_from quote bytes at (b ∷ l) =
