@@ -1,7 +1,7 @@
 -- What is read at the front of a list is the longest piece there.
-use Rattle.std.proofs.Common.{◌≡◌, ◌≢◌, ◌⊎◌, ℕ, suc, ◌+◌, ◌≤◌, ◌<◌, ◌==◌, Bool, true, false, ◌&&◌, ◌||◌, cond, if◌then◌else◌, Option, Some, None, List, [], ◌∷◌, ◌++◌, length, take, drop, codes, pos, inl, inr, refl, sym, ap, ◌∙◌, subst, arith, take-append-drop, length-append, length-take}
+use Rattle.std.proofs.Common.{◌≡◌, ℕ, ◌+◌, ◌≤◌, ◌<◌, ◌==◌, true, false, ◌&&◌, ◌||◌, Option, Some, None, List, [], ◌∷◌, ◌++◌, length, take, drop, codes, pos, inl, inr, refl, sym, ap, ◌∙◌, subst, arith, take-append-drop, length-append, length-take}
 use Rattle.std.proofs.Math.Seq.{take-append_seam, drop-append_seam}
-use Rattle.std.proofs.lemmas.Bool.{cond_both, and_parts, eqb-true, eqb-false}
+use Rattle.std.proofs.lemmas.Bool.{cond_both, and_parts, eqb-true}
 use Rattle.std.proofs.lemmas.Bool.Decides.{nat_tests}
 use Rattle.std.specs.Char.{is_ascii_digit}
 use Rattle.std.specs.List.{list_all}
@@ -13,7 +13,7 @@ use Rattle.ti_lang.specs.Tokenizing.{Piece, Space, Spells, StrayByte, IsPiece, I
 use Rattle.ti_lang.specs.Tokenizing as pieces
 use Rattle.ti_lex.specs.declared.class.Class.{Class}
 use Rattle.ti_lex.specs.declared.class.Class.TheVariants as c
-use Rattle.ti_lex.specs.Reading.{Reading, Takes, Refuses, class_of, comment_from, line_left, word, number, slash, sign, first_sign, first_by, first}
+use Rattle.ti_lex.specs.Reading.{Reading, Takes, Refuses, class_of, comment_from, line_left, word, slash, sign, first_by, first}
 use Rattle.ti_lex.proofs.Bytes.{class_of-blank, class_of-letter, class_of-digit, IsOfClass, class_of_is}
 use Rattle.ti_lex.proofs.Comments.{line_beats, line_sound, comment_taken, comment_sound}
 use Rattle.ti_lex.proofs.Fronts.{Beats, IsSound}

@@ -1,5 +1,5 @@
 -- Operators and marks.
-use Rattle.std.proofs.Common.{◌≡◌, ◌≢◌, ℕ, ◌+◌, ◌≤◌, ◌<◌, ◌==◌, Bool, true, false, cond, if◌then◌else◌, Option, Some, None, is_some, unwrap_or, List, [], ◌∷◌, ◌++◌, length, codes, inl, inr, refl, sym, ap, ◌∙◌, subst, arith, append_assoc, length-append}
+use Rattle.std.proofs.Common.{◌≡◌, ℕ, ◌+◌, ◌==◌, Bool, true, false, cond, if◌then◌else◌, Option, Some, None, is_some, unwrap_or, List, [], ◌∷◌, ◌++◌, length, codes, inl, inr, refl, sym, ap, ◌∙◌, subst, arith, append_assoc}
 use Rattle.std.proofs.lemmas.Bool.{eqb-true, cond_both}
 use Rattle.std.proofs.lemmas.List.{append-nil}
 use Rattle.std.specs.Map.{lookup}
@@ -9,7 +9,7 @@ use Rattle.ti_lang.specs.declared.token.TokenKind.TheVariants as k
 use Rattle.ti_lang.specs.Tokens.{sign_of}
 use Rattle.ti_lang.specs.Tokenizing.{Piece, Spells, IsPiece, OpensComment}
 use Rattle.ti_lang.specs.Tokenizing as pieces
-use Rattle.ti_lex.specs.Reading.{Reading, Takes, Refuses, first_signs, first_sign, longer_sign, sign_from, sign, first}
+use Rattle.ti_lex.specs.Reading.{Reading, Takes, Refuses, first_signs, first_sign, longer_sign, sign_from, sign}
 use Rattle.ti_lex.proofs.Fronts.{Beats, IsSound, IsRefusal}
 
 -- an operator or a longer one is read behind it
