@@ -1,0 +1,18 @@
+//! Texts become tokens.
+#![tactic(auto)]
+
+mod class;
+mod comment;
+mod cursor;
+mod error;
+mod lexer;
+mod number;
+mod operator;
+mod piece;
+mod string;
+#[cfg(test)]
+mod tests;
+mod word;
+
+pub use error::LexErr;
+pub use lexer::{lex, one_reading};
