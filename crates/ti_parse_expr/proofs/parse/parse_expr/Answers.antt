@@ -37,12 +37,11 @@ overflow_add-used c =
 
 pub returns-in-Ok : goal.returns-in-Ok
 returns-in-Ok c =
-    let after = (goal.at.returns-in-Ok c).After-left in
-    (
+    let after = (goal.at.returns-in-Ok c).After-left in (
       length c.cut-front.result.now - c.left.result,
       refl,
       subst (λ w. IsPhrase c.args.form c.args.weight (drop c.args.at c.args.toks.now) (exp_of c.in-Ok.tree) (length c.cut-front.result.now - c.left.result) (c.args.weight + w)) (sym c.weigh.ensures)
-      (subst (λ n. IsPhrase c.args.form c.args.weight (drop c.args.at c.args.toks.now) (exp_of c.in-Ok.tree) (length c.cut-front.result.now - n) (c.args.weight + weigh (take (length c.cut-front.result.now - n) c.cut-front.result.now))) (sym c.left.ensures) (said_ok after).phrase),
+          (subst (λ n. IsPhrase c.args.form c.args.weight (drop c.args.at c.args.toks.now) (exp_of c.in-Ok.tree) (length c.cut-front.result.now - n) (c.args.weight + weigh (take (length c.cut-front.result.now - n) c.cut-front.result.now))) (sym c.left.ensures) (said_ok after).phrase),
     )
 
 pub returns-in-Err-Refused : goal.returns-in-Err-Refused
