@@ -1,4 +1,8 @@
-// Expressions with their trees, and texts that are refused. The expected values were worked out by hand from the grammar.
+// Texts with the trees of their expressions, and texts that are refused. The expected values were worked out by hand
+// from the grammar.
+//
+// Each line is a text, `=>` and what is answered: the tree, the number of tokens read and the weight used, or the rule that
+// is broken and its place. A node is shown as `WHAT@LINE:COL`, and in brackets with its parts behind it where it has parts.
 
 ghost use Rattle.std.specs.Prelude.{IfOk};
 ghost use Rattle.ti_parse_expr.specs.Answers.{EndsAtEnd};
@@ -10,466 +14,255 @@ use ti_base::Place;
 use ti_lang::Token;
 use ti_lang::tree::{Base, Expr, Qualifier, QualifierWord, Range, TypeName};
 use ti_lex::lex;
-use ti_rules::Rule;
 
-/// Texts, their trees, the numbers of tokens read, and the weights used.
-///
-/// A tree is shown as `WHAT@LINE:COL`, and in brackets with its parts behind it where it has parts.
-const TREES: [(&[u8], &[u8], usize, u32); 90] = [
-    // literals, names and calls
-    (b"2147483647", b"2147483647@1:1", 1, 0),
-    (b"true", b"true@1:1", 1, 0),
-    (b" false", b"false@1:2", 1, 0),
-    (b"null", b"null@1:1", 1, 0),
-    (b"this", b"this@1:1", 1, 0),
-    (b"\n abc", b"abc@2:2", 1, 0),
-    (b"in + from", b"(Add@1:4 in@1:1 from@1:6)", 3, 1),
-    (b"f()", b"(Call@1:1 f)", 3, 1),
-    (b"f(a, 1)", b"(Call@1:1 f a@1:3 1@1:6)", 6, 1),
-    (
-        b"f(g(), h(1))",
-        b"(Call@1:1 f (Call@1:3 g) (Call@1:8 h 1@1:10))",
-        11,
-        3,
-    ),
-    (b"Ti.thisProc()", b"ThisProc@1:1", 5, 2),
-    (
-        b"Ti.numProcs() - 1",
-        b"(Subtract@1:15 NumProcs@1:1 1@1:17)",
-        7,
-        3,
-    ),
-    // groups
-    (b"(a)", b"a@1:2", 3, 1),
-    (b"((a))", b"a@1:3", 5, 2),
-    (b"(a.b)", b"(Select@1:4 a@1:2 b)", 5, 2),
-    (b"(a) + (b)", b"(Add@1:5 a@1:2 b@1:8)", 7, 3),
-    (
-        b"a - (b - c)",
-        b"(Subtract@1:3 a@1:1 (Subtract@1:8 b@1:6 c@1:10))",
-        7,
-        3,
-    ),
-    // literals in brackets
-    (b"[1]", b"(Point@1:1 1@1:2)", 3, 1),
-    (b"[1, 2, 3]", b"(Point@1:1 1@1:2 2@1:5 3@1:8)", 7, 1),
-    (b"[1:9]", b"(Rect@1:1 (Range 1@1:2 9@1:4))", 5, 1),
-    (b"[1:9:2]", b"(Rect@1:1 (Range 1@1:2 9@1:4 2@1:6))", 7, 1),
-    (
-        b"[a:b, 0:9:3, c:d:e]",
-        b"(Rect@1:1 (Range a@1:2 b@1:4) (Range 0@1:7 9@1:9 3@1:11) (Range c@1:14 d@1:16 e@1:18))",
-        17,
-        1,
-    ),
-    (
-        b"[[0, 0]:[n, n]]",
-        b"(Rect@1:1 (Range (Point@1:2 0@1:3 0@1:6) (Point@1:9 n@1:10 n@1:13)))",
-        13,
-        3,
-    ),
-    // operators of one operand
-    (b"-a", b"(Minus@1:1 a@1:2)", 2, 1),
-    (b"+1", b"(Plus@1:1 1@1:2)", 2, 1),
-    (b"- -a", b"(Minus@1:1 (Minus@1:3 a@1:4))", 3, 2),
-    (
-        b"!~-+a",
-        b"(Not@1:1 (Complement@1:2 (Minus@1:3 (Plus@1:4 a@1:5))))",
-        5,
-        4,
-    ),
-    (b"-a.f", b"(Minus@1:1 (Select@1:4 a@1:2 f))", 4, 2),
-    (b"!a == b", b"(Equal@1:4 (Not@1:1 a@1:2) b@1:7)", 4, 2),
-    (b"-a * b", b"(Multiply@1:4 (Minus@1:1 a@1:2) b@1:6)", 4, 2),
-    (b"a - -b", b"(Subtract@1:3 a@1:1 (Minus@1:5 b@1:6))", 4, 2),
-    // operators of two operands
-    (
-        b"a - b - c",
-        b"(Subtract@1:7 (Subtract@1:3 a@1:1 b@1:5) c@1:9)",
-        5,
-        2,
-    ),
-    (
-        b"a / b % c * d",
-        b"(Multiply@1:11 (Remainder@1:7 (Divide@1:3 a@1:1 b@1:5) c@1:9) d@1:13)",
-        7,
-        3,
-    ),
-    (
-        b"a + b * c - d",
-        b"(Subtract@1:11 (Add@1:3 a@1:1 (Multiply@1:7 b@1:5 c@1:9)) d@1:13)",
-        7,
-        3,
-    ),
-    (
-        b"a << b + c",
-        b"(ShiftLeft@1:3 a@1:1 (Add@1:8 b@1:6 c@1:10))",
-        5,
-        2,
-    ),
-    (
-        b"a >> b >>> c",
-        b"(UnsignedShiftRight@1:8 (ShiftRight@1:3 a@1:1 b@1:6) c@1:12)",
-        5,
-        2,
-    ),
-    (
-        b"a < b << c",
-        b"(Less@1:3 a@1:1 (ShiftLeft@1:7 b@1:5 c@1:10))",
-        5,
-        2,
-    ),
-    (
-        b"a < b < c",
-        b"(Less@1:7 (Less@1:3 a@1:1 b@1:5) c@1:9)",
-        5,
-        2,
-    ),
-    (
-        b"a <= b == c >= d",
-        b"(Equal@1:8 (LessEqual@1:3 a@1:1 b@1:6) (GreaterEqual@1:13 c@1:11 d@1:16))",
-        7,
-        3,
-    ),
-    (
-        b"a > b != c",
-        b"(NotEqual@1:7 (Greater@1:3 a@1:1 b@1:5) c@1:10)",
-        5,
-        2,
-    ),
-    (
-        b"a == b & c == d",
-        b"(And@1:8 (Equal@1:3 a@1:1 b@1:6) (Equal@1:12 c@1:10 d@1:15))",
-        7,
-        3,
-    ),
-    (
-        b"a | b ^ c & d",
-        b"(Or@1:3 a@1:1 (Xor@1:7 b@1:5 (And@1:11 c@1:9 d@1:13)))",
-        7,
-        3,
-    ),
-    (
-        b"a & b ^ c | d",
-        b"(Or@1:11 (Xor@1:7 (And@1:3 a@1:1 b@1:5) c@1:9) d@1:13)",
-        7,
-        3,
-    ),
-    (
-        b"a || b && c | d",
-        b"(OrElse@1:3 a@1:1 (AndThen@1:8 b@1:6 (Or@1:13 c@1:11 d@1:15)))",
-        7,
-        3,
-    ),
-    (
-        b"a && b || c && d",
-        b"(OrElse@1:8 (AndThen@1:3 a@1:1 b@1:6) (AndThen@1:13 c@1:11 d@1:16))",
-        7,
-        3,
-    ),
-    (b"a\n + b", b"(Add@2:2 a@1:1 b@2:4)", 3, 1),
-    // members and indices
-    (b"a.b.c", b"(Select@1:5 (Select@1:3 a@1:1 b) c)", 5, 2),
-    (b"a.f()", b"(Member@1:3 a@1:1 f)", 5, 2),
-    (
-        b"a.f(x, y).g",
-        b"(Select@1:11 (Member@1:3 a@1:1 f x@1:5 y@1:8) g)",
-        10,
-        3,
-    ),
-    (b"a[i, j]", b"(Index@1:2 a@1:1 i@1:3 j@1:6)", 6, 1),
-    (
-        b"a[i][j]",
-        b"(Index@1:5 (Index@1:2 a@1:1 i@1:3) j@1:6)",
-        7,
-        2,
-    ),
-    (b"a[1, 2, 3]", b"(Index@1:2 a@1:1 1@1:3 2@1:6 3@1:9)", 8, 1),
-    (
-        b"f(1)[2].g",
-        b"(Select@1:9 (Index@1:5 (Call@1:1 f 1@1:3) 2@1:6) g)",
-        9,
-        3,
-    ),
-    (b"this.f", b"(Select@1:6 this@1:1 f)", 3, 1),
-    (b"1.f", b"(Select@1:3 1@1:1 f)", 3, 1),
-    (
-        b"[1, 2][0]",
-        b"(Index@1:7 (Point@1:1 1@1:2 2@1:5) 0@1:8)",
-        8,
-        2,
-    ),
-    (
-        b"[0:9].size()",
-        b"(Member@1:7 (Rect@1:1 (Range 0@1:2 9@1:4)) size)",
-        9,
-        3,
-    ),
-    (
-        b"(a + b)[0]",
-        b"(Index@1:8 (Add@1:4 a@1:2 b@1:6) 0@1:9)",
-        8,
-        3,
-    ),
-    (
-        b"Ti.numProcs()[0]",
-        b"(Index@1:14 NumProcs@1:1 0@1:15)",
-        8,
-        3,
-    ),
-    (b"a.thisProc", b"(Select@1:3 a@1:1 thisProc)", 3, 1),
-    // casts, and groups that look like them
-    (b"(int) -1", b"(Cast@1:1 (int) (Minus@1:7 1@1:8))", 5, 2),
-    (
-        b"(Name local) e",
-        b"(Cast@1:1 (Name@1:2 local@1:7) e@1:14)",
-        5,
-        1,
-    ),
-    (b"(Name [1d]) e", b"(Cast@1:1 (Name@1:2 1d) e@1:13)", 7, 2),
-    (b"(Name) e", b"Name@1:2", 3, 1),
-    (b"(Name) - e", b"(Subtract@1:8 Name@1:2 e@1:10)", 5, 2),
-    (b"(C[0])", b"(Index@1:3 C@1:2 0@1:4)", 6, 2),
-    (b"(C[1d])x", b"(Cast@1:1 (C@1:2 1d) x@1:8)", 7, 2),
-    (b"((C))x", b"C@1:3", 5, 2),
-    (
-        b"(Point<2> [1d] local [3d]) x",
-        b"(Cast@1:1 (Point<2> 1d local@1:16 3d) x@1:28)",
-        14,
-        3,
-    ),
-    (
-        b"(RectDomain<1>) r < s",
-        b"(Less@1:19 (Cast@1:1 (RectDomain<1>) r@1:17) s@1:21)",
-        9,
-        2,
-    ),
-    (
-        b"(boolean single local) (int) a.b",
-        b"(Cast@1:1 (boolean single@1:10 local@1:17) (Cast@1:24 (int) (Select@1:32 a@1:30 b)))",
-        11,
-        3,
-    ),
-    (
-        b"(C local [1d] single [2d] [3d]) null",
-        b"(Cast@1:1 (C@1:2 local@1:4 1d single@1:15 2d 3d) null@1:33)",
-        15,
-        4,
-    ),
-    (
-        b"-(int) a + b",
-        b"(Add@1:10 (Minus@1:1 (Cast@1:2 (int) a@1:8)) b@1:12)",
-        7,
-        3,
-    ),
-    (
-        b"(C local) a.b",
-        b"(Cast@1:1 (C@1:2 local@1:4) (Select@1:13 a@1:11 b))",
-        7,
-        2,
-    ),
-    (
-        b"((int) a).b",
-        b"(Select@1:11 (Cast@1:2 (int) a@1:8) b)",
-        8,
-        3,
-    ),
-    // what stands behind the longest run is left
-    (b"a = b", b"a@1:1", 1, 0),
-    (b"a b", b"a@1:1", 1, 0),
-    (b"a; b", b"a@1:1", 1, 0),
-    (b"a++", b"a@1:1", 1, 0),
-    (b"a)", b"a@1:1", 1, 0),
-    (b"a : b", b"a@1:1", 1, 0),
-    (b"a ]", b"a@1:1", 1, 0),
-    (b"1(2)", b"1@1:1", 1, 0),
-    (b"1 local", b"1@1:1", 1, 0),
-    (b"a += 1", b"a@1:1", 1, 0),
-    (b"f(a)(b)", b"(Call@1:1 f a@1:3)", 4, 1),
-    (b"(a)(b)", b"a@1:2", 3, 1),
-    (b"a.b(c)(d)", b"(Member@1:3 a@1:1 b c@1:5)", 6, 2),
-    (b"a * b \"s\"", b"(Multiply@1:3 a@1:1 b@1:5)", 3, 1),
-    (b"a !b", b"a@1:1", 1, 0),
-];
+/// Literals, names and calls.
+const LITERALS: &str = "2147483647 => 2147483647@1:1 1 0
+true => true@1:1 1 0
+ false => false@1:2 1 0
+null => null@1:1 1 0
+this => this@1:1 1 0
+in + from => (Add@1:4 in@1:1 from@1:6) 3 1
+f() => (Call@1:1 f) 3 1
+f(a, 1) => (Call@1:1 f a@1:3 1@1:6) 6 1
+f(g(), h(1)) => (Call@1:1 f (Call@1:3 g) (Call@1:8 h 1@1:10)) 11 3
+Ti.thisProc() => ThisProc@1:1 5 2
+Ti.numProcs() - 1 => (Subtract@1:15 NumProcs@1:1 1@1:17) 7 3";
 
-/// The same for the other forms.
-const PARTS: [(&[u8], Form, &[u8], usize, u32); 13] = [
-    (b"a * b + c", Form::Mul, b"(Multiply@1:3 a@1:1 b@1:5)", 3, 1),
-    (
-        b"-a % (b + c)",
-        Form::Mul,
-        b"(Remainder@1:4 (Minus@1:1 a@1:2) (Add@1:9 b@1:7 c@1:11))",
-        8,
-        4,
-    ),
-    (b"a < b", Form::Mul, b"a@1:1", 1, 0),
-    (
-        b"(int) a / b",
-        Form::Mul,
-        b"(Divide@1:9 (Cast@1:1 (int) a@1:7) b@1:11)",
-        6,
-        2,
-    ),
-    (b"a * b", Form::Postfix, b"a@1:1", 1, 0),
-    (
-        b"a.f(1) - b",
-        Form::Postfix,
-        b"(Member@1:3 a@1:1 f 1@1:5)",
-        6,
-        2,
-    ),
-    (
-        b"(a + b)[0]",
-        Form::Postfix,
-        b"(Index@1:8 (Add@1:4 a@1:2 b@1:6) 0@1:9)",
-        8,
-        3,
-    ),
-    (b"((int) a)", Form::Postfix, b"(Cast@1:2 (int) a@1:8)", 6, 2),
-    (b"(C) x", Form::Postfix, b"C@1:2", 3, 1),
-    (
-        b"this.x = 1",
-        Form::Postfix,
-        b"(Select@1:6 this@1:1 x)",
-        3,
-        1,
-    ),
-    (b"a[i] = 1", Form::Postfix, b"(Index@1:2 a@1:1 i@1:3)", 4, 1),
-    (
-        b"f(-1);",
-        Form::Postfix,
-        b"(Call@1:1 f (Minus@1:3 1@1:4))",
-        5,
-        2,
-    ),
-    (b"a local", Form::Postfix, b"a@1:1", 1, 0),
-];
+/// Groups.
+const GROUPS: &str = "(a) => a@1:2 3 1
+((a)) => a@1:3 5 2
+(a.b) => (Select@1:4 a@1:2 b) 5 2
+(a) + (b) => (Add@1:5 a@1:2 b@1:8) 7 3
+a - (b - c) => (Subtract@1:3 a@1:1 (Subtract@1:8 b@1:6 c@1:10)) 7 3";
+
+/// Literals in brackets.
+const BRACKETS: &str = "[1] => (Point@1:1 1@1:2) 3 1
+[1, 2, 3] => (Point@1:1 1@1:2 2@1:5 3@1:8) 7 1
+[1:9] => (Rect@1:1 (Range 1@1:2 9@1:4)) 5 1
+[1:9:2] => (Rect@1:1 (Range 1@1:2 9@1:4 2@1:6)) 7 1
+[a:b, 0:9:3, c:d:e] => (Rect@1:1 (Range a@1:2 b@1:4) (Range 0@1:7 9@1:9 3@1:11) (Range c@1:14 d@1:16 e@1:18)) 17 1
+[[0, 0]:[n, n]] => (Rect@1:1 (Range (Point@1:2 0@1:3 0@1:6) (Point@1:9 n@1:10 n@1:13))) 13 3";
+
+/// Operators of one operand.
+const UNARY: &str = "-a => (Minus@1:1 a@1:2) 2 1
++1 => (Plus@1:1 1@1:2) 2 1
+- -a => (Minus@1:1 (Minus@1:3 a@1:4)) 3 2
+!~-+a => (Not@1:1 (Complement@1:2 (Minus@1:3 (Plus@1:4 a@1:5)))) 5 4
+-a.f => (Minus@1:1 (Select@1:4 a@1:2 f)) 4 2
+!a == b => (Equal@1:4 (Not@1:1 a@1:2) b@1:7) 4 2
+-a * b => (Multiply@1:4 (Minus@1:1 a@1:2) b@1:6) 4 2
+a - -b => (Subtract@1:3 a@1:1 (Minus@1:5 b@1:6)) 4 2";
+
+/// Operators of two operands.
+const BINARY: &str = "a - b - c => (Subtract@1:7 (Subtract@1:3 a@1:1 b@1:5) c@1:9) 5 2
+a / b % c * d => (Multiply@1:11 (Remainder@1:7 (Divide@1:3 a@1:1 b@1:5) c@1:9) d@1:13) 7 3
+a + b * c - d => (Subtract@1:11 (Add@1:3 a@1:1 (Multiply@1:7 b@1:5 c@1:9)) d@1:13) 7 3
+a << b + c => (ShiftLeft@1:3 a@1:1 (Add@1:8 b@1:6 c@1:10)) 5 2
+a >> b >>> c => (UnsignedShiftRight@1:8 (ShiftRight@1:3 a@1:1 b@1:6) c@1:12) 5 2
+a < b << c => (Less@1:3 a@1:1 (ShiftLeft@1:7 b@1:5 c@1:10)) 5 2
+a < b < c => (Less@1:7 (Less@1:3 a@1:1 b@1:5) c@1:9) 5 2
+a <= b == c >= d => (Equal@1:8 (LessEqual@1:3 a@1:1 b@1:6) (GreaterEqual@1:13 c@1:11 d@1:16)) 7 3
+a > b != c => (NotEqual@1:7 (Greater@1:3 a@1:1 b@1:5) c@1:10) 5 2
+a == b & c == d => (And@1:8 (Equal@1:3 a@1:1 b@1:6) (Equal@1:12 c@1:10 d@1:15)) 7 3
+a | b ^ c & d => (Or@1:3 a@1:1 (Xor@1:7 b@1:5 (And@1:11 c@1:9 d@1:13))) 7 3
+a & b ^ c | d => (Or@1:11 (Xor@1:7 (And@1:3 a@1:1 b@1:5) c@1:9) d@1:13) 7 3
+a || b && c | d => (OrElse@1:3 a@1:1 (AndThen@1:8 b@1:6 (Or@1:13 c@1:11 d@1:15))) 7 3
+a && b || c && d => (OrElse@1:8 (AndThen@1:3 a@1:1 b@1:6) (AndThen@1:13 c@1:11 d@1:16)) 7 3";
+
+/// Members and indices.
+const MEMBERS: &str = "a.b.c => (Select@1:5 (Select@1:3 a@1:1 b) c) 5 2
+a.f() => (Member@1:3 a@1:1 f) 5 2
+a.f(x, y).g => (Select@1:11 (Member@1:3 a@1:1 f x@1:5 y@1:8) g) 10 3
+a[i, j] => (Index@1:2 a@1:1 i@1:3 j@1:6) 6 1
+a[i][j] => (Index@1:5 (Index@1:2 a@1:1 i@1:3) j@1:6) 7 2
+a[1, 2, 3] => (Index@1:2 a@1:1 1@1:3 2@1:6 3@1:9) 8 1
+f(1)[2].g => (Select@1:9 (Index@1:5 (Call@1:1 f 1@1:3) 2@1:6) g) 9 3
+this.f => (Select@1:6 this@1:1 f) 3 1
+1.f => (Select@1:3 1@1:1 f) 3 1
+[1, 2][0] => (Index@1:7 (Point@1:1 1@1:2 2@1:5) 0@1:8) 8 2
+[0:9].size() => (Member@1:7 (Rect@1:1 (Range 0@1:2 9@1:4)) size) 9 3
+(a + b)[0] => (Index@1:8 (Add@1:4 a@1:2 b@1:6) 0@1:9) 8 3
+Ti.numProcs()[0] => (Index@1:14 NumProcs@1:1 0@1:15) 8 3
+a.thisProc => (Select@1:3 a@1:1 thisProc) 3 1";
+
+/// Casts, and groups that look like them.
+const CASTS: &str = "(int) -1 => (Cast@1:1 (int) (Minus@1:7 1@1:8)) 5 2
+(Name local) e => (Cast@1:1 (Name@1:2 local@1:7) e@1:14) 5 1
+(Name [1d]) e => (Cast@1:1 (Name@1:2 1d) e@1:13) 7 2
+(Name) e => Name@1:2 3 1
+(Name) - e => (Subtract@1:8 Name@1:2 e@1:10) 5 2
+(C[0]) => (Index@1:3 C@1:2 0@1:4) 6 2
+(C[1d])x => (Cast@1:1 (C@1:2 1d) x@1:8) 7 2
+((C))x => C@1:3 5 2
+(Point<2> [1d] local [3d]) x => (Cast@1:1 (Point<2> 1d local@1:16 3d) x@1:28) 14 3
+(RectDomain<1>) r < s => (Less@1:19 (Cast@1:1 (RectDomain<1>) r@1:17) s@1:21) 9 2
+(boolean single local) (int) a.b => (Cast@1:1 (boolean single@1:10 local@1:17) (Cast@1:24 (int) (Select@1:32 a@1:30 b))) 11 3
+(C local [1d] single [2d] [3d]) null => (Cast@1:1 (C@1:2 local@1:4 1d single@1:15 2d 3d) null@1:33) 15 4
+-(int) a + b => (Add@1:10 (Minus@1:1 (Cast@1:2 (int) a@1:8)) b@1:12) 7 3
+(C local) a.b => (Cast@1:1 (C@1:2 local@1:4) (Select@1:13 a@1:11 b)) 7 2
+((int) a).b => (Select@1:11 (Cast@1:2 (int) a@1:8) b) 8 3";
+
+/// What stands behind the longest run is left.
+const LONGEST: &str = "a = b => a@1:1 1 0
+a b => a@1:1 1 0
+a; b => a@1:1 1 0
+a++ => a@1:1 1 0
+a) => a@1:1 1 0
+a : b => a@1:1 1 0
+a ] => a@1:1 1 0
+1(2) => 1@1:1 1 0
+1 local => 1@1:1 1 0
+a += 1 => a@1:1 1 0
+f(a)(b) => (Call@1:1 f a@1:3) 4 1
+(a)(b) => a@1:2 3 1
+a.b(c)(d) => (Member@1:3 a@1:1 b c@1:5) 6 2
+a * b \"s\" => (Multiply@1:3 a@1:1 b@1:5) 3 1
+a !b => a@1:1 1 0";
+
+/// Texts of the form `Mul`.
+const PRODUCTS: &str = "a * b + c => (Multiply@1:3 a@1:1 b@1:5) 3 1
+-a % (b + c) => (Remainder@1:4 (Minus@1:1 a@1:2) (Add@1:9 b@1:7 c@1:11)) 8 4
+a < b => a@1:1 1 0
+(int) a / b => (Divide@1:9 (Cast@1:1 (int) a@1:7) b@1:11) 6 2
+< a => G1@1:1
+a * / b => G1@1:5";
+
+/// Texts of the form `Postfix`.
+const OPERANDS: &str = "a * b => a@1:1 1 0
+a.f(1) - b => (Member@1:3 a@1:1 f 1@1:5) 6 2
+(a + b)[0] => (Index@1:8 (Add@1:4 a@1:2 b@1:6) 0@1:9) 8 3
+((int) a) => (Cast@1:2 (int) a@1:8) 6 2
+(C) x => C@1:2 3 1
+this.x = 1 => (Select@1:6 this@1:1 x) 3 1
+a[i] = 1 => (Index@1:2 a@1:1 i@1:3) 4 1
+f(-1); => (Call@1:1 f (Minus@1:3 1@1:4)) 5 2
+a local => a@1:1 1 0
+ => G1@1:1
+-a => G1@1:1
+(int) a => G1@1:2
+(C local) a => G1@1:4
+(C [1d]) a => G1@1:5";
 
 /// Texts that begin with no expression, and the place of the token that is refused.
-const REFUSED: [(&[u8], u32, u32); 84] = [
-    (b"", 1, 1),
-    (b")", 1, 1),
-    (b";", 1, 1),
-    (b"*a", 1, 1),
-    (b"++a", 1, 1),
-    (b"int", 1, 1),
-    (b"\"s\"", 1, 1),
-    (b"1d", 1, 1),
-    (b"new C()", 1, 1),
-    (b"broadcast a from 0", 1, 1),
-    (b"System.out", 1, 1),
-    // operators
-    (b"-", 1, 2),
-    (b"- ++a", 1, 3),
-    (b"a +", 1, 4),
-    (b"a + * b", 1, 5),
-    (b"a && || b", 1, 6),
-    (b"a\n*", 2, 2),
-    (b"a - new C()", 1, 5),
-    // groups
-    (b"(", 1, 2),
-    (b"()", 1, 2),
-    (b"(a", 1, 3),
-    (b"(-a", 1, 4),
-    (b"((a)", 1, 5),
-    (b"(a b)", 1, 4),
-    (b"(a, b)", 1, 3),
-    (b"(a = b)", 1, 4),
-    (b"(a)  .", 1, 7),
-    // casts
-    (b"(int", 1, 5),
-    (b"(int)", 1, 6),
-    (b"(int a", 1, 6),
-    (b"(int + 1)", 1, 6),
-    (b"(int) )", 1, 7),
-    (b"(int) * a", 1, 7),
-    (b"(int [a]) b", 1, 7),
-    (b"(void) a", 1, 2),
-    (b"(String) a", 1, 2),
-    (b"(Domain<1>) d", 1, 2),
-    (b"(SharedRegion) r", 1, 2),
-    (b"(single int) a", 1, 2),
-    (b"(Point) a", 1, 7),
-    (b"(Point<4>) a", 1, 8),
-    (b"(Point<a>) p", 1, 8),
-    (b"(Point<1) a", 1, 9),
-    (b"(C local", 1, 9),
-    (b"(C local 1)", 1, 10),
-    (b"(C local) * a", 1, 11),
-    (b"(C [1d", 1, 7),
-    (b"(C [1d) a", 1, 7),
-    (b"(C [1d, 2d]) a", 1, 7),
-    (b"(C [1d] + 1)", 1, 9),
-    (b"(C [1d][1d][1d][1d]) a", 1, 16),
-    (b"(this local) a", 1, 7),
-    (b"(a.b local) c", 1, 6),
-    (b"(f() [1d]) c", 1, 7),
-    (b"((C) [1d]) x", 1, 7),
-    // literals in brackets
-    (b"[", 1, 2),
-    (b"[]", 1, 2),
-    (b"[1", 1, 3),
-    (b"[1d]", 1, 2),
-    (b"[1,]", 1, 4),
-    (b"[1:]", 1, 4),
-    (b"[1, 2, 3, 4]", 1, 9),
-    (b"[1:2, 3]", 1, 8),
-    (b"[1, 2:3]", 1, 6),
-    (b"[1:2:3:4]", 1, 7),
-    (b"[a:b, c:d, e:f, g:h]", 1, 15),
-    // members and indices
-    (b"a.", 1, 3),
-    (b"a.1", 1, 3),
-    (b"a.int", 1, 3),
-    (b"a[", 1, 3),
-    (b"a[]", 1, 3),
-    (b"a[1d]", 1, 3),
-    (b"a[1:2]", 1, 4),
-    (b"a[i, j, k, l]", 1, 10),
-    // calls
-    (b"f(", 1, 3),
-    (b"f(a b)", 1, 5),
-    (b"a.f(1", 1, 6),
-    (b"a.f(1,)", 1, 7),
-    (b"a.f(,)", 1, 5),
-    (b"Ti", 1, 3),
-    (b"Ti(", 1, 3),
-    (b"Ti.barrier()", 1, 4),
-    (b"Ti.thisProc", 1, 12),
-    (b"Ti.thisProc(1)", 1, 13),
+const REFUSED: &str = " => G1@1:1
+) => G1@1:1
+; => G1@1:1
+*a => G1@1:1
+++a => G1@1:1
+int => G1@1:1
+\"s\" => G1@1:1
+1d => G1@1:1
+new C() => G1@1:1
+broadcast a from 0 => G1@1:1
+System.out => G1@1:1
+- => G1@1:2
+- ++a => G1@1:3
+a + => G1@1:4
+a + * b => G1@1:5
+a && || b => G1@1:6
+a - new C() => G1@1:5
+( => G1@1:2
+() => G1@1:2
+(a => G1@1:3
+(-a => G1@1:4
+((a) => G1@1:5
+(a b) => G1@1:4
+(a, b) => G1@1:3
+(a = b) => G1@1:4
+(a)  . => G1@1:7
+(int => G1@1:5
+(int) => G1@1:6
+(int a => G1@1:6
+(int + 1) => G1@1:6
+(int) ) => G1@1:7
+(int) * a => G1@1:7
+(int [a]) b => G1@1:7
+(void) a => G1@1:2
+(String) a => G1@1:2
+(Domain<1>) d => G1@1:2
+(SharedRegion) r => G1@1:2
+(single int) a => G1@1:2
+(Point) a => G1@1:7
+(Point<4>) a => G1@1:8
+(Point<a>) p => G1@1:8
+(Point<1) a => G1@1:9
+(C local => G1@1:9
+(C local 1) => G1@1:10
+(C local) * a => G1@1:11
+(C [1d => G1@1:7
+(C [1d) a => G1@1:7
+(C [1d, 2d]) a => G1@1:7
+(C [1d] + 1) => G1@1:9
+(C [1d][1d][1d][1d]) a => G1@1:16
+(this local) a => G1@1:7
+(a.b local) c => G1@1:6
+(f() [1d]) c => G1@1:7
+((C) [1d]) x => G1@1:7
+[ => G1@1:2
+[] => G1@1:2
+[1 => G1@1:3
+[1d] => G1@1:2
+[1,] => G1@1:4
+[1:] => G1@1:4
+[1, 2, 3, 4] => G1@1:9
+[1:2, 3] => G1@1:8
+[1, 2:3] => G1@1:6
+[1:2:3:4] => G1@1:7
+[a:b, c:d, e:f, g:h] => G1@1:15
+a. => G1@1:3
+a.1 => G1@1:3
+a.int => G1@1:3
+a[ => G1@1:3
+a[] => G1@1:3
+a[1d] => G1@1:3
+a[1:2] => G1@1:4
+a[i, j, k, l] => G1@1:10
+f( => G1@1:3
+f(a b) => G1@1:5
+a.f(1 => G1@1:6
+a.f(1,) => G1@1:7
+a.f(,) => G1@1:5
+Ti => G1@1:3
+Ti( => G1@1:3
+Ti.barrier() => G1@1:4
+Ti.thisProc => G1@1:12
+Ti.thisProc(1) => G1@1:13";
+
+/// The texts of each form.
+const CASES: [(Form, &str); 11] = [
+    (Form::Whole, LITERALS),
+    (Form::Whole, GROUPS),
+    (Form::Whole, BRACKETS),
+    (Form::Whole, UNARY),
+    (Form::Whole, BINARY),
+    (Form::Whole, MEMBERS),
+    (Form::Whole, CASTS),
+    (Form::Whole, LONGEST),
+    (Form::Whole, REFUSED),
+    (Form::Mul, PRODUCTS),
+    (Form::Postfix, OPERANDS),
 ];
 
-/// Texts that begin with no part of the form, and the place of the token that is refused.
-const REFUSED_PARTS: [(&[u8], Form, u32, u32); 7] = [
-    (b"", Form::Postfix, 1, 1),
-    (b"-a", Form::Postfix, 1, 1),
-    (b"(int) a", Form::Postfix, 1, 2),
-    (b"(C local) a", Form::Postfix, 1, 4),
-    (b"(C [1d]) a", Form::Postfix, 1, 5),
-    (b"< a", Form::Mul, 1, 1),
-    (b"a * / b", Form::Mul, 1, 5),
-];
-
-/// Texts, the weight that is counted on from, and the place of the first token that weighs too much.
-const HEAVY: [(&[u8], u32, u32, u32); 9] = [
-    (b"a.b.c", 255, 1, 4),
-    (b"a.b.c", 256, 1, 2),
-    (b"a.b(1)", 255, 1, 4),
-    (b"a + b", 256, 1, 3),
-    (b"a[b", 256, 1, 2),
-    (b"f(*", 256, 1, 2),
-    (b"-", 256, 1, 1),
-    (b"(Point<1> [1d]) a", 255, 1, 11),
-    (b"a", 257, 1, 1),
-];
-
-/// Texts of light expressions, the weight that is counted on from, and the weight used.
-const LIGHT: [(&[u8], u32, u32); 6] = [
-    (b"a.b", 255, 256),
-    (b"a", 256, 256),
-    (b"1(2)", 256, 256),
-    (b"a = -b", 256, 256),
-    (b"(Point<1>) a", 255, 256),
-    (b"-a.b[i](", 1, 4),
+/// Texts, the weight that is counted on from, and what is answered.
+const WEIGHTS: [(&str, u32, &str); 18] = [
+    ("\n abc", 0, "abc@2:2 1 0"),
+    ("a\n + b", 0, "(Add@2:2 a@1:1 b@2:4) 3 1"),
+    ("a\n*", 0, "G1@2:2"),
+    ("a.b", 255, "(Select@1:3 a@1:1 b) 3 256"),
+    ("a", 256, "a@1:1 1 256"),
+    ("1(2)", 256, "1@1:1 1 256"),
+    ("a = -b", 256, "a@1:1 1 256"),
+    ("(Point<1>) a", 255, "(Cast@1:1 (Point<1>) a@1:12) 7 256"),
+    ("a.b.c", 255, "G2@1:4"),
+    ("a.b.c", 256, "G2@1:2"),
+    ("a.b(1)", 255, "G2@1:4"),
+    ("a + b", 256, "G2@1:3"),
+    ("a[b", 256, "G2@1:2"),
+    ("f(*", 256, "G2@1:2"),
+    ("-", 256, "G2@1:1"),
+    ("(Point<1> [1d]) a", 255, "G2@1:11"),
+    ("a", 257, "G2@1:1"),
+    (")", 257, "G1@1:1"),
 ];
 
 /// Puts what a node is and its place behind what is shown.
@@ -534,7 +327,7 @@ fn show_type(alloc: Global, written: &TypeName, shown: &mut Vec<u8>) -> Result<(
         shown.extend_from_slice(brackets.as_bytes())?;
         show_qualifiers(alloc, &grid.qualifiers, shown)?;
     }
-    shown.push(b')')
+    shown.extend_from_slice(b")")
 }
 
 /// Puts a part behind what is shown.
@@ -635,7 +428,7 @@ fn show(tree: &Expr, alloc: Global, shown: &mut Vec<u8>) -> Result<(), AllocErro
             show_parts(indices, alloc, shown)?;
         }
     }
-    shown.push(b')')
+    shown.extend_from_slice(b")")
 }
 
 /// The tokens of a text.
@@ -645,67 +438,44 @@ fn tokens(alloc: Global, text: &[u8]) -> Result<Vec<Token>, Fail>
     Ok(lex(alloc, text)?)
 }
 
-/// What is answered for a text: its tree as shown, the number of tokens read and the weight used, or the refusal.
-#[derive(Debug, PartialEq)]
-enum Answer {
-    Tree(Vec<u8>, usize, u32),
-    Refused(Rule, u32, u32),
-    Memory,
-}
-
-fn answer(alloc: Global, text: &[u8], form: Form, weight: u32) -> Result<Answer, Fail> {
+/// What is answered for a text.
+fn answered(alloc: Global, text: &[u8], form: Form, weight: u32) -> Result<Vec<u8>, Fail> {
     let list = tokens(alloc, text)?;
+    let mut shown = Vec::new(alloc);
     match parse_expr(alloc, &list, 0, form, weight) {
         Ok((tree, size, used)) => {
-            let mut shown = Vec::new(alloc);
             show(&tree, alloc, &mut shown)?;
-            Ok(Answer::Tree(shown, size, used))
+            let rest = format!(in alloc; " {size} {used}")?;
+            shown.extend_from_slice(rest.as_bytes())?;
         }
-        Err(ParseErr::Refused(refusal)) => Ok(Answer::Refused(
-            refusal.rule,
-            refusal.place.line,
-            refusal.place.col,
-        )),
-        Err(ParseErr::Memory) => Ok(Answer::Memory),
+        Err(ParseErr::Refused(refusal)) => {
+            let rule = format!(in alloc; "{:?}", refusal.rule)?;
+            show_node(alloc, rule.as_bytes(), refusal.place, &mut shown)?;
+        }
+        Err(ParseErr::Memory) => (),
     }
+    Ok(shown)
 }
 
 #[test]
-fn expressions_have_their_trees(rt: HostRuntime) -> Result<(), Fail> {
-    for (text, tree, size, used) in TREES {
-        let expected = Answer::Tree(tree.to_vec(rt.alloc())?, size, used);
-        assert_eq!(rt; answer(rt.alloc(), text, Form::Whole, 0)?, expected);
-    }
-    for (text, form, tree, size, used) in PARTS {
-        let expected = Answer::Tree(tree.to_vec(rt.alloc())?, size, used);
-        assert_eq!(rt; answer(rt.alloc(), text, form, 0)?, expected);
+fn texts_have_their_answers(rt: HostRuntime) -> Result<(), Fail> {
+    for (form, cases) in CASES {
+        for case in cases.split('\n') {
+            let (text, expected) = case.split_once(" => ").ok_or("a case without an arrow")?;
+            let found = answered(rt.alloc(), text.as_bytes(), form, 0)?;
+            assert_eq!(rt; found.as_slice(), expected.as_bytes(), "{text}");
+        }
     }
     Ok(())
 }
 
 #[test]
-fn texts_are_refused(rt: HostRuntime) -> Result<(), Fail> {
-    for (text, line, col) in REFUSED {
-        let expected = Answer::Refused(Rule::G1, line, col);
-        assert_eq!(rt; answer(rt.alloc(), text, Form::Whole, 0)?, expected);
-    }
-    for (text, form, line, col) in REFUSED_PARTS {
-        let expected = Answer::Refused(Rule::G1, line, col);
-        assert_eq!(rt; answer(rt.alloc(), text, form, 0)?, expected);
-    }
-    for (text, weight, line, col) in HEAVY {
-        let expected = Answer::Refused(Rule::G2, line, col);
-        assert_eq!(rt; answer(rt.alloc(), text, Form::Whole, weight)?, expected);
+fn weights_are_counted_on(rt: HostRuntime) -> Result<(), Fail> {
+    for (text, weight, expected) in WEIGHTS {
+        let found = answered(rt.alloc(), text.as_bytes(), Form::Whole, weight)?;
+        assert_eq!(rt; found.as_slice(), expected.as_bytes(), "{text}");
     }
     Ok(())
-}
-
-/// The weight used by an expression.
-fn weight_used(alloc: Global, text: &[u8], weight: u32) -> Result<Option<u32>, Fail> {
-    match answer(alloc, text, Form::Whole, weight)? {
-        Answer::Tree(_, _, used) => Ok(Some(used)),
-        _ => Ok(None),
-    }
 }
 
 /// A byte over and over, and a text behind it.
@@ -715,37 +485,35 @@ fn many(alloc: Global, byte: u8, count: usize, behind: &[u8]) -> Result<Vec<u8>,
     Ok(text)
 }
 
-#[test]
-fn weights_are_counted_on(rt: HostRuntime) -> Result<(), Fail> {
-    let alloc = rt.alloc();
-    for (text, weight, used) in LIGHT {
-        assert_eq!(rt; weight_used(alloc, text, weight)?, Some(used));
-    }
-    let light = many(alloc, b'!', 256, b"a")?;
-    assert_eq!(rt; weight_used(alloc, &light, 0)?, Some(256));
-    let parens = many(alloc, b')', 256, b" a")?;
-    let mut grouped = many(alloc, b'(', 256, b"a")?;
-    grouped.extend_from_slice(&parens)?;
-    assert_eq!(rt; weight_used(alloc, &grouped, 0)?, Some(256));
-    Ok(())
+/// The end of what is answered for a text.
+fn last_bytes(alloc: Global, text: &[u8], count: usize) -> Result<Vec<u8>, Fail> {
+    let mut found = answered(alloc, text, Form::Whole, 0)?;
+    Ok(found.split_off(found.len().saturating_sub(count))?)
 }
 
 #[test]
-fn long_texts_are_refused(rt: HostRuntime) -> Result<(), Fail> {
+fn operators_stand_256_deep_at_most(rt: HostRuntime) -> Result<(), Fail> {
     let alloc = rt.alloc();
+    let closed = many(alloc, b')', 256, b"")?;
     let cases = [
-        (many(alloc, b'!', 257, b"a")?, Rule::G2, 257),
-        (many(alloc, b'!', 257, b"")?, Rule::G2, 257),
-        (many(alloc, b'!', 256, b")")?, Rule::G1, 257),
-        (many(alloc, b'!', 256, b"a + b")?, Rule::G2, 259),
-        (many(alloc, b'!', 256, b"f(a)")?, Rule::G2, 258),
-        (many(alloc, b'(', 300, b"a")?, Rule::G2, 257),
-        (many(alloc, b'(', 100000, b"")?, Rule::G2, 257),
+        (many(alloc, b'!', 256, b"a")?, b" 257 256".as_slice()),
+        (many(alloc, b'(', 256, b"a)")?, b"G1@1:259"),
+        (many(alloc, b'!', 257, b"a")?, b"G2@1:257"),
+        (many(alloc, b'!', 257, b"")?, b"G2@1:257"),
+        (many(alloc, b'!', 256, b")")?, b"G1@1:257"),
+        (many(alloc, b'!', 256, b"a + b")?, b"G2@1:259"),
+        (many(alloc, b'!', 256, b"f(a)")?, b"G2@1:258"),
+        (many(alloc, b'(', 300, b"a")?, b"G2@1:257"),
+        (many(alloc, b'(', 100000, b"")?, b"G2@1:257"),
     ];
-    for (text, rule, col) in &cases {
-        let expected = Answer::Refused(*rule, 1, *col);
-        assert_eq!(rt; answer(alloc, text, Form::Whole, 0)?, expected);
+    for (text, expected) in &cases {
+        let found = last_bytes(alloc, text, 8)?;
+        assert_eq!(rt; found.as_slice(), *expected);
     }
+    let mut grouped = many(alloc, b'(', 256, b"a")?;
+    grouped.extend_from_slice(&closed)?;
+    let found = answered(alloc, &grouped, Form::Whole, 0)?;
+    assert_eq!(rt; found.as_slice(), b"a@1:257 513 256".as_slice());
     Ok(())
 }
 
