@@ -20,17 +20,16 @@ use Rattle.ti_lang.specs.Spelling.Types.{Based, Qualified, Gridded, FieldType, C
 use Rattle.ti_lang.specs.Spelling.Types as types
 use Rattle.ti_lang.specs.Spelling.Expressions.{Ending, Target, Call, Other, Whole, Prefixed, Postfixed, Args, Listed, Ranges, Range}
 use Rattle.ti_lang.specs.Spelling.Expressions as grammar
-use Rattle.ti_parse_expr.specs.Input.{At, Outcome, place, Parser, and_then, kind, next, sees, sees_word, spells, expect_by, take_token, name_with, named_by}
-use Rattle.ti_parse_expr.specs.Types.{base as type_base, grid, grids, field_type, qualifiers}
+use Rattle.ti_parse_expr.specs.Input.{At, Outcome, place, Parser, and_then, kind, next, sees, spells, expect_by, take_token, name_with, named_by}
+use Rattle.ti_parse_expr.specs.Types.{base as type_base, grid, grids}
 use Rattle.ti_parse_expr.specs.Expr as spec
 use Rattle.ti_parse_expr.specs.Expr.{Operand, begins_type, is_dim, more_args, args, more_parts, parts_from, parts, range_from, more_ranges, ranges_from, bracket, process_name, process, named, member, index, postfix, group, operand, operation, climb, cast, cast_from, cast_from_grid, group_from, paren_name_bracket, paren_name, paren, unary, prefix, level, expr}
 use Rattle.ti_parse_expr.proofs.Law.{Says}
-use Rattle.ti_parse_expr.proofs.Phrases.{bound, binds, binds_small, strength_small, strength_some, prefixed_some, whole_some, Post}
+use Rattle.ti_parse_expr.proofs.Phrases.{bound, binds, binds_small, strength_small, prefixed_some, whole_some}
 use Rattle.ti_parse_expr.proofs.Sound.{Below, expr_says}
 use Rattle.ti_parse_expr.proofs.Follows.{then_ok, and_then_assoc, first_of_two, test_reads, expect_reads, goes, is_name, last_kind, last_append, NoCall, Stops, IsCloser, closer_stops, paren_closes, bracket_closes, comma_closes, colon_closes, operator_ends}
-use Rattle.ti_parse_expr.proofs.SoundTypes.{is_named}
 use Rattle.ti_parse_expr.proofs.CompleteTypes.{base_reads, EndsType, field_type_reads, grid_reads, grids_read, gridded_front}
-use Rattle.ti_parse_expr.proofs.Fronts.{begins, front_whole, not_close, not_type, not_dim, listed_opens}
+use Rattle.ti_parse_expr.proofs.Fronts.{begins, front_whole, not_type, not_dim, listed_opens}
 
 module _ (turns : ℕ) (expr : ℕ → Parser Exp)
     (expr_reads : (n : ℕ) (l r : List Token) (x : Exp) → 1 ≤ n → n ≤ 11 → Whole n l x → Stops n l r → length (l ++ r) < turns → expr n (l ++ r) ≡ Ok (x, r)) where

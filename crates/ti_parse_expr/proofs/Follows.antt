@@ -1,12 +1,12 @@
 -- Steps that are known to go on, and what follows a phrase that ends.
-use Rattle.std.proofs.Common.{◌≡◌, ℕ, suc, ◌<◌, ◌≤◌, List, [], ◌∷◌, ◌++◌, length, Option, Some, None, is_some, Ok, Err, Result, refl, sym, ap, ◌∙◌, subst, arith, true, false, Bool, if◌then◌else◌}
+use Rattle.std.proofs.Common.{◌≡◌, ℕ, ◌<◌, ◌≤◌, List, [], ◌∷◌, ◌++◌, Some, Ok, Err, refl, ap, ◌∙◌, arith, true, false, Bool, if◌then◌else◌}
 use Rattle.ti_lang.specs.declared.token.Token.{Token}
 use Rattle.ti_lang.specs.declared.token.TokenKind.{TokenKind}
 use Rattle.ti_lang.specs.declared.token.TokenKind.TheVariants as k
 use Rattle.ti_lang.specs.declared.tree.exprs.BinaryOperator.{BinaryOperator}
 use Rattle.ti_lang.specs.Tokens.{same_kind}
 use Rattle.ti_lang.specs.Spelling.Operators.{infix_of}
-use Rattle.ti_parse_expr.specs.Input.{At, Halt, Outcome, Parser, and_then, kind, sees, expect_by, take_token}
+use Rattle.ti_parse_expr.specs.Input.{At, Outcome, Parser, and_then, kind, sees, expect_by, take_token}
 use Rattle.ti_parse_expr.proofs.Phrases.{binds}
 
 pub then_ok : {A B : Type 0} {out : Outcome A} {x : A} {r : List Token} (k : A → Parser B) → out ≡ Ok (x, r) → and_then out k ≡ k x r

@@ -1,12 +1,12 @@
 -- The laws of reading a phrase of each form.
-use Rattle.std.proofs.Common.{◌≡◌, ◌⊎◌, inl, inr, ℕ, suc, ◌+◌, ◌<◌, ◌≤◌, List, [], ◌∷◌, ◌++◌, length, Ok, refl, sym, ap, ◌∙◌, subst, arith}
+use Rattle.std.proofs.Common.{◌≡◌, ◌⊎◌, inl, inr, ℕ, suc, ◌<◌, ◌≤◌, List, [], ◌∷◌, ◌++◌, length, Ok, ◌∙◌, arith}
 use Rattle.ti_lang.specs.declared.token.Token.{Token}
 use Rattle.ti_lang.specs.Trees.Expressions.{Exp}
-use Rattle.ti_lang.specs.Spelling.Expressions.{Ending, Whole, Postfixed}
+use Rattle.ti_lang.specs.Spelling.Expressions.{Postfixed}
 use Rattle.ti_parse_expr.specs.declared.parse.Form.{Form}
 use Rattle.ti_parse_expr.specs.declared.parse.Form.TheVariants as form
 use Rattle.ti_parse_expr.specs.Answers.{Phrase, BeginsPhrase}
-use Rattle.ti_parse_expr.specs.Input.{and_then, kind, take_token, take_within}
+use Rattle.ti_parse_expr.specs.Input.{and_then, take_token, take_within}
 use Rattle.ti_parse_expr.specs.Expr.{phrase, operand, expr}
 use Rattle.ti_parse_expr.proofs.Law.{BeginsIn, Said, Any, then_said, as_said, done_said, ended}
 use Rattle.ti_parse_expr.proofs.Phrases.{Post, binds_small}

@@ -1,5 +1,5 @@
 -- A phrase goes on with the token behind it, or it can end there.
-use Rattle.std.proofs.Common.{◌≡◌, ◌⊎◌, inl, inr, ℕ, suc, ◌+◌, ◌<◌, ◌≤◌, List, [], ◌∷◌, ◌++◌, length, Option, Some, None, pos, refl, sym, ap, ◌∙◌, subst, append_assoc, arith, true, false, Bool, nat_lt}
+use Rattle.std.proofs.Common.{◌≡◌, ◌⊎◌, inl, inr, ℕ, ◌+◌, ◌<◌, ◌≤◌, List, [], ◌∷◌, ◌++◌, length, Option, Some, None, pos, refl, sym, ap, ◌∙◌, subst, append_assoc, arith, true, false, Bool, nat_lt}
 use borrow.Author.Tests.{ltb-true, ltb-false}
 use Rattle.ti_lang.specs.declared.token.Token.{Token}
 use Rattle.ti_lang.specs.declared.token.TokenKind.{TokenKind}
@@ -11,12 +11,11 @@ use Rattle.ti_lang.specs.Tokens.{same_kind}
 use Rattle.ti_lang.specs.Spelling.Operators.{infix_of, strength}
 use Rattle.ti_lang.specs.Spelling.Expressions.{Ending, Target, Call, Other, Whole, Prefixed, Postfixed}
 use Rattle.ti_lang.specs.Spelling.Expressions as grammar
-use Rattle.ti_parse_expr.specs.Input.{kind}
 use Rattle.ti_parse_expr.proofs.TokenKinds.{paren_is}
 use Rattle.ti_parse_expr.proofs.Law.{BeginsIn, token}
 use Rattle.ti_parse_expr.proofs.Sound.{whole_int}
-use Rattle.ti_parse_expr.proofs.Phrases.{bound, binds, weaken, prefixed_some, whole_some, strength_some}
-use Rattle.ti_parse_expr.proofs.Follows.{goes, is_name, last_kind, last_append, NoCall, Stops}
+use Rattle.ti_parse_expr.proofs.Phrases.{bound, binds, prefixed_some, whole_some}
+use Rattle.ti_parse_expr.proofs.Follows.{goes, is_name, last_kind, last_append, Stops}
 
 -- some Postfix
 abbrev pub AnyPostfix : List Token → Exp → Type 0

@@ -1,9 +1,8 @@
 -- Reading looks no further than the token that it refuses: what stands behind that token doesn't matter, nor do more turns.
 use Rattle.std.proofs.Common.{◌≡◌, ℕ, zero, suc, ◌≤◌, List, [], ◌∷◌, ◌++◌, length, Ok, Err, refl, sym, ap, ◌∙◌, subst, append_assoc, arith, length-append}
 use Rattle.ti_lang.specs.declared.token.Token.{Token}
-use Rattle.ti_lang.specs.Trees.Expressions.{Exp}
 use Rattle.ti_parse_expr.specs.Input.{At, Spent, Outcome, Parser, and_then, kind, place, take_token}
-use Rattle.ti_parse_expr.specs.Expr.{Operand, operand, expr}
+use Rattle.ti_parse_expr.specs.Expr.{operand, expr}
 use Rattle.ti_parse_expr.proofs.Related.{expr_related, operand_related}
 
 pub cancel : (a b r : List Token) → a ++ r ≡ b ++ r → a ≡ b

@@ -1,6 +1,5 @@
 -- Phrases of the grammar with their closing brackets, and what they are made of.
-use Rattle.std.proofs.Common.{◌≡◌, ℕ, zero, suc, ◌+◌, ◌<◌, ◌≤◌, List, [], ◌∷◌, ◌++◌, length, Option, Some, None, Ok, refl, sym, ap, ◌∙◌, subst, append_assoc, arith, length-append, true, false, Bool}
-use Rattle.std.specs.Str.{bytes_eq}
+use Rattle.std.proofs.Common.{◌≡◌, ℕ, ◌<◌, ◌≤◌, List, [], ◌∷◌, ◌++◌, length, Option, Some, None, sym, ap, subst, append_assoc, arith, length-append, true}
 use Rattle.std.specs.Cmp.Lexicographic.{same_text}
 use Rattle.ti_lang.specs.declared.token.Token.{Token}
 use Rattle.ti_lang.specs.declared.token.TokenKind.{TokenKind}
@@ -12,9 +11,8 @@ use Rattle.ti_lang.specs.Trees.Expressions as e
 use Rattle.ti_lang.specs.Spelling.Operators.{infix_of, strength}
 use Rattle.ti_lang.specs.Spelling.Expressions.{Ending, Target, Call, Other, Whole, Prefixed, Postfixed, Args, Listed, Ranges, Range}
 use Rattle.ti_lang.specs.Spelling.Expressions as grammar
-use Rattle.ti_parse_expr.specs.Input.{kind, spells}
+use Rattle.ti_parse_expr.specs.Input.{spells}
 use Rattle.ti_parse_expr.specs.Expr.{Operand}
-use Rattle.ti_parse_expr.proofs.Law.{BeginsIn, token}
 
 -- ---- operators
 

@@ -1,5 +1,5 @@
 -- A relation between parsers that the steps keep holds between two ways to read expressions.
-use Rattle.std.proofs.Common.{◌≡◌, ℕ, zero, suc, ℤ, ◌+◌, List, [], ◌∷◌, ◌++◌, Option, Some, None, is_some, Ok, Err, refl, true, false, Bool, nat_lt, if◌then◌else◌, codes}
+use Rattle.std.proofs.Common.{◌≡◌, ℕ, zero, suc, ◌+◌, List, [], ◌∷◌, ◌++◌, Option, Some, None, is_some, Ok, Err, refl, true, false, Bool, nat_lt, if◌then◌else◌, codes}
 use Rattle.ti_base.specs.declared.place.Place.{Place}
 use Rattle.ti_lang.specs.declared.token.TokenKind.{TokenKind}
 use Rattle.ti_lang.specs.declared.token.TokenKind.TheVariants as k
@@ -15,7 +15,7 @@ use Rattle.ti_lang.specs.Trees.Expressions as e
 use Rattle.ti_lang.specs.Tokens.{same_kind}
 use Rattle.ti_lang.specs.Spelling.Operators.{prefix_of, infix_of, strength, qualifier_of}
 use Rattle.ti_lang.specs.Spelling.Expressions.{Target, Call, Other}
-use Rattle.ti_parse_expr.specs.Input.{At, Spent, Parser, and_then, kind, place, sees, sees_word, spells, expect_by, take_token, name_with, named_by}
+use Rattle.ti_parse_expr.specs.Input.{At, Spent, Parser, and_then, kind, place, sees, spells, expect_by, take_token, name_with, named_by}
 use Rattle.ti_parse_expr.specs.Types as types
 use Rattle.ti_parse_expr.specs.Types.{dim_of, dimension, arity, base as type_base, qualifiers, grid, grids, field_type}
 use Rattle.ti_parse_expr.specs.Expr as spec

@@ -1,5 +1,5 @@
 -- What reading an expression says of the grammar: soundness, completions, and that turns suffice.
-use Rattle.std.proofs.Common.{◌≡◌, ℕ, zero, suc, ℤ, pos, ◌+◌, ◌<◌, ◌≤◌, List, [], ◌∷◌, ◌++◌, length, Option, Some, None, is_some, Ok, Err, refl, sym, ap, ◌∙◌, subst, append_assoc, arith, length-append, true, false, Bool, nat_lt, if◌then◌else◌, codes}
+use Rattle.std.proofs.Common.{◌≡◌, ℕ, zero, suc, pos, ◌+◌, ◌<◌, ◌≤◌, List, [], ◌∷◌, ◌++◌, length, Option, Some, None, is_some, Ok, Err, refl, sym, ap, ◌∙◌, subst, append_assoc, arith, length-append, true, false, Bool, nat_lt, if◌then◌else◌, codes}
 use borrow.Author.Tests.{ltb-true, ltb-false}
 use Rattle.ti_base.specs.declared.place.Place.{Place}
 use Rattle.ti_lang.specs.declared.token.Token.{Token}
@@ -19,14 +19,14 @@ use Rattle.ti_lang.specs.Spelling.Types.{Based, FieldType, CastType, Gridded, is
 use Rattle.ti_lang.specs.Spelling.Types as types
 use Rattle.ti_lang.specs.Spelling.Expressions.{Ending, Target, Call, Other, Whole, Prefixed, Postfixed, Args, Listed, Ranges, Range}
 use Rattle.ti_lang.specs.Spelling.Expressions as grammar
-use Rattle.ti_parse_expr.specs.Input.{At, Outcome, Parser, and_then, kind, next, sees, sees_word, spells, expect_by, take_token, named_by}
+use Rattle.ti_parse_expr.specs.Input.{At, Outcome, Parser, and_then, kind, next, sees, spells, expect_by, take_token, named_by}
 use Rattle.ti_parse_expr.specs.Types.{base as type_base, grid, grids, field_type}
 use Rattle.ti_parse_expr.specs.Expr as spec
 use Rattle.ti_parse_expr.specs.Expr.{Operand, begins_type, is_dim, more_args, args, more_parts, parts_from, parts, range_from, more_ranges, ranges_from, bracket, process_name, process, named, member, index, postfix, group, operand, operation, climb, cast, cast_from, cast_from_grid, group_from, paren_name_bracket, paren_name, paren, unary, prefix, level, expr}
-use Rattle.ti_parse_expr.proofs.TokenKinds.{comma_is, paren_is, close_is, bracket_is, shut_is, dot_is, colon_is}
+use Rattle.ti_parse_expr.proofs.TokenKinds.{comma_is, paren_is, close_is, shut_is, dot_is, colon_is}
 use Rattle.ti_parse_expr.proofs.Law.{BeginsIn, Said, Any, then_said, after_said, as_said, done_said, want_said, last_said, refused_said, spent_said, if_said, append_nil, ended, token}
 use Rattle.ti_parse_expr.proofs.SoundTypes.{grid_says, grids_say, field_type_says, any_qualifiers, qualified_says, reserved_says, is_named, reserved_not_alone, qualified_not_alone, gridded_not_alone, gridded_append, MoreGrids, GridRest}
-use Rattle.ti_parse_expr.proofs.Phrases.{bound, binds, bound_small, binds_small, strength_small, strength_some, spells_is, Post, ArgsClosed, args_closed, PartsClosed, parts_closed, RangesClosed, ranges_closed, call_made, member_made, index_made, point_made, rect_made, listed_snoc, ranges_snoc, weaken, whole_prefixed, postfixed_some, prefixed_some}
+use Rattle.ti_parse_expr.proofs.Phrases.{bound, binds, binds_small, strength_small, strength_some, spells_is, Post, ArgsClosed, args_closed, PartsClosed, parts_closed, RangesClosed, ranges_closed, call_made, member_made, index_made, point_made, rect_made, listed_snoc, ranges_snoc, weaken, whole_prefixed, prefixed_some}
 
 -- ---- each list that is left can be gone on with
 

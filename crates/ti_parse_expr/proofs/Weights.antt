@@ -1,14 +1,11 @@
 -- Weights of fronts, and where a list is cut.
-use Rattle.std.proofs.Common.{◌≡◌, ◌⊎◌, inl, inr, ℕ, zero, suc, ◌+◌, ◌-◌, ◌<◌, ◌≤◌, List, [], ◌∷◌, ◌++◌, length, Option, Some, None, refl, sym, ap, ◌∙◌, subst, arith, length-append, true, false, Bool, if◌then◌else◌, take, drop, append_assoc}
+use Rattle.std.proofs.Common.{◌≡◌, inl, inr, ℕ, zero, suc, ◌+◌, ◌-◌, ◌<◌, ◌≤◌, List, [], ◌∷◌, ◌++◌, length, refl, sym, ap, ◌∙◌, subst, arith, length-append, true, false, Bool, if◌then◌else◌, take, drop, append_assoc}
 use Rattle.std.proofs.Math.Seq.{take-append_seam}
 use Rattle.std.proofs.lemmas.List.{take_all, length-drop}
 use Rattle.ti_lang.specs.declared.token.Token.{Token}
-use Rattle.ti_lang.specs.declared.token.TokenKind.{TokenKind}
-use Rattle.ti_lang.specs.declared.token.TokenKind.TheVariants as k
 use Rattle.ti_lang.specs.Spelling.Weights.{counts, arity_behind, weigh, weigh_behind}
 use Rattle.ti_parse_expr.specs.Answers.{EndsAtEnd, IsLight, most_weight}
 use Rattle.ti_parse_expr.specs.Reach.{ends_expression, weighed, onward, reach, reach_by, IsCut}
-use Rattle.ti_parse_expr.proofs.Law.{append_nil}
 
 -- more tokens weigh no less
 pub weigh_front : (n : ℕ) (a b : List Token) → weigh_behind n a ≤ weigh_behind n (a ++ b)

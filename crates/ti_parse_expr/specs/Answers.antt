@@ -10,7 +10,6 @@ use Rattle.ti_lang.specs.Spelling.Expressions.{Ending, Whole, Postfixed}
 use Rattle.ti_lang.specs.Spelling.Weights.{weigh}
 use Rattle.ti_rules.specs.declared.rule.Rule.{Rule}
 use Rattle.ti_rules.specs.declared.rule.Rule.TheVariants.{G1, G2}
-use Rattle.ti_rules.specs.declared.refusal.Refusal.{Refusal}
 use Rattle.ti_parse_expr.specs.declared.parse.Form.{Form}
 use Rattle.ti_parse_expr.specs.declared.parse.Form.TheVariants as form
 use Rattle.ti_parse_expr.specs.declared.error.ParseErr.{ParseErr}

@@ -495,8 +495,8 @@ impl<F: Fn(Global, &mut Tokens<'_>, usize, u8) -> Result<Expr, Stop>> Grammar<F>
     {
         let place = tokens.place();
         tokens.take()?;
-        let inner = Box::new(self.alloc, self.expr(tokens, 11)?)?;
-        Ok(Expr::Unary(place, op, inner))
+        let operand = Box::new(self.alloc, self.expr(tokens, 11)?)?;
+        Ok(Expr::Unary(place, op, operand))
     }
 
     #[tactic(auto, unfolding(crate::specs::Expr::prefix))]

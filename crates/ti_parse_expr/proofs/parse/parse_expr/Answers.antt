@@ -1,10 +1,9 @@
-use Rattle.std.proofs.Common.{rules, ◌≡◌, length, Err, Ok, ap, sym, ◌∙◌, subst, ◌+◌, ◌-◌, ◌≤◌, arith, take, drop, refl}
+use Rattle.std.proofs.Common.{rules, length, Err, ap, sym, ◌∙◌, subst, ◌+◌, ◌-◌, ◌≤◌, arith, take, drop, refl}
 use Rattle.std.proofs.lemmas.Grind.{common_steps}
-use Rattle.ti_rules.specs.declared.rule.Rule.TheVariants.{G1, G2}
 use Rattle.ti_lang.specs.Trees.Views.{exp_of}
 use Rattle.ti_lang.specs.Spelling.Weights.{weigh}
 use Rattle.ti_parse_expr.specs.Answers.{Answers, IsPhrase, IsNoPhrase, IsTooHeavy, most_weight}
-use Rattle.ti_parse_expr.specs.Input.{At, Spent, Fails, place, take_within}
+use Rattle.ti_parse_expr.specs.Input.{Fails, take_within}
 use Rattle.ti_parse_expr.specs.Expr.{phrase}
 use Rattle.ti_parse_expr.proofs.Answered.{SaysOk, ok_answer, refused_answer, heavy_answer}
 use Rattle.ti_parse_expr.proofs.Weights.{cut_rest, rest_ends}
