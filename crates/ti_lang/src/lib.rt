@@ -1,0 +1,8 @@
+//! The language: its programs and what they mean.
+#![tactic(auto)]
+
+mod laws;
+mod listing;
+
+pub use laws::{aligned, one_next, one_process};
+pub use listing::{Listing, Operand, Statement};
