@@ -1,0 +1,100 @@
+// A sink in memory.
+ghost use Rattle.std.specs.Prelude.{◌≡◌, ◌-◌, ◌≤◌, [], true, ◌||◌, min, length, OnErr, IfOk};
+ghost use Rattle.ti_io.specs.Faults.{HasCause};
+ghost use Rattle.ti_io.specs.Sink.{WriteAnswers};
+ghost use Rattle.ti_io.specs.InMemory.{no_turns, is_due, finds_no_room, TakesTurn};
+
+use crate::turns::Schedule;
+use crate::{Failed, Sink};
+use std::alloc::Global;
+use std::marker::Model;
+use ti_base::Memory;
+
+/// Takes bytes into memory, as many as there is room for. A call fails exactly where its number, from 0
+/// over both methods, stands in a list, or where it would write while there is no room.
+///
+/// Contracts see the bytes taken, the most that one write takes, the most that all writes take, and
+/// which calls fail.
+#[derive(Drop)]
+pub struct MemSink {
+    taken: Vec<u8>,
+    piece: usize,
+    room: usize,
+    schedule: Schedule,
+}
+
+impl Model for MemSink {
+    ghost use Rattle.std.specs.Prelude.{◌≤◌, vec_len, vec_capacity};
+    ghost use Rattle.ti_io.specs.InMemory.{SinkInMemory};
+
+    ghost Value = { SinkInMemory };
+
+    ghost view = { λ s. record { taken = s.taken.items; piece = s.piece; room = s.room; turns = s.schedule } };
+
+    ghost invariant = { λ s. (1 ≤ s.piece) × (vec_len s.taken ≤ s.room) × (s.room ≤ vec_capacity s.taken) };
+}
+
+impl MemSink {
+    /// A sink that takes at most `piece` bytes in one write, and `room` in all. It takes its room at once.
+    pub fn new(alloc: Global, piece: usize, room: usize, fails: Vec<u32>) -> Result<Self, Memory>
+        requires { 1 ≤ piece }
+        ensures { IfOk result (λ sink. sink ≡ record {
+            taken = [];
+            piece = piece;
+            room = room;
+            turns = no_turns fails.items;
+        }) }
+    {
+        match Vec::with_capacity(alloc, room) {
+            Ok(taken) => Ok(MemSink {
+                taken,
+                piece,
+                room,
+                schedule: Schedule::new(fails),
+            }),
+            Err(_) => Err(Memory),
+        }
+    }
+
+    /// The bytes taken so far.
+    pub fn bytes(&self) -> &[u8]
+        ensures { result.now ≡ self.now.taken }
+    {
+        self.taken.as_slice()
+    }
+}
+
+impl Sink for MemSink {
+    ghost state = { λ s. record { tells = true; taken = s.taken; faults = s.turns.faults } };
+
+    fn write(&mut self, piece: &[u8]) -> Result<usize, Failed>
+        ensures cause { HasCause (⟦<MemSink as Sink>⟧.state self.old).faults (⟦<MemSink as Sink>⟧.state self.new).faults result }
+        ensures tells { (⟦<MemSink as Sink>⟧.state self.new).tells ≡ (⟦<MemSink as Sink>⟧.state self.old).tells }
+        ensures kept { OnErr result ((⟦<MemSink as Sink>⟧.state self.new).taken ≡ (⟦<MemSink as Sink>⟧.state self.old).taken) }
+        ensures answer { IfOk result (WriteAnswers piece.now (⟦<MemSink as Sink>⟧.state self.old) (⟦<MemSink as Sink>⟧.state self.new)) }
+        ensures turn { TakesTurn (is_due self.old.turns || finds_no_room self.old piece.now) self.old.turns self.new.turns result }
+        ensures piece { self.new.piece ≡ self.old.piece }
+        ensures room { self.new.room ≡ self.old.room }
+        ensures amount { IfOk result (λ count. count ≡ min (min (length piece.now) self.old.piece) (self.old.room - length self.old.taken)) }
+    {
+        let is_full = !piece.is_empty() && self.taken.len() >= self.room;
+        self.schedule.next(is_full)?;
+        let count = piece
+            .len()
+            .min(self.piece)
+            .min(self.room - self.taken.len());
+        self.taken.extend_from_slice(&piece[..count]).unwrap();
+        Ok(count)
+    }
+
+    fn flush(&mut self) -> Result<(), Failed>
+        ensures cause { HasCause (⟦<MemSink as Sink>⟧.state self.old).faults (⟦<MemSink as Sink>⟧.state self.new).faults result }
+        ensures tells { (⟦<MemSink as Sink>⟧.state self.new).tells ≡ (⟦<MemSink as Sink>⟧.state self.old).tells }
+        ensures kept { (⟦<MemSink as Sink>⟧.state self.new).taken ≡ (⟦<MemSink as Sink>⟧.state self.old).taken }
+        ensures turn { TakesTurn (is_due self.old.turns) self.old.turns self.new.turns result }
+        ensures piece { self.new.piece ≡ self.old.piece }
+        ensures room { self.new.room ≡ self.old.room }
+    {
+        self.schedule.next(false)
+    }
+}
