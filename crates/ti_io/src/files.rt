@@ -1,6 +1,7 @@
 // The machine's files. They tell no names and no bytes.
 ghost use Rattle.std.specs.Prelude.{[], false};
 
+use crate::faults::FaultCount;
 use crate::{Failed, Source};
 use std::fs;
 use std::io::Read;
@@ -10,36 +11,33 @@ use std::rt::Files;
 ///
 /// Reads give the file found last. Before the first one nothing is left.
 #[derive(Drop)]
-pub struct FileSource<R: Files + Drop> {
-    rt: R,
+pub struct FileSource<'a, R: Files> {
+    rt: &'a R,
     file: Option<R::File>,
-    faults: u64,
+    faults: FaultCount,
 }
 
-impl<R: Files + Drop> FileSource<R> {
+impl<'a, R: Files> FileSource<'a, R> {
     /// The files that the runtime reaches.
-    pub fn new(rt: R) -> Self {
+    pub fn new(rt: &'a R) -> Self {
         FileSource {
             rt,
             file: None,
-            faults: 0,
+            faults: FaultCount::new(),
         }
     }
 }
 
-impl<R: Files + Drop> Source for FileSource<R> {
+impl<R: Files> Source for FileSource<'_, R> {
     ghost state = { λ s. record { tells = false; files = []; left = []; faults = s.faults } };
 
     fn find(&mut self, name: &str) -> Result<bool, Failed> {
-        match fs::open(&self.rt, name) {
+        match fs::open(self.rt, name) {
             Ok(file) => {
                 self.file = Some(file);
                 Ok(true)
             }
-            Err(_) => {
-                self.faults = self.faults.saturating_add(1);
-                Err(Failed)
-            }
+            Err(_) => Err(self.faults.raise()),
         }
     }
 
@@ -49,10 +47,7 @@ impl<R: Files + Drop> Source for FileSource<R> {
         };
         match file.read(buf) {
             Ok(count) => Ok(count),
-            Err(_) => {
-                self.faults = self.faults.saturating_add(1);
-                Err(Failed)
-            }
+            Err(_) => Err(self.faults.raise()),
         }
     }
 }

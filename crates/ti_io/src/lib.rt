@@ -4,6 +4,7 @@
 //! and the adapters to the machine's files and streams tell nothing but their faults.
 #![tactic(auto)]
 
+mod faults;
 mod files;
 mod memory_sink;
 mod memory_source;
@@ -20,3 +21,6 @@ pub use piece::write_piece;
 pub use sink::Sink;
 pub use source::{Failed, Source};
 pub use streams::StdSink;
+
+#[cfg(test)]
+mod tests;

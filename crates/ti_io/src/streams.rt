@@ -1,6 +1,7 @@
 // The machine's output streams. They tell no bytes.
 ghost use Rattle.std.specs.Prelude.{[], false};
 
+use crate::faults::FaultCount;
 use crate::{Failed, Sink};
 use std::io::{Stderr, Stdout, Write};
 
@@ -15,7 +16,7 @@ enum Stream {
 #[derive(Drop)]
 pub struct StdSink {
     stream: Stream,
-    faults: u64,
+    faults: FaultCount,
 }
 
 impl StdSink {
@@ -23,7 +24,7 @@ impl StdSink {
     pub fn out(rt: &HostRuntime) -> Self {
         StdSink {
             stream: Stream::Out(rt.stdout()),
-            faults: 0,
+            faults: FaultCount::new(),
         }
     }
 
@@ -31,7 +32,7 @@ impl StdSink {
     pub fn err(rt: &HostRuntime) -> Self {
         StdSink {
             stream: Stream::Err(rt.stderr()),
-            faults: 0,
+            faults: FaultCount::new(),
         }
     }
 }
@@ -46,10 +47,7 @@ impl Sink for StdSink {
         };
         match done {
             Ok(count) if count > 0 || piece.is_empty() => Ok(count),
-            _ => {
-                self.faults = self.faults.saturating_add(1);
-                Err(Failed)
-            }
+            _ => Err(self.faults.raise()),
         }
     }
 
@@ -60,10 +58,7 @@ impl Sink for StdSink {
         };
         match done {
             Ok(()) => Ok(()),
-            Err(_) => {
-                self.faults = self.faults.saturating_add(1);
-                Err(Failed)
-            }
+            Err(_) => Err(self.faults.raise()),
         }
     }
 }
