@@ -6,3 +6,4 @@ pub mod NextStep
 pub mod Processes
 pub mod Programs
 pub mod Runs
+pub mod Tokens

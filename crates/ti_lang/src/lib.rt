@@ -6,3 +6,8 @@ mod listing;
 
 pub use laws::{aligned, one_next, one_process};
 pub use listing::{Listing, Operand, Statement};
+//! The language: its tokens, its trees and their meaning.
+mod spelled;
+mod token;
+pub use spelled::Spelled;
+pub use token::{Token, TokenKind};
