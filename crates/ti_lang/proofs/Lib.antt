@@ -3,3 +3,4 @@ pub mod Entries
 pub mod Moves
 pub mod Standing
 pub mod Steps
+pub mod Bridges

@@ -7,3 +7,4 @@ pub mod Processes
 pub mod Programs
 pub mod Runs
 pub mod Tokens
+pub mod Trees

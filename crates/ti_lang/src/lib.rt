@@ -9,5 +9,7 @@ pub use listing::{Listing, Operand, Statement};
 //! The language: its tokens, its trees and their meaning.
 mod spelled;
 mod token;
+pub mod tree;
+
 pub use spelled::Spelled;
 pub use token::{Token, TokenKind};
