@@ -5,7 +5,7 @@ ghost use Rattle.ti_base.specs.declared.entry.Entry.{Entry};
 ghost use Rattle.ti_lang.specs.Programs.{listed_program};
 ghost use Rattle.ti_lang.specs.Processes.{Setting, Process};
 ghost use Rattle.ti_lang.specs.NextStep.{IsNext};
-ghost use Rattle.ti_lang.specs.Runs.{World};
+ghost use Rattle.ti_lang.specs.Runs.{World, IsRun, IsSolo};
 ghost use Rattle.ti_lang.specs.Alignment.{IsAligned};
 
 use crate::Listing;
@@ -20,6 +20,12 @@ pub fn one_next()
 pub fn one_process()
     ensures { (s : Setting) (es : List Entry) (i : ℕ) (p q : Process) → World s es i p → World s es i q → p ≡ q }
 {}
+
+/// The run of the lowest-numbered process that can take an entry is a run.
+pub fn solo_is_run()
+    ensures { (s : Setting) (es : List Entry) → IsSolo s es → IsRun s es }
+{
+}
 
 /// In every run of a program, with every number of processes and every fuel, all processes meet the
 /// same collectives.

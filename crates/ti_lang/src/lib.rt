@@ -7,7 +7,7 @@ mod spelled;
 mod token;
 pub mod tree;
 
-pub use laws::{aligned, one_next, one_process};
+pub use laws::{aligned, one_next, one_process, solo_is_run};
 pub use listing::{Listing, Operand, Statement};
 pub use spelled::Spelled;
 pub use token::{Token, TokenKind};
