@@ -1,0 +1,7 @@
+//! The command as one call.
+#![tactic(auto)]
+
+mod ending;
+mod line;
+mod reading;
+mod words;
