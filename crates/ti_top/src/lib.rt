@@ -1,4 +1,4 @@
-//! The command as one call.
+//! The whole of titan as one call.
 #![tactic(auto)]
 
 mod ending;

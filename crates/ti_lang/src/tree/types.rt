@@ -1,0 +1,47 @@
+// Types as they are written.
+
+use crate::Spelled;
+use ti_base::Place;
+
+/// A word that qualifies what it directly follows.
+#[derive(Clone, Copy, Debug, PartialEq, Eq)]
+pub enum QualifierWord {
+    Single,
+    Local,
+}
+
+/// A qualifier, at its word.
+#[derive(Clone, Copy, Debug, PartialEq, Eq)]
+pub struct Qualifier {
+    pub word: QualifierWord,
+    pub place: Place,
+}
+
+/// What a type begins with.
+#[derive(Debug, Drop)]
+pub enum Base {
+    Int,
+    Boolean,
+    /// With the number of dimensions, as in the next two.
+    Point(u8),
+    RectDomain(u8),
+    Domain(u8),
+    SharedRegion,
+    /// A class, at its name.
+    Named(Place, Spelled),
+}
+
+/// The brackets of a grid with its number of dimensions, and what qualifies the grid.
+#[derive(Debug, Drop)]
+pub struct Brackets {
+    pub dim: u8,
+    pub qualifiers: Vec<Qualifier>,
+}
+
+/// A type: a base with what qualifies it, and the brackets behind it from the outermost grid on.
+#[derive(Debug, Drop)]
+pub struct TypeName {
+    pub base: Base,
+    pub qualifiers: Vec<Qualifier>,
+    pub grids: Vec<Brackets>,
+}

@@ -1,0 +1,117 @@
+// The rules that a text must keep.
+ghost use Rattle.std.specs.Prelude.{◌≡◌};
+ghost use Rattle.ti_rules.specs.Rules.{number_of, text_of};
+
+/// A rule that a text can break, by the code that users see.
+///
+/// The order is that of the rules: of two broken at one place, the one listed first is reported.
+#[derive(Clone, Copy, Debug, PartialEq, Eq)]
+pub enum Rule {
+    /// A byte that begins no token, or one that a string can't hold.
+    X1,
+    /// A `/*` without `*/`.
+    X2,
+    /// A string whose line or text ends before its closing quote.
+    X3,
+    /// A run of digits that is no whole number from 0 to 2147483647, or has a 0 in front.
+    X4,
+    /// A text of more than 1048576 bytes.
+    X5,
+    /// A token that goes on with no text of the grammar.
+    G1,
+    /// A token too deep in statements or in an expression.
+    G2,
+    /// A name that names nothing, or `this` in a static method.
+    N1,
+    /// A name that is declared already.
+    N2,
+    /// No `public static single void main(String[] x)` in a class `Main`, or such a parameter elsewhere.
+    N3,
+    /// The 201st variable in scope.
+    N4,
+    /// Operands that the operator or form doesn't take, or an unknown member.
+    Y1,
+    /// A value that doesn't fit what is to hold it, or an assignment to a foreach variable.
+    Y2,
+    /// A condition that isn't boolean.
+    Y3,
+    /// Another number of arguments than the method or member has.
+    Y4,
+    /// What would fit with other numbers of dimensions.
+    Y5,
+    /// The value of a void call, a call where none can stand, or a `return` that doesn't go with its method.
+    Y6,
+    /// A qualifier or modifier on what can't have it, or twice in one place.
+    Y7,
+    /// A global reference where a local one is wanted.
+    Q1,
+    /// A field or element of local type that is written through a global reference.
+    Q2,
+    /// An exchange into elements of local type.
+    Q3,
+    /// An `if` with global effects and a plain condition.
+    S1,
+    /// A `while` or `for` with global effects and a plain condition.
+    S2,
+    /// A `foreach` with global effects and a plain domain.
+    S3,
+    /// A plain value declared into, assigned to or added into a single variable.
+    S4,
+    /// A plain argument for a single parameter.
+    S5,
+    /// Global effects in a method that isn't declared single.
+    S6,
+    /// A plain value returned by a method with a single result.
+    S7,
+    /// A plain root of a broadcast, or a plain region that is deleted.
+    S8,
+    /// A single result of a method that isn't declared single.
+    S9,
+}
+
+impl Rule {
+    /// The rule's place in the order of the rules, from 0.
+    pub fn number(self) -> u8
+        ensures { result ≡ number_of self }
+    {
+        self as u8
+    }
+}
+
+/// What a refusal says beside the rule's code.
+pub fn rule_text(r: Rule) -> &'static str
+    ensures { result.now ≡ text_of r }
+{
+    match r {
+        Rule::X1 => "a byte outside the language",
+        Rule::X2 => "a comment without end",
+        Rule::X3 => "a string without end",
+        Rule::X4 => "a number literal out of range",
+        Rule::X5 => "the source is too long",
+        Rule::G1 => "an unexpected token",
+        Rule::G2 => "nested too deeply",
+        Rule::N1 => "an unknown name",
+        Rule::N2 => "a name declared twice",
+        Rule::N3 => "no method Main.main of the required form",
+        Rule::N4 => "too many variables in scope",
+        Rule::Y1 => "an operand of the wrong type",
+        Rule::Y2 => "a value of the wrong type",
+        Rule::Y3 => "a condition that isn't boolean",
+        Rule::Y4 => "the wrong number of arguments",
+        Rule::Y5 => "the wrong dimension",
+        Rule::Y6 => "a value is missing or a call can't stand here",
+        Rule::Y7 => "a qualifier can't stand here",
+        Rule::Q1 => "a global reference where local is wanted",
+        Rule::Q2 => "a local part written through a global reference",
+        Rule::Q3 => "an exchange into local elements",
+        Rule::S1 => "an if with global effects needs a single condition",
+        Rule::S2 => "a loop with global effects needs a single condition",
+        Rule::S3 => "a foreach with global effects needs a single domain",
+        Rule::S4 => "a plain value for a single variable",
+        Rule::S5 => "a plain argument for a single parameter",
+        Rule::S6 => "global effects in a method that isn't single",
+        Rule::S7 => "a plain value returned as single",
+        Rule::S8 => "a root or region that isn't single",
+        Rule::S9 => "a single result of a method that isn't single",
+    }
+}
