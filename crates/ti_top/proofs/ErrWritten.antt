@@ -1,30 +1,13 @@
 -- From how the line on err was written to the clause on err.
-use Rattle.std.proofs.Common.{◌≡◌, inl, inr, ℕ, List, [], Option, arith, refl, sym, ◌∙◌, ap}
+use Rattle.std.proofs.Common.{◌≡◌, inl, inr, ℕ, List, [], Option, arith, sym, ◌∙◌, ap}
 use Rattle.std.proofs.lemmas.List.{append-nil}
 use Rattle.ti_base.specs.declared.place.Place.{Place}
 use Rattle.ti_top.specs.declared.ending.Ending.{Ending}
 use Rattle.ti_top.specs.declared.ending.Ending.TheVariants.{Done, Refused, NoCommand, CantRead, CantWrite, NoMemory}
-use Rattle.ti_top.specs.Ending.{status_of}
 use Rattle.ti_top.specs.Ended.{Ended, EndedWhole, EndedCut}
 use Rattle.ti_top.specs.Call.{Call, file_of, SinkRose}
+use Rattle.ti_top.proofs.StatusFrom.{is_done, is_cant_write}
 use Rattle.ti_top.specs.Clauses.{Says, WritesErr, line}
-
--- only a command that was done has status 0, and only a failed output has status 5
-is_done : (ending : Ending) → status_of ending ≡ 0 → ending ≡ Done
-is_done Done e = refl
-is_done (Refused place) e = absurd (omega arith)
-is_done NoCommand e = absurd (omega arith)
-is_done CantRead e = absurd (omega arith)
-is_done CantWrite e = absurd (omega arith)
-is_done NoMemory e = absurd (omega arith)
-
-is_cant_write : (ending : Ending) → status_of ending ≡ 5 → ending ≡ CantWrite
-is_cant_write Done e = absurd (omega arith)
-is_cant_write (Refused place) e = absurd (omega arith)
-is_cant_write NoCommand e = absurd (omega arith)
-is_cant_write CantRead e = absurd (omega arith)
-is_cant_write CantWrite e = refl
-is_cant_write NoMemory e = absurd (omega arith)
 
 -- the output failed before the line on err
 out_rose : (refusal_of : List ℕ → Option Place) (c : Call) (before : Ending) → before ≡ CantWrite → Says refusal_of c before → SinkRose c

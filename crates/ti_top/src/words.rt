@@ -4,6 +4,12 @@ ghost use Rattle.std.specs.Char.{is_ascii_digit};
 ghost use Rattle.std.specs.List.{list_all};
 ghost use Rattle.ti_top.specs.Job.{job_of, is_file, is_number, procs_of};
 
+// A number has at most so many digits.
+const MOST_DIGITS: usize = 10;
+
+/// A run has at most so many processes.
+pub const MOST_PROCS: u32 = 32;
+
 /// What the words ask for.
 #[derive(Clone, Copy)]
 pub struct Command<'a> {
@@ -32,7 +38,7 @@ fn has_digits_alone(word: &str) -> bool
 fn is_number(word: &str) -> bool
     ensures { result ≡ is_number word.now }
 {
-    if word.is_empty() || word.len() > 10 {
+    if word.is_empty() || word.len() > MOST_DIGITS {
         return false;
     }
     has_digits_alone(word)
@@ -48,7 +54,7 @@ fn read_procs(word: &str) -> Option<u32>
     let Ok(procs) = word.parse::<u32>() else {
         return None;
     };
-    if procs >= 1 && procs <= 32 {
+    if procs >= 1 && procs <= MOST_PROCS {
         Some(procs)
     } else {
         None
