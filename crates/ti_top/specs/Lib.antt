@@ -1,10 +1,10 @@
-pub mod FirstForm
-pub mod Team
-pub mod Walking
 pub mod Call
 pub mod Clauses
 pub mod Ended
 pub mod Ending
+pub mod FirstForm
 pub mod Job
 pub mod Line
 pub mod Reading
+pub mod Team
+pub mod Walking
