@@ -63,3 +63,8 @@ pub record Spells (text : List ℕ) (program : Program) : Type 0 where
   pub placed : ArePlaced opening program.statements
   -- `main` ends at the brace behind the last statement and a blank
   pub end : program.end ≡ place_after (opening ++ statements_text program.statements ++ 32 ∷ [])
+
+-- a text that spells no program is refused, at its first place
+pub record IsRefusedAt (text : List ℕ) (place : Place) : Type 0 where
+  pub none : (program : Program) → Spells text program → ⊥
+  pub first : place ≡ place_after []

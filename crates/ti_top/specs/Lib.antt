@@ -8,3 +8,4 @@ pub mod Line
 pub mod Reading
 pub mod Team
 pub mod Walking
+pub mod Work

@@ -1,5 +1,5 @@
 // The words of the command line.
-ghost use Rattle.std.specs.Prelude.{◌≡◌, map, string_bytes, None, Some, MatchOption};
+ghost use Rattle.std.specs.Prelude.{◌≡◌, map, string_bytes, None, Some, MatchOption, IfSome, ◌≤◌};
 ghost use Rattle.std.specs.Char.{is_ascii_digit};
 ghost use Rattle.std.specs.List.{list_all};
 ghost use Rattle.ti_top.specs.Job.{job_of, is_file, is_number, procs_of};
@@ -63,8 +63,10 @@ fn read_procs(word: &str) -> Option<u32>
 
 /// Reads the words, which may be no command.
 pub fn read_words(words: &[String]) -> Option<Command<'_>>
-    ensures { MatchOption result (job_of (map string_bytes words.now) ≡ None)
+    ensures job { MatchOption result (job_of (map string_bytes words.now) ≡ None)
         (λ c. job_of (map string_bytes words.now) ≡ Some (record { procs = c.procs; file = c.file.now })) }
+    ensures some { IfSome result (λ c. 1 ≤ c.procs) }
+    ensures most { IfSome result (λ c. c.procs ≤ MOST_PROCS) }
 {
     let (procs, file) = match words {
         [file] => (1, file.as_str()),
