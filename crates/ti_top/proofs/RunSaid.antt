@@ -5,14 +5,16 @@ use Rattle.ti_io.specs.Sink.{SinkState, Writes}
 use Rattle.ti_lang.specs.Programs.{Program}
 use Rattle.ti_lang.specs.Runs.{IsComplete, IsRun}
 use Rattle.ti_lang.specs.Lines.{lines_of}
+use Rattle.ti_lang.specs.Alignment.{IsAligned}
 use Rattle.ti_top.specs.declared.runner.How.{How}
 use Rattle.ti_top.specs.declared.runner.How.TheVariants as How
 use Rattle.ti_top.specs.declared.ending.Ending.TheVariants.{Done, NoMemory, CantWrite}
 use Rattle.ti_top.specs.Team.{AllEnded}
 use Rattle.ti_top.specs.Work.{run_of, ending_of, RunSays}
 
-pub run_said : {E : Type 0} (program : Program) (procs : ℕ) (s t : SinkState) (h : List Entry) (how : How) (r : Result (Unit {0}) E) → IsRun (run_of program procs) h → (how ≡ How.Ended → AllEnded (run_of program procs) h) → (how ≡ How.Memory → IsComplete (run_of program procs) h → ⊥) → Writes (lines_of h) s t r → RunSays program procs s t h (ending_of how r)
-run_said program procs s t h How.Ended (Ok done) run ended cut w = record {
+pub run_said : {E : Type 0} (program : Program) (procs : ℕ) (s t : SinkState) (h : List Entry) (how : How) (r : Result (Unit {0}) E) → IsAligned program → IsRun (run_of program procs) h → (how ≡ How.Ended → AllEnded (run_of program procs) h) → (how ≡ How.Memory → IsComplete (run_of program procs) h → ⊥) → Writes (lines_of h) s t r → RunSays program procs s t h (ending_of how r)
+run_said program procs s t h How.Ended (Ok done) aligned run ended cut w = record {
+  aligned = aligned;
   run = run;
   ended = λ _. ended refl;
   unfinished = λ e. absurd (let x = e in cc);
@@ -23,7 +25,8 @@ run_said program procs s t h How.Ended (Ok done) run ended cut w = record {
   lines = λ _. w.all;
   part = w.part;
 }
-run_said program procs s t h How.Memory (Ok done) run ended cut w = record {
+run_said program procs s t h How.Memory (Ok done) aligned run ended cut w = record {
+  aligned = aligned;
   run = run;
   ended = λ e. absurd (let x = e in cc);
   unfinished = λ _. cut refl;
@@ -34,7 +37,8 @@ run_said program procs s t h How.Memory (Ok done) run ended cut w = record {
   lines = λ _. w.all;
   part = w.part;
 }
-run_said program procs s t h how (Err e) run ended cut w = record {
+run_said program procs s t h how (Err e) aligned run ended cut w = record {
+  aligned = aligned;
   run = run;
   ended = λ e. absurd (let x = e in cc);
   unfinished = λ e. absurd (let x = e in cc);

@@ -9,6 +9,7 @@ use Rattle.ti_lang.specs.Programs.{Program}
 use Rattle.ti_lang.specs.Processes.{Setting}
 use Rattle.ti_lang.specs.Runs.{IsComplete, IsRun}
 use Rattle.ti_lang.specs.Lines.{lines_of}
+use Rattle.ti_lang.specs.Alignment.{IsAligned}
 use Rattle.ti_top.specs.declared.reading.ReadEnd.{ReadEnd}
 use Rattle.ti_top.specs.declared.reading.ReadEnd.TheVariants as Read
 use Rattle.ti_top.specs.declared.runner.TheConstants.{FUEL}
@@ -48,6 +49,7 @@ pub record RanNothing (out out_after : SinkState) (history : List Entry) : Type 
 
 -- the program was run, and its lines were written up to the first call that failed
 pub record RunSays (program : Program) (procs : ℕ) (out out_after : SinkState) (history : List Entry) (ending : Ending) : Type 0 where
+  pub aligned : IsAligned program
   pub run : IsRun (run_of program procs) history
   pub ended : ending ≡ Done → AllEnded (run_of program procs) history
   pub unfinished : ending ≡ NoMemory → IsComplete (run_of program procs) history → ⊥

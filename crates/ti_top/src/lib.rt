@@ -1,6 +1,7 @@
 //! The whole of titan as one call.
 #![tactic(auto)]
 
+mod command;
 mod ending;
 mod first_form;
 mod line;
@@ -11,3 +12,5 @@ mod seat;
 mod walker;
 mod words;
 mod work;
+
+pub use command::{Outcome, titan_top};

@@ -14,7 +14,7 @@ use crate::words::read_words;
 use std::alloc::Global;
 use ti_base::{Entry, Memory, Place};
 use ti_io::{Failed, Sink, Source};
-use ti_lang::{Listing, solo_is_run};
+use ti_lang::{Listing, aligned, solo_is_run};
 
 /// How the work ended, what was read, and the entries of the run.
 #[derive(Drop)]
@@ -54,6 +54,7 @@ fn run_program<K: Sink>(alloc: Global, procs: u32, listing: &Listing, out: &mut 
 {
     let run = run(alloc, listing, procs);
     solo_is_run();
+    aligned(listing);
     let lines = write_lines(out, &run.history);
     Written {
         ending: run_ending(run.how, lines),
