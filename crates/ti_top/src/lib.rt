@@ -14,3 +14,6 @@ mod words;
 mod work;
 
 pub use command::{Outcome, titan_top};
+
+#[cfg(test)]
+mod tests;
