@@ -92,9 +92,13 @@ pub data IsRun (s : Setting) : List Entry → Type 0 where
   none : IsRun s []
   more : {es all : List Entry} {i : ℕ} {e : Entry} → IsRun s es → CanTake s es i e → all ≡ es ++ e ∷ [] → IsRun s all
 
+-- every process has its end
+abbrev pub AllEnded : Setting → List Entry → Type 0
+AllEnded s es = (i : ℕ) → i < s.procs → has_end i es ≡ true
+
 -- a run is complete where it ends with a fault, or all processes have their end
 abbrev pub IsComplete : Setting → List Entry → Type 0
-IsComplete s es = (has_fault es ≡ true) ⊎ ((i : ℕ) → i < s.procs → has_end i es ≡ true)
+IsComplete s es = (has_fault es ≡ true) ⊎ AllEnded s es
 
 -- the run in which each entry is that of the lowest-numbered process that can take one
 pub data IsSolo (s : Setting) : List Entry → Type 0 where

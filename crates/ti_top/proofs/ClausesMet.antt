@@ -6,7 +6,8 @@ use Rattle.ti_io.specs.Faults.{Rose}
 use Rattle.ti_io.specs.Source.{IsMissing}
 use Rattle.ti_io.specs.Sink.{GrewBy, GrewByFront}
 use Rattle.ti_lang.specs.Programs.{Program}
-use Rattle.ti_lang.specs.Runs.{IsRun, IsComplete as IsCompleteRun, none}
+use Rattle.ti_lang.specs.Runs.{AllEnded, IsRun, IsSolo, IsComplete as IsCompleteRun, none}
+
 use Rattle.ti_lang.specs.Lines.{lines_of}
 use Rattle.ti_lang.specs.Alignment.{IsAligned}
 use Rattle.ti_top.specs.declared.reading.ReadEnd.{ReadEnd}
@@ -18,8 +19,8 @@ use Rattle.ti_top.specs.Job.{Job, job_of}
 use Rattle.ti_top.specs.Reading.{ReadsWhole}
 use Rattle.ti_top.specs.Ending.{status_of}
 use Rattle.ti_top.specs.Ended.{Ended}
-use Rattle.ti_top.specs.Team.{AllEnded}
-use Rattle.ti_top.specs.Work.{Work, run_of, RanNothing, RunSays, Ran, ReadsFile, FileSays, SaysNoCommand, SaysCommand, WorkSays}
+use Rattle.ti_top.specs.Setting.{run_of}
+use Rattle.ti_top.specs.Work.{Work, RanNothing, RunSays, Ran, ReadsFile, FileSays, SaysNoCommand, SaysCommand, WorkSays}
 use Rattle.ti_top.specs.Call.{Call, IsCommand, IsNoCommand, file_of, work_of, SourceRose, OutRose, ErrRose, Yields}
 use Rattle.ti_top.specs.Clauses.{IsReadWhole, ReadsText, IsRefused, RefusesExactly, KeepsRun, WritesOutput, IsAlignedRun, EndsRun, NothingFailed, IsComplete, Says, Meets}
 use Rattle.ti_top.proofs.StatusFrom.{StatusFrom, status_from, not_five, is_done}
@@ -61,6 +62,7 @@ output_nothing c x =
 run_nothing : (job : Job) (c : Call) → RanNothing c.out c.out_after c.history → KeepsRun job c
 run_nothing job c x = record {
   run = λ program _. subst (IsRun (run_of program job.procs)) (sym x.no_entry) none;
+  solo = λ program _. subst (IsSolo (run_of program job.procs)) (sym x.no_entry) none;
   none = λ _. x.no_entry;
 }
 
@@ -225,6 +227,7 @@ clauses_ran before job c command from whole x =
       };
       run = record {
         run = λ p spells. subst (λ q. IsRun (run_of q job.procs) c.history) (sym (x.only p spells)) says.run;
+        solo = λ p spells. subst (λ q. IsSolo (run_of q job.procs) c.history) (sym (x.only p spells)) says.solo;
         none = λ h. absurd (h x.program x.spells);
       };
       output = record {

@@ -19,7 +19,7 @@ use Rattle.ti_base.specs.declared.entry.Next.TheVariants as next
 use Rattle.ti_lang.specs.Processes.{Setting, Process, begin}
 use Rattle.ti_lang.specs.NextStep.{At, Faults, step, steps, shown, Reaches, here, After, IsNext}
 use Rattle.ti_lang.specs.NextStep as st
-use Rattle.ti_lang.specs.Runs.{is_end, is_fault, is_arrival, is_departure, entries_of, answers_of, arrivals, departures, has_end, has_fault, World, IsReady, FitsNext, entry_of, CanTake, IsComplete, IsSolo, none, more}
+use Rattle.ti_lang.specs.Runs.{is_end, is_fault, is_arrival, is_departure, entries_of, answers_of, arrivals, departures, has_end, has_fault, World, IsReady, FitsNext, entry_of, CanTake, AllEnded, IsComplete, IsSolo, none, more}
 use Rattle.ti_lang.specs.Alignment.{IsAlignedRun}
 use Rattle.ti_lang.proofs.Steps.{after_same, after_more, shows_at, next_same}
 use Rattle.ti_lang.proofs.Entries.{one, entries_own, entries_other, count_more, end_more, fault_more}
@@ -28,7 +28,7 @@ use Rattle.ti_lang.proofs.Standing.{entry_proc, plain, true_false}
 use Rattle.ti_top.specs.declared.seat.Seat.{Seat}
 use Rattle.ti_top.specs.declared.walker.Walker.{Walker}
 use Rattle.ti_top.specs.Walking.{wait_at, waits, process_of, after_step, after_done}
-use Rattle.ti_top.specs.Team.{AllEnded, is_able, Seated, Standing, steps_left, all_steps_left, GoesOn, Ends, Moves}
+use Rattle.ti_top.specs.Team.{is_able, Seated, Standing, steps_left, all_steps_left, GoesOn, Ends, Moves}
 
 and_true : (a b : Bool) → (a && b) ≡ true → (a ≡ true) × (b ≡ true)
 and_true true b h = (refl, h)

@@ -4,7 +4,7 @@ use Rattle.ti_base.specs.declared.place.Place.{Place}
 use Rattle.ti_io.specs.Source.{SameFiles, IsMissing, Holds}
 use Rattle.ti_io.specs.Sink.{IsFront, GrewBy, GrewByFront}
 use Rattle.ti_lang.specs.Programs.{Program}
-use Rattle.ti_lang.specs.Runs.{IsRun, IsComplete as IsCompleteRun}
+use Rattle.ti_lang.specs.Runs.{AllEnded, IsRun, IsSolo, IsComplete as IsCompleteRun}
 use Rattle.ti_lang.specs.Lines.{lines_of}
 use Rattle.ti_lang.specs.Alignment.{IsAligned}
 use Rattle.ti_top.specs.declared.ending.Ending.{Ending}
@@ -13,8 +13,7 @@ use Rattle.ti_top.specs.FirstForm.{Spells, IsRefusedAt}
 use Rattle.ti_top.specs.Job.{Job}
 use Rattle.ti_top.specs.Reading.{most_read}
 use Rattle.ti_top.specs.Ending.{status_of, err_line}
-use Rattle.ti_top.specs.Team.{AllEnded}
-use Rattle.ti_top.specs.Work.{run_of}
+use Rattle.ti_top.specs.Setting.{run_of}
 use Rattle.ti_top.specs.Call.{Call, IsCommand, IsNoCommand, file_of, SourceRose, OutRose, ErrRose, SinkRose, Yields}
 
 -- The words: status 3 says that they are no command, and then nothing was read.
@@ -59,9 +58,11 @@ pub record RefusesExactly (job : Job) (c : Call) : Type 0 where
   pub no_history : (place : Place) → IsRefusedAt c.text place → c.history ≡ []
   pub no_output : (place : Place) → IsRefusedAt c.text place → c.out_after.taken ≡ c.out.taken
 
--- The run: whatever the status, the history is a run of the text's program; where there is no program it is empty.
+-- The run: whatever the status, the history is a run of the text's program, and as far as it goes the one in which each
+-- entry is that of the lowest-numbered process that can take one; where there is no program it is empty.
 pub record KeepsRun (job : Job) (c : Call) : Type 0 where
   pub run : (program : Program) → Spells c.text program → IsRun (run_of program job.procs) c.history
+  pub solo : (program : Program) → Spells c.text program → IsSolo (run_of program job.procs) c.history
   pub none : ((program : Program) → Spells c.text program → ⊥) → c.history ≡ []
 
 -- The output: what out has taken in the call.

@@ -6,6 +6,7 @@ pub mod FirstForm
 pub mod Job
 pub mod Line
 pub mod Reading
+pub mod Setting
 pub mod Team
 pub mod Walking
 pub mod Work

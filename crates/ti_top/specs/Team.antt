@@ -6,7 +6,7 @@ use Rattle.ti_base.specs.declared.entry.Next.{Next}
 use Rattle.ti_base.specs.declared.entry.Next.TheVariants as next
 use Rattle.ti_lang.specs.Processes.{Setting, begin}
 use Rattle.ti_lang.specs.NextStep.{After}
-use Rattle.ti_lang.specs.Runs.{is_end, is_arrival, is_departure, entries_of, has_end, has_fault, IsSolo}
+use Rattle.ti_lang.specs.Runs.{is_end, is_arrival, is_departure, entries_of, has_fault, IsSolo}
 use Rattle.ti_top.specs.declared.seat.Seat.{Seat}
 use Rattle.ti_top.specs.Walking.{waits, process_of, after_done}
 
@@ -25,10 +25,6 @@ pub record Seated (s : Setting) (i : ℕ) (own : List Entry) (seat : Seat) : Typ
   pub within : seat.walker.at ≤ length s.program.statements
   pub few : seat.arrivals ≤ seat.walker.at
   pub spent : seat.walker.spent + waits seat.walker.wait ≤ 2 * seat.walker.at
-
--- every process has its end
-abbrev pub AllEnded : Setting → List Entry → Type 0
-AllEnded s es = (i : ℕ) → i < s.procs → has_end i es ≡ true
 
 -- the seats tell where all processes stand after the entries, which are those of the solo run so far
 pub record Standing (s : Setting) (es : List Entry) (seats : List Seat) : Type 0 where

@@ -6,13 +6,11 @@ use Rattle.ti_io.specs.Faults.{Rose}
 use Rattle.ti_io.specs.Source.{SourceState}
 use Rattle.ti_io.specs.Sink.{SinkState, GrewBy, GrewByFront}
 use Rattle.ti_lang.specs.Programs.{Program}
-use Rattle.ti_lang.specs.Processes.{Setting}
-use Rattle.ti_lang.specs.Runs.{IsComplete, IsRun}
+use Rattle.ti_lang.specs.Runs.{AllEnded, IsComplete, IsRun, IsSolo}
 use Rattle.ti_lang.specs.Lines.{lines_of}
 use Rattle.ti_lang.specs.Alignment.{IsAligned}
 use Rattle.ti_top.specs.declared.reading.ReadEnd.{ReadEnd}
 use Rattle.ti_top.specs.declared.reading.ReadEnd.TheVariants as Read
-use Rattle.ti_top.specs.declared.runner.TheConstants.{FUEL}
 use Rattle.ti_top.specs.declared.runner.How.{How}
 use Rattle.ti_top.specs.declared.runner.How.TheVariants as How
 use Rattle.ti_top.specs.declared.ending.Ending.{Ending}
@@ -20,7 +18,7 @@ use Rattle.ti_top.specs.declared.ending.Ending.TheVariants.{Done, Refused, NoCom
 use Rattle.ti_top.specs.FirstForm.{Spells, IsRefusedAt}
 use Rattle.ti_top.specs.Job.{Job, job_of}
 use Rattle.ti_top.specs.Reading.{ReadsWhole}
-use Rattle.ti_top.specs.Team.{AllEnded}
+use Rattle.ti_top.specs.Setting.{run_of}
 
 -- the source and out before and after, what was read, and the entries of the run
 pub record Work : Type 0 where
@@ -31,10 +29,6 @@ pub record Work : Type 0 where
   pub out_after : SinkState
   pub text : List ℕ
   pub history : List Entry
-
--- what the processes of a run of the program share
-abbrev pub run_of : Program → ℕ → Setting
-run_of program procs = record { program = program; procs = procs; fuel = FUEL }
 
 -- how the work ends, by how the run and the writing of its lines ended
 abbrev pub ending_of : {E : Type 0} → How → Result (Unit {0}) E → Ending
@@ -51,6 +45,7 @@ pub record RanNothing (out out_after : SinkState) (history : List Entry) : Type 
 pub record RunSays (program : Program) (procs : ℕ) (out out_after : SinkState) (history : List Entry) (ending : Ending) : Type 0 where
   pub aligned : IsAligned program
   pub run : IsRun (run_of program procs) history
+  pub solo : IsSolo (run_of program procs) history
   pub ended : ending ≡ Done → AllEnded (run_of program procs) history
   pub unfinished : ending ≡ NoMemory → IsComplete (run_of program procs) history → ⊥
   pub known : (ending ≡ Done) ⊎ (ending ≡ NoMemory) ⊎ (ending ≡ CantWrite)

@@ -1,9 +1,9 @@
 // Running a list of statements on one thread.
 ghost use Rattle.std.specs.Prelude.{◌≡◌, ◌⊎◌, ℕ, ◌+◌, ◌*◌, ◌^◌, ◌<◌, ◌≤◌, [], true, length, vec_len, position, IfOk, OnOk, OnErr};
 ghost use Rattle.ti_base.specs.declared.entry.Answer.TheVariants.{Done};
-ghost use Rattle.ti_lang.specs.Runs.{IsComplete, IsSolo, entry_of as entry_spec};
+ghost use Rattle.ti_lang.specs.Runs.{AllEnded, IsComplete, IsSolo, entry_of as entry_spec};
 ghost use Rattle.ti_top.specs.Walking.{setting_of};
-ghost use Rattle.ti_top.specs.Team.{AllEnded, Standing, is_able, all_steps_left};
+ghost use Rattle.ti_top.specs.Team.{Standing, is_able, all_steps_left};
 
 use crate::seat::Seat;
 use crate::walker::Walker;

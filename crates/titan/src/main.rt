@@ -2,15 +2,20 @@
 #![tactic(auto)]
 
 use std::env;
-use std::io;
+use std::io::{self, ErrorKind};
 use std::process::ExitCode;
 use ti_io::{FileSource, StdSink};
 use ti_top::titan_top;
 
-// The words after the program's name.
+// The words after the program's name. Words of which one is no text are no command, as no words are.
 fn words_of(rt: &HostRuntime) -> io::Result<Vec<String>> {
     let mut words = Vec::new(rt.alloc());
-    for word in env::args(rt)?.skip(1) {
+    let args = match env::args(rt) {
+        Ok(args) => args,
+        Err(e) if e.kind() == ErrorKind::InvalidData => return Ok(words),
+        Err(e) => return Err(e),
+    };
+    for word in args.skip(1) {
         words.push(word)?;
     }
     Ok(words)
