@@ -1,5 +1,5 @@
 -- Where the processes of a run stand after its entries.
-use Rattle.std.specs.Prelude.{◌≡◌, ℕ, ◌+◌, ◌-◌, ◌*◌, ◌<◌, ◌≤◌, nat_le, Bool, true, false, not, ◌&&◌, ◌||◌, is_none, if◌then◌else◌, Option, None, Some, List, length, map, count_by, sum_by, slice_index_or}
+use Rattle.std.specs.Prelude.{◌≡◌, ℕ, ◌+◌, ◌-◌, ◌*◌, ◌<◌, ◌≤◌, nat_le, Bool, true, false, not, ◌&&◌, ◌||◌, is_none, if◌then◌else◌, List, length, map, count_by, sum_by, slice_index_or}
 use Rattle.std.specs.List.{list_any, list_all}
 use Rattle.ti_base.specs.declared.entry.Entry.{Entry}
 use Rattle.ti_base.specs.declared.entry.Next.{Next}

@@ -2,6 +2,7 @@
 #![tactic(auto)]
 
 mod command;
+mod cursor;
 mod ending;
 mod first_form;
 mod line;
