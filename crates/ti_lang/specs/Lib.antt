@@ -6,5 +6,6 @@ pub mod NextStep
 pub mod Processes
 pub mod Programs
 pub mod Runs
+pub mod Tokenizing
 pub mod Tokens
 pub mod Trees

@@ -1,2 +1,3 @@
+pub mod LexicalRefusals
 pub mod Refusals
 pub mod Rules

@@ -1,0 +1,13 @@
+pub mod Bytes
+pub mod Comments
+pub mod Fronts
+pub mod Longest
+pub mod Numbers
+pub mod Only
+pub mod Runs
+pub mod Signs
+pub mod StringPieces
+pub mod Strings
+pub mod Tables
+pub mod Texts
+pub mod Words

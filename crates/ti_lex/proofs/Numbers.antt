@@ -1,0 +1,151 @@
+-- Whole numbers and dimensions.
+use Rattle.std.proofs.Common.{◌≡◌, ◌≢◌, ℕ, zero, suc, ◌+◌, ◌-◌, ◌*◌, ◌≤◌, ◌<◌, ◌==◌, min, Bool, true, false, not, ◌&&◌, ◌||◌, cond, if◌then◌else◌, Option, Some, None, List, [], ◌∷◌, ◌++◌, length, take, drop, pos, inl, inr, refl, sym, ap, ◌∙◌, subst, arith, take-append-drop}
+use Rattle.std.proofs.Math.Seq.{take-append_seam, drop-append_seam}
+use Rattle.std.proofs.lemmas.Bool.{and_parts, cases_lt, eqb-true, eqb-false, eq-eqb, ne_eqb}
+use Rattle.std.proofs.lemmas.Bool.Decides.{nat_tests}
+use Rattle.std.proofs.lemmas.List.Folds.{length-prefix_len}
+use Rattle.std.specs.Char.{is_ascii_digit, digit_value}
+use Rattle.std.specs.Int.{is_in_range}
+use Rattle.std.specs.List.{list_all, prefix_len}
+use Rattle.std.specs.Option.{option_map_or}
+use Rattle.std.specs.Str.Parse.{digits_value, digits_value_after}
+use Rattle.ti_lang.specs.declared.token.TokenKind.TheVariants as k
+use Rattle.ti_lang.specs.Tokenizing.{Piece, Spells, WrongNumber, IsPiece, HasFlaw, first_passes, is_name_byte}
+use Rattle.ti_lang.specs.Tokenizing as pieces
+use Rattle.ti_lex.specs.Reading.{Reading, Takes, Refuses, dimension, too_large, value_from, is_number, number_of, digits, number}
+use Rattle.ti_lex.proofs.Fronts.{Beats, IsSound}
+use Rattle.ti_lex.proofs.Runs.{run_ends, run_passes, run_stops}
+
+-- a value is kept as it is up to a bound, and as the bound above it
+capped_step : (v d : ℕ) → min (min v too_large * 10 + d) too_large ≡ min (v * 10 + d) too_large
+capped_step v d = grind (arith, nat_tests)
+
+-- a digit's value
+digit : (b : ℕ) → is_ascii_digit b ≡ true → digit_value b ≡ b - 48
+digit b h = grind (arith, nat_tests)
+
+value_by : (b : ℕ) (l : List ℕ) (v n : ℕ) → ((w : ℕ) → value_from (min w too_large) l ≡ min (digits_value_after 10 w (take n l)) too_large) → (t : Bool) → is_ascii_digit b ≡ t → cond t (value_from (min (min v too_large * 10 + (b - 48)) too_large) l) (min v too_large) ≡ min (digits_value_after 10 v (take (cond t (1 + n) 0) (b ∷ l))) too_large
+value_by b l v n more true h =
+    let one : 1 + n ≡ suc n = omega arith in
+    ap (λ m. value_from m l) (capped_step v (b - 48)) ∙ more (v * 10 + (b - 48)) ∙ ap (λ d. min (digits_value_after 10 (v * 10 + d) (take n l)) too_large) (sym (digit b h)) ∙ ap (λ m. min (digits_value_after 10 v (take m (b ∷ l))) too_large) (sym one)
+value_by b l v n more false h = refl
+
+-- the digits of a run are read as the number that they write, up to the bound
+value_is : (l : List ℕ) (v : ℕ) → value_from (min v too_large) l ≡ min (digits_value_after 10 v (take (prefix_len is_ascii_digit l) l)) too_large
+value_is [] v = refl
+value_is (b ∷ l) v =
+    value_by b l v (prefix_len is_ascii_digit l) (value_is l) (is_ascii_digit b) refl
+
+-- what stands at the front where a dimension does
+abbrev IsDimension : ℕ → List ℕ → Option ℕ → Type 0
+IsDimension b l None = Unit {0}
+IsDimension b l (Some n) =
+    (is_in_range 49 51 b ≡ true) × (first_passes (λ d. d == 100) l ≡ true) × (first_passes is_name_byte (drop 1 l) ≡ false) × (n ≡ b - 48)
+
+dimension_by : (b : ℕ) (l : List ℕ) (range d name : Bool) → is_in_range 49 51 b ≡ range → first_passes (λ d. d == 100) l ≡ d → first_passes is_name_byte (drop 1 l) ≡ name → IsDimension b l (if range && d && not name then Some (b - 48) else None)
+dimension_by b l true true false h i j = (h, i, j, refl)
+dimension_by b l true true true h i j = tt
+dimension_by b l true false name h i j = tt
+dimension_by b l false d name h i j = tt
+
+dimension_is : (b : ℕ) (l : List ℕ) → IsDimension b l (dimension (b ∷ l))
+dimension_is b l =
+    dimension_by b l (is_in_range 49 51 b) (first_passes (λ d. d == 100) l) (first_passes is_name_byte (drop 1 l)) refl refl refl
+
+d_no_digit : (b : ℕ) → (b == 100) ≡ true → is_ascii_digit b ≡ true → ⊥
+d_no_digit b h i = grind (arith, nat_tests)
+
+number_passes : (zero : Bool) (size value : ℕ) → (zero ≡ true → size ≡ 1) → value ≤ 2147483647 → is_number zero size value ≡ true
+number_passes true size value one fits =
+    ap (λ n. not (true && not (n == 1)) && not (value == too_large)) (one refl) ∙ ap not (ne_eqb value too_large (λ e. omega arith))
+number_passes false size value one fits = ap not (ne_eqb value too_large (λ e. omega arith))
+
+module _ (at digit : ℕ) (more rest : List ℕ) (all : list_all is_ascii_digit (digit ∷ more) ≡ true) (stop : first_passes is_ascii_digit rest ≡ false) (no_zero : digit ≡ 48 → more ≡ []) (fits : digits_value 10 (digit ∷ more) ≤ 2147483647) where
+
+  size_is : prefix_len is_ascii_digit (digit ∷ (more ++ rest)) ≡ length (digit ∷ more)
+  size_is = run_ends is_ascii_digit (digit ∷ more) rest all stop
+
+  whole_value : value_from 0 (digit ∷ (more ++ rest)) ≡ digits_value 10 (digit ∷ more)
+  whole_value =
+      let front : take (prefix_len is_ascii_digit (digit ∷ (more ++ rest))) (digit ∷ (more ++ rest)) ≡ digit ∷ more = ap (λ n. take n (digit ∷ (more ++ rest))) size_is ∙ take-append_seam (digit ∷ more) rest in
+      value_is (digit ∷ (more ++ rest)) 0 ∙ ap (λ t. min (digits_value 10 t) too_large) front ∙ omega arith
+
+  digits_read : digits at (digit ∷ (more ++ rest)) ≡ Takes (Spells (k.Int (pos (digits_value 10 (digit ∷ more))))) (at + length (digit ∷ more))
+  digits_read =
+      let passes = number_passes (digit == 48) (length (digit ∷ more)) (digits_value 10 (digit ∷ more)) (λ h. ap (λ t. length (digit ∷ t)) (no_zero (eqb-true digit 48 h))) fits in
+      ap (λ n. number_of at (digit == 48) n (value_from 0 (digit ∷ (more ++ rest)))) size_is ∙ ap (number_of at (digit == 48) (length (digit ∷ more))) whole_value ∙ ap (λ t. cond t (Takes (Spells (k.Int (pos (digits_value 10 (digit ∷ more))))) (at + length (digit ∷ more))) (Refuses WrongNumber at)) passes
+
+  d_behind : (l : List ℕ) → list_all is_ascii_digit l ≡ true → first_passes (λ d. d == 100) (l ++ rest) ≡ true → length l ≡ 0
+  d_behind [] h i = refl
+  d_behind (b ∷ l) h i =
+      absurd (d_no_digit b i (and_parts (is_ascii_digit b) (list_all is_ascii_digit l) h).0)
+
+  -- where a list begins with a whole number, that number is read, or a dimension that is longer
+  pub number_beats : Beats at (length (digit ∷ more)) (Spells (k.Int (pos (digits_value 10 (digit ∷ more))))) (number at (digit ∷ (more ++ rest)))
+  number_beats = by (dimension (digit ∷ (more ++ rest))) (dimension_is digit (more ++ rest))
+    where
+      by : (found : Option ℕ) → IsDimension digit (more ++ rest) found → Beats at (length (digit ∷ more)) (Spells (k.Int (pos (digits_value 10 (digit ∷ more))))) (option_map_or (λ n. Takes (Spells (k.Dim n)) (at + 2)) found (digits at (digit ∷ (more ++ rest))))
+      by (Some n) (range, d, name, value) =
+          let none = d_behind more (and_parts (is_ascii_digit digit) (list_all is_ascii_digit more) all).1 d in
+          inl (omega arith)
+      by None h =
+          subst (Beats at (length (digit ∷ more)) (Spells (k.Int (pos (digits_value 10 (digit ∷ more)))))) (sym digits_read) (inr (refl, refl))
+
+-- where a list begins with a dimension, that dimension is read
+pub dimension_beats : (at n : ℕ) (rest : List ℕ) → 1 ≤ n → n ≤ 3 → first_passes is_name_byte rest ≡ false → Beats at 2 (Spells (k.Dim n)) (number at ((n + 48) ∷ 100 ∷ rest))
+dimension_beats at zero rest low high stop = absurd (omega arith)
+dimension_beats at (suc zero) rest low high stop =
+    subst (λ t. Beats at 2 (Spells (k.Dim 1)) (option_map_or (λ n. Takes (Spells (k.Dim n)) (at + 2)) (if not t then Some 1 else None) (digits at (49 ∷ 100 ∷ rest)))) (sym stop) (inr (refl, refl))
+dimension_beats at (suc (suc zero)) rest low high stop =
+    subst (λ t. Beats at 2 (Spells (k.Dim 2)) (option_map_or (λ n. Takes (Spells (k.Dim n)) (at + 2)) (if not t then Some 2 else None) (digits at (50 ∷ 100 ∷ rest)))) (sym stop) (inr (refl, refl))
+dimension_beats at (suc (suc (suc zero))) rest low high stop =
+    subst (λ t. Beats at 2 (Spells (k.Dim 3)) (option_map_or (λ n. Takes (Spells (k.Dim n)) (at + 2)) (if not t then Some 3 else None) (digits at (51 ∷ 100 ∷ rest)))) (sym stop) (inr (refl, refl))
+dimension_beats at (suc (suc (suc (suc n)))) rest low high stop = absurd (omega arith)
+
+in_range : (b : ℕ) → is_in_range 49 51 b ≡ true → (49 ≤ b) × (b ≤ 51)
+in_range b h = (grind (arith, nat_tests), grind (arith, nat_tests))
+
+module _ (at b : ℕ) (l : List ℕ) (first : is_ascii_digit b ≡ true) where
+
+  value_bound : (n value : ℕ) → n ≡ prefix_len is_ascii_digit l → value ≡ value_from 0 (b ∷ l) → value ≡ min (digits_value 10 (b ∷ take n l)) too_large
+  value_bound n value run is =
+      let one : prefix_len is_ascii_digit (b ∷ l) ≡ suc n = ap (λ t. cond t (1 + prefix_len is_ascii_digit l) 0) first ∙ omega arith in
+      is ∙ value_is (b ∷ l) 0 ∙ ap (λ m. min (digits_value 10 (take m (b ∷ l))) too_large) one
+
+  leads : (n size : ℕ) → size ≡ suc n → not ((b == 48) && not (size == 1)) ≡ true → b ≡ 48 → take n l ≡ []
+  leads n size h passes led =
+      let one : size ≡ 1 = grind (arith, nat_tests) in
+      let none : n ≡ 0 = omega arith in
+      ap (λ m. take m l) none
+
+  digits_by : (n size value : ℕ) → n ≡ prefix_len is_ascii_digit l → size ≡ suc n → value ≡ value_from 0 (b ∷ l) → (t : Bool) → is_number (b == 48) size value ≡ t → IsSound at (b ∷ l) (cond t (Takes (Spells (k.Int (pos value))) (at + size)) (Refuses WrongNumber at))
+  digits_by n size value run h is true passes =
+      let (no_zero, small) = and_parts (not ((b == 48) && not (size == 1))) (not (value == too_large)) passes in
+      let bound = value_bound n value run is in
+      let apart : value ≢ too_large = grind (arith, nat_tests) in
+      let same : digits_value 10 (b ∷ take n l) ≡ value = omega arith in
+      let all : list_all is_ascii_digit (take n l) ≡ true = subst (λ m. list_all is_ascii_digit (take m l) ≡ true) (sym run) (run_passes is_ascii_digit l) in
+      let stop : first_passes is_ascii_digit (drop n l) ≡ false = subst (λ m. first_passes is_ascii_digit (drop m l) ≡ false) (sym run) (run_stops is_ascii_digit l) in
+      let long : length (take n l) ≡ n = subst (λ m. length (take m l) ≡ m) (sym run) (length-prefix_len is_ascii_digit l) in
+      let piece = pieces.number b (take n l) {rest = drop n l} (ap (λ t. t && list_all is_ascii_digit (take n l)) first ∙ all) stop (leads n size h no_zero) (omega arith) in
+      (b ∷ take n l, drop n l, ap (λ t. b ∷ t) (sym (take-append-drop n l)), omega arith, omega arith, subst (λ v. IsPiece (b ∷ take n l) (drop n l) (Spells (k.Int (pos v)))) same piece)
+  digits_by n size value run h is false passes = (0, omega arith, pieces.wrong_number b l first)
+
+  dimension_piece : (n : ℕ) (l : List ℕ) → is_in_range 49 51 b ≡ true → first_passes (λ d. d == 100) l ≡ true → first_passes is_name_byte (drop 1 l) ≡ false → n ≡ b - 48 → IsSound at (b ∷ l) (Takes (Spells (k.Dim n)) (at + 2))
+  dimension_piece n [] range d name value = cc
+  dimension_piece n (e ∷ rest) range d name value =
+      let (low, high) = in_range b range in
+      let number : n + 48 ≡ b = omega arith in
+      let piece = pieces.dimension n {rest = rest} (omega arith) (omega arith) name in
+      let at_b : IsPiece (b ∷ 100 ∷ []) rest (Spells (k.Dim n)) = subst (λ x. IsPiece (x ∷ 100 ∷ []) rest (Spells (k.Dim n))) number piece in
+      (b ∷ e ∷ [], rest, refl, omega arith, omega arith, subst (λ x. IsPiece (b ∷ x ∷ []) rest (Spells (k.Dim n))) (sym (eqb-true e 100 d)) at_b)
+
+  -- a number or a dimension that is read stands at the front
+  pub number_sound : IsSound at (b ∷ l) (number at (b ∷ l))
+  number_sound = by (dimension (b ∷ l)) (dimension_is b l)
+    where
+      by : (found : Option ℕ) → IsDimension b l found → IsSound at (b ∷ l) (option_map_or (λ n. Takes (Spells (k.Dim n)) (at + 2)) found (digits at (b ∷ l)))
+      by (Some n) (range, d, name, value) = dimension_piece n l range d name value
+      by None h =
+          let one : prefix_len is_ascii_digit (b ∷ l) ≡ suc (prefix_len is_ascii_digit l) = ap (λ t. cond t (1 + prefix_len is_ascii_digit l) 0) first ∙ omega arith in
+          digits_by (prefix_len is_ascii_digit l) (prefix_len is_ascii_digit (b ∷ l)) (value_from 0 (b ∷ l)) refl one refl (is_number (b == 48) (prefix_len is_ascii_digit (b ∷ l)) (value_from 0 (b ∷ l))) refl

@@ -1,0 +1,58 @@
+// Kinds of bytes.
+ghost use Rattle.std.specs.Prelude.{◌≡◌};
+ghost use Rattle.ti_lang.specs.Tokenizing.{is_blank, is_name_byte, is_plain, escaped};
+ghost use Rattle.ti_lex.specs.Reading.{class_of};
+
+/// What kind of piece can begin with a byte.
+#[derive(Clone, Copy, Debug)]
+pub enum Class {
+    Blank,
+    /// Also an underscore and a dollar sign.
+    Letter,
+    Digit,
+    Quote,
+    Slash,
+    Other,
+}
+
+pub fn class_of(byte: u8) -> Class
+    ensures { result ≡ class_of byte }
+{
+    match byte {
+        b' ' | b'\t' | b'\n' | b'\r' | 12 => Class::Blank,
+        b'A'..=b'Z' | b'a'..=b'z' | b'_' | b'$' => Class::Letter,
+        b'0'..=b'9' => Class::Digit,
+        b'"' => Class::Quote,
+        b'/' => Class::Slash,
+        _ => Class::Other,
+    }
+}
+
+pub fn is_name_byte(byte: u8) -> bool
+    ensures { result ≡ is_name_byte byte }
+{
+    byte.is_ascii_alphanumeric() || byte == b'_' || byte == b'$'
+}
+
+/// Whether a byte stands for itself in a string.
+pub fn is_plain(byte: u8) -> bool
+    ensures { result ≡ is_plain byte }
+{
+    match byte {
+        b'"' | b'\\' => false,
+        b'\t' | 32..=126 | 128.. => true,
+        _ => false,
+    }
+}
+
+/// What a byte stands for behind a backslash.
+pub fn escaped(byte: u8) -> Option<u8>
+    ensures { result ≡ escaped byte }
+{
+    match byte {
+        b'n' => Some(b'\n'),
+        b't' => Some(b'\t'),
+        b'"' | b'\\' => Some(byte),
+        _ => None,
+    }
+}

@@ -1,0 +1,57 @@
+// Blanks and comments.
+ghost use Rattle.std.specs.Prelude.{◌≡◌, ◌+◌, ◌≤◌, ◌<◌, ◌++◌, List, ℕ, codes, length, drop, false};
+ghost use Rattle.ti_lang.specs.Tokenizing.{Space};
+ghost use Rattle.ti_lex.specs.Answer.{Reads};
+ghost use Rattle.ti_lex.specs.Cursor.{rest};
+ghost use Rattle.ti_lex.specs.Reading.{Takes, comment_from, line_left, slash};
+
+use crate::cursor::Cursor;
+use crate::error::{LexErr, refused};
+use crate::piece::Piece;
+use ti_rules::Rule;
+
+impl Cursor<'_> {
+    /// What is left of the line, without the byte that ends it.
+    fn line(&mut self) -> Result<Piece, LexErr>
+        ensures { Reads (Takes Space (self.old.at + line_left (rest self.old))) self.old self.new result }
+    {
+        while let Some(byte) = self.peek() {
+            if byte == b'\n' {
+                break;
+            }
+            self.advance();
+        }
+        Ok(Piece::Space)
+    }
+
+    /// A comment, from its `/*` to its `*/`.
+    fn block_comment(&mut self) -> Result<Piece, LexErr>
+        requires { 2 ≤ length (rest self.old) }
+        ensures { Reads (comment_from self.old.at false (self.old.at + 2) (drop 1 (drop 1 (rest self.old)))) self.old self.new result }
+    {
+        let slash = self.place();
+        self.advance();
+        self.advance();
+        let mut star = false;
+        while let Some(byte) = self.peek() {
+            self.advance();
+            if star && byte == b'/' {
+                return Ok(Piece::Space);
+            }
+            star = byte == b'*';
+        }
+        Err(refused(Rule::X2, slash))
+    }
+
+    /// The comment or the operator that begins with a slash.
+    pub fn slash(&mut self) -> Result<Piece, LexErr>
+        requires { 0 < length (rest self.old) }
+        ensures { Reads (slash self.old.at (rest self.old)) self.old self.new result }
+    {
+        match self.rest() {
+            [_, b'/', ..] => self.line(),
+            [_, b'*', ..] => self.block_comment(),
+            _ => self.sign(),
+        }
+    }
+}

@@ -1,0 +1,74 @@
+// Where a text is being read.
+ghost use Rattle.std.specs.Prelude.{◌≡◌, ◌≤◌, ◌<◌, ◌∷◌, [], length, drop, MatchOption};
+ghost use Rattle.ti_base.specs.Places.{place_of};
+ghost use Rattle.ti_rules.specs.LexicalRefusals.{most_bytes};
+ghost use Rattle.ti_lex.specs.Cursor.{rest, moved};
+
+use std::marker::Model;
+use ti_base::Place;
+
+/// A text that is read once, byte by byte, with the place of the next byte.
+#[derive(Debug, Drop)]
+pub struct Cursor<'a> {
+    text: &'a [u8],
+    at: usize,
+    place: Place,
+}
+
+impl<'a> Model for Cursor<'a> {
+    ghost use Rattle.std.specs.Prelude.{◌≡◌, ◌≤◌, length};
+    ghost use Rattle.ti_base.specs.Places.{place_of};
+    ghost use Rattle.ti_rules.specs.LexicalRefusals.{most_bytes};
+    ghost use Rattle.ti_lex.specs.Cursor.{Spot};
+
+    ghost Value = { Spot };
+
+    ghost view = { λ c. record { text = c.text.now; at = c.at } };
+
+    ghost invariant = { λ c. (c.at ≤ length c.text.now) × (length c.text.now ≤ most_bytes) × (c.place ≡ place_of c.text.now c.at) };
+}
+
+impl<'a> Cursor<'a> {
+    /// The front of a text that isn't too long.
+    pub fn new(text: &'a [u8]) -> Self
+        requires { length text.now ≤ most_bytes }
+        ensures { result ≡ record { text = text.now; at = 0 } }
+    {
+        Cursor {
+            text,
+            at: 0,
+            place: Place::first(),
+        }
+    }
+
+    /// The place of the next byte, or the end place.
+    pub fn place(&self) -> Place
+        ensures { result ≡ place_of self.now.text self.now.at }
+    {
+        self.place
+    }
+
+    /// What is left to read.
+    pub fn rest(&self) -> &'a [u8]
+        ensures { result.now ≡ rest self.now }
+    {
+        &self.text[self.at..]
+    }
+
+    /// The next byte, where there is one.
+    pub fn peek(&self) -> Option<u8>
+        ensures { MatchOption result (rest self.now ≡ []) (λ byte. rest self.now ≡ byte ∷ drop 1 (rest self.now)) }
+    {
+        self.rest().first().copied()
+    }
+
+    /// Reads the next byte.
+    pub fn advance(&mut self)
+        requires { 0 < length (rest self.old) }
+        ensures moves { self.new ≡ moved 1 self.old }
+        ensures left { rest self.new ≡ drop 1 (rest self.old) }
+    {
+        self.place = self.place.after(self.text[self.at]);
+        self.at += 1;
+    }
+}

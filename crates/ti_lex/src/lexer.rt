@@ -1,0 +1,88 @@
+// Texts become tokens.
+ghost use Rattle.std.specs.Prelude.{◌≡◌, ◌⊎◌, ◌≤◌, ◌∷◌, ℕ, List, length, drop};
+ghost use Rattle.ti_lang.specs.declared.token.Token.{Token};
+ghost use Rattle.ti_lang.specs.Tokenizing.{IsTokenized};
+ghost use Rattle.ti_rules.specs.declared.refusal.Refusal.{Refusal};
+ghost use Rattle.ti_rules.specs.LexicalRefusals.{most_bytes, IsLexicalRefusal};
+ghost use Rattle.ti_lex.specs.Answer.{Lexes, Reads, GivesOnly, RefusesOnly};
+ghost use Rattle.ti_lex.specs.Cursor.{rest};
+ghost use Rattle.ti_lex.specs.Reading.{first};
+
+use crate::class::{Class, class_of};
+use crate::cursor::Cursor;
+use crate::error::{LexErr, refused};
+use crate::piece::Piece;
+use std::alloc::Global;
+use ti_base::Place;
+use ti_lang::{Token, TokenKind};
+use ti_rules::Rule;
+
+/// How many bytes a text may have.
+const MOST_BYTES: usize = 1048576;
+
+impl Cursor<'_> {
+    /// The piece at the front, which begins with this byte.
+    #[tactic(auto, unfolding(crate::specs::Reading::first))]
+    fn piece(&mut self, alloc: Global, byte: u8) -> Result<Piece, LexErr>
+        requires { rest self.old ≡ byte ∷ drop 1 (rest self.old) }
+        ensures { Reads (first self.old.at (rest self.old)) self.old self.new result }
+    {
+        match class_of(byte) {
+            Class::Blank => {
+                self.advance();
+                Ok(Piece::Space)
+            }
+            Class::Letter => self.word(alloc),
+            Class::Digit => self.number(),
+            Class::Quote => self.string(alloc),
+            Class::Slash => self.slash(),
+            Class::Other => self.sign(),
+        }
+    }
+
+    /// The tokens of a text, read from its front.
+    fn tokens(&mut self, alloc: Global) -> Result<Vec<Token>, LexErr>
+        requires front { self.old.at ≡ 0 }
+        requires short { length self.old.text ≤ most_bytes }
+        ensures { Lexes self.old.text result }
+    {
+        let mut tokens = Vec::new(alloc);
+        while let Some(byte) = self.peek() {
+            let place = self.place();
+            match self.piece(alloc, byte)? {
+                Piece::Space => {}
+                Piece::Token(kind) => tokens.push(Token { kind, place })?,
+            }
+        }
+        let place = self.place();
+        tokens.push(Token {
+            kind: TokenKind::End,
+            place,
+        })?;
+        Ok(tokens)
+    }
+}
+
+/// The tokens of a text with their places, the last of which is its end.
+///
+/// A text that has none is refused for what is wrong with it.
+pub fn lex(alloc: Global, text: &[u8]) -> Result<Vec<Token>, LexErr>
+    ensures answer { Lexes text.now result }
+    // Nothing else is answered to a text that has tokens, or a refusal.
+    ensures only_tokens { (tokens : List Token) → length text.now ≤ most_bytes → IsTokenized text.now tokens → GivesOnly result tokens }
+    ensures only_refusal { (refusal : Refusal) → IsLexicalRefusal text.now refusal → RefusesOnly result refusal }
+{
+    if text.len() > MOST_BYTES {
+        return Err(refused(Rule::X5, Place::first()));
+    }
+    Cursor::new(text).tokens(alloc)
+}
+
+/// That each text is read in one way: it has one list of tokens or one refusal, and never both.
+pub fn one_reading()
+    ensures some { (text : List ℕ) → ((tokens : List Token) × (length text ≤ most_bytes) × IsTokenized text tokens) ⊎ ((refusal : Refusal) × IsLexicalRefusal text refusal) }
+    ensures one_list { (text : List ℕ) (a b : List Token) → IsTokenized text a → IsTokenized text b → a ≡ b }
+    ensures one_refusal { (text : List ℕ) (a b : Refusal) → IsLexicalRefusal text a → IsLexicalRefusal text b → a ≡ b }
+    ensures never_both { (text : List ℕ) (tokens : List Token) (refusal : Refusal) → length text ≤ most_bytes → IsTokenized text tokens → IsLexicalRefusal text refusal → ⊥ }
+{
+}

@@ -1,0 +1,58 @@
+// String literals.
+ghost use Rattle.std.specs.Prelude.{◌≡◌, ◌+◌, [], ◌<◌, length, drop};
+ghost use Rattle.ti_lex.specs.Answer.{Reads, ReadsItem};
+ghost use Rattle.ti_lex.specs.Cursor.{rest};
+ghost use Rattle.ti_lex.specs.Reading.{item, string_from};
+
+use crate::class::{escaped, is_plain};
+use crate::cursor::Cursor;
+use crate::error::{LexErr, refused};
+use crate::piece::Piece;
+use std::alloc::Global;
+use ti_base::Place;
+use ti_lang::{Spelled, TokenKind};
+use ti_rules::Rule;
+
+impl Cursor<'_> {
+    /// The byte that the next item of a string stands for, or `None` at the closing quote.
+    fn item(&mut self, quote: Place) -> Result<Option<u8>, LexErr>
+        ensures { ReadsItem (item (rest self.old)) quote self.old self.new result }
+    {
+        let place = self.place();
+        match self.rest() {
+            [b'"', ..] => {
+                self.advance();
+                Ok(None)
+            }
+            [b'\\', next, ..] => match escaped(*next) {
+                Some(byte) => {
+                    self.advance();
+                    self.advance();
+                    Ok(Some(byte))
+                }
+                None => Err(refused(Rule::X1, place)),
+            },
+            [byte, ..] if is_plain(*byte) => {
+                let byte = *byte;
+                self.advance();
+                Ok(Some(byte))
+            }
+            [] | [b'\n' | b'\r', ..] => Err(refused(Rule::X3, quote)),
+            _ => Err(refused(Rule::X1, place)),
+        }
+    }
+
+    /// The string at the front, which begins with its quote.
+    pub fn string(&mut self, alloc: Global) -> Result<Piece, LexErr>
+        requires { 0 < length (rest self.old) }
+        ensures { Reads (string_from self.old.at [] (self.old.at + 1) (drop 1 (rest self.old))) self.old self.new result }
+    {
+        let quote = self.place();
+        self.advance();
+        let mut bytes = Vec::new(alloc);
+        while let Some(byte) = self.item(quote)? {
+            bytes.push(byte)?;
+        }
+        Ok(Piece::Token(TokenKind::Str(Spelled::new(bytes))))
+    }
+}

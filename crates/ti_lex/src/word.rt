@@ -1,0 +1,107 @@
+// Names and reserved words.
+ghost use Rattle.std.specs.Prelude.{◌≡◌, ◌<◌, Some, slice_get, take};
+ghost use Rattle.std.specs.List.{prefix_len};
+ghost use Rattle.std.specs.Map.{lookup};
+ghost use Rattle.std.specs.Str.{bytes_eq};
+ghost use Rattle.ti_lang.specs.Tokenizing.{is_name_byte};
+ghost use Rattle.ti_lex.specs.Answer.{Reads};
+ghost use Rattle.ti_lex.specs.Cursor.{rest, moved};
+ghost use Rattle.ti_lex.specs.Reading.{reserved, word};
+
+use crate::class::is_name_byte;
+use crate::cursor::Cursor;
+use crate::error::LexErr;
+use crate::piece::Piece;
+use std::alloc::Global;
+use ti_lang::{Spelled, TokenKind};
+
+/// How many words are reserved.
+const RESERVED: usize = 34;
+
+/// A reserved word by its number: how it is spelled, and its kind.
+#[tactic(auto, unfolding(crate::specs::Reading::reserved))]
+fn reserved_at(number: usize) -> (&'static [u8], TokenKind)
+    requires { number < RESERVED }
+    ensures { slice_get reserved number ≡ Some (result.0.now, result.1) }
+{
+    match number {
+        0 => (b"boolean", TokenKind::KeywordBoolean),
+        1 => (b"break", TokenKind::KeywordBreak),
+        2 => (b"broadcast", TokenKind::KeywordBroadcast),
+        3 => (b"class", TokenKind::KeywordClass),
+        4 => (b"continue", TokenKind::KeywordContinue),
+        5 => (b"Domain", TokenKind::KeywordDomain),
+        6 => (b"else", TokenKind::KeywordElse),
+        7 => (b"false", TokenKind::KeywordFalse),
+        8 => (b"final", TokenKind::KeywordFinal),
+        9 => (b"for", TokenKind::KeywordFor),
+        10 => (b"foreach", TokenKind::KeywordForeach),
+        11 => (b"if", TokenKind::KeywordIf),
+        12 => (b"int", TokenKind::KeywordInt),
+        13 => (b"local", TokenKind::KeywordLocal),
+        14 => (b"long", TokenKind::KeywordLong),
+        15 => (b"new", TokenKind::KeywordNew),
+        16 => (b"null", TokenKind::KeywordNull),
+        17 => (b"Point", TokenKind::KeywordPoint),
+        18 => (b"println", TokenKind::KeywordPrintln),
+        19 => (b"private", TokenKind::KeywordPrivate),
+        20 => (b"protected", TokenKind::KeywordProtected),
+        21 => (b"public", TokenKind::KeywordPublic),
+        22 => (b"RectDomain", TokenKind::KeywordRectDomain),
+        23 => (b"return", TokenKind::KeywordReturn),
+        24 => (b"SharedRegion", TokenKind::KeywordSharedRegion),
+        25 => (b"single", TokenKind::KeywordSingle),
+        26 => (b"static", TokenKind::KeywordStatic),
+        27 => (b"String", TokenKind::KeywordString),
+        28 => (b"System", TokenKind::KeywordSystem),
+        29 => (b"this", TokenKind::KeywordThis),
+        30 => (b"Ti", TokenKind::KeywordTi),
+        31 => (b"true", TokenKind::KeywordTrue),
+        32 => (b"void", TokenKind::KeywordVoid),
+        _ => (b"while", TokenKind::KeywordWhile),
+    }
+}
+
+/// The kind of a word, where it is reserved.
+fn reserved_word(word: &[u8]) -> Option<TokenKind>
+    ensures { result ≡ lookup (bytes_eq word.now) reserved }
+{
+    for number in 0..RESERVED {
+        let (spelling, kind) = reserved_at(number);
+        if word == spelling {
+            return Some(kind);
+        }
+    }
+    None
+}
+
+impl<'a> Cursor<'a> {
+    /// The bytes of a name at the front.
+    fn name(&mut self) -> &'a [u8]
+        ensures bytes { result.now ≡ take (prefix_len is_name_byte (rest self.old)) (rest self.old) }
+        ensures moves { self.new ≡ moved (prefix_len is_name_byte (rest self.old)) self.old }
+    {
+        let rest = self.rest();
+        let mut size = 0;
+        while let Some(byte) = self.peek() {
+            if !is_name_byte(byte) {
+                break;
+            }
+            self.advance();
+            size += 1;
+        }
+        &rest[..size]
+    }
+
+    /// The name or the reserved word at the front.
+    pub fn word(&mut self, alloc: Global) -> Result<Piece, LexErr>
+        ensures { Reads (word self.old.at (rest self.old)) self.old self.new result }
+    {
+        let word = self.name();
+        if let Some(kind) = reserved_word(word) {
+            return Ok(Piece::Token(kind));
+        }
+        let word = Spelled::new(word.to_vec(alloc)?);
+        Ok(Piece::Token(TokenKind::Name(word)))
+    }
+}
