@@ -1,27 +1,22 @@
 -- From what was done and how the line on err was written to the clauses of the command.
-use Rattle.std.proofs.Common.{◌≡◌, ◌⊎◌, inl, inr, ℕ, ◌≤◌, true, List, [], ◌++◌, None, Some, refl, sym, ◌∙◌, ap, subst, arith, append-nil}
+use Rattle.std.proofs.Common.{◌≡◌, ◌⊎◌, inl, inr, ℕ, ◌≤◌, [], ◌++◌, Some, refl, sym, ◌∙◌, ap, subst, arith, append-nil}
 use Rattle.ti_base.specs.declared.place.Place.{Place}
-use Rattle.ti_base.specs.declared.entry.Entry.{Entry}
-use Rattle.ti_io.specs.Faults.{Rose}
 use Rattle.ti_io.specs.Source.{IsMissing}
-use Rattle.ti_io.specs.Sink.{GrewBy, GrewByFront}
-use Rattle.ti_lang.specs.Programs.{Program}
+use Rattle.ti_io.specs.Sink.{GrewBy}
 use Rattle.ti_lang.specs.Runs.{AllEnded, IsRun, IsSolo, IsComplete as IsCompleteRun, none}
-
 use Rattle.ti_lang.specs.Lines.{lines_of}
 use Rattle.ti_lang.specs.Alignment.{IsAligned}
 use Rattle.ti_top.specs.declared.reading.ReadEnd.{ReadEnd}
 use Rattle.ti_top.specs.declared.reading.ReadEnd.TheVariants as Read
 use Rattle.ti_top.specs.declared.ending.Ending.{Ending}
 use Rattle.ti_top.specs.declared.ending.Ending.TheVariants.{Done, Refused, NoCommand, CantRead, CantWrite, NoMemory}
-use Rattle.ti_top.specs.FirstForm.{Spells, IsRefusedAt}
 use Rattle.ti_top.specs.Job.{Job, job_of}
 use Rattle.ti_top.specs.Reading.{ReadsWhole}
 use Rattle.ti_top.specs.Ending.{status_of}
 use Rattle.ti_top.specs.Ended.{Ended}
 use Rattle.ti_top.specs.Setting.{run_of}
-use Rattle.ti_top.specs.Work.{Work, RanNothing, RunSays, Ran, ReadsFile, FileSays, SaysNoCommand, SaysCommand, WorkSays}
-use Rattle.ti_top.specs.Call.{Call, IsCommand, IsNoCommand, file_of, work_of, SourceRose, OutRose, ErrRose, Yields}
+use Rattle.ti_top.specs.Work.{RanNothing, Ran, ReadsFile, FileSays, SaysNoCommand, WorkSays}
+use Rattle.ti_top.specs.Call.{Call, IsCommand, file_of, work_of, SourceRose, ErrRose, Yields}
 use Rattle.ti_top.specs.Clauses.{IsReadWhole, ReadsText, IsRefused, RefusesExactly, KeepsRun, WritesOutput, IsAlignedRun, EndsRun, NothingFailed, IsComplete, Says, Meets}
 use Rattle.ti_top.proofs.StatusFrom.{StatusFrom, status_from, not_five, is_done}
 use Rattle.ti_top.proofs.WordsAnswered.{not_both, no_command_answers, command_answers}

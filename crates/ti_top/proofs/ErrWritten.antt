@@ -1,5 +1,5 @@
 -- From how the line on err was written to the clause on err.
-use Rattle.std.proofs.Common.{◌≡◌, inl, inr, ℕ, [], arith, sym, ◌∙◌, ap}
+use Rattle.std.proofs.Common.{◌≡◌, inl, inr, [], arith, sym, ◌∙◌, ap}
 use Rattle.std.proofs.lemmas.List.{append-nil}
 use Rattle.ti_top.specs.declared.ending.Ending.{Ending}
 use Rattle.ti_top.specs.declared.ending.Ending.TheVariants.{Done, Refused, NoCommand, CantRead, CantWrite, NoMemory}

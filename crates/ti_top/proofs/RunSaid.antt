@@ -1,5 +1,5 @@
 -- From a run and the writing of its lines to what was done.
-use Rattle.std.proofs.Common.{◌≡◌, ◌⊎◌, inl, inr, ℕ, List, Result, Ok, Err, refl}
+use Rattle.std.proofs.Common.{◌≡◌, inl, inr, ℕ, List, Result, Ok, Err, refl}
 use Rattle.ti_base.specs.declared.entry.Entry.{Entry}
 use Rattle.ti_io.specs.Sink.{SinkState, Writes}
 use Rattle.ti_lang.specs.Programs.{Program}
@@ -7,8 +7,6 @@ use Rattle.ti_lang.specs.Runs.{AllEnded, IsComplete, IsRun, IsSolo}
 use Rattle.ti_lang.specs.Lines.{lines_of}
 use Rattle.ti_lang.specs.Alignment.{IsAligned}
 use Rattle.ti_top.specs.declared.runner.How.{How}
-use Rattle.ti_top.specs.declared.runner.How.TheVariants as How
-use Rattle.ti_top.specs.declared.ending.Ending.TheVariants.{Done, NoMemory, CantWrite}
 use Rattle.ti_top.specs.Setting.{run_of}
 use Rattle.ti_top.specs.Work.{ending_of, RunSays}
 

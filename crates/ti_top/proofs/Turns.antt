@@ -1,5 +1,5 @@
 -- One more entry of the lowest process that can take one.
-use Rattle.std.proofs.Common.{◌≡◌, ℕ, zero, suc, ◌+◌, ◌*◌, ◌<◌, ◌≤◌, nat_lt, nat_le, Bool, true, false, not, ◌||◌, ◌&&◌, ◌==◌, is_none, if◌then◌else◌, Option, Some, None, List, [], ◌∷◌, ◌++◌, length, get_or, slice_set, position, map, count_by, sum_by, ◌⊎◌, inl, inr, ⊎_elim, refl, sym, ◌∙◌, ap, subst, arith, eqb-true, length-set, length-append, get_or-set_same, get_or-set_other}
+use Rattle.std.proofs.Common.{◌≡◌, ℕ, zero, suc, ◌+◌, ◌*◌, ◌<◌, ◌≤◌, nat_lt, nat_le, Bool, true, false, not, ◌||◌, ◌&&◌, ◌==◌, is_none, if◌then◌else◌, Option, Some, None, List, [], ◌∷◌, ◌++◌, length, get_or, slice_set, position, map, count_by, ◌⊎◌, inl, inr, ⊎_elim, refl, sym, ◌∙◌, ap, subst, arith, eqb-true, length-set, length-append, get_or-set_same, get_or-set_other}
 use Rattle.std.specs.List.{list_any, list_all, prefix_len}
 use Rattle.std.proofs.lemmas.List.{map-append, get_or_append_left}
 use Rattle.std.proofs.Math.Seq.{get_or-append_seam}
@@ -19,7 +19,7 @@ use Rattle.ti_base.specs.declared.entry.Next.TheVariants as next
 use Rattle.ti_lang.specs.Processes.{Setting, Process, begin}
 use Rattle.ti_lang.specs.NextStep.{At, Faults, step, steps, shown, Reaches, here, After, IsNext}
 use Rattle.ti_lang.specs.NextStep as st
-use Rattle.ti_lang.specs.Runs.{is_end, is_fault, is_arrival, is_departure, entries_of, answers_of, arrivals, departures, has_end, has_fault, World, IsReady, FitsNext, entry_of, CanTake, AllEnded, IsComplete, IsSolo, none, more}
+use Rattle.ti_lang.specs.Runs.{is_end, is_fault, is_arrival, is_departure, entries_of, answers_of, arrivals, departures, IsReady, FitsNext, entry_of, CanTake, AllEnded, IsComplete, none, more}
 use Rattle.ti_lang.specs.Alignment.{IsAlignedRun}
 use Rattle.ti_lang.proofs.Steps.{after_same, after_more, shows_at, next_same}
 use Rattle.ti_lang.proofs.Entries.{one, entries_own, entries_other, count_more, end_more, fault_more}
@@ -27,7 +27,7 @@ use Rattle.ti_lang.proofs.Moves as m
 use Rattle.ti_lang.proofs.Standing.{entry_proc, plain, true_false}
 use Rattle.ti_top.specs.declared.seat.Seat.{Seat}
 use Rattle.ti_top.specs.declared.walker.Walker.{Walker}
-use Rattle.ti_top.specs.Walking.{wait_at, waits, process_of, after_step, after_done}
+use Rattle.ti_top.specs.Walking.{wait_at, waits, process_of, after_step}
 use Rattle.ti_top.specs.Team.{is_able, Seated, Standing, steps_left, all_steps_left, GoesOn, Ends, Moves}
 
 and_true : (a b : Bool) → (a && b) ≡ true → (a ≡ true) × (b ≡ true)
