@@ -88,12 +88,9 @@ number_refused rest m only not n others begins =
 pub large_refused : (rest : List ℕ) (m : ℕ) → 2147483647 < m → (others : List ℕ) → BeginsNumber rest m others → ⊥
 large_refused rest m large others begins = omega (arith, begins.literal)
 
-pub digits_refused : (rest word : List ℕ) (m : ℕ) → word ≡ decimal m → ((others : List ℕ) → rest ≡ word ++ others → ⊥) → (others : List ℕ) → BeginsNumber rest m others → ⊥
-digits_refused rest word m is other others begins = other (41 ∷ others) (begins.spelled ∙ ap (λ bs. bs ++ 41 ∷ others) (sym is))
-
-pub bracket_refused : (old mid : Cut) (word : List ℕ) (m : ℕ) → word ≡ decimal m → Takes word old mid → ((others : List ℕ) → mid.rest ≡ 41 ∷ others → ⊥) → (others : List ℕ) → BeginsNumber old.rest m others → ⊥
-bracket_refused old mid word m is taken other others begins =
-    other others (append_cancel_left word mid.rest (41 ∷ others) (sym taken.left ∙ begins.spelled ∙ ap (λ bs. bs ++ 41 ∷ others) (sym is)))
+pub bracket_refused : (old mid : Cut) (m : ℕ) → Takes (decimal m) old mid → ((others : List ℕ) → mid.rest ≡ 41 ∷ others → ⊥) → (others : List ℕ) → BeginsNumber old.rest m others → ⊥
+bracket_refused old mid m taken other others begins =
+    other others (append_cancel_left (decimal m) mid.rest (41 ∷ others) (sym taken.left ∙ begins.spelled))
 
 -- the text of a number begins with a digit
 not_a_digit : (n b : ℕ) (a c : List ℕ) → n < 2 ^ 31 → 58 ≤ b → decimal n ++ a ≡ b ∷ c → ⊥

@@ -1,8 +1,9 @@
 // Reading a text of the first form.
-ghost use Rattle.std.specs.Prelude.{◌≡◌, ℕ, List, ◌++◌, ◌∷◌, ◌≤◌, ◌==◌, Some, position, vec_len, IfOk, IfSome, IfNone};
+ghost use Rattle.std.specs.Prelude.{◌≡◌, ℕ, List, ◌++◌, ◌∷◌, ◌≤◌, ◌==◌, true, false, decimal, Some, position, vec_len, IfOk, IfSome, IfNone};
 ghost use Rattle.ti_lang.specs.declared.listing.Operand.{Operand as Op};
 ghost use Rattle.ti_lang.specs.declared.listing.Statement.{Statement as Stm};
 ghost use Rattle.ti_lang.specs.Programs.{Program, listed_program};
+ghost use Rattle.ti_top.specs.Cursor.{Takes};
 ghost use Rattle.ti_top.specs.FirstForm.{Spells};
 ghost use Rattle.ti_top.specs.FirstFormReading.{BeginsNumber, BeginsOperand, BeginsStatement, TakesNumber, TakesOperand, TakesStatement};
 
@@ -33,15 +34,23 @@ fn number_in(text: &[u8]) -> Option<u32>
     }
 }
 
+// Reads this number, as it is written.
+fn take_number(cursor: &mut Cursor, number: u32) -> bool
+    ensures taken { result ≡ true → Takes (decimal number) cursor.old cursor.new }
+    ensures other { result ≡ false → (others : List ℕ) → cursor.old.rest ≡ decimal number ++ others → ⊥ }
+{
+    let mut buffer = itoa::Buffer::new();
+    let spelled = buffer.format(number).as_bytes();
+    cursor.take(spelled)
+}
+
 // Reads a number and the bracket behind it.
 fn read_number(cursor: &mut Cursor) -> Option<u32>
     ensures some { IfSome result (λ n. TakesNumber n cursor.old cursor.new) }
     ensures none { IfNone result ((n : ℕ) (others : List ℕ) → BeginsNumber cursor.old.rest n others → ⊥) }
 {
     let number = number_in(cursor.rest())?;
-    let mut buffer = itoa::Buffer::new();
-    let spelled = buffer.format(number).as_bytes();
-    if number <= LARGEST && cursor.take(spelled) && cursor.take(b")") {
+    if number <= LARGEST && take_number(cursor, number) && cursor.take(b")") {
         Some(number)
     } else {
         None
