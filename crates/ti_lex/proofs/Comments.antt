@@ -1,8 +1,8 @@
 -- Comments.
-use Rattle.std.proofs.Common.{◌≡◌, ◌≢◌, ℕ, ◌+◌, ◌≤◌, ◌<◌, ◌==◌, Bool, true, false, not, ◌&&◌, cond, if◌then◌else◌, List, [], ◌∷◌, ◌++◌, length, take, drop, codes, inl, inr, refl, sym, ap, ◌∙◌, subst, arith, append_assoc, length-append, take-append-drop}
+use Rattle.std.proofs.Common.{◌≡◌, ◌≢◌, ℕ, ◌+◌, ◌==◌, Bool, true, false, not, ◌&&◌, cond, if◌then◌else◌, List, [], ◌∷◌, ◌++◌, length, take, drop, codes, refl, sym, ap, ◌∙◌, subst, arith, append_assoc, length-append, take-append-drop}
 use Rattle.std.proofs.lemmas.Bool.{eqb-true, eqb-false}
 use Rattle.std.proofs.lemmas.List.Folds.{length-prefix_len}
-use Rattle.std.specs.List.{list_all, prefix_len}
+use Rattle.std.specs.List.{list_all}
 use Rattle.ti_lang.specs.Tokenizing.{Space, IsPiece, ClosesAtEnd, Flaw, OpenComment, HasFlaw}
 use Rattle.ti_lang.specs.Tokenizing as pieces
 use Rattle.ti_lex.specs.Reading.{Reading, Takes, Refuses, comment_from, line_left}
@@ -85,7 +85,6 @@ abbrev EndsClosed : List ℕ → Type 0
 EndsClosed l = (inner : List ℕ) × (l ≡ inner ++ codes "*/")
 
 module _ (slash : ℕ) where
-
   taken_by : (star : Bool) (b : ℕ) (inner rest : List ℕ) (at : ℕ) → ClosesAtEnd (star_of star ++ (b ∷ (inner ++ codes "*/"))) → comment_from slash (b == 42) (at + 1) ((inner ++ codes "*/") ++ rest) ≡ Takes Space (at + 1 + (length inner + 2)) → (t : Bool) → (star && (b == 47)) ≡ t → cond t (Takes Space (at + 1)) (comment_from slash (b == 42) (at + 1) ((inner ++ codes "*/") ++ rest)) ≡ Takes Space (at + (length (b ∷ inner) + 2))
   taken_by star b inner rest at closes more true h = absurd (closes_early star b inner h closes)
   taken_by star b inner rest at closes more false h = more ∙ ap (Takes Space) (omega arith)

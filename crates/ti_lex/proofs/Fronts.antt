@@ -1,5 +1,5 @@
 -- What a reading says of the front of a list.
-use Rattle.std.proofs.Common.{◌≡◌, ◌⊎◌, inl, inr, ℕ, ◌+◌, ◌<◌, ◌≤◌, List, ◌++◌, length, refl, sym, arith}
+use Rattle.std.proofs.Common.{◌≡◌, ◌⊎◌, inl, inr, ℕ, ◌+◌, ◌<◌, ◌≤◌, List, ◌++◌, length, refl, arith}
 use Rattle.std.proofs.lemmas.Bool.{cases_lt}
 use Rattle.ti_lang.specs.Tokenizing.{Piece, IsPiece, Flaw, HasFlaw}
 use Rattle.ti_lex.specs.Reading.{Reading, Takes, Refuses}

@@ -1,7 +1,7 @@
 -- What is read at the front of a list is the longest piece there.
-use Rattle.std.proofs.Common.{◌≡◌, ◌≢◌, ◌⊎◌, ℕ, suc, ◌+◌, ◌≤◌, ◌<◌, ◌==◌, Bool, true, false, ◌&&◌, ◌||◌, cond, if◌then◌else◌, Option, Some, None, List, [], ◌∷◌, ◌++◌, length, take, drop, codes, pos, inl, inr, refl, sym, ap, ◌∙◌, subst, arith, take-append-drop, length-append, length-take}
+use Rattle.std.proofs.Common.{◌≡◌, ℕ, ◌+◌, ◌≤◌, ◌<◌, ◌==◌, true, false, ◌&&◌, ◌||◌, Option, Some, None, List, [], ◌∷◌, ◌++◌, length, take, drop, codes, pos, inl, inr, refl, sym, ap, ◌∙◌, subst, arith, take-append-drop, length-append, length-take}
 use Rattle.std.proofs.Math.Seq.{take-append_seam, drop-append_seam}
-use Rattle.std.proofs.lemmas.Bool.{cond_both, and_parts, eqb-true, eqb-false}
+use Rattle.std.proofs.lemmas.Bool.{cond_both, and_parts, eqb-true}
 use Rattle.std.proofs.lemmas.Bool.Decides.{nat_tests}
 use Rattle.std.specs.Char.{is_ascii_digit}
 use Rattle.std.specs.List.{list_all}
@@ -13,7 +13,7 @@ use Rattle.ti_lang.specs.Tokenizing.{Piece, Space, Spells, StrayByte, IsPiece, I
 use Rattle.ti_lang.specs.Tokenizing as pieces
 use Rattle.ti_lex.specs.declared.class.Class.{Class}
 use Rattle.ti_lex.specs.declared.class.Class.TheVariants as c
-use Rattle.ti_lex.specs.Reading.{Reading, Takes, Refuses, class_of, comment_from, line_left, word, number, slash, sign, first_sign, first_by, first}
+use Rattle.ti_lex.specs.Reading.{Reading, Takes, Refuses, class_of, comment_from, line_left, word, slash, sign, first_by, first}
 use Rattle.ti_lex.proofs.Bytes.{class_of-blank, class_of-letter, class_of-digit, IsOfClass, class_of_is}
 use Rattle.ti_lex.proofs.Comments.{line_beats, line_sound, comment_taken, comment_sound}
 use Rattle.ti_lex.proofs.Fronts.{Beats, IsSound}
@@ -144,6 +144,7 @@ slash_sound at l =
     line [] h = cc
     line (b ∷ l) h =
         subst (λ d. IsSound at (47 ∷ d ∷ l) (Takes Space (at + line_left (47 ∷ d ∷ l)))) (sym (eqb-true b 47 h)) (line_sound at l)
+
     comment : (l : List ℕ) → first_passes (λ b. b == 42) l ≡ true → IsSound at (47 ∷ l) (comment_from at false (at + 2) (drop 1 l))
     comment [] h = cc
     comment (b ∷ l) h =
@@ -190,12 +191,16 @@ first_tells at (b ∷ l) some = by (first at (b ∷ l)) (first_sound at b l) ref
     by (Takes piece end) (front, rest, is, some, to, stands) h =
         let taken : take (length front) (b ∷ l) ≡ front = ap (take (length front)) is ∙ take-append_seam front rest in
         let left : drop (length front) (b ∷ l) ≡ rest = ap (drop (length front)) is ∙ drop-append_seam front rest in
-        let long : length (b ∷ l) ≡ length front + length rest = ap length is ∙ length-append front rest in
-        (length front, to, some, record {
-          within = omega arith;
-          is_piece = subst (λ t. IsPiece t (drop (length front) (b ∷ l)) piece) (sym taken) (subst (λ t. IsPiece front t piece) (sym left) stands);
-          longest = λ other another within other_is. longest other another within other_is
-        })
+        let long : length (b ∷ l) ≡ length front + length rest = ap length is ∙ length-append front rest in (
+          length front,
+          to,
+          some,
+          record {
+            within = omega arith;
+            is_piece = subst (λ t. IsPiece t (drop (length front) (b ∷ l)) piece) (sym taken) (subst (λ t. IsPiece front t piece) (sym left) stands);
+            longest = λ other another within other_is. longest other another within other_is;
+          },
+        )
       where
         longest : (other : ℕ) (another : Piece) → other ≤ length (b ∷ l) → IsPiece (take other (b ∷ l)) (drop other (b ∷ l)) another → other ≤ length front
         longest other another within other_is =

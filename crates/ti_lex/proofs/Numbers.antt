@@ -1,7 +1,7 @@
 -- Whole numbers and dimensions.
-use Rattle.std.proofs.Common.{◌≡◌, ◌≢◌, ℕ, zero, suc, ◌+◌, ◌-◌, ◌*◌, ◌≤◌, ◌<◌, ◌==◌, min, Bool, true, false, not, ◌&&◌, ◌||◌, cond, if◌then◌else◌, Option, Some, None, List, [], ◌∷◌, ◌++◌, length, take, drop, pos, inl, inr, refl, sym, ap, ◌∙◌, subst, arith, take-append-drop}
-use Rattle.std.proofs.Math.Seq.{take-append_seam, drop-append_seam}
-use Rattle.std.proofs.lemmas.Bool.{and_parts, cases_lt, eqb-true, eqb-false, eq-eqb, ne_eqb}
+use Rattle.std.proofs.Common.{◌≡◌, ◌≢◌, ℕ, zero, suc, ◌+◌, ◌-◌, ◌*◌, ◌≤◌, ◌==◌, min, Bool, true, false, not, ◌&&◌, cond, if◌then◌else◌, Option, Some, None, List, [], ◌∷◌, ◌++◌, length, take, drop, pos, inl, inr, refl, sym, ap, ◌∙◌, subst, arith, take-append-drop}
+use Rattle.std.proofs.Math.Seq.{take-append_seam}
+use Rattle.std.proofs.lemmas.Bool.{and_parts, eqb-true, ne_eqb}
 use Rattle.std.proofs.lemmas.Bool.Decides.{nat_tests}
 use Rattle.std.proofs.lemmas.List.Folds.{length-prefix_len}
 use Rattle.std.specs.Char.{is_ascii_digit, digit_value}
@@ -12,7 +12,7 @@ use Rattle.std.specs.Str.Parse.{digits_value, digits_value_after}
 use Rattle.ti_lang.specs.declared.token.TokenKind.TheVariants as k
 use Rattle.ti_lang.specs.Tokenizing.{Piece, Spells, WrongNumber, IsPiece, HasFlaw, first_passes, is_name_byte}
 use Rattle.ti_lang.specs.Tokenizing as pieces
-use Rattle.ti_lex.specs.Reading.{Reading, Takes, Refuses, dimension, too_large, value_from, is_number, number_of, digits, number}
+use Rattle.ti_lex.specs.Reading.{Takes, Refuses, dimension, too_large, value_from, is_number, number_of, digits, number}
 use Rattle.ti_lex.proofs.Fronts.{Beats, IsSound}
 use Rattle.ti_lex.proofs.Runs.{run_ends, run_passes, run_stops}
 
@@ -61,7 +61,6 @@ number_passes true size value one fits =
 number_passes false size value one fits = ap not (ne_eqb value too_large (λ e. omega arith))
 
 module _ (at digit : ℕ) (more rest : List ℕ) (all : list_all is_ascii_digit (digit ∷ more) ≡ true) (stop : first_passes is_ascii_digit rest ≡ false) (no_zero : digit ≡ 48 → more ≡ []) (fits : digits_value 10 (digit ∷ more) ≤ 2147483647) where
-
   size_is : prefix_len is_ascii_digit (digit ∷ (more ++ rest)) ≡ length (digit ∷ more)
   size_is = run_ends is_ascii_digit (digit ∷ more) rest all stop
 
@@ -106,7 +105,6 @@ in_range : (b : ℕ) → is_in_range 49 51 b ≡ true → (49 ≤ b) × (b ≤ 5
 in_range b h = (grind (arith, nat_tests), grind (arith, nat_tests))
 
 module _ (at b : ℕ) (l : List ℕ) (first : is_ascii_digit b ≡ true) where
-
   value_bound : (n value : ℕ) → n ≡ prefix_len is_ascii_digit l → value ≡ value_from 0 (b ∷ l) → value ≡ min (digits_value 10 (b ∷ take n l)) too_large
   value_bound n value run is =
       let one : prefix_len is_ascii_digit (b ∷ l) ≡ suc n = ap (λ t. cond t (1 + prefix_len is_ascii_digit l) 0) first ∙ omega arith in

@@ -1,5 +1,5 @@
 -- A text is read in one way.
-use Rattle.std.proofs.Common.{◌≡◌, ◌≢◌, ◌⊎◌, inl, inr, Result, Ok, Err, ℕ, zero, suc, ◌+◌, ◌-◌, ◌≤◌, ◌<◌, ◌==◌, Bool, true, false, ◌||◌, ◌&&◌, cond, if◌then◌else◌, Option, Some, None, is_some, unwrap_or, List, [], ◌∷◌, ◌++◌, length, drop, codes, pos, refl, sym, ap, ◌∙◌, subst, arith, length-drop, length-append}
+use Rattle.std.proofs.Common.{◌≡◌, ◌≢◌, ◌⊎◌, inl, inr, Result, Ok, Err, ℕ, zero, suc, ◌+◌, ◌≤◌, ◌<◌, ◌==◌, Bool, true, false, ◌||◌, cond, if◌then◌else◌, Option, Some, None, is_some, unwrap_or, List, [], ◌∷◌, ◌++◌, length, drop, codes, pos, refl, sym, ap, ◌∙◌, subst, arith, length-drop}
 use Rattle.std.proofs.lemmas.Bool.{cond_both, cases_lt, eqb-true}
 use Rattle.std.proofs.lemmas.Bool.Decides.{nat_tests}
 use Rattle.std.proofs.lemmas.List.{drop_all}
@@ -22,14 +22,13 @@ use Rattle.ti_lex.specs.declared.error.LexErr.TheVariants as e
 use Rattle.ti_lex.specs.Answer.{Lexes, GivesOnly, RefusesOnly}
 use Rattle.ti_lex.specs.declared.class.Class.{Class}
 use Rattle.ti_lex.specs.declared.class.Class.TheVariants as c
-use Rattle.ti_lex.specs.Reading.{Reading, Takes, Refuses, class_of, dimension, value_from, is_number, digits, number, string_from, escape_from, comment_from, line_left, longer_sign, first_sign, sign_from, sign, slash, first_by, first}
+use Rattle.ti_lex.specs.Reading.{Reading, Takes, Refuses, class_of, dimension, value_from, is_number, digits, number, string_from, escape_from, slash, first_by, first}
 use Rattle.ti_lex.proofs.Bytes.{IsOfClass, class_of_is, class_of-digit}
 use Rattle.ti_lex.proofs.Comments.{only_open}
 use Rattle.ti_lex.proofs.Fronts.{IsRefusal}
 use Rattle.ti_lex.proofs.Longest.{Tells, first_tells, longest_read, none_empty, opens}
 use Rattle.ti_lex.proofs.Signs.{sign_refusal}
 use Rattle.ti_lex.proofs.StringPieces.{items_read}
-use Rattle.ti_lex.proofs.Texts.{more_space}
 
 number_refusal : (at : ℕ) (l : List ℕ) → IsRefusal WrongNumber at (number at l)
 number_refusal at l = by (dimension l)
@@ -37,6 +36,7 @@ number_refusal at l = by (dimension l)
     cases : (t : Bool) → IsRefusal WrongNumber at (cond t (Takes (Spells (k.Int (pos (value_from 0 l)))) (at + prefix_len is_ascii_digit l)) (Refuses WrongNumber at))
     cases true = tt
     cases false = (refl, refl)
+
     by : (found : Option ℕ) → IsRefusal WrongNumber at (option_map_or (λ n. Takes (Spells (k.Dim n)) (at + 2)) found (digits at l))
     by (Some n) = tt
     by None =

@@ -1,5 +1,5 @@
 -- Operators and marks.
-use Rattle.std.proofs.Common.{◌≡◌, ◌≢◌, ℕ, ◌+◌, ◌≤◌, ◌<◌, ◌==◌, Bool, true, false, cond, if◌then◌else◌, Option, Some, None, is_some, unwrap_or, List, [], ◌∷◌, ◌++◌, length, codes, inl, inr, refl, sym, ap, ◌∙◌, subst, arith, append_assoc, length-append}
+use Rattle.std.proofs.Common.{◌≡◌, ℕ, ◌+◌, ◌==◌, Bool, true, false, cond, if◌then◌else◌, Option, Some, None, is_some, unwrap_or, List, [], ◌∷◌, ◌++◌, length, codes, inl, inr, refl, sym, ap, ◌∙◌, subst, arith, append_assoc}
 use Rattle.std.proofs.lemmas.Bool.{eqb-true, cond_both}
 use Rattle.std.proofs.lemmas.List.{append-nil}
 use Rattle.std.specs.Map.{lookup}
@@ -9,7 +9,7 @@ use Rattle.ti_lang.specs.declared.token.TokenKind.TheVariants as k
 use Rattle.ti_lang.specs.Tokens.{sign_of}
 use Rattle.ti_lang.specs.Tokenizing.{Piece, Spells, IsPiece, OpensComment}
 use Rattle.ti_lang.specs.Tokenizing as pieces
-use Rattle.ti_lex.specs.Reading.{Reading, Takes, Refuses, first_signs, first_sign, longer_sign, sign_from, sign, first}
+use Rattle.ti_lex.specs.Reading.{Reading, Takes, Refuses, first_signs, first_sign, longer_sign, sign_from, sign}
 use Rattle.ti_lex.proofs.Fronts.{Beats, IsSound, IsRefusal}
 
 -- an operator or a longer one is read behind it
@@ -170,6 +170,7 @@ sign_sound at b l no_comment stray = by (first_sign b) refl (first_of b first_si
         let long : length spelling ≡ 1 + length more = ap length spelling_is ∙ omega arith in
         (spelling, rest, all, omega arith, omega arith, subst (IsPiece spelling rest) (sym piece_is) (pieces.sign kind spelled (λ opens. no_comment (subst OpensComment (sym all) opens))))
     whole (Refuses flaw fault) h = absurd h
+
     by : (first : Option TokenKind) → first_sign b ≡ first → IsFirst b first → IsSound at (b ∷ l) (option_map_or (λ kind. sign_from kind (at + 1) l) first (Refuses pieces.StrayByte at))
     by (Some kind) h is = whole (sign_from kind (at + 1) l) (rest_of l (at + 1) (b ∷ []) kind is)
     by None h is = stray h
@@ -181,6 +182,7 @@ sign_refusal at b l = by (first_sign b)
     taken : (kind : TokenKind) (r : Reading) → Beats at 1 (Spells kind) r → IsRefusal pieces.StrayByte at r
     taken kind (Takes piece end) h = tt
     taken kind (Refuses flaw fault) h = absurd h
+
     by : (found : Option TokenKind) → IsRefusal pieces.StrayByte at (option_map_or (λ kind. sign_from kind (at + 1) l) found (Refuses pieces.StrayByte at))
     by (Some kind) = taken kind (sign_from kind (at + 1) l) (from_beats l at 1 kind (at + 1) refl)
     by None = (refl, refl)

@@ -1,5 +1,5 @@
 -- String literals.
-use Rattle.std.proofs.Common.{◌≡◌, ◌≢◌, ◌⊎◌, ℕ, ◌+◌, ◌≤◌, ◌<◌, ◌==◌, Bool, true, false, ◌||◌, cond, if◌then◌else◌, Option, Some, None, is_some, unwrap_or, List, [], ◌∷◌, ◌++◌, length, inl, inr, refl, sym, ap, ◌∙◌, subst, arith, append_assoc, length-append}
+use Rattle.std.proofs.Common.{◌≡◌, ◌≢◌, ◌⊎◌, ℕ, ◌+◌, ◌==◌, true, false, ◌||◌, if◌then◌else◌, Option, Some, None, is_some, unwrap_or, List, [], ◌∷◌, ◌++◌, length, inl, inr, refl, sym, ap, ◌∙◌, subst, arith, append_assoc, length-append}
 use Rattle.std.proofs.lemmas.Bool.{cond_both, eqb-true, eqb-false}
 use Rattle.std.proofs.lemmas.Bool.Decides.{nat_tests}
 use Rattle.std.proofs.lemmas.List.{append-nil}
@@ -35,7 +35,6 @@ string_beats at items bytes rest are =
     subst (Beats at (length (34 ∷ (items ++ 34 ∷ []))) (Spells (k.Str bytes))) (sym whole) (inr (omega (arith, length-append items (34 ∷ [])), refl))
 
 module _ (quote : ℕ) where
-
   -- what is read of the rest of a string: items and the quote, or items up to a fault
   abbrev IsRest : List ℕ → ℕ → List ℕ → Reading → Type 0
   IsRest before at l (Takes piece end) =
@@ -87,6 +86,7 @@ module _ (quote : ℕ) where
     rest_of before at (b ∷ l) =
         let P : Reading → Type 0 = IsRest before at (b ∷ l) in
         cond_both (b == 34) _ _ P (λ h. ([], [], l, pieces.no_items, ap (λ d. d ∷ l) (eqb-true b 34 h), ap (λ t. Spells (k.Str t)) (sym (append-nil before)), omega arith)) (λ quoted. cond_both (b == 92) _ _ P (λ h. subst (λ d. IsRest before at (d ∷ l) (escape_from quote before at l)) (sym (eqb-true b 92 h)) (escape_rest before at l)) (λ begins. cond_both (is_plain b) _ _ P (λ h. item_more (b ∷ []) b before at l (string_from quote (before ++ b ∷ []) (at + 1) l) (pieces.plain b h) (rest_of (before ++ b ∷ []) (at + 1) l)) (λ plain. cond_both (b == 10 || b == 13) _ _ P (λ h. ([], [], b ∷ l, pieces.no_items, refl, inl (refl, refl, h))) (λ breaks. stray_here before at b l quoted breaks (no_item b l plain begins)))))
+
     escape_rest : (before : List ℕ) (at : ℕ) (l : List ℕ) → IsRest before at (92 ∷ l) (escape_from quote before at l)
     escape_rest before at [] = stray_here before at 92 [] refl refl (no_escape [] (λ c rest is. cc))
     escape_rest before at (b ∷ l) =

@@ -1,5 +1,5 @@
 -- The rest of a string, item by item.
-use Rattle.std.proofs.Common.{◌≡◌, ℕ, ◌+◌, Bool, true, false, if◌then◌else◌, ◌==◌, ◌||◌, Option, Some, None, is_some, unwrap_or, Result, Ok, Err, List, [], ◌∷◌, ◌++◌, length, drop, refl, sym, ap, ◌∙◌, subst}
+use Rattle.std.proofs.Common.{◌≡◌, ℕ, ◌+◌, Bool, true, false, if◌then◌else◌, ◌==◌, ◌||◌, Option, Some, None, is_some, unwrap_or, Ok, Err, List, [], ◌∷◌, ◌++◌, drop, refl, sym, ap, ◌∙◌, subst}
 use Rattle.std.proofs.lemmas.List.{drop-drop}
 use Rattle.std.specs.Option.{option_map_or}
 use Rattle.ti_base.specs.declared.place.Place.{Place}
@@ -8,7 +8,6 @@ use Rattle.ti_lang.specs.declared.token.TokenKind.TheVariants as k
 use Rattle.ti_lang.specs.Tokenizing.{Spells, StrayByte, OpenString, escaped, is_plain}
 use Rattle.ti_lex.specs.declared.error.LexErr.{LexErr}
 use Rattle.ti_rules.specs.declared.rule.Rule.TheVariants.{X1}
-use Rattle.ti_rules.specs.declared.refusal.Refusal.{Refusal}
 use Rattle.ti_lex.specs.Cursor.{Spot, rest, moved}
 use Rattle.ti_lex.specs.Reading.{Reading, Takes, Refuses, Item, Gives, Closes, Breaks, Strays, item, escape, string_from, escape_from}
 use Rattle.ti_lex.specs.Answer.{Reads, ReadsItem}
@@ -21,7 +20,6 @@ behind quote bytes at l Breaks = Refuses OpenString quote
 behind quote bytes at l Strays = Refuses StrayByte at
 
 module _ (quote : ℕ) (bytes : List ℕ) (at : ℕ) where
-
   escape_from-item : (b : ℕ) (l : List ℕ) → escape_from quote bytes at l ≡ behind quote bytes at (b ∷ l) (escape l)
   escape_from-item b [] = refl
   escape_from-item b (c ∷ l) = by (escaped c)
@@ -45,7 +43,6 @@ module _ (quote : ℕ) (bytes : List ℕ) (at : ℕ) where
       chosen l b (b == 34) (b == 92) (is_plain b) (b == 10 || b == 13) (escape_from quote bytes at l) (escape l) (escape_from-item b l)
 
 module _ (quote : ℕ) (bytes : List ℕ) (spot after : Spot) where
-
   given : (place : Place) (byte : ℕ) (i : Item) → ReadsItem i place spot after (Ok (Some byte)) → (after.text ≡ spot.text) × (string_from quote (bytes ++ byte ∷ []) after.at (rest after) ≡ behind quote bytes spot.at (rest spot) i)
   given place byte (Gives b size) (same, to) =
       let x : byte ≡ b = ap (λ o. unwrap_or o byte) same in

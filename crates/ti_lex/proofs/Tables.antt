@@ -1,11 +1,10 @@
 -- A look-up in a table, row by row.
-use Rattle.std.proofs.Common.{◌≡◌, ℕ, ◌+◌, ◌≤◌, Bool, true, false, cond, List, [], ◌∷◌, length, drop, Option, Some, None, slice_get, refl, sym, ap, ◌∙◌}
-use Rattle.std.proofs.lemmas.List.{drop_more, drop_all}
+use Rattle.std.proofs.Common.{◌≡◌, ℕ, ◌+◌, Bool, true, false, cond, List, ◌∷◌, drop, Some, slice_get, sym, ap, ◌∙◌}
+use Rattle.std.proofs.lemmas.List.{drop_more}
 use Rattle.std.proofs.lemmas.Option.{slice_get_within, get_or_from_slice_get}
 use Rattle.std.specs.Map.{lookup}
 
 module _ {K X : Type 0} (test : K → Bool) (rows : List (K × X)) (i : ℕ) (row : K × X) where
-
   drop-row : slice_get rows i ≡ Some row → drop i rows ≡ row ∷ drop (i + 1) rows
   drop-row h =
       drop_more rows i row (slice_get_within rows i row h) ∙ ap (λ r. r ∷ drop (i + 1) rows) (get_or_from_slice_get rows i row row h)

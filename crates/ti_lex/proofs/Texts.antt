@@ -1,6 +1,5 @@
 -- The pieces of a text.
-use Rattle.std.proofs.Common.{◌≡◌, ◌≢◌, ℕ, ◌+◌, ◌-◌, ◌≤◌, ◌<◌, Result, Ok, Err, List, [], ◌∷◌, ◌++◌, length, take, drop, refl, sym, ap, ◌∙◌, subst, arith, length-drop}
-use Rattle.std.proofs.lemmas.List.{drop_all}
+use Rattle.std.proofs.Common.{◌≡◌, ℕ, ◌+◌, ◌-◌, ◌≤◌, ◌<◌, Ok, Err, List, [], ◌∷◌, ◌++◌, length, drop, refl, sym, ap, ◌∙◌, subst, arith, length-drop}
 use Rattle.ti_base.specs.declared.place.Place.{Place}
 use Rattle.ti_base.specs.Places.{place_of, end_place}
 use Rattle.ti_lang.specs.declared.token.Token.{Token}
@@ -18,7 +17,7 @@ use Rattle.ti_lex.specs.declared.piece.Piece.TheVariants as p
 use Rattle.ti_lex.specs.Answer.{Reads, Lexes}
 use Rattle.ti_lex.specs.Cursor.{Spot, rest}
 use Rattle.ti_lex.specs.Reading.{Reading, Takes, Refuses, first}
-use Rattle.ti_lex.proofs.Longest.{Tells, first_tells, longest_read, none_empty}
+use Rattle.ti_lex.proofs.Longest.{Tells, first_tells}
 
 -- one more piece behind others
 pub more_space : {text : List ℕ} {i j : ℕ} {tokens : List Token} → Pieces text i tokens j → (size : ℕ) → IsLongest (drop j text) size Space → Pieces text i tokens (j + size)
@@ -58,7 +57,6 @@ all_read text tokens spot before none =
     record { spelled = tokens; pieces = subst (Pieces text 0 tokens) done before.pieces; ended = ap (λ (p : Place). tokens ++ record { kind = k.End; place = p } ∷ []) end }
 
 module _ (text : List ℕ) (tokens : List Token) (spot new : Spot) (before : IsReadTo text tokens spot) (more : 0 < length (rest spot)) where
-
   abbrev front : List ℕ
   front = drop spot.at text
 

@@ -1,6 +1,6 @@
 -- Names and reserved words.
-use Rattle.std.proofs.Common.{◌≡◌, ◌≢◌, ℕ, suc, ◌+◌, ◌≤◌, ◌<◌, Bool, true, false, ◌&&◌, ◌||◌, cond, Option, Some, None, unwrap_or, List, [], ◌∷◌, ◌++◌, length, take, drop, inl, inr, refl, sym, ap, ◌∙◌, subst, arith, take-append-drop}
-use Rattle.std.proofs.lemmas.Bool.{and_parts, cases_lt}
+use Rattle.std.proofs.Common.{◌≡◌, ◌≢◌, ℕ, suc, ◌+◌, Bool, true, false, ◌||◌, cond, Option, Some, None, unwrap_or, List, [], ◌∷◌, ◌++◌, length, take, drop, inl, inr, refl, sym, ap, ◌∙◌, subst, arith, take-append-drop}
+use Rattle.std.proofs.lemmas.Bool.{cases_lt}
 use Rattle.std.proofs.Math.Seq.{take-append_seam}
 use Rattle.std.proofs.lemmas.List.Folds.{length-prefix_len}
 use Rattle.std.proofs.lemmas.Slice.Eq.{bytes_eq-Decides}
@@ -14,7 +14,7 @@ use Rattle.ti_lang.specs.Tokens.{word_of}
 use Rattle.ti_lang.specs.Tokenizing.{Spells, IsPiece, first_passes, begins_name, is_name_byte}
 use Rattle.ti_lang.specs.Tokenizing as pieces
 use Rattle.ti_lex.specs.Reading.{Takes, reserved, kind_of_word, word}
-use Rattle.ti_lex.proofs.Fronts.{Beats, IsSound, beats_same}
+use Rattle.ti_lex.proofs.Fronts.{Beats, IsSound}
 use Rattle.ti_lex.proofs.Runs.{run_covers, run_passes}
 
 -- a reserved word looks like a name, and is found in the table

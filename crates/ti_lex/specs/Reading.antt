@@ -1,5 +1,5 @@
 -- Reading the piece at the front of a list, as functions of the list; `at` is where it begins in the text.
-use Rattle.std.specs.Prelude.{ℕ, ◌+◌, ◌-◌, ◌*◌, ◌==◌, nat_le, min, Bool, true, false, not, ◌&&◌, ◌||◌, if◌then◌else◌, Option, Some, None, is_some, unwrap_or, List, [], ◌∷◌, ◌++◌, length, take, drop, codes, pos}
+use Rattle.std.specs.Prelude.{ℕ, ◌+◌, ◌-◌, ◌*◌, ◌==◌, min, Bool, false, not, ◌&&◌, ◌||◌, if◌then◌else◌, Option, Some, None, is_some, unwrap_or, List, [], ◌∷◌, ◌++◌, take, drop, codes, pos}
 use Rattle.std.specs.List.{prefix_len}
 use Rattle.std.specs.Option.{option_map_or}
 use Rattle.std.specs.Int.{is_in_range}
@@ -137,6 +137,7 @@ abbrev mutual
       else (if is_plain b then string_from quote (bytes ++ b ∷ []) (at + 1) l
       else (if b == 10 || b == 13 then Refuses OpenString quote
       else Refuses StrayByte at)))
+
   pub escape_from : ℕ → List ℕ → ℕ → List ℕ → Reading
   escape_from quote bytes at [] = Refuses StrayByte at
   escape_from quote bytes at (b ∷ l) =

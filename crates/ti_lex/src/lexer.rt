@@ -84,5 +84,4 @@ pub fn one_reading()
     ensures one_list { (text : List ℕ) (a b : List Token) → IsTokenized text a → IsTokenized text b → a ≡ b }
     ensures one_refusal { (text : List ℕ) (a b : Refusal) → IsLexicalRefusal text a → IsLexicalRefusal text b → a ≡ b }
     ensures never_both { (text : List ℕ) (tokens : List Token) (refusal : Refusal) → length text ≤ most_bytes → IsTokenized text tokens → IsLexicalRefusal text refusal → ⊥ }
-{
-}
+{}

@@ -10,6 +10,8 @@ mod number;
 mod operator;
 mod piece;
 mod string;
+#[cfg(test)]
+mod tests;
 mod word;
 
 pub use error::LexErr;

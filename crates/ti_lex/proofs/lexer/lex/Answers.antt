@@ -1,4 +1,4 @@
-use Rattle.std.proofs.Common.{◌≡◌, Err, sym, ap, subst}
+use Rattle.std.proofs.Common.{Err, sym, subst}
 use Rattle.ti_base.specs.declared.place.Place.{Place}
 use Rattle.ti_rules.specs.declared.rule.Rule.TheVariants.{X5}
 use Rattle.ti_rules.specs.LexicalRefusals as refusals

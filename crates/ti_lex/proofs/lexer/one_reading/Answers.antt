@@ -6,5 +6,5 @@ returns c = record {
   some = some_reading;
   one_list = one_list;
   one_refusal = one_refusal;
-  never_both = never_both
+  never_both = never_both;
 }

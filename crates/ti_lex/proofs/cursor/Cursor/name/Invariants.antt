@@ -8,7 +8,7 @@ abbrev pub invariant-loop-byte : goal.invariant-loop-byte
 invariant-loop-byte l = record {
   moves : l.self ≡ moved l.size l.initial.self;
   within : l.size ≤ length l.rest;
-  end : l.size + prefix_len is_name_byte (rest l.self) ≡ prefix_len is_name_byte (rest l.initial.self)
+  end : l.size + prefix_len is_name_byte (rest l.self) ≡ prefix_len is_name_byte (rest l.initial.self);
 }
 
 abbrev pub decreases-loop-byte : goal.decreases-loop-byte

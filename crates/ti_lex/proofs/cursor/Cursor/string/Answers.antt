@@ -1,4 +1,4 @@
-use Rattle.std.proofs.Common.{◌≡◌, ◌+◌, List, [], ◌∷◌, ◌++◌, drop, Ok, Err, sym, ap, ◌∙◌, subst}
+use Rattle.std.proofs.Common.{◌≡◌, ◌+◌, [], drop, Ok, Err, sym, ap, ◌∙◌, subst}
 use Rattle.std.proofs.lemmas.Result.{err_from_is_err_and}
 use Rattle.ti_base.specs.Places.{place_of}
 use Rattle.ti_lex.specs.Answer.{Reads, ReadsItem}
@@ -17,7 +17,7 @@ returns-in_err-byte c =
     let same : old.text ≡ spot.text = sym (c.loop-bytes.invariant.same ∙ ap (λ (z : Spot). z.text) c.advance.ensures.moves) in
     let told : ReadsItem (item (rest spot)) (place_of old.text old.at) spot c.item.new.self (Err e) = subst (λ z. ReadsItem (item (rest spot)) z spot c.item.new.self (Err e)) c.place-quote.ensures c.in_err-byte.ensures in
     let start : string_from old.at bytes spot.at (rest spot) ≡ string_from old.at [] (old.at + 1) (drop 1 (rest old)) =
-        c.loop-bytes.invariant.reads ∙ ap (λ b. string_from old.at b c.advance.new.self.at (rest c.advance.new.self)) c.new-bytes.ensures.items ∙ ap (λ (z : Spot). string_from old.at [] z.at (rest c.advance.new.self)) c.advance.ensures.moves ∙ ap (string_from old.at [] (old.at + 1)) c.advance.ensures.left in
+    c.loop-bytes.invariant.reads ∙ ap (λ b. string_from old.at b c.advance.new.self.at (rest c.advance.new.self)) c.new-bytes.ensures.items ∙ ap (λ (z : Spot). string_from old.at [] z.at (rest c.advance.new.self)) c.advance.ensures.moves ∙ ap (string_from old.at [] (old.at + 1)) c.advance.ensures.left in
     rw (p.1, p.2) (subst (λ z. Reads z old c.item.new.self (Err e)) start (item_refused old.at bytes spot c.item.new.self old c.item.new.self e same told))
 
 pub loop-bytes-preserved : goal.loop-bytes-preserved
@@ -27,5 +27,5 @@ loop-bytes-preserved c =
     let (same, reads) = item_given c.args.self.now.at c.loop-bytes.bytes.items spot c.item.new.self c.place-quote.result c.in-Some.byte told in
     record {
       same = same ∙ c.loop-bytes.invariant.same;
-      reads = ap (λ b. string_from c.args.self.now.at b c.item.new.self.at (rest c.item.new.self)) c.in_ok-push.ensures.items ∙ reads ∙ c.loop-bytes.invariant.reads
+      reads = ap (λ b. string_from c.args.self.now.at b c.item.new.self.at (rest c.item.new.self)) c.in_ok-push.ensures.items ∙ reads ∙ c.loop-bytes.invariant.reads;
     }

@@ -1,15 +1,11 @@
-use Rattle.std.proofs.Common.{◌≡◌, ◌+◌, ◌<◌, ◌++◌, ◌∷◌, [], List, ℕ, length, Ok, Err, sym, ap, ◌∙◌, subst, arith}
+use Rattle.std.proofs.Common.{◌≡◌, ◌++◌, ◌∷◌, [], Ok, sym, ap, ◌∙◌, subst, arith}
 use Rattle.std.proofs.lemmas.Result.{err_from_is_err_and}
 use Rattle.ti_base.specs.declared.place.Place.{Place}
 use Rattle.ti_base.specs.Places.{place_of}
-use Rattle.ti_lang.specs.declared.token.Token.{Token}
 use Rattle.ti_lang.specs.declared.token.TokenKind.TheVariants as k
 use Rattle.ti_lang.specs.Tokenizing.{IsTokenized}
-use Rattle.ti_rules.specs.declared.rule.Rule.TheVariants.{X5}
-use Rattle.ti_rules.specs.LexicalRefusals as refusals
-use Rattle.ti_rules.specs.LexicalRefusals.{IsLexicalRefusal}
-use Rattle.ti_lex.specs.Answer.{Lexes, Reads}
-use Rattle.ti_lex.specs.Cursor.{Spot, rest}
+use Rattle.ti_lex.specs.Answer.{Reads}
+use Rattle.ti_lex.specs.Cursor.{rest}
 use Rattle.ti_lex.specs.Reading.{first}
 use Rattle.ti_lex.proofs.Texts.{IsReadTo, some, nothing_read, all_read, space_read, token_read, error_read, reads_further}
 use Rattle.ti_lex.proofs.cursor.Cursor.tokens.Goals as goal

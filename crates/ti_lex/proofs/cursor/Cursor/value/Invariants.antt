@@ -10,7 +10,7 @@ invariant-loop-byte l = record {
   same : l.self.text ≡ l.initial.self.text;
   fits : l.value ≤ too_large;
   value : value_from l.value (rest l.self) ≡ value_from 0 (rest l.initial.self);
-  end : l.self.at + prefix_len is_ascii_digit (rest l.self) ≡ l.initial.self.at + prefix_len is_ascii_digit (rest l.initial.self)
+  end : l.self.at + prefix_len is_ascii_digit (rest l.self) ≡ l.initial.self.at + prefix_len is_ascii_digit (rest l.initial.self);
 }
 
 abbrev pub decreases-loop-byte : goal.decreases-loop-byte
