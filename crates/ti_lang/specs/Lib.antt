@@ -9,3 +9,4 @@ pub mod Runs
 pub mod Tokenizing
 pub mod Tokens
 pub mod Trees
+pub mod Spelling

@@ -1,0 +1,116 @@
+-- What is read from, and the steps that every rule is made of.
+use Rattle.std.specs.Prelude.{◌≡◌, ℕ, Bool, true, false, if◌then◌else◌, List, [], ◌∷◌, Result, Ok, Err}
+use Rattle.std.specs.Str.{bytes_eq}
+use Rattle.ti_base.specs.declared.place.Place.{Place}
+use Rattle.ti_lang.specs.declared.token.Token.{Token}
+use Rattle.ti_lang.specs.declared.token.TokenKind.{TokenKind}
+use Rattle.ti_lang.specs.declared.token.TokenKind.TheVariants as k
+use Rattle.ti_lang.specs.Tokens.{same_kind}
+use Rattle.ti_parse_expr.specs.declared.stop.Stop.{Stop}
+use Rattle.ti_parse_expr.specs.declared.stop.Stop.TheVariants as stop
+
+-- ---- the next token, which past the end is the end
+
+abbrev pub kind : List Token → TokenKind
+kind [] = k.End
+kind (t ∷ ts) = t.kind
+
+abbrev pub place : List Token → Place
+place [] = record { line = 0; col = 0 }
+place (t ∷ ts) = t.place
+
+abbrev pub next : List Token → List Token
+next [] = []
+next (t ∷ ts) = ts
+
+-- ---- parsers
+
+-- why no tree was read: the list from the token that was refused; or no turns were left, or the last token would have been taken
+pub data Halt : Type 0 where
+  At : List Token → Halt
+  Spent : Halt
+
+abbrev pub Outcome : Type 0 → Type 0
+Outcome A = Result (A × List Token) Halt
+
+abbrev pub Parser : Type 0 → Type 0
+Parser A = List Token → Outcome A
+
+abbrev pub and_then : {A B : Type 0} → Outcome A → (A → Parser B) → Outcome B
+and_then (Ok p) f = f p.0 p.1
+and_then (Err e) f = Err e
+
+infixl 10 ◌>>=◌
+abbrev pub ◌>>=◌ : {A B : Type 0} → Parser A → (A → Parser B) → Parser B
+p >>= f = λ i. and_then (p i) f
+
+infixl 10 ◌>>◌
+abbrev pub ◌>>◌ : {A B : Type 0} → Parser A → Parser B → Parser B
+p >> q = p >>= (λ _. q)
+
+abbrev pub pure : {A : Type 0} → A → Parser A
+pure a = λ i. Ok (a, i)
+
+infixr 11 ◌<$>◌
+abbrev pub ◌<$>◌ : {A B : Type 0} → (A → B) → Parser A → Parser B
+f <$> p = p >>= (λ x. pure (f x))
+
+abbrev pub refuse : {A : Type 0} → Parser A
+refuse = λ i. Err (At i)
+
+abbrev pub peek : Parser TokenKind
+peek = λ i. Ok (kind i, i)
+
+abbrev pub here : Parser Place
+here = λ i. Ok (place i, i)
+
+-- ---- ways to take a token
+
+abbrev pub take_token : Parser (Unit {0})
+take_token = λ i. Ok (tt, next i)
+
+-- the last token stays
+unfoldable pub take_within : Parser (Unit {0})
+take_within [] = Err Spent
+take_within (t ∷ []) = Err Spent
+take_within (t ∷ u ∷ ts) = Ok (tt, u ∷ ts)
+
+abbrev pub sees : TokenKind → List Token → Bool
+sees kind_wanted i = same_kind (kind i) kind_wanted
+
+abbrev pub expect_by : Parser (Unit {0}) → TokenKind → Parser (Unit {0})
+expect_by take kind_wanted i = if sees kind_wanted i then take i else Err (At i)
+
+-- whether it is this name
+abbrev pub spells : List ℕ → TokenKind → Bool
+spells word (k.Name name) = bytes_eq name word
+spells word _ = false
+
+abbrev pub sees_word : List ℕ → List Token → Bool
+sees_word word i = spells word (kind i)
+
+abbrev pub expect_word_by : Parser (Unit {0}) → List ℕ → Parser (Unit {0})
+expect_word_by take word i = if sees_word word i then take i else Err (At i)
+
+abbrev pub named_by : Parser (Unit {0}) → TokenKind → Parser (List ℕ)
+named_by take (k.Name name) = take >> pure name
+named_by take _ = refuse
+
+abbrev pub name_with : Parser (Unit {0}) → Parser (List ℕ)
+name_with take = peek >>= named_by take
+
+-- ---- what a function that parses ensures: the parser's outcome, unless memory fails; at a refusal the refused token is next
+
+abbrev pub Fails : {A : Type 0} → Outcome A → Stop → List Token → Type 0
+Fails outcome stop.Memory new = Unit {0}
+Fails outcome stop.Refused new = outcome ≡ Err (At new)
+Fails outcome stop.Spent new = outcome ≡ Err Spent
+
+abbrev pub Reads : {A : Type 0} → Outcome A → Result A Stop → List Token → Type 0
+Reads outcome (Ok a) new = outcome ≡ Ok (a, new)
+Reads outcome (Err e) new = Fails outcome e new
+
+-- the same where clauses see the value otherwise
+abbrev pub ReadsAs : {A B : Type 0} → (A → B) → Outcome B → Result A Stop → List Token → Type 0
+ReadsAs view outcome (Ok a) new = outcome ≡ Ok (view a, new)
+ReadsAs view outcome (Err e) new = Fails outcome e new

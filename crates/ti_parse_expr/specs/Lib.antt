@@ -1,0 +1,5 @@
+pub mod Input
+pub mod Seen
+pub mod Types
+pub mod Expr
+pub mod Nests

@@ -1,0 +1,84 @@
+-- Reading types, by one token of sight.
+use Rattle.std.specs.Prelude.{ℕ, zero, suc, ℤ, pos, negsuc, nat_le, Bool, true, false, ◌&&◌, if◌then◌else◌, List, [], ◌∷◌, ◌++◌, Option, Some, None, Ok, Err}
+use Rattle.ti_lang.specs.declared.token.TokenKind.{TokenKind}
+use Rattle.ti_lang.specs.declared.token.TokenKind.TheVariants as k
+use Rattle.ti_lang.specs.declared.tree.types.Base.{Base}
+use Rattle.ti_lang.specs.declared.tree.types.Base.TheVariants as b
+use Rattle.ti_lang.specs.declared.tree.types.Qualifier.{Qualifier}
+use Rattle.ti_lang.specs.declared.tree.types.QualifierWord.{QualifierWord}
+use Rattle.ti_lang.specs.Trees.Types.{GridTree, TypeTree}
+use Rattle.ti_lang.specs.Spelling.Operators.{qualifier_of}
+use Rattle.ti_parse_expr.specs.Input.{Parser, Spent, ◌>>=◌, ◌>>◌, ◌<$>◌, pure, refuse, peek, here, sees, expect_by}
+
+-- a number of dimensions
+abbrev pub dim_of : ℤ → Option ℕ
+dim_of (pos n) = if nat_le 1 n && nat_le n 3 then Some n else None
+dim_of (negsuc n) = None
+
+-- A token is taken by `take`.
+module _ (take : Parser (Unit {0})) where
+  abbrev pub dimension_if : Option ℕ → Parser ℕ
+  dimension_if None = refuse
+  dimension_if (Some n) = take >> pure n
+
+  abbrev pub dimension_by : TokenKind → Parser ℕ
+  dimension_by (k.Int n) = dimension_if (dim_of n)
+  dimension_by _ = refuse
+
+  -- the number of an arity
+  abbrev pub dimension : Parser ℕ
+  dimension = peek >>= dimension_by
+
+  -- `<` n `>`
+  unfoldable pub arity : Parser ℕ
+  arity = do
+    expect_by take k.Less
+    n ← dimension
+    expect_by take k.Greater
+    pure n
+
+  abbrev pub base_by : TokenKind → Parser Base
+  base_by k.KeywordInt = take >> pure b.Int
+  base_by k.KeywordBoolean = take >> pure b.Boolean
+  base_by k.KeywordPoint = take >> b.Point <$> arity
+  base_by k.KeywordRectDomain = take >> b.RectDomain <$> arity
+  base_by (k.Name name) = (do at ← here; take; pure (b.Named at name))
+  base_by _ = refuse
+
+  unfoldable pub base : Parser Base
+  base = peek >>= base_by
+
+  abbrev pub qualifiers_if : (List Qualifier → Parser (List Qualifier)) → List Qualifier → Option QualifierWord → Parser (List Qualifier)
+  qualifiers_if more found None = pure found
+  qualifiers_if more found (Some word) = (do at ← here; take; more (found ++ record { word = word; place = at } ∷ []))
+
+  -- as many as there are, in at most so many turns
+  unfoldable pub qualifiers : ℕ → List Qualifier → Parser (List Qualifier)
+  qualifiers zero found = λ i. Err Spent
+  qualifiers (suc n) found = (do kind ← peek; qualifiers_if (qualifiers n) found (qualifier_of kind))
+
+  abbrev pub dim_by : TokenKind → Parser ℕ
+  dim_by (k.Dim n) = take >> pure n
+  dim_by _ = refuse
+
+  -- after the opening bracket
+  unfoldable pub grid : ℕ → Parser GridTree
+  grid turns = do
+    n ← peek >>= dim_by
+    expect_by take k.RightBracket
+    qs ← qualifiers turns []
+    pure (record { dim = n; qualifiers = qs })
+
+  -- at most so many more
+  unfoldable pub grids : ℕ → ℕ → List GridTree → Parser (List GridTree)
+  grids turns zero found = pure found
+  grids turns (suc n) found = do
+    is_more ← (λ i. Ok (sees k.LeftBracket i, i))
+    if is_more then (do take; g ← grid turns; grids turns n (found ++ g ∷ [])) else pure found
+
+  -- the type of a field, after what it begins with
+  unfoldable pub field_type : ℕ → Base → Parser TypeTree
+  field_type turns begin = do
+    qs ← qualifiers turns []
+    gs ← grids turns 3 []
+    pure (record { base = begin; qualifiers = qs; grids = gs })

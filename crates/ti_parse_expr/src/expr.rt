@@ -1,0 +1,574 @@
+// Expressions, by one token of sight. The rules take the reader of expressions as a parameter, so that each is proved by
+// itself.
+
+ghost use Rattle.std.specs.Prelude.{[], ◌∷◌, ◌++◌, ◌≡◌, IfOk};
+ghost use Rattle.ti_lang.specs.Trees.Views.{exp_of, exps_of, range_of, ranges_of, type_of};
+ghost use Rattle.ti_parse_expr.specs.Input.{Reads, ReadsAs, take_within};
+ghost use Rattle.ti_parse_expr.specs.Seen.{operand_of};
+ghost use Rattle.ti_parse_expr.specs.Expr as spec;
+ghost use Rattle.ti_parse_expr.specs.Nests.{Nests};
+
+use crate::operand::{Ending, Operand};
+use crate::operators::{infix_of, prefix_of, qualifier_of, strength};
+use crate::stop::Stop;
+use crate::tokens::Tokens;
+use crate::types;
+use std::alloc::Global;
+use ti_base::Place;
+use ti_lang::tree::{Base, BinaryOperator, Expr, Range, TypeName, UnaryOperator};
+use ti_lang::{Spelled, TokenKind};
+
+#[derive(Clone, Copy)]
+pub struct Grammar<F> {
+    pub alloc: Global,
+    /// How many turns a loop may make, and how deep expressions may still nest.
+    pub turns: usize,
+    pub expr: F,
+}
+
+impl<F: Fn(Global, &mut Tokens<'_>, usize, u8) -> Result<Expr, Stop>> Grammar<F> {
+    fn expr(&self, tokens: &mut Tokens<'_>, least: u8) -> Result<Expr, Stop>
+        requires { Nests self.now.turns (F.pre self.now.expr) (F.post self.now.expr) }
+        ensures { ReadsAs exp_of (spec.expr take_within self.now.turns least tokens.old) result tokens.new }
+    {
+        (self.expr)(self.alloc, tokens, self.turns, least)
+    }
+
+    // ---- lists
+
+    #[tactic(auto, unfolding(crate::specs::Expr::more_args))]
+    fn more_args(&self, tokens: &mut Tokens<'_>) -> Result<Vec<Expr>, Stop>
+        requires { Nests self.now.turns (F.pre self.now.expr) (F.post self.now.expr) }
+        ensures { ReadsAs exps_of (spec.more_args take_within self.now.turns (spec.expr take_within self.now.turns) self.now.turns [] tokens.old) result tokens.new }
+    {
+        let mut found = Vec::new(self.alloc);
+        for _turn in 0..self.turns {
+            found.push(self.expr(tokens, 1)?)?;
+            if !tokens.sees(TokenKind::Comma) {
+                return Ok(found);
+            }
+            tokens.take()?;
+        }
+        Err(Stop::Spent)
+    }
+
+    #[tactic(auto, unfolding(crate::specs::Expr::args))]
+    fn args(&self, tokens: &mut Tokens<'_>) -> Result<Vec<Expr>, Stop>
+        requires { Nests self.now.turns (F.pre self.now.expr) (F.post self.now.expr) }
+        ensures { ReadsAs exps_of (spec.args take_within self.now.turns (spec.expr take_within self.now.turns) tokens.old) result tokens.new }
+    {
+        if tokens.sees(TokenKind::RightParen) {
+            tokens.take()?;
+            return Ok(Vec::new(self.alloc));
+        }
+        let found = self.more_args(tokens)?;
+        tokens.expect(TokenKind::RightParen)?;
+        Ok(found)
+    }
+
+    #[tactic(auto, unfolding(crate::specs::Expr::more_parts))]
+    fn more_parts(
+        &self,
+        tokens: &mut Tokens<'_>,
+        room: usize,
+        found: Vec<Expr>,
+    ) -> Result<Vec<Expr>, Stop>
+        requires { Nests self.now.turns (F.pre self.now.expr) (F.post self.now.expr) }
+        ensures { ReadsAs exps_of (spec.more_parts take_within self.now.turns (spec.expr take_within self.now.turns) room (exps_of found) tokens.old) result tokens.new }
+    {
+        let mut found = found;
+        for _turn in 0..room {
+            if !tokens.sees(TokenKind::Comma) {
+                return Ok(found);
+            }
+            tokens.take()?;
+            found.push(self.expr(tokens, 1)?)?;
+        }
+        Ok(found)
+    }
+
+    #[tactic(auto, unfolding(crate::specs::Expr::parts_from))]
+    fn parts_from(&self, tokens: &mut Tokens<'_>, first: Expr) -> Result<Vec<Expr>, Stop>
+        requires { Nests self.now.turns (F.pre self.now.expr) (F.post self.now.expr) }
+        ensures { ReadsAs exps_of (spec.parts_from take_within self.now.turns (spec.expr take_within self.now.turns) (exp_of first) tokens.old) result tokens.new }
+    {
+        let mut found = Vec::new(self.alloc);
+        found.push(first)?;
+        let found = self.more_parts(tokens, 2, found)?;
+        tokens.expect(TokenKind::RightBracket)?;
+        Ok(found)
+    }
+
+    #[tactic(auto, unfolding(crate::specs::Expr::parts))]
+    fn parts(&self, tokens: &mut Tokens<'_>) -> Result<Vec<Expr>, Stop>
+        requires { Nests self.now.turns (F.pre self.now.expr) (F.post self.now.expr) }
+        ensures { ReadsAs exps_of (spec.parts take_within self.now.turns (spec.expr take_within self.now.turns) tokens.old) result tokens.new }
+    {
+        let first = self.expr(tokens, 1)?;
+        self.parts_from(tokens, first)
+    }
+
+    #[tactic(auto, unfolding(crate::specs::Expr::range_from))]
+    fn range_from(&self, tokens: &mut Tokens<'_>, low: Expr) -> Result<Range, Stop>
+        requires { Nests self.now.turns (F.pre self.now.expr) (F.post self.now.expr) }
+        ensures { ReadsAs range_of (spec.range_from take_within self.now.turns (spec.expr take_within self.now.turns) (exp_of low) tokens.old) result tokens.new }
+    {
+        tokens.expect(TokenKind::Colon)?;
+        let high = self.expr(tokens, 1)?;
+        if !tokens.sees(TokenKind::Colon) {
+            return Ok(Range::Plain(low, high));
+        }
+        tokens.take()?;
+        let step = self.expr(tokens, 1)?;
+        Ok(Range::Stepped(low, high, step))
+    }
+
+    #[tactic(auto, unfolding(crate::specs::Expr::more_ranges))]
+    fn more_ranges(
+        &self,
+        tokens: &mut Tokens<'_>,
+        room: usize,
+        found: Vec<Range>,
+    ) -> Result<Vec<Range>, Stop>
+        requires { Nests self.now.turns (F.pre self.now.expr) (F.post self.now.expr) }
+        ensures { ReadsAs ranges_of (spec.more_ranges take_within self.now.turns (spec.expr take_within self.now.turns) room (ranges_of found) tokens.old) result tokens.new }
+    {
+        let mut found = found;
+        for _turn in 0..room {
+            if !tokens.sees(TokenKind::Comma) {
+                return Ok(found);
+            }
+            tokens.take()?;
+            let low = self.expr(tokens, 1)?;
+            found.push(self.range_from(tokens, low)?)?;
+        }
+        Ok(found)
+    }
+
+    #[tactic(auto, unfolding(crate::specs::Expr::ranges_from))]
+    fn ranges_from(&self, tokens: &mut Tokens<'_>, low: Expr) -> Result<Vec<Range>, Stop>
+        requires { Nests self.now.turns (F.pre self.now.expr) (F.post self.now.expr) }
+        ensures { ReadsAs ranges_of (spec.ranges_from take_within self.now.turns (spec.expr take_within self.now.turns) (exp_of low) tokens.old) result tokens.new }
+    {
+        let mut found = Vec::new(self.alloc);
+        found.push(self.range_from(tokens, low)?)?;
+        let found = self.more_ranges(tokens, 2, found)?;
+        tokens.expect(TokenKind::RightBracket)?;
+        Ok(found)
+    }
+
+    // ---- a Postfix
+
+    #[tactic(auto, unfolding(crate::specs::Expr::bracket), using(ti_lang::proofs::Bridges::bridges))]
+    fn bracket(&self, tokens: &mut Tokens<'_>, place: Place) -> Result<Expr, Stop>
+        requires { Nests self.now.turns (F.pre self.now.expr) (F.post self.now.expr) }
+        ensures { ReadsAs exp_of (spec.bracket take_within self.now.turns (spec.expr take_within self.now.turns) place tokens.old) result tokens.new }
+    {
+        let first = self.expr(tokens, 1)?;
+        if tokens.sees(TokenKind::Colon) {
+            Ok(Expr::Rect(place, self.ranges_from(tokens, first)?))
+        } else {
+            Ok(Expr::Point(place, self.parts_from(tokens, first)?))
+        }
+    }
+
+    /// What begins with a name, after the name.
+    #[tactic(auto, unfolding(crate::specs::Expr::named), using(ti_lang::proofs::Bridges::bridges))]
+    pub fn named(
+        &self,
+        tokens: &mut Tokens<'_>,
+        place: Place,
+        name: Spelled,
+    ) -> Result<Operand, Stop>
+        requires { Nests self.now.turns (F.pre self.now.expr) (F.post self.now.expr) }
+        ensures { ReadsAs operand_of (spec.named take_within self.now.turns (spec.expr take_within self.now.turns) place name tokens.old) result tokens.new }
+    {
+        if !tokens.sees(TokenKind::LeftParen) {
+            return Ok(Operand {
+                expr: Expr::Name(place, name),
+                ending: Ending::Target,
+            });
+        }
+        tokens.take()?;
+        let args = self.args(tokens)?;
+        Ok(Operand {
+            expr: Expr::Call(place, name, args),
+            ending: Ending::Call,
+        })
+    }
+
+    #[tactic(auto, unfolding(crate::specs::Expr::member), using(ti_lang::proofs::Bridges::bridges))]
+    fn member(&self, tokens: &mut Tokens<'_>, left: Expr) -> Result<Operand, Stop>
+        requires { Nests self.now.turns (F.pre self.now.expr) (F.post self.now.expr) }
+        ensures { ReadsAs operand_of (spec.member take_within self.now.turns (spec.expr take_within self.now.turns) (exp_of left) tokens.old) result tokens.new }
+    {
+        let left = Box::new(self.alloc, left)?;
+        let place = tokens.place();
+        let name = tokens.name(self.alloc)?;
+        if !tokens.sees(TokenKind::LeftParen) {
+            return Ok(Operand {
+                expr: Expr::Select(place, left, name),
+                ending: Ending::Target,
+            });
+        }
+        tokens.take()?;
+        let args = self.args(tokens)?;
+        Ok(Operand {
+            expr: Expr::Member(place, left, name, args),
+            ending: Ending::Call,
+        })
+    }
+
+    /// An index, after its `[`.
+    #[tactic(auto, unfolding(crate::specs::Expr::index), using(ti_lang::proofs::Bridges::bridges))]
+    pub fn index(&self, tokens: &mut Tokens<'_>, place: Place, left: Expr) -> Result<Operand, Stop>
+        requires { Nests self.now.turns (F.pre self.now.expr) (F.post self.now.expr) }
+        ensures { ReadsAs operand_of (spec.index take_within self.now.turns (spec.expr take_within self.now.turns) place (exp_of left) tokens.old) result tokens.new }
+    {
+        let left = Box::new(self.alloc, left)?;
+        let parts = self.parts(tokens)?;
+        Ok(Operand {
+            expr: Expr::Index(place, left, parts),
+            ending: Ending::Target,
+        })
+    }
+
+    /// What stands behind an operand.
+    #[tactic(auto, unfolding(crate::specs::Expr::postfix))]
+    pub fn postfix(&self, tokens: &mut Tokens<'_>, first: Operand) -> Result<Operand, Stop>
+        requires { Nests self.now.turns (F.pre self.now.expr) (F.post self.now.expr) }
+        ensures { ReadsAs operand_of (spec.postfix take_within self.now.turns (spec.expr take_within self.now.turns) self.now.turns (operand_of first) tokens.old) result tokens.new }
+    {
+        let mut left = first;
+        for _turn in 0..self.turns {
+            match tokens.peek() {
+                TokenKind::Dot => {
+                    tokens.take()?;
+                    left = self.member(tokens, left.expr)?;
+                }
+                TokenKind::LeftBracket => {
+                    let place = tokens.place();
+                    tokens.take()?;
+                    left = self.index(tokens, place, left.expr)?;
+                }
+                _ => return Ok(left),
+            }
+        }
+        Err(Stop::Spent)
+    }
+
+    #[tactic(auto, unfolding(crate::specs::Expr::group))]
+    fn group(&self, tokens: &mut Tokens<'_>) -> Result<Operand, Stop>
+        requires { Nests self.now.turns (F.pre self.now.expr) (F.post self.now.expr) }
+        ensures { ReadsAs operand_of (spec.group take_within self.now.turns (spec.expr take_within self.now.turns) tokens.old) result tokens.new }
+    {
+        let expr = self.expr(tokens, 1)?;
+        tokens.expect(TokenKind::RightParen)?;
+        self.postfix(
+            tokens,
+            Operand {
+                expr,
+                ending: Ending::Other,
+            },
+        )
+    }
+
+    /// A Postfix.
+    #[tactic(auto, unfolding(crate::specs::Expr::operand))]
+    pub fn operand(&self, tokens: &mut Tokens<'_>) -> Result<Operand, Stop>
+        requires { Nests self.now.turns (F.pre self.now.expr) (F.post self.now.expr) }
+        ensures { ReadsAs operand_of (spec.operand take_within self.now.turns (spec.expr take_within self.now.turns) tokens.old) result tokens.new }
+    {
+        let place = tokens.place();
+        let expr = match tokens.peek() {
+            TokenKind::Int(n) => {
+                tokens.take()?;
+                Expr::Int(place, *n)
+            }
+            TokenKind::KeywordTrue => {
+                tokens.take()?;
+                Expr::Truth(place, true)
+            }
+            TokenKind::KeywordFalse => {
+                tokens.take()?;
+                Expr::Truth(place, false)
+            }
+            TokenKind::KeywordNull => {
+                tokens.take()?;
+                Expr::Null(place)
+            }
+            TokenKind::KeywordThis => {
+                tokens.take()?;
+                Expr::This(place)
+            }
+            TokenKind::Name(name) => {
+                let name = name.copy(self.alloc)?;
+                tokens.take()?;
+                let first = self.named(tokens, place, name)?;
+                return self.postfix(tokens, first);
+            }
+            TokenKind::LeftParen => {
+                tokens.take()?;
+                return self.group(tokens);
+            }
+            TokenKind::LeftBracket => {
+                tokens.take()?;
+                self.bracket(tokens, place)?
+            }
+            TokenKind::KeywordTi => {
+                tokens.take()?;
+                process(tokens, place)?
+            }
+            _ => return Err(Stop::Refused),
+        };
+        self.postfix(
+            tokens,
+            Operand {
+                expr,
+                ending: Ending::Other,
+            },
+        )
+    }
+
+    // ---- operators
+
+    #[tactic(auto, unfolding(crate::specs::Expr::operation))]
+    fn operation(
+        &self,
+        tokens: &mut Tokens<'_>,
+        left: Expr,
+        op: BinaryOperator,
+    ) -> Result<Expr, Stop>
+        requires { Nests self.now.turns (F.pre self.now.expr) (F.post self.now.expr) }
+        ensures { ReadsAs exp_of (spec.operation take_within self.now.turns (spec.expr take_within self.now.turns) (exp_of left) op tokens.old) result tokens.new }
+    {
+        let left = Box::new(self.alloc, left)?;
+        let place = tokens.place();
+        tokens.take()?;
+        let right = Box::new(self.alloc, self.expr(tokens, strength(op) + 1)?)?;
+        Ok(Expr::Binary(place, op, left, right))
+    }
+
+    #[tactic(auto, unfolding(crate::specs::Expr::climb))]
+    fn climb(&self, tokens: &mut Tokens<'_>, least: u8, first: Expr) -> Result<Expr, Stop>
+        requires { Nests self.now.turns (F.pre self.now.expr) (F.post self.now.expr) }
+        ensures { ReadsAs exp_of (spec.climb take_within self.now.turns (spec.expr take_within self.now.turns) least self.now.turns (exp_of first) tokens.old) result tokens.new }
+    {
+        let mut left = first;
+        for _turn in 0..self.turns {
+            let Some(op) = infix_of(tokens.peek()) else {
+                return Ok(left);
+            };
+            if strength(op) < least {
+                return Ok(left);
+            }
+            left = self.operation(tokens, left, op)?;
+        }
+        Err(Stop::Spent)
+    }
+
+    #[tactic(auto, unfolding(crate::specs::Expr::cast))]
+    fn cast(&self, tokens: &mut Tokens<'_>, place: Place, ty: TypeName) -> Result<Expr, Stop>
+        requires { Nests self.now.turns (F.pre self.now.expr) (F.post self.now.expr) }
+        ensures { ReadsAs exp_of (spec.cast take_within self.now.turns (spec.expr take_within self.now.turns) place (type_of ty) tokens.old) result tokens.new }
+    {
+        tokens.expect(TokenKind::RightParen)?;
+        let inner = Box::new(self.alloc, self.expr(tokens, 11)?)?;
+        Ok(Expr::Cast(place, ty, inner))
+    }
+
+    #[tactic(auto, unfolding(crate::specs::Expr::cast_from))]
+    fn cast_from(&self, tokens: &mut Tokens<'_>, place: Place, base: Base) -> Result<Expr, Stop>
+        requires { Nests self.now.turns (F.pre self.now.expr) (F.post self.now.expr) }
+        ensures { ReadsAs exp_of (spec.cast_from take_within self.now.turns (spec.expr take_within self.now.turns) place base tokens.old) result tokens.new }
+    {
+        let ty = types::field_type(self.alloc, tokens, self.turns, base)?;
+        self.cast(tokens, place, ty)
+    }
+
+    #[tactic(auto, unfolding(crate::specs::Expr::cast_from_grid))]
+    fn cast_from_grid(
+        &self,
+        tokens: &mut Tokens<'_>,
+        place: Place,
+        base: Base,
+    ) -> Result<Expr, Stop>
+        requires { Nests self.now.turns (F.pre self.now.expr) (F.post self.now.expr) }
+        ensures { ReadsAs exp_of (spec.cast_from_grid take_within self.now.turns (spec.expr take_within self.now.turns) place base tokens.old) result tokens.new }
+    {
+        let mut grids = Vec::new(self.alloc);
+        grids.push(types::grid(self.alloc, tokens, self.turns)?)?;
+        let grids = types::grids(self.alloc, tokens, self.turns, 2, grids)?;
+        let ty = TypeName {
+            base,
+            qualifiers: Vec::new(self.alloc),
+            grids,
+        };
+        self.cast(tokens, place, ty)
+    }
+
+    #[tactic(auto, unfolding(crate::specs::Expr::group_from))]
+    fn group_from(&self, tokens: &mut Tokens<'_>, first: Operand) -> Result<Expr, Stop>
+        requires { Nests self.now.turns (F.pre self.now.expr) (F.post self.now.expr) }
+        ensures { ReadsAs exp_of (spec.group_from take_within self.now.turns (spec.expr take_within self.now.turns) (operand_of first) tokens.old) result tokens.new }
+    {
+        let left = self.postfix(tokens, first)?;
+        let expr = self.climb(tokens, 1, left.expr)?;
+        tokens.expect(TokenKind::RightParen)?;
+        let inner = Operand {
+            expr,
+            ending: Ending::Other,
+        };
+        Ok(self.postfix(tokens, inner)?.expr)
+    }
+
+    #[tactic(auto, unfolding(crate::specs::Expr::paren_name))]
+    fn paren_name(
+        &self,
+        tokens: &mut Tokens<'_>,
+        place: Place,
+        name_place: Place,
+        name: Spelled,
+    ) -> Result<Expr, Stop>
+        requires { Nests self.now.turns (F.pre self.now.expr) (F.post self.now.expr) }
+        ensures { ReadsAs exp_of (spec.paren_name take_within self.now.turns (spec.expr take_within self.now.turns) place name_place name tokens.old) result tokens.new }
+    {
+        if tokens.sees(TokenKind::LeftBracket) {
+            return self.paren_name_bracket(tokens, place, name_place, name);
+        }
+        if qualifier_of(tokens.peek()).is_some() {
+            return self.cast_from(tokens, place, Base::Named(name_place, name));
+        }
+        let first = self.named(tokens, name_place, name)?;
+        self.group_from(tokens, first)
+    }
+
+    #[tactic(auto, unfolding(crate::specs::Expr::paren_name_bracket))]
+    fn paren_name_bracket(
+        &self,
+        tokens: &mut Tokens<'_>,
+        place: Place,
+        name_place: Place,
+        name: Spelled,
+    ) -> Result<Expr, Stop>
+        requires { Nests self.now.turns (F.pre self.now.expr) (F.post self.now.expr) }
+        ensures { ReadsAs exp_of (spec.paren_name_bracket take_within self.now.turns (spec.expr take_within self.now.turns) place name_place name tokens.old) result tokens.new }
+    {
+        let bracket_place = tokens.place();
+        tokens.take()?;
+        match tokens.peek() {
+            TokenKind::Dim(_) => self.cast_from_grid(tokens, place, Base::Named(name_place, name)),
+            _ => {
+                let first = self.index(tokens, bracket_place, Expr::Name(name_place, name))?;
+                self.group_from(tokens, first)
+            }
+        }
+    }
+
+    #[tactic(auto, unfolding(crate::specs::Expr::paren))]
+    fn paren(&self, tokens: &mut Tokens<'_>, place: Place) -> Result<Expr, Stop>
+        requires { Nests self.now.turns (F.pre self.now.expr) (F.post self.now.expr) }
+        ensures { ReadsAs exp_of (spec.paren take_within self.now.turns (spec.expr take_within self.now.turns) place tokens.old) result tokens.new }
+    {
+        match tokens.peek() {
+            TokenKind::Name(name) => {
+                let name_place = tokens.place();
+                let name = name.copy(self.alloc)?;
+                tokens.take()?;
+                self.paren_name(tokens, place, name_place, name)
+            }
+            TokenKind::KeywordInt
+            | TokenKind::KeywordBoolean
+            | TokenKind::KeywordPoint
+            | TokenKind::KeywordRectDomain => {
+                let base = types::base(self.alloc, tokens)?;
+                self.cast_from(tokens, place, base)
+            }
+            _ => Ok(self.group(tokens)?.expr),
+        }
+    }
+
+    #[tactic(auto, unfolding(crate::specs::Expr::unary))]
+    fn unary(&self, tokens: &mut Tokens<'_>, op: UnaryOperator) -> Result<Expr, Stop>
+        requires { Nests self.now.turns (F.pre self.now.expr) (F.post self.now.expr) }
+        ensures { ReadsAs exp_of (spec.unary take_within self.now.turns (spec.expr take_within self.now.turns) op tokens.old) result tokens.new }
+    {
+        let place = tokens.place();
+        tokens.take()?;
+        let inner = Box::new(self.alloc, self.expr(tokens, 11)?)?;
+        Ok(Expr::Unary(place, op, inner))
+    }
+
+    #[tactic(auto, unfolding(crate::specs::Expr::prefix))]
+    fn prefix(&self, tokens: &mut Tokens<'_>) -> Result<Expr, Stop>
+        requires { Nests self.now.turns (F.pre self.now.expr) (F.post self.now.expr) }
+        ensures { ReadsAs exp_of (spec.prefix take_within self.now.turns (spec.expr take_within self.now.turns) tokens.old) result tokens.new }
+    {
+        if tokens.sees(TokenKind::LeftParen) {
+            let place = tokens.place();
+            tokens.take()?;
+            return self.paren(tokens, place);
+        }
+        match prefix_of(tokens.peek()) {
+            Some(op) => self.unary(tokens, op),
+            None => Ok(self.operand(tokens)?.expr),
+        }
+    }
+
+    #[tactic(auto, unfolding(crate::specs::Expr::level))]
+    fn level(&self, tokens: &mut Tokens<'_>, least: u8) -> Result<Expr, Stop>
+        requires { Nests self.now.turns (F.pre self.now.expr) (F.post self.now.expr) }
+        ensures { ReadsAs exp_of (spec.level take_within self.now.turns (spec.expr take_within self.now.turns) least tokens.old) result tokens.new }
+    {
+        let first = self.prefix(tokens)?;
+        self.climb(tokens, least, first)
+    }
+}
+
+/// `Ti.thisProc()` or `Ti.numProcs()`, after `Ti`.
+#[tactic(auto, unfolding(crate::specs::Expr::process))]
+fn process(tokens: &mut Tokens<'_>, place: Place) -> Result<Expr, Stop>
+    ensures { ReadsAs exp_of (spec.process take_within place tokens.old) result tokens.new }
+{
+    tokens.expect(TokenKind::Dot)?;
+    let is_this = process_name(tokens)?;
+    tokens.expect(TokenKind::LeftParen)?;
+    tokens.expect(TokenKind::RightParen)?;
+    if is_this {
+        Ok(Expr::ThisProc(place))
+    } else {
+        Ok(Expr::NumProcs(place))
+    }
+}
+
+/// Whether the name is `thisProc`, or else `numProcs`.
+#[tactic(auto, unfolding(crate::specs::Expr::process_name))]
+fn process_name(tokens: &mut Tokens<'_>) -> Result<bool, Stop>
+    ensures { Reads (spec.process_name take_within tokens.old) result tokens.new }
+{
+    if tokens.sees_word(b"thisProc") {
+        tokens.take()?;
+        return Ok(true);
+    }
+    if tokens.sees_word(b"numProcs") {
+        tokens.take()?;
+        return Ok(false);
+    }
+    Err(Stop::Refused)
+}
+
+/// An expression that goes on with operators that bind as tightly as `least` or more.
+#[tactic(auto, unfolding(crate::specs::Expr::expr))]
+pub fn expr(alloc: Global, tokens: &mut Tokens<'_>, turns: usize, least: u8) -> Result<Expr, Stop>
+    ensures { ReadsAs exp_of (spec.expr take_within turns least tokens.old) result tokens.new }
+{
+    if turns == 0 {
+        return Err(Stop::Spent);
+    }
+    Grammar {
+        alloc,
+        turns: turns - 1,
+        expr,
+    }
+    .level(tokens, least)
+}

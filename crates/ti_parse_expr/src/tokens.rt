@@ -1,0 +1,130 @@
+// A cursor over a list of tokens.
+
+ghost use Rattle.std.specs.Prelude.{◌≡◌, ◌<◌, Ok, length};
+ghost use Rattle.ti_parse_expr.specs.Input as spec;
+ghost use Rattle.ti_parse_expr.specs.Input.{Reads};
+
+use crate::stop::Stop;
+use std::alloc::Global;
+use std::marker::Model;
+use ti_base::Place;
+use ti_lang::{Spelled, Token, TokenKind};
+
+/// A cursor over a list of tokens. Contracts see the tokens that are left.
+///
+/// The last token of the list is never taken.
+#[derive(Drop)]
+pub struct Tokens<'a> {
+    first: &'a Token,
+    rest: &'a [Token],
+}
+
+impl<'a> Model for Tokens<'a> {
+    ghost use Rattle.std.specs.Prelude.{List, ◌∷◌};
+    ghost use Rattle.ti_lang.specs.declared.token.Token.{Token};
+
+    ghost Value = { List Token };
+
+    ghost view = { λ t. t.first.now ∷ t.rest.now };
+}
+
+impl<'a> Tokens<'a> {
+    pub fn new(list: &'a [Token]) -> Tokens<'a>
+        requires { 0 < length list.now }
+        ensures { result ≡ list.now }
+    {
+        match list {
+            [first, rest @ ..] => Tokens { first, rest },
+            [] => unreachable!(),
+        }
+    }
+
+    /// The kind of the next token.
+    pub fn peek(&self) -> &'a TokenKind
+        ensures { result.now ≡ spec.kind self.now }
+    {
+        &self.first.kind
+    }
+
+    /// The place of the next token.
+    pub fn place(&self) -> Place
+        ensures { result ≡ spec.place self.now }
+    {
+        self.first.place
+    }
+
+    /// Takes the next token, but the last one stays.
+    #[tactic(auto, unfolding(crate::specs::Input::take_within))]
+    pub fn take(&mut self) -> Result<(), Stop>
+        ensures { Reads (spec.take_within self.old) result self.new }
+    {
+        match self.rest {
+            [] => Err(Stop::Spent),
+            [first, rest @ ..] => {
+                self.first = first;
+                self.rest = rest;
+                Ok(())
+            }
+        }
+    }
+
+    /// Whether the next token is of this kind.
+    pub fn sees(&self, kind: TokenKind) -> bool
+        ensures { result ≡ spec.sees kind self.now }
+    {
+        self.peek().same_kind(&kind)
+    }
+
+    /// Takes a token of this kind.
+    pub fn expect(&mut self, kind: TokenKind) -> Result<(), Stop>
+        ensures { Reads (spec.expect_by spec.take_within kind self.old) result self.new }
+    {
+        if self.sees(kind) {
+            self.take()
+        } else {
+            Err(Stop::Refused)
+        }
+    }
+
+    /// Whether the next token is this name.
+    pub fn sees_word(&self, word: &[u8]) -> bool
+        ensures { result ≡ spec.sees_word word.now self.now }
+    {
+        match self.peek() {
+            TokenKind::Name(name) => name.as_bytes() == word,
+            _ => false,
+        }
+    }
+
+    /// Takes this name.
+    pub fn expect_word(&mut self, word: &[u8]) -> Result<(), Stop>
+        ensures { Reads (spec.expect_word_by spec.take_within word.now self.old) result self.new }
+    {
+        if self.sees_word(word) {
+            self.take()
+        } else {
+            Err(Stop::Refused)
+        }
+    }
+
+    /// Takes a name.
+    pub fn name(&mut self, alloc: Global) -> Result<Spelled, Stop>
+        ensures { Reads (spec.name_with spec.take_within self.old) result self.new }
+    {
+        match self.peek() {
+            TokenKind::Name(name) => {
+                let name = name.copy(alloc)?;
+                self.take()?;
+                Ok(name)
+            }
+            _ => Err(Stop::Refused),
+        }
+    }
+
+    /// How many tokens are left.
+    pub fn left(&self) -> usize
+        ensures { result ≡ length self.now }
+    {
+        self.rest.len() + 1
+    }
+}
