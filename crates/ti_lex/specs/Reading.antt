@@ -66,10 +66,11 @@ reserved =
     (codes "while", k.KeywordWhile) ∷
     []
 
--- what a whole word is
+-- what a whole word is: reserved, or a name
 abbrev pub kind_of_word : List ℕ → TokenKind
 kind_of_word word = unwrap_or (lookup (bytes_eq word) reserved) (k.Name word)
 
+-- a name or a reserved word, as far as it goes
 abbrev pub word : ℕ → List ℕ → Reading
 word at l =
     let size = prefix_len is_name_byte l in Takes (Spells (kind_of_word (take size l))) (at + size)
@@ -95,15 +96,18 @@ value_from value (b ∷ l) =
 abbrev pub is_number : Bool → ℕ → ℕ → Bool
 is_number leads_with_zero size value = not (leads_with_zero && not (size == 1)) && not (value == too_large)
 
+-- a whole number by its digits, or a run of digits that is none
 abbrev pub number_of : ℕ → Bool → ℕ → ℕ → Reading
 number_of at leads_with_zero size value =
     if is_number leads_with_zero size value then Takes (Spells (k.Int (pos value))) (at + size)
     else Refuses WrongNumber at
 
+-- the run of digits at the front
 abbrev pub digits : ℕ → List ℕ → Reading
 digits at l =
     number_of at (first_passes (λ b. b == 48) l) (prefix_len is_ascii_digit l) (value_from 0 l)
 
+-- the dimension or the number at the front
 abbrev pub number : ℕ → List ℕ → Reading
 number at l = option_map_or (λ n. Takes (Spells (k.Dim n)) (at + 2)) (dimension l) (digits at l)
 
@@ -114,10 +118,12 @@ pub data Item : Type 0 where
   Breaks : Item
   Strays : Item
 
+-- an item that begins with a backslash, which stands before the list
 abbrev pub escape : List ℕ → Item
 escape [] = Strays
 escape (b ∷ l) = option_map_or (λ byte. Gives byte 2) (escaped b) Strays
 
+-- what stands at the front, by its first byte
 abbrev pub item : List ℕ → Item
 item [] = Breaks
 item (b ∷ l) =
@@ -178,6 +184,7 @@ first_signs =
     (58, k.Colon) ∷
     []
 
+-- the operator or mark that a byte is
 abbrev pub first_sign : ℕ → Option TokenKind
 first_sign b = lookup (λ sign. b == sign) first_signs
 
@@ -207,6 +214,7 @@ sign_from kind at (b ∷ l) =
     if is_some (longer_sign kind b) then sign_from (unwrap_or (longer_sign kind b) kind) (at + 1) l
     else Takes (Spells kind) at
 
+-- the operator or mark at the front
 abbrev pub sign : ℕ → List ℕ → Reading
 sign at [] = Refuses StrayByte at
 sign at (b ∷ l) = option_map_or (λ kind. sign_from kind (at + 1) l) (first_sign b) (Refuses StrayByte at)
@@ -222,6 +230,7 @@ slash at l =
     else (if first_passes (λ b. b == 42) (drop 1 l) then comment_from at false (at + 2) (drop 1 (drop 1 l))
     else sign at l)
 
+-- the piece at the front, by the class of its first byte
 abbrev pub first_by : Class → ℕ → List ℕ → Reading
 first_by c.Blank at l = Takes Space (at + 1)
 first_by c.Letter at l = word at l

@@ -1,4 +1,4 @@
-// Blanks and comments.
+// Comments, and what else begins with a slash.
 ghost use Rattle.std.specs.Prelude.{◌≡◌, ◌+◌, ◌≤◌, ◌<◌, ◌++◌, List, ℕ, codes, length, drop, false};
 ghost use Rattle.ti_lang.specs.Tokenizing.{Space};
 ghost use Rattle.ti_lex.specs.Answer.{Reads};

@@ -9,8 +9,10 @@ use ti_rules::{Refusal, Rule};
 /// Why a text was not turned into tokens.
 #[derive(Debug, Drop, Error)]
 pub enum LexErr {
+    /// The text has no tokens: the rule that it breaks, and where.
     #[error("the text is refused")]
     Refused(Refusal),
+    /// Memory was wanting.
     #[error("memory was wanting")]
     Memory,
 }

@@ -4,7 +4,7 @@ use crate::{LexErr, lex};
 use std::alloc::{AllocError, Global};
 use std::test::Fail;
 use ti_base::Place;
-use ti_lang::{Token, TokenKind};
+use ti_lang::{Spelled, Token, TokenKind};
 use ti_rules::{Refusal, Rule};
 
 /// Texts, and their tokens with their places.
@@ -262,5 +262,16 @@ fn a_text_may_have_a_million_bytes(rt: HostRuntime) -> Result<(), Fail> {
     assert_eq!(rt; refusal(rt.alloc(), &text), Some(long));
     text.truncate(1048576);
     assert_eq!(rt; refusal(rt.alloc(), &text), Some(stray));
+    Ok(())
+}
+
+#[test]
+fn a_spelling_is_copied(rt: HostRuntime) -> Result<(), Fail> {
+    let word = Spelled::new(b"word".to_vec(rt.alloc())?);
+    let copied = match word.copy(rt.alloc()) {
+        Ok(copy) => copy.into_bytes(),
+        Err(_) => Vec::new(rt.alloc()),
+    };
+    assert_eq!(rt; copied.as_slice(), b"word".as_slice());
     Ok(())
 }
