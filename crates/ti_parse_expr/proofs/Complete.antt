@@ -739,7 +739,7 @@ module _ (turns : ℕ) (expr : ℕ → Parser Exp)
           (whole_law s least one (omega arith) (t ∷ (b ++ r)) (operator_ends t.kind op is).0 (operator_call t op a (b ++ r) is) (omega arith) (omega (arith, n1)))
 
 -- no expression begins with a number of dimensions
-no_dimension : (turns : ℕ) (l r : List Token) (x : Exp) → is_dim (kind l) ≡ true → expr take_token turns 1 l ≡ Ok (x, r) → ⊥
+pub no_dimension : (turns : ℕ) (l r : List Token) (x : Exp) → is_dim (kind l) ≡ true → expr take_token turns 1 l ≡ Ok (x, r) → ⊥
 no_dimension turns l r x dim is =
     let (f, list, s, q) : Says turns (Whole 1) (Below 1) l (Ok (x, r)) = subst (Says turns (Whole 1) (Below 1) l) is (expr_says turns 1 (omega arith) (omega arith) l).says in
     let begin : begins (kind l) ≡ true = ap (λ z. begins (kind z)) list ∙ front_whole s r in

@@ -30,7 +30,7 @@ pub record Cut {A : Type 0} (p q : Parser A) : Type 0 where
 
 -- ---- the steps
 
-cut_pure : {A : Type 0} (x : A) → Cut (λ i. Ok (x, i)) (λ i. Ok (x, i))
+pub cut_pure : {A : Type 0} (x : A) → Cut (λ i. Ok (x, i)) (λ i. Ok (x, i))
 cut_pure x = record { shrinks = λ l. omega arith; alike = λ l some. (refl, some) }
 
 cut_refuse : {A : Type 0} → Cut {A = A} (λ i. Err (At i)) (λ i. Err (At i))

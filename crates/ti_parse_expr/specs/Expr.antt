@@ -13,6 +13,8 @@ use Rattle.ti_lang.specs.Trees.Expressions as e
 use Rattle.ti_lang.specs.Spelling.Operators.{prefix_of, infix_of, strength, qualifier_of}
 use Rattle.ti_lang.specs.Spelling.Expressions.{Ending, Target, Call, Other}
 use Rattle.ti_parse_expr.specs.Input.{Parser, Spent, ◌>>=◌, ◌>>◌, ◌<$>◌, pure, refuse, peek, here, sees, sees_word, expect_by, name_with}
+use Rattle.ti_parse_expr.specs.declared.parse.Form.{Form}
+use Rattle.ti_parse_expr.specs.declared.parse.Form.TheVariants as form
 use Rattle.ti_parse_expr.specs.Types.{base as type_base, grid, grids, field_type}
 
 -- a Postfix, with what it ends with
@@ -256,3 +258,17 @@ module _ (take : Parser (Unit {0})) (turns : ℕ) (expr : ℕ → Parser Exp) wh
 unfoldable pub expr : Parser (Unit {0}) → ℕ → ℕ → Parser Exp
 expr take zero least = λ i. Err Spent
 expr take (suc n) least = level take n (expr take n) least
+
+-- a phrase of each form
+abbrev pub phrase : Parser (Unit {0}) → ℕ → Form → Parser Exp
+phrase take turns form.Whole = expr take turns 1
+phrase take turns form.Mul = expr take turns 10
+phrase take turns form.Postfix = (λ x. x.0) <$> operand take turns (expr take turns)
+
+-- a Postfix behind its first name
+unfoldable pub behind_name : Parser (Unit {0}) → ℕ → Place → List ℕ → Parser Operand
+behind_name take turns at name = named take turns (expr take turns) at name >>= postfix take turns (expr take turns) turns
+
+-- a Postfix behind its first name and an opening bracket
+unfoldable pub behind_bracket : Parser (Unit {0}) → ℕ → Place → Place → List ℕ → Parser Operand
+behind_bracket take turns bracket_at at name = index take turns (expr take turns) bracket_at (e.Name at name) >>= postfix take turns (expr take turns) turns

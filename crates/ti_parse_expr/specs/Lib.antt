@@ -3,3 +3,5 @@ pub mod Seen
 pub mod Types
 pub mod Expr
 pub mod Nests
+pub mod Answers
+pub mod Reach

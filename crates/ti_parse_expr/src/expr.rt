@@ -572,3 +572,43 @@ pub fn expr(alloc: Global, tokens: &mut Tokens<'_>, turns: usize, least: u8) -> 
     }
     .level(tokens, least)
 }
+
+/// A Postfix, with what it ends with.
+pub fn operand(alloc: Global, tokens: &mut Tokens<'_>, turns: usize) -> Result<Operand, Stop>
+    ensures { ReadsAs operand_of (spec.operand take_within turns (spec.expr take_within turns) tokens.old) result tokens.new }
+{
+    Grammar { alloc, turns, expr }.operand(tokens)
+}
+
+/// A Postfix, after its first name.
+#[tactic(auto, unfolding(crate::specs::Expr::behind_name))]
+pub fn behind_name(
+    alloc: Global,
+    tokens: &mut Tokens<'_>,
+    turns: usize,
+    place: Place,
+    name: Spelled,
+) -> Result<Operand, Stop>
+    ensures { ReadsAs operand_of (spec.behind_name take_within turns place name tokens.old) result tokens.new }
+{
+    let grammar = Grammar { alloc, turns, expr };
+    let first = grammar.named(tokens, place, name)?;
+    grammar.postfix(tokens, first)
+}
+
+/// A Postfix, after its first name and a `[`.
+#[tactic(auto, unfolding(crate::specs::Expr::behind_bracket))]
+pub fn behind_bracket(
+    alloc: Global,
+    tokens: &mut Tokens<'_>,
+    turns: usize,
+    bracket: Place,
+    place: Place,
+    name: Spelled,
+) -> Result<Operand, Stop>
+    ensures { ReadsAs operand_of (spec.behind_bracket take_within turns bracket place name tokens.old) result tokens.new }
+{
+    let grammar = Grammar { alloc, turns, expr };
+    let first = grammar.index(tokens, bracket, Expr::Name(place, name))?;
+    grammar.postfix(tokens, first)
+}

@@ -1,12 +1,19 @@
 //! The trees of expressions.
 #![tactic(auto)]
 
+pub mod error;
 pub mod expr;
 pub mod operand;
 mod operators;
+pub mod parse;
+mod reach;
 mod stop;
+#[cfg(test)]
+mod tests;
 mod tokens;
 pub mod types;
 
+pub use error::ParseErr;
+pub use parse::{Form, parse_expr};
 pub use stop::Stop;
 pub use tokens::Tokens;

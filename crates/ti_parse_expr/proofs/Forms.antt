@@ -1,0 +1,70 @@
+-- The laws of reading a phrase of each form.
+use Rattle.std.proofs.Common.{◌≡◌, ◌⊎◌, inl, inr, ℕ, suc, ◌+◌, ◌<◌, ◌≤◌, List, [], ◌∷◌, ◌++◌, length, Ok, refl, sym, ap, ◌∙◌, subst, arith}
+use Rattle.ti_lang.specs.declared.token.Token.{Token}
+use Rattle.ti_lang.specs.Trees.Expressions.{Exp}
+use Rattle.ti_lang.specs.Spelling.Expressions.{Ending, Whole, Postfixed}
+use Rattle.ti_parse_expr.specs.declared.parse.Form.{Form}
+use Rattle.ti_parse_expr.specs.declared.parse.Form.TheVariants as form
+use Rattle.ti_parse_expr.specs.Answers.{Phrase, BeginsPhrase}
+use Rattle.ti_parse_expr.specs.Input.{and_then, kind, take_token, take_within}
+use Rattle.ti_parse_expr.specs.Expr.{phrase, operand, expr}
+use Rattle.ti_parse_expr.proofs.Law.{BeginsIn, Said, Any, then_said, as_said, done_said, ended}
+use Rattle.ti_parse_expr.proofs.Phrases.{Post, binds_small}
+use Rattle.ti_parse_expr.proofs.Sound.{expr_says, operand_says}
+use Rattle.ti_parse_expr.proofs.Follows.{then_ok, Stops}
+use Rattle.ti_parse_expr.proofs.Complete.{expr_reads, no_dimension, postfixed_law, postfix_stops}
+use Rattle.ti_parse_expr.proofs.Local.{Near, near_then, near_pure, expr_near, operand_near}
+use Rattle.ti_parse_expr.proofs.Cut.{Cut, cut_then, cut_pure, expr_cut, operand_cut}
+use Rattle.ti_parse_expr.proofs.GoesOn.{AnyPostfix, Halts, postfix_goes, whole_stops}
+
+-- ---- soundness
+
+-- the tree of an operand alone
+postfix_says : (turns : ℕ) (l : List Token) → Said turns AnyPostfix Any l (and_then (operand take_token turns (expr take_token turns) l) (λ y j. Ok (y.0, j)))
+postfix_says turns l =
+    then_said {m = turns} {S = Post} {Q = Any} (λ f x s. omega arith) (λ f y s. ([], y.0, (y.1, ended (Postfixed y.1) f y.0 s))) _
+    (as_said {m = suc turns} (omega arith) (λ g y s. s) (λ _ _. tt) (operand_says turns (expr take_token turns) (expr_says turns) l))
+    (λ f r y s _. done_said (y.1, ended (Postfixed y.1) f y.0 s) tt)
+
+pub phrase_says : (f : Form) (turns : ℕ) (l : List Token) → Said turns (Phrase f) Any l (phrase take_token turns f l)
+phrase_says form.Whole turns l = as_said {m = turns} (omega arith) (λ g y s. s) (λ _ _. tt) (expr_says turns 1 (omega arith) (omega arith) l)
+phrase_says form.Mul turns l = as_said {m = turns} (omega arith) (λ g y s. s) (λ _ _. tt) (expr_says turns 10 (omega arith) (omega arith) l)
+phrase_says form.Postfix turns l = postfix_says turns l
+
+-- ---- completeness
+
+-- the level of a form, at which nothing looser follows
+abbrev pub level_of : Form → ℕ
+level_of form.Whole = 1
+level_of form.Mul = 10
+level_of form.Postfix = 11
+
+pub phrase_reads : (f : Form) (turns : ℕ) (l r : List Token) (x : Exp) → Phrase f l x → Stops (level_of f) l r → length (l ++ r) < turns → phrase take_token turns f (l ++ r) ≡ Ok (x, r)
+phrase_reads form.Whole turns l r x s stops lt = expr_reads turns 1 l r x (omega arith) (omega arith) s stops lt
+phrase_reads form.Mul turns l r x s stops lt = expr_reads turns 10 l r x (omega arith) (omega arith) s stops lt
+phrase_reads form.Postfix turns l r x (ending, s) stops lt =
+    let loop = postfixed_law turns (expr take_token turns) (expr_reads turns) (no_dimension turns) s r stops.call (omega arith) in
+    then_ok (λ y j. Ok (y.0, j)) (loop.operand ∙ postfix_stops turns (expr take_token turns) (expr_reads turns) loop.left (x, ending) r stops.operand (omega (arith, loop.enough)))
+
+-- ---- locality, and the last token that stays
+
+pub phrase_near : (t : Token) (w v : List Token) (f : Form) (turns more : ℕ) → turns ≤ more → Near t w v (phrase take_token turns f) (phrase take_token more f)
+phrase_near t w v form.Whole turns more le = expr_near t w v turns more le 1
+phrase_near t w v form.Mul turns more le = expr_near t w v turns more le 10
+phrase_near t w v form.Postfix turns more le = near_then t w v (operand_near t w v turns more le) (λ y. near_pure t w v y.0)
+
+pub phrase_cut : (f : Form) (turns : ℕ) → Cut (phrase take_token turns f) (phrase take_within turns f)
+phrase_cut form.Whole turns = expr_cut turns 1
+phrase_cut form.Mul turns = expr_cut turns 10
+phrase_cut form.Postfix turns = cut_then (operand_cut turns) (λ y. cut_pure y.0)
+
+-- ---- a phrase can end before a token, or goes on with it
+
+postfix_stops_of : (l : List Token) (t : Token) (r : List Token) → Halts l t ⊎ BeginsIn AnyPostfix (l ++ t ∷ []) → Stops 11 l (t ∷ r) ⊎ BeginsPhrase form.Postfix (l ++ t ∷ [])
+postfix_stops_of l t r (inl halts) = let small = binds_small t.kind in inl (record { operand = halts.operand; call = halts.call; operators = omega arith })
+postfix_stops_of l t r (inr b) = inr b
+
+pub phrase_stops : (f : Form) (l : List Token) (x : Exp) → Phrase f l x → (t : Token) (r : List Token) → Stops (level_of f) l (t ∷ r) ⊎ BeginsPhrase f (l ++ t ∷ [])
+phrase_stops form.Whole l x s t r = whole_stops (omega arith) s t r
+phrase_stops form.Mul l x s t r = whole_stops (omega arith) s t r
+phrase_stops form.Postfix l x (ending, s) t r = postfix_stops_of l t r (postfix_goes ending l x s t)

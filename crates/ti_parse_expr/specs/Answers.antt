@@ -1,0 +1,89 @@
+-- What `parse_expr` answers.
+use Rattle.std.specs.Prelude.{◌≡◌, ℕ, ◌+◌, ◌<◌, ◌≤◌, List, [], ◌∷◌, ◌++◌, length, drop, Result, Ok, Err}
+use Rattle.ti_base.specs.declared.place.Place.{Place}
+use Rattle.ti_lang.specs.declared.token.Token.{Token}
+use Rattle.ti_lang.specs.declared.token.TokenKind.TheVariants as k
+use Rattle.ti_lang.specs.declared.tree.exprs.Expr.{Expr}
+use Rattle.ti_lang.specs.Trees.Expressions.{Exp}
+use Rattle.ti_lang.specs.Trees.Views.{exp_of}
+use Rattle.ti_lang.specs.Spelling.Expressions.{Ending, Whole, Postfixed}
+use Rattle.ti_lang.specs.Spelling.Weights.{weigh}
+use Rattle.ti_rules.specs.declared.rule.Rule.{Rule}
+use Rattle.ti_rules.specs.declared.rule.Rule.TheVariants.{G1, G2}
+use Rattle.ti_rules.specs.declared.refusal.Refusal.{Refusal}
+use Rattle.ti_parse_expr.specs.declared.parse.Form.{Form}
+use Rattle.ti_parse_expr.specs.declared.parse.Form.TheVariants as form
+use Rattle.ti_parse_expr.specs.declared.error.ParseErr.{ParseErr}
+use Rattle.ti_parse_expr.specs.declared.error.ParseErr.TheVariants.{Refused, Memory}
+
+-- the last token is the end of the text
+abbrev pub EndsAtEnd : List Token → Type 0
+EndsAtEnd list = (front : List Token) × (last : Token) × (list ≡ front ++ last ∷ []) × (last.kind ≡ k.End)
+
+-- the most that a token may weigh
+abbrev pub most_weight : ℕ
+most_weight = 256
+
+-- the phrases of each form
+abbrev pub Phrase : Form → List Token → Exp → Type 0
+Phrase form.Whole l x = Whole 1 l x
+Phrase form.Mul l x = Whole 10 l x
+Phrase form.Postfix l x = (ending : Ending) × Postfixed ending l x
+
+-- the list can be gone on with to a phrase of the form
+abbrev pub BeginsPhrase : Form → List Token → Type 0
+BeginsPhrase f l = (more : List Token) × (x : Exp) × Phrase f (l ++ more) x
+
+-- the longest front of the list that begins a phrase of the form, and the token behind it
+pub record IsRun (f : Form) (list run : List Token) (after : Token) : Type 0 where
+  pub rest : List Token
+  pub is : list ≡ run ++ after ∷ rest
+  pub begins : BeginsPhrase f run
+  pub longest : BeginsPhrase f (run ++ after ∷ []) → ⊥
+
+-- no token of the list weighs too much, where the weight is counted on from a number
+abbrev pub IsLight : ℕ → List Token → Type 0
+IsLight weight list = (front : List Token) (t : Token) (rest : List Token) → list ≡ front ++ t ∷ rest → weight + weigh (front ++ t ∷ []) ≤ most_weight
+
+-- the run is a phrase with this one tree and no token that weighs too much; behind it stands token `after` of the list
+pub record IsPhrase (f : Form) (weight : ℕ) (list : List Token) (x : Exp) (size used : ℕ) : Type 0 where
+  pub run : List Token
+  pub after : Token
+  pub is_run : IsRun f list run after
+  pub light : IsLight weight run
+  pub phrase : Phrase f run x
+  pub only : (y : Exp) → Phrase f run y → y ≡ x
+  pub long : length run ≡ size
+  pub weighs : weight + weigh run ≡ used
+
+-- the run is no phrase, and no token of it weighs too much; the token behind it is refused
+pub record IsNoPhrase (f : Form) (weight : ℕ) (list : List Token) (place : Place) : Type 0 where
+  pub run : List Token
+  pub after : Token
+  pub is_run : IsRun f list run after
+  pub light : IsLight weight run
+  pub no_phrase : (x : Exp) → Phrase f run x → ⊥
+  pub at : after.place ≡ place
+
+-- the first token that weighs too much is one of the run
+pub record IsTooHeavy (f : Form) (weight : ℕ) (list : List Token) (place : Place) : Type 0 where
+  pub front : List Token
+  pub heavy : Token
+  pub rest : List Token
+  pub is : list ≡ front ++ heavy ∷ rest
+  pub begins : BeginsPhrase f (front ++ heavy ∷ [])
+  pub light : IsLight weight front
+  pub above : most_weight < weight + weigh (front ++ heavy ∷ [])
+  pub at : heavy.place ≡ place
+
+-- when each refusal comes
+abbrev pub Refuses : Form → ℕ → List Token → Rule → Place → Type 0
+Refuses f weight list G1 place = IsNoPhrase f weight list place
+Refuses f weight list G2 place = IsTooHeavy f weight list place
+Refuses f weight list _ place = ⊥
+
+-- the answer for the list from token `at` on: the tree, the place behind its run, and the weight used
+abbrev pub Answers : List Token → ℕ → Form → ℕ → Result (Expr × ℕ × ℕ) ParseErr → Type 0
+Answers list at f weight (Ok p) = (size : ℕ) × (p.1 ≡ at + size) × IsPhrase f weight (drop at list) (exp_of p.0) size p.2
+Answers list at f weight (Err (Refused r)) = Refuses f weight (drop at list) r.rule r.place
+Answers list at f weight (Err Memory) = Unit {0}

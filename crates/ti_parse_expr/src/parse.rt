@@ -1,0 +1,89 @@
+// The tree of an expression.
+
+ghost use Rattle.std.specs.Prelude.{[], ◌∷◌, ◌++◌, ◌≡◌, ◌<◌, List, length};
+ghost use Rattle.ti_lang.specs.declared.token.Token.{Token as TokenSeen};
+ghost use Rattle.ti_lang.specs.Trees.Views.{exp_of};
+ghost use Rattle.ti_parse_expr.specs.Answers.{Answers, EndsAtEnd};
+ghost use Rattle.ti_parse_expr.specs.Input.{ReadsAs, take_within};
+ghost use Rattle.ti_parse_expr.specs.Expr as spec;
+
+use crate::error::ParseErr;
+use crate::expr::{expr, operand};
+use crate::reach::{cut, weigh};
+use crate::stop::Stop;
+use crate::tokens::Tokens;
+use std::alloc::Global;
+use ti_base::Place;
+use ti_lang::Token;
+use ti_lang::tree::Expr;
+use ti_rules::{Refusal, Rule};
+
+/// Which part of the grammar an expression is.
+#[derive(Clone, Copy, Debug, PartialEq, Eq)]
+pub enum Form {
+    /// Any expression.
+    Whole,
+    /// Operands with `*`, `/` and `%` between them.
+    Mul,
+    /// An operand with what stands behind it.
+    Postfix,
+}
+
+/// An expression of a form.
+pub fn phrase(
+    alloc: Global,
+    tokens: &mut Tokens<'_>,
+    turns: usize,
+    form: Form,
+) -> Result<Expr, Stop>
+    ensures { ReadsAs exp_of (spec.phrase take_within turns form tokens.old) result tokens.new }
+{
+    match form {
+        Form::Whole => expr(alloc, tokens, turns, 1),
+        Form::Mul => expr(alloc, tokens, turns, 10),
+        Form::Postfix => Ok(operand(alloc, tokens, turns)?.expr),
+    }
+}
+
+/// The place of the last token.
+fn last_place(list: &[Token]) -> Place
+    requires { 0 < length list.now }
+    ensures { (front : List TokenSeen) (last : TokenSeen) → list.now ≡ front ++ last ∷ [] → result ≡ last.place }
+{
+    list[list.len() - 1].place
+}
+
+fn refused(rule: Rule, place: Place) -> ParseErr
+    ensures { result ≡ ParseErr.Refused (record { rule = rule; place = place }) }
+{
+    ParseErr::Refused(Refusal { rule, place })
+}
+
+/// The tree of the longest run of tokens from `at` that begins a phrase of the form.
+///
+/// It answers the tree, the place in the list behind the run, and the weight used, where weights are counted on from
+/// `weight`. The refusal of a token that weighs too much counts before that of the token behind the run.
+pub fn parse_expr(
+    alloc: Global,
+    toks: &[Token],
+    at: usize,
+    form: Form,
+    weight: u32,
+) -> Result<(Expr, usize, u32), ParseErr>
+    requires below { at < length toks.now }
+    requires ended { EndsAtEnd toks.now }
+    ensures { Answers toks.now at form weight result }
+{
+    let front = cut(&toks[at..], weight);
+    let mut tokens = Tokens::new(front);
+    match phrase(alloc, &mut tokens, front.len() + 1, form) {
+        Ok(tree) => {
+            let size = front.len() - tokens.left();
+            let used = weight + weigh(&front[..size]);
+            Ok((tree, at + size, used))
+        }
+        Err(Stop::Memory) => Err(ParseErr::Memory),
+        Err(Stop::Refused) => Err(refused(Rule::G1, tokens.place())),
+        Err(Stop::Spent) => Err(refused(Rule::G2, last_place(front))),
+    }
+}

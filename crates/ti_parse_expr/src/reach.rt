@@ -1,0 +1,97 @@
+// How far a list of tokens is read.
+
+ghost use Rattle.std.specs.Prelude.{[], ◌≡◌, ◌≤◌, ◌+◌};
+ghost use Rattle.ti_lang.specs.Spelling.Weights.{weigh as weigh_spec};
+ghost use Rattle.ti_parse_expr.specs.Answers.{EndsAtEnd, most_weight};
+ghost use Rattle.ti_parse_expr.specs.Reach.{IsCut};
+ghost use Rattle.ti_parse_expr.specs.Reach as spec;
+
+use crate::operators::{arity_behind, counts};
+use ti_lang::{Token, TokenKind};
+
+/// The most that a token may weigh.
+const MOST_WEIGHT: u32 = 256;
+
+/// Whether a token stands in no expression.
+fn ends_expression(kind: &TokenKind) -> bool
+    ensures { result ≡ spec.ends_expression kind.now }
+{
+    matches!(
+        kind,
+        TokenKind::Semicolon | TokenKind::LeftBrace | TokenKind::RightBrace | TokenKind::End
+    )
+}
+
+/// Behind a token, how many tokens of an arity are left and how much may still be weighed.
+fn onward(kind: &TokenKind, arity: u32, left: u32) -> Option<(u32, u32)>
+    ensures { result ≡ spec.onward kind.now arity left }
+{
+    if arity > 0 {
+        return Some((arity - 1, left));
+    }
+    if !counts(kind) {
+        return Some((arity_behind(kind), left));
+    }
+    if left == 0 {
+        return None;
+    }
+    Some((arity_behind(kind), left - 1))
+}
+
+/// How many tokens there are up to and including the first that weighs more than the limit or stands in no expression.
+#[tactic(auto, unfolding(crate::specs::Reach::reach))]
+fn reach(list: &[Token], limit: u32) -> usize
+    ensures { result ≡ spec.reach 0 limit list.now }
+{
+    let mut arity = 0;
+    let mut left = limit;
+    let mut rest = list;
+    while let [first, after @ ..] = rest {
+        rest = after;
+        if ends_expression(&first.kind) {
+            return list.len() - rest.len();
+        }
+        match onward(&first.kind, arity, left) {
+            Some(next) => {
+                arity = next.0;
+                left = next.1;
+            }
+            None => return list.len() - rest.len(),
+        }
+    }
+    list.len()
+}
+
+/// The tokens up to and including the first that weighs too much, where the weight is counted on from a number, or
+/// stands in no expression.
+pub fn cut(list: &[Token], weight: u32) -> &[Token]
+    requires { EndsAtEnd list.now }
+    ensures { IsCut weight list.now result.now }
+{
+    if weight > MOST_WEIGHT {
+        return &list[..1];
+    }
+    &list[..reach(list, MOST_WEIGHT - weight)]
+}
+
+/// The weight of the last token.
+pub fn weigh(list: &[Token]) -> u32
+    requires { weigh_spec list.now ≤ most_weight }
+    ensures { result ≡ weigh_spec list.now }
+{
+    let mut arity = 0;
+    let mut weight = 0;
+    let mut rest = list;
+    while let [first, after @ ..] = rest {
+        if arity > 0 {
+            arity -= 1;
+        } else {
+            if counts(&first.kind) {
+                weight += 1;
+            }
+            arity = arity_behind(&first.kind);
+        }
+        rest = after;
+    }
+    weight
+}
