@@ -1,3 +1,11 @@
+pub mod Alignment
+pub mod Answers
+pub mod Evaluation
+pub mod Lines
+pub mod NextStep
+pub mod Processes
+pub mod Programs
+pub mod Runs
 pub mod Tokenizing
 pub mod Tokens
 pub mod Trees

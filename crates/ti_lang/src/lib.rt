@@ -1,9 +1,13 @@
-//! The language: its tokens, its trees and their meaning.
+//! The language: its tokens, its trees, and what programs mean.
 #![tactic(auto)]
 
+mod laws;
+mod listing;
 mod spelled;
 mod token;
 pub mod tree;
 
+pub use laws::{aligned, one_next, one_process, solo_is_run};
+pub use listing::{Listing, Operand, Statement};
 pub use spelled::Spelled;
 pub use token::{Token, TokenKind};

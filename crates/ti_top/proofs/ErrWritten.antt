@@ -1,0 +1,41 @@
+-- From how the line on err was written to the clause on err.
+use Rattle.std.proofs.Common.{◌≡◌, inl, inr, [], arith, sym, ◌∙◌, ap}
+use Rattle.std.proofs.lemmas.List.{append-nil}
+use Rattle.ti_top.specs.declared.ending.Ending.{Ending}
+use Rattle.ti_top.specs.declared.ending.Ending.TheVariants.{Done, Refused, NoCommand, CantRead, CantWrite, NoMemory}
+use Rattle.ti_top.specs.Ended.{Ended, EndedWhole, EndedCut}
+use Rattle.ti_top.specs.Call.{Call, file_of, SinkRose}
+use Rattle.ti_top.proofs.StatusFrom.{is_done, is_cant_write}
+use Rattle.ti_top.specs.Clauses.{Says, WritesErr, line}
+
+-- the output failed before the line on err
+out_rose : (c : Call) (before : Ending) → before ≡ CantWrite → Says c before → SinkRose c
+out_rose c CantWrite is says = inl says.2
+out_rose c Done is says = absurd (let x = is in cc)
+out_rose c (Refused place) is says = absurd (let x = is in cc)
+out_rose c NoCommand is says = absurd (let x = is in cc)
+out_rose c CantRead is says = absurd (let x = is in cc)
+out_rose c NoMemory is says = absurd (let x = is in cc)
+
+written_whole : (c : Call) (before : Ending) → Says c before → EndedWhole before (file_of c) c.err c.err_after c.status → WritesErr c
+written_whole c before says ended = record {
+  nothing = λ is. ap (λ s. s.taken) (ended.nothing (is_done before (sym ended.same ∙ is)));
+  whole = λ _ told. (before, ended.same, says, ended.grew told);
+  five_only_where = λ is. out_rose c before (is_cant_write before (sym ended.same ∙ is)) says;
+  five = λ is _ told. rw (is_cant_write before (sym ended.same ∙ is)) at (ended.grew told);
+  cut = λ is _ told. inr (before, says, (line c before, ([], append-nil (line c before)), ended.grew told));
+}
+
+written_cut : (c : Call) (before : Ending) → Says c before → EndedCut before (file_of c) c.err c.err_after c.status → WritesErr c
+written_cut c before says ended = record {
+  nothing = λ is. absurd (let five = ended.five in omega arith);
+  whole = λ other _. absurd (other ended.five);
+  five_only_where = λ _. inr ended.rose;
+  five = λ _ calm _. absurd (calm ended.rose);
+  cut = λ _ _ told. inr (before, says, ended.grew told);
+}
+
+-- an ending that is true of the call, and how its line was written
+pub writes_err : (c : Call) (before : Ending) → Says c before → Ended before (file_of c) c.err c.err_after c.status → WritesErr c
+writes_err c before says ended =
+    elim ended.written [ inl whole ↦ written_whole c before says whole | inr cut ↦ written_cut c before says cut ]

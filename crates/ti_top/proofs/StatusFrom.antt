@@ -1,0 +1,52 @@
+-- The status of a call, from the ending that it had before its line on err was written.
+use Rattle.std.proofs.Common.{◌≡◌, ◌⊎◌, inl, inr, ℕ, arith, refl, sym, ◌∙◌}
+use Rattle.ti_top.specs.declared.ending.Ending.{Ending}
+use Rattle.ti_top.specs.declared.ending.Ending.TheVariants.{Done, Refused, NoCommand, CantRead, CantWrite, NoMemory}
+use Rattle.ti_top.specs.Ending.{status_of}
+use Rattle.ti_top.specs.Ended.{Ended}
+use Rattle.ti_top.specs.Call.{Call, file_of, ErrRose}
+
+-- the status is that of the ending, or 5 where err failed
+abbrev pub StatusFrom : Ending → Call → Type 0
+StatusFrom before c = (c.status ≡ status_of before) ⊎ ((c.status ≡ 5) × ErrRose c)
+
+pub status_from : (before : Ending) (c : Call) → Ended before (file_of c) c.err c.err_after c.status → StatusFrom before c
+status_from before c ended = elim ended.written [ inl whole ↦ inl whole.same | inr cut ↦ inr (cut.five, cut.rose) ]
+
+-- a status that isn't 5 is that of the ending
+pub not_five : (before : Ending) (n : ℕ) (c : Call) → StatusFrom before c → c.status ≡ n → (n ≡ 5 → ⊥) → status_of before ≡ n
+not_five before n c (inl same) is other = sym same ∙ is
+not_five before n c (inr cut) is other = absurd (other (sym is ∙ cut.0))
+
+-- a status is that of its ending alone
+pub is_done : (ending : Ending) → status_of ending ≡ 0 → ending ≡ Done
+is_done Done e = refl
+is_done (Refused place) e = absurd (omega arith)
+is_done NoCommand e = absurd (omega arith)
+is_done CantRead e = absurd (omega arith)
+is_done CantWrite e = absurd (omega arith)
+is_done NoMemory e = absurd (omega arith)
+
+pub is_no_command : (ending : Ending) → status_of ending ≡ 3 → ending ≡ NoCommand
+is_no_command Done e = absurd (omega arith)
+is_no_command (Refused place) e = absurd (omega arith)
+is_no_command NoCommand e = refl
+is_no_command CantRead e = absurd (omega arith)
+is_no_command CantWrite e = absurd (omega arith)
+is_no_command NoMemory e = absurd (omega arith)
+
+pub is_cant_read : (ending : Ending) → status_of ending ≡ 4 → ending ≡ CantRead
+is_cant_read Done e = absurd (omega arith)
+is_cant_read (Refused place) e = absurd (omega arith)
+is_cant_read NoCommand e = absurd (omega arith)
+is_cant_read CantRead e = refl
+is_cant_read CantWrite e = absurd (omega arith)
+is_cant_read NoMemory e = absurd (omega arith)
+
+pub is_cant_write : (ending : Ending) → status_of ending ≡ 5 → ending ≡ CantWrite
+is_cant_write Done e = absurd (omega arith)
+is_cant_write (Refused place) e = absurd (omega arith)
+is_cant_write NoCommand e = absurd (omega arith)
+is_cant_write CantRead e = absurd (omega arith)
+is_cant_write CantWrite e = refl
+is_cant_write NoMemory e = absurd (omega arith)

@@ -1,0 +1,64 @@
+-- From how the reading ended to the clause on the text.
+use Rattle.std.proofs.Common.{◌≡◌, ◌⊎◌, inl, inr, ℕ, ◌<◌, arith, refl, sym, ◌∙◌, ap}
+use Rattle.ti_io.specs.Source.{IsMissing}
+use Rattle.ti_top.specs.declared.reading.ReadEnd.{ReadEnd}
+use Rattle.ti_top.specs.declared.reading.ReadEnd.TheVariants as Read
+use Rattle.ti_top.specs.declared.ending.Ending.{Ending}
+use Rattle.ti_top.specs.declared.ending.Ending.TheVariants.{NoCommand, CantRead, NoMemory}
+use Rattle.ti_top.specs.Job.{Job}
+use Rattle.ti_top.specs.Reading.{ReadsWhole}
+use Rattle.ti_top.specs.Ending.{status_of}
+use Rattle.ti_top.specs.Call.{Call, Yields}
+use Rattle.ti_top.specs.Clauses.{IsReadWhole, ReadsText}
+use Rattle.ti_top.proofs.StatusFrom.{StatusFrom, not_five, is_no_command, is_cant_read}
+
+-- the ending that a call may have where its reading ended so
+abbrev pub EndsAs : ReadEnd → Ending → Type 0
+EndsAs Read.Whole before = (before ≡ NoCommand → ⊥) × (before ≡ CantRead → ⊥)
+EndsAs Read.CantRead before = before ≡ CantRead
+EndsAs Read.NoMemory before = before ≡ NoMemory
+
+-- a missing name isn't read whole
+not_whole : (job : Job) (c : Call) → ReadsWhole job.file c.source c.source_after c.text Read.Whole → IsMissing c.source job.file → ⊥
+not_whole job c read missing = let e = read.missing missing in cc
+
+-- a text that was read to its end was read whole
+pub read_whole : (before : Ending) (job : Job) (c : Call) → ReadsWhole job.file c.source c.source_after c.text Read.Whole → EndsAs Read.Whole before → StatusFrom before c → IsReadWhole job c
+read_whole before job c read fits from = record {
+  there = not_whole job c read;
+  told = λ bytes holds. read.whole bytes holds refl;
+  untold_at_three = λ _ is. fits.0 (is_no_command before (not_five before 3 c from is (λ e. omega arith)));
+  untold_at_four = λ _ is. fits.1 (is_cant_read before (not_five before 4 c from is (λ e. omega arith)));
+}
+
+-- with a status that no failed reading has, the text was read whole
+whole_at : (n : ℕ) (end : ReadEnd) (before : Ending) (job : Job) (c : Call) → ReadsWhole job.file c.source c.source_after c.text end → EndsAs end before → StatusFrom before c → c.status ≡ n → n < 3 → IsReadWhole job c
+whole_at n Read.Whole before job c read fits from is low = read_whole before job c read fits from
+whole_at n Read.CantRead before job c read fits from is low =
+    absurd (let e = not_five before n c from is (λ x. omega arith) in let f = ap status_of fits in omega arith)
+whole_at n Read.NoMemory before job c read fits from is low =
+    absurd (let e = not_five before n c from is (λ x. omega arith) in let f = ap status_of fits in omega arith)
+
+cause_of_four : (end : ReadEnd) (before : Ending) (job : Job) (c : Call) → ReadsWhole job.file c.source c.source_after c.text end → EndsAs end before → before ≡ CantRead → end ≡ Read.CantRead
+cause_of_four Read.Whole before job c read fits is = absurd (fits.1 is)
+cause_of_four Read.CantRead before job c read fits is = refl
+cause_of_four Read.NoMemory before job c read fits is = absurd (let e = sym fits ∙ is in cc)
+
+missing_is_told : (end : ReadEnd) (before : Ending) (job : Job) (c : Call) → ReadsWhole job.file c.source c.source_after c.text end → EndsAs end before → StatusFrom before c → IsMissing c.source job.file → (c.status ≡ 4) ⊎ Yields c
+missing_is_told Read.Whole before job c read fits from missing = absurd (not_whole job c read missing)
+missing_is_told Read.CantRead before job c read fits from missing =
+    elim from [ inl same ↦ inl (same ∙ ap status_of fits) | inr cut ↦ inr (inr (cut.0, inr cut.1)) ]
+missing_is_told Read.NoMemory before job c read fits from missing =
+    elim from [ inl same ↦ inr (inl (same ∙ ap status_of fits)) | inr cut ↦ inr (inr (cut.0, inr cut.1)) ]
+
+pub reads_text : (end : ReadEnd) (before : Ending) (job : Job) (c : Call) → ReadsWhole job.file c.source c.source_after c.text end → EndsAs end before → StatusFrom before c → ReadsText job c
+reads_text end before job c read fits from = record {
+  front = read.front;
+  bound = read.bound;
+  whole_at_zero = λ is. whole_at 0 end before job c read fits from is (omega arith);
+  whole_at_one = λ is. whole_at 1 end before job c read fits from is (omega arith);
+  nothing_of_missing = read.nothing;
+  four_only_where = λ is. read.cause (cause_of_four end before job c read fits (is_cant_read before (not_five before 4 c from is (λ e. omega arith))));
+  missing = missing_is_told end before job c read fits from;
+  same_files = read.same;
+}

@@ -1,0 +1,69 @@
+-- One call of the command, by what went in and what came out.
+use Rattle.std.specs.Prelude.{◌≡◌, ◌⊎◌, ℕ, List, [], None, Some}
+use Rattle.std.specs.declared.option.Option.{Option}
+use Rattle.ti_base.specs.declared.entry.Entry.{Entry}
+use Rattle.ti_io.specs.Faults.{Rose}
+use Rattle.ti_io.specs.Source.{SourceState}
+use Rattle.ti_io.specs.Sink.{SinkState}
+use Rattle.ti_top.specs.Job.{Job, job_of}
+use Rattle.ti_top.specs.Work.{Work}
+
+-- the words; the source and the sinks before and after the call; and the call's outcome
+pub record Call : Type 0 where
+  pub words : List (List ℕ)
+  pub source : SourceState
+  pub source_after : SourceState
+  pub out : SinkState
+  pub out_after : SinkState
+  pub err : SinkState
+  pub err_after : SinkState
+  pub status : ℕ
+  -- what was read
+  pub text : List ℕ
+  -- the entries of the run
+  pub history : List Entry
+
+-- the words are a command for this job
+abbrev pub IsCommand : Call → Job → Type 0
+IsCommand c job = job_of c.words ≡ Some job
+
+-- the words are no command
+abbrev pub IsNoCommand : Call → Type 0
+IsNoCommand c = job_of c.words ≡ None
+
+abbrev pub file_in : Option Job → List ℕ
+file_in None = []
+file_in (Some job) = job.file
+
+-- the file that the words name, or nothing where they are no command
+abbrev pub file_of : Call → List ℕ
+file_of c = file_in (job_of c.words)
+
+-- a count of faults rose in the call
+abbrev pub SourceRose : Call → Type 0
+SourceRose c = Rose c.source.faults c.source_after.faults
+
+abbrev pub OutRose : Call → Type 0
+OutRose c = Rose c.out.faults c.out_after.faults
+
+abbrev pub ErrRose : Call → Type 0
+ErrRose c = Rose c.err.faults c.err_after.faults
+
+abbrev pub SinkRose : Call → Type 0
+SinkRose c = OutRose c ⊎ ErrRose c
+
+-- where the words or the text ask for a status, one of these may stand in its place: memory was wanting, or a sink failed
+abbrev pub Yields : Call → Type 0
+Yields c = (c.status ≡ 6) ⊎ ((c.status ≡ 5) × SinkRose c)
+
+-- what was done in the call before the line on err
+abbrev pub work_of : Call → Work
+work_of c = record {
+  words = c.words;
+  source = c.source;
+  source_after = c.source_after;
+  out = c.out;
+  out_after = c.out_after;
+  text = c.text;
+  history = c.history;
+}

@@ -1,0 +1,14 @@
+pub mod Call
+pub mod Clauses
+pub mod Cursor
+pub mod Ended
+pub mod Ending
+pub mod FirstForm
+pub mod FirstFormReading
+pub mod Job
+pub mod Line
+pub mod Reading
+pub mod Setting
+pub mod Team
+pub mod Walking
+pub mod Work

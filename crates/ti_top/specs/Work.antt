@@ -1,0 +1,99 @@
+-- What was done before the line on err, for each way in which it may end.
+use Rattle.std.specs.Prelude.{◌≡◌, ◌⊎◌, ℕ, ◌≤◌, true, List, [], Result, Ok, Err, None, Some}
+use Rattle.ti_base.specs.declared.entry.Entry.{Entry}
+use Rattle.ti_io.specs.Faults.{Rose}
+use Rattle.ti_io.specs.Source.{SourceState}
+use Rattle.ti_io.specs.Sink.{SinkState, GrewBy, GrewByFront}
+use Rattle.ti_lang.specs.Programs.{Program}
+use Rattle.ti_lang.specs.Runs.{AllEnded, IsComplete, IsRun, IsSolo}
+use Rattle.ti_lang.specs.Lines.{lines_of}
+use Rattle.ti_lang.specs.Alignment.{IsAligned}
+use Rattle.ti_top.specs.declared.reading.ReadEnd.{ReadEnd}
+use Rattle.ti_top.specs.declared.reading.ReadEnd.TheVariants as Read
+use Rattle.ti_top.specs.declared.runner.How.{How}
+use Rattle.ti_top.specs.declared.ending.Ending.{Ending}
+use Rattle.ti_top.specs.declared.ending.Ending.TheVariants.{Done, Refused, NoCommand, CantRead, CantWrite, NoMemory}
+use Rattle.ti_top.specs.FirstForm.{Spells, IsRefusedAt}
+use Rattle.ti_top.specs.Job.{Job, job_of}
+use Rattle.ti_top.specs.Reading.{ReadsWhole}
+use Rattle.ti_top.specs.Setting.{run_of}
+
+-- the source and out before and after, what was read, and the entries of the run
+pub record Work : Type 0 where
+  pub words : List (List ℕ)
+  pub source : SourceState
+  pub source_after : SourceState
+  pub out : SinkState
+  pub out_after : SinkState
+  pub text : List ℕ
+  pub history : List Entry
+
+-- how the work ends, by how the run and the writing of its lines ended
+abbrev pub ending_of : {E : Type 0} → How → Result (Unit {0}) E → Ending
+ending_of How.Ended (Ok done) = Done
+ending_of How.Memory (Ok done) = NoMemory
+ending_of how (Err e) = CantWrite
+
+-- nothing was run and nothing written
+pub record RanNothing (out out_after : SinkState) (history : List Entry) : Type 0 where
+  pub unwritten : out_after ≡ out
+  pub no_entry : history ≡ []
+
+-- the program was run, and its lines were written up to the first call that failed
+pub record RunSays (program : Program) (procs : ℕ) (out out_after : SinkState) (history : List Entry) (ending : Ending) : Type 0 where
+  pub aligned : IsAligned program
+  pub run : IsRun (run_of program procs) history
+  pub solo : IsSolo (run_of program procs) history
+  pub ended : ending ≡ Done → AllEnded (run_of program procs) history
+  pub unfinished : ending ≡ NoMemory → IsComplete (run_of program procs) history → ⊥
+  pub known : (ending ≡ Done) ⊎ (ending ≡ NoMemory) ⊎ (ending ≡ CantWrite)
+  pub never_falls : out.faults ≤ out_after.faults
+  pub tells : out_after.tells ≡ out.tells
+  pub rose : ending ≡ CantWrite → Rose out.faults out_after.faults
+  pub lines : (ending ≡ CantWrite → ⊥) → out.tells ≡ true → GrewBy out out_after (lines_of history)
+  pub part : out.tells ≡ true → GrewByFront out out_after (lines_of history)
+
+-- so was the program that the text spells
+pub record Ran (procs : ℕ) (text : List ℕ) (out out_after : SinkState) (history : List Entry) (ending : Ending) : Type 0 where
+  pub program : Program
+  pub spells : Spells text program
+  pub only : (p : Program) → Spells text p → p ≡ program
+  pub says : RunSays program procs out out_after history ending
+
+-- what became of a text that was read whole
+abbrev pub TextSays : Ending → ℕ → List ℕ → SinkState → SinkState → List Entry → Type 0
+TextSays Done procs text out out_after history = Ran procs text out out_after history Done
+TextSays (Refused place) procs text out out_after history = IsRefusedAt text place × RanNothing out out_after history
+TextSays CantWrite procs text out out_after history = Ran procs text out out_after history CantWrite
+TextSays NoMemory procs text out out_after history = RanNothing out out_after history ⊎ Ran procs text out out_after history NoMemory
+TextSays NoCommand procs text out out_after history = ⊥
+TextSays CantRead procs text out out_after history = ⊥
+
+-- the words are no command
+pub record SaysNoCommand (w : Work) : Type 0 where
+  pub words : job_of w.words ≡ None
+  pub source : w.source_after ≡ w.source
+  pub text : w.text ≡ []
+  pub nothing : RanNothing w.out w.out_after w.history
+
+-- the words are a command, and reading its file ended so
+pub record ReadsFile (job : Job) (end : ReadEnd) (w : Work) : Type 0 where
+  pub words : job_of w.words ≡ Some job
+  pub some : 1 ≤ job.procs
+  pub read : ReadsWhole job.file w.source w.source_after w.text end
+
+-- what a reading that ended so leads to
+abbrev pub FileSays : ReadEnd → Ending → Job → Work → Type 0
+FileSays Read.Whole ending job w = TextSays ending job.procs w.text w.out w.out_after w.history
+FileSays Read.CantRead ending job w = (ending ≡ CantRead) × RanNothing w.out w.out_after w.history
+FileSays Read.NoMemory ending job w = (ending ≡ NoMemory) × RanNothing w.out w.out_after w.history
+
+pub record SaysCommand (ending : Ending) (w : Work) : Type 0 where
+  pub job : Job
+  pub end : ReadEnd
+  pub file : ReadsFile job end w
+  pub says : FileSays end ending job w
+
+-- what was done
+abbrev pub WorkSays : Ending → Work → Type 0
+WorkSays ending w = ((ending ≡ NoCommand) × SaysNoCommand w) ⊎ SaysCommand ending w

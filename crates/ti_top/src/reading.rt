@@ -1,0 +1,57 @@
+// Reading a file whole.
+ghost use Rattle.std.specs.Prelude.{◌≡◌, [], true, Some};
+ghost use Rattle.ti_io.specs.Source.{content_of};
+ghost use Rattle.ti_top.specs.Reading.{ReadsWhole};
+
+use ti_io::Source;
+
+/// At most so many bytes are read: one more than a text may have.
+pub const MOST_READ: usize = 1_048_577;
+
+const PIECE: usize = 4096;
+
+/// How the reading ended.
+#[derive(Clone, Copy, PartialEq, Eq)]
+pub enum ReadEnd {
+    /// At the end of the file, or at the most that is read.
+    Whole,
+    /// The file is missing, or a call failed.
+    CantRead,
+    /// Memory was wanting.
+    NoMemory,
+}
+
+/// Reads a file in pieces until its end or until the most that is read. What was read stands in the text
+/// however the reading ended.
+pub fn read_whole<S: Source>(source: &mut S, name: &str, text: &mut Vec<u8>) -> ReadEnd
+    requires { text.old.items ≡ [] }
+    ensures { ReadsWhole name.now (S.state source.old) (S.state source.new) text.new.items result }
+{
+    match source.find(name) {
+        Ok(true) => read_rest(source, name, text),
+        Ok(false) => ReadEnd::CantRead,
+        Err(_) => ReadEnd::CantRead,
+    }
+}
+
+// Reads what is left of the file that was found.
+fn read_rest<S: Source>(source: &mut S, name: &str, text: &mut Vec<u8>) -> ReadEnd
+    requires none { text.old.items ≡ [] }
+    requires found { (S.state source.old).tells ≡ true → content_of (S.state source.old).files name.now ≡ Some (S.state source.old).left }
+    ensures { ReadsWhole name.now (S.state source.old) (S.state source.new) text.new.items result }
+{
+    let mut buf = [0u8; PIECE];
+    'pieces: while text.len() < MOST_READ {
+        let room = PIECE.min(MOST_READ - text.len());
+        match source.read(&mut buf[..room]) {
+            Ok(0) => return ReadEnd::Whole,
+            Ok(count) => {
+                if text.extend_from_slice(&buf[..count]).is_err() {
+                    return ReadEnd::NoMemory;
+                }
+            }
+            Err(_) => return ReadEnd::CantRead,
+        }
+    }
+    ReadEnd::Whole
+}

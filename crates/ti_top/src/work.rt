@@ -1,0 +1,131 @@
+// What is done before the line on err.
+ghost use Rattle.std.specs.Prelude.{◌≡◌, ◌≤◌, [], map, string_bytes, vec_len};
+ghost use Rattle.ti_lang.specs.Programs.{listed_program};
+ghost use Rattle.ti_top.specs.declared.runner.TheConstants.{MOST_STATEMENTS};
+ghost use Rattle.ti_top.specs.declared.words.TheConstants.{MOST_PROCS};
+ghost use Rattle.ti_top.specs.Work.{ending_of, RunSays, TextSays, WorkSays};
+
+use crate::ending::Ending;
+use crate::first_form::read_listing;
+use crate::printing::write_lines;
+use crate::reading::{ReadEnd, read_whole};
+use crate::runner::{How, run};
+use crate::words::read_words;
+use std::alloc::Global;
+use ti_base::{Entry, Memory, Place};
+use ti_io::{Failed, Sink, Source};
+use ti_lang::{Listing, aligned, solo_is_run};
+
+/// How the work ended, what was read, and the entries of the run.
+#[derive(Drop)]
+pub struct Worked {
+    pub ending: Ending,
+    pub text: Vec<u8>,
+    pub history: Vec<Entry>,
+}
+
+// A run, and how the writing of its lines ended.
+#[derive(Drop)]
+struct Written {
+    ending: Ending,
+    history: Vec<Entry>,
+}
+
+impl Written {
+    // Where nothing was run.
+    fn nothing(alloc: Global, ending: Ending) -> Self
+        ensures ending { result.ending ≡ ending }
+        ensures history { result.history.items ≡ [] }
+    {
+        Written {
+            ending,
+            history: Vec::new(alloc),
+        }
+    }
+}
+
+// Runs a program and writes its lines. A want of memory in the run lets the lines of the entries so
+// far be written.
+fn run_program<K: Sink>(alloc: Global, procs: u32, listing: &Listing, out: &mut K) -> Written
+    requires some { 1 ≤ procs }
+    requires procs { procs ≤ MOST_PROCS }
+    requires few { vec_len listing.now.statements ≤ MOST_STATEMENTS }
+    ensures { RunSays (listed_program listing.now) procs (K.state out.old) (K.state out.new) result.history.items result.ending }
+{
+    let run = run(alloc, listing, procs);
+    solo_is_run();
+    aligned(listing);
+    let lines = write_lines(out, &run.history);
+    Written {
+        ending: run_ending(run.how, lines),
+        history: run.history,
+    }
+}
+
+// How the work ends, by how the run and the writing of its lines ended.
+fn run_ending(how: How, lines: Result<(), Failed>) -> Ending
+    ensures { result ≡ ending_of how lines }
+{
+    match lines {
+        Ok(()) => match how {
+            How::Ended => Ending::Done,
+            How::Memory => Ending::NoMemory,
+        },
+        Err(_) => Ending::CantWrite,
+    }
+}
+
+// Compiles and runs a text that was read whole.
+fn run_text<K: Sink>(alloc: Global, procs: u32, text: &[u8], out: &mut K) -> Written
+    requires some { 1 ≤ procs }
+    requires procs { procs ≤ MOST_PROCS }
+    ensures { TextSays result.ending procs text.now (K.state out.old) (K.state out.new) result.history.items }
+{
+    match read_listing(alloc, text) {
+        Ok(Some(listing)) => run_program(alloc, procs, &listing, out),
+        Ok(None) => Written::nothing(alloc, Ending::Refused(Place::first())),
+        Err(Memory) => Written::nothing(alloc, Ending::NoMemory),
+    }
+}
+
+/// Reads the words, the file and the program, runs it, and writes its lines.
+pub fn work<S: Source, K: Sink>(
+    alloc: Global,
+    words: &[String],
+    source: &mut S,
+    out: &mut K,
+) -> Worked
+    ensures { WorkSays result.ending (record {
+      words = map string_bytes words.now;
+      source = S.state source.old;
+      source_after = S.state source.new;
+      out = K.state out.old;
+      out_after = K.state out.new;
+      text = result.text.items;
+      history = result.history.items;
+    }) }
+{
+    let mut text = Vec::new(alloc);
+    let Some(command) = read_words(words) else {
+        return with_text(text, Written::nothing(alloc, Ending::NoCommand));
+    };
+    let written = match read_whole(source, command.file, &mut text) {
+        ReadEnd::Whole => run_text(alloc, command.procs, &text, out),
+        ReadEnd::CantRead => Written::nothing(alloc, Ending::CantRead),
+        ReadEnd::NoMemory => Written::nothing(alloc, Ending::NoMemory),
+    };
+    with_text(text, written)
+}
+
+// What was done with a text.
+fn with_text(text: Vec<u8>, written: Written) -> Worked
+    ensures ending { result.ending ≡ written.ending }
+    ensures text { result.text ≡ text }
+    ensures history { result.history ≡ written.history }
+{
+    Worked {
+        ending: written.ending,
+        text,
+        history: written.history,
+    }
+}
