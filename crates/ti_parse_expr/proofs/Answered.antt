@@ -82,12 +82,13 @@ module _ (form : Form) (n : ℕ) (f rest : List Token) (t : Token) where
       let is : phrase take_token m form (f ++ t ∷ (more ++ last)) ≡ Ok (y, last) = ap (phrase take_token m form) (sym e) ∙ reads_before_end form m ((f ++ t ∷ []) ++ more) y s (omega (arith, ap length e)) in
       subst (Same t rest (more ++ last) (phrase take_token n form (f ++ t ∷ rest))) is ((phrase_near t rest (more ++ last) form n m (omega arith)).same f)
 
-  no_more_ok : (x : Exp) → phrase take_token n form (f ++ t ∷ rest) ≡ Ok (x, t ∷ rest) → BeginsPhrase form (f ++ t ∷ []) → ⊥
+  -- nothing goes on where reading stopped
+  pub no_more_ok : (x : Exp) → phrase take_token n form (f ++ t ∷ rest) ≡ Ok (x, t ∷ rest) → BeginsPhrase form (f ++ t ∷ []) → ⊥
   no_more_ok x is (more, y, s) =
       let same : Same t rest (more ++ last) (Ok (x, t ∷ rest)) (Ok (y, last)) = subst (λ o. Same t rest (more ++ last) o (Ok (y, last))) is (stays more y s) in
       omega (arith, ap left_in (same [] refl), length-append more last)
 
-  no_more_refused : phrase take_token n form (f ++ t ∷ rest) ≡ Err (At (t ∷ rest)) → BeginsPhrase form (f ++ t ∷ []) → ⊥
+  pub no_more_refused : phrase take_token n form (f ++ t ∷ rest) ≡ Err (At (t ∷ rest)) → BeginsPhrase form (f ++ t ∷ []) → ⊥
   no_more_refused is (more, y, s) =
       let same : Same t rest (more ++ last) (Err (At (t ∷ rest))) (Ok (y, last)) = subst (λ o. Same t rest (more ++ last) o (Ok (y, last))) is (stays more y s) in
       omega (arith, ap left_in (same [] refl))

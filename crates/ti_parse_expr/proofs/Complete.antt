@@ -207,7 +207,7 @@ module _ (turns : ℕ) (expr : ℕ → Parser Exp)
       let (low, rest, is, colon, goes_on) = range_split s k.Comma comma_closes refl t h2 (m ++ c ∷ r) (omega (arith, len)) in (
         low,
         rest,
-        ap (expr 1) same ∙ is,
+        subst (λ l. expr 1 l ≡ Ok (low, rest)) (sym same) is,
         colon,
         ranges_from_turn low rest (t ∷ (m ++ c ∷ r)) x (x ∷ xs) c r h goes_on (more_ranges_read q 2 (x ∷ []) t c r h2 h (omega (arith, few)) (omega (arith, len, n2))),
       )
@@ -584,20 +584,31 @@ module _ (turns : ℕ) (expr : ℕ → Parser Exp)
     bracket_group_by at name_at name d us v y true h is = absurd (no_dim d.place (e.Name name_at name) us v y is h)
     bracket_group_by at name_at name d us v y false h is = test_reads (is_dim (kind us)) false _ _ us h ∙ then_ok (group_from take_token turns expr) is
 
+    bracket_group_then : (at name_at : Place) (name : List ℕ) (d : Token) (us v s r : List Token) (c : Token) (x : Exp) (y left : Operand) (n : ℕ) → n ≤ turns → c.kind ≡ k.RightParen
+        → index take_token turns expr d.place (e.Name name_at name) us ≡ Ok (y, v) → postfix take_token turns expr n y v ≡ Ok (left, s) → climb take_token turns expr 1 turns left.0 s ≡ Ok (x, c ∷ r)
+        → paren_name_bracket take_token turns expr at name_at name (d ∷ us) ≡ dropped (postfix take_token turns expr turns (x, Other) r)
+    bracket_group_then at name_at name d us v s r c x y left n le hc first goes_on climbs =
+        bracket_group_by at name_at name d us v y (is_dim (kind us)) refl first ∙ group_from_reads y left v s r c x hc (postfix_more n turns le y left v s goes_on) climbs
+
     bracket_group : (at name_at : Place) (name : List ℕ) (d : Token) (us r : List Token) (c : Token) (x : Exp) → c.kind ≡ k.RightParen → d.kind ≡ k.LeftBracket → named_level name_at name (d ∷ us) ≡ Ok (x, c ∷ r)
         → paren_name_bracket take_token turns expr at name_at name (d ∷ us) ≡ dropped (postfix take_token turns expr turns (x, Other) r)
     bracket_group at name_at name d us r c x hc hd is =
         let alone = named_alone name_at name (d ∷ us) (ap (λ z. same_kind z k.LeftParen) hd) in
         let (left, s, loop, climbs) = first_of_two (postfix take_token turns expr turns (e.Name name_at name, Target) (d ∷ us)) (λ left i. climb take_token turns expr 1 turns left.0 i) x (c ∷ r) (sym (then_ok _ alone) ∙ is) in
         let (y, v, n, le, first, goes_on) = index_first turns (e.Name name_at name, Target) left d us s hd loop in
-        bracket_group_by at name_at name d us v y (is_dim (kind us)) refl first ∙ group_from_reads y left v s r c x hc (postfix_more n turns le y left v s goes_on) climbs
+        bracket_group_then at name_at name d us v s r c x y left n le hc first goes_on climbs
+
+    name_group_by : (name_at : Place) (name : List ℕ) (ts s s2 r : List Token) (c : Token) (x : Exp) (first left : Operand) → c.kind ≡ k.RightParen → named take_token turns expr name_at name ts ≡ Ok (first, s)
+        → postfix take_token turns expr turns first s ≡ Ok (left, s2) → climb take_token turns expr 1 turns left.0 s2 ≡ Ok (x, c ∷ r)
+        → and_then (named take_token turns expr name_at name ts) (group_from take_token turns expr) ≡ dropped (postfix take_token turns expr turns (x, Other) r)
+    name_group_by name_at name ts s s2 r c x first left hc begun loop climbs = then_ok (group_from take_token turns expr) begun ∙ group_from_reads first left s s2 r c x hc loop climbs
 
     name_group : (at name_at : Place) (name : List ℕ) (ts r : List Token) (c : Token) (x : Exp) → c.kind ≡ k.RightParen → named_level name_at name ts ≡ Ok (x, c ∷ r)
         → and_then (named take_token turns expr name_at name ts) (group_from take_token turns expr) ≡ dropped (postfix take_token turns expr turns (x, Other) r)
     name_group at name_at name ts r c x hc is =
         let (first, s, begun, goes_on) = first_of_two (named take_token turns expr name_at name ts) (λ first i. and_then (postfix take_token turns expr turns first i) (λ left i. climb take_token turns expr 1 turns left.0 i)) x (c ∷ r) is in
         let (left, s2, loop, climbs) = first_of_two (postfix take_token turns expr turns first s) (λ left i. climb take_token turns expr 1 turns left.0 i) x (c ∷ r) goes_on in
-        then_ok (group_from take_token turns expr) begun ∙ group_from_reads first left s s2 r c x hc loop climbs
+        name_group_by name_at name ts s s2 r c x first left hc begun loop climbs
 
     paren_name_if : (at name_at : Place) (name : List ℕ) (ts r : List Token) (c : Token) (x : Exp) → c.kind ≡ k.RightParen → 0 < turns → named_level name_at name ts ≡ Ok (x, c ∷ r) → (q : Option QualifierWord) → qualifier_of (kind ts) ≡ q
         → if◌then◌else◌ {A = Parser Exp} (is_some q) (cast_from take_token turns expr at (b.Named name_at name)) (λ i. and_then (named take_token turns expr name_at name i) (group_from take_token turns expr)) ts

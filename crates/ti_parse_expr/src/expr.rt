@@ -18,6 +18,7 @@ use ti_base::Place;
 use ti_lang::tree::{Base, BinaryOperator, Expr, Range, TypeName, UnaryOperator};
 use ti_lang::{Spelled, TokenKind};
 
+/// The rules, with a reader of the expressions inside.
 #[derive(Clone, Copy)]
 pub struct Grammar<F> {
     pub alloc: Global,

@@ -4,9 +4,9 @@
 pub mod error;
 pub mod expr;
 pub mod operand;
-mod operators;
+pub mod operators;
 pub mod parse;
-mod reach;
+pub mod reach;
 mod stop;
 #[cfg(test)]
 mod tests;
@@ -14,6 +14,6 @@ mod tokens;
 pub mod types;
 
 pub use error::ParseErr;
-pub use parse::{Form, parse_expr};
+pub use parse::{Form, one_tree, parse_expr};
 pub use stop::Stop;
 pub use tokens::Tokens;

@@ -75,6 +75,7 @@ pub fn strength(op: BinaryOperator) -> u8
     }
 }
 
+/// The words that qualify a type.
 pub fn qualifier_of(kind: &TokenKind) -> Option<QualifierWord>
     ensures { result ≡ spec.qualifier_of kind.now }
 {

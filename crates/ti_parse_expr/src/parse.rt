@@ -3,7 +3,9 @@
 ghost use Rattle.std.specs.Prelude.{[], ◌∷◌, ◌++◌, ◌≡◌, ◌<◌, List, length};
 ghost use Rattle.ti_lang.specs.declared.token.Token.{Token as TokenSeen};
 ghost use Rattle.ti_lang.specs.Trees.Views.{exp_of};
-ghost use Rattle.ti_parse_expr.specs.Answers.{Answers, EndsAtEnd};
+ghost use Rattle.ti_lang.specs.Trees.Expressions.{Exp};
+ghost use Rattle.ti_parse_expr.specs.declared.parse.Form.{Form as FormSeen};
+ghost use Rattle.ti_parse_expr.specs.Answers.{Answers, EndsAtEnd, Phrase};
 ghost use Rattle.ti_parse_expr.specs.Input.{ReadsAs, take_within};
 ghost use Rattle.ti_parse_expr.specs.Expr as spec;
 
@@ -87,3 +89,8 @@ pub fn parse_expr(
         Err(Stop::Spent) => Err(refused(Rule::G2, last_place(front))),
     }
 }
+
+/// That a list of tokens is at most one tree of a form.
+pub fn one_tree()
+    ensures { (form : FormSeen) (list : List TokenSeen) (a b : Exp) → Phrase form list a → Phrase form list b → a ≡ b }
+{}

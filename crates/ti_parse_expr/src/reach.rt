@@ -40,7 +40,7 @@ fn onward(kind: &TokenKind, arity: u32, left: u32) -> Option<(u32, u32)>
 
 /// How many tokens there are up to and including the first that weighs more than the limit or stands in no expression.
 #[tactic(auto, unfolding(crate::specs::Reach::reach))]
-fn reach(list: &[Token], limit: u32) -> usize
+pub fn reach(list: &[Token], limit: u32) -> usize
     ensures { result ≡ spec.reach 0 limit list.now }
 {
     let mut arity = 0;

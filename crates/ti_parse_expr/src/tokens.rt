@@ -29,6 +29,7 @@ impl<'a> Model for Tokens<'a> {
 }
 
 impl<'a> Tokens<'a> {
+    /// At the first token of a list.
     pub fn new(list: &'a [Token]) -> Tokens<'a>
         requires { 0 < length list.now }
         ensures { result ≡ list.now }
