@@ -23,7 +23,7 @@ use Rattle.ti_lang.proofs.Entries.{one}
 
 abbrev pub is_barrier : Statement → Bool
 is_barrier (Barrier at) = true
-is_barrier (Print at e) = false
+is_barrier (Print at literal value) = false
 
 -- how many barriers stand among these statements
 abbrev pub barriers : List Statement → ℕ
@@ -60,10 +60,10 @@ by_asks p at at' a a' g go e m r =
     let same = asked (nat_lt p.spent p.setting.fuel) at at' a a' g go e in
     subst (λ b. Moves p b (go r)) same.0 (subst (λ q. Moves p a q) (same.1 r) (m r))
 
-prints : (p : Process) (at : Place) (e : Operand) (left : List Statement) (q : Process) (value : _) → p.left ≡ Print at e ∷ left → p.wait ≡ None → q.left ≡ left → q.wait ≡ None → q.setting ≡ p.setting → Moves p (act.Print None value) q
-prints p at e left q value hl hw kl kw ks = record {
-  passed = Print at e ∷ [];
-  split = hl ∙ ap (λ x. Print at e ∷ x) (sym kl);
+prints : (p : Process) (at : Place) (literal : Option ℕ) (e : Option Operand) (left : List Statement) (q : Process) (value : _) → p.left ≡ Print at literal e ∷ left → p.wait ≡ None → q.left ≡ left → q.wait ≡ None → q.setting ≡ p.setting → Moves p (act.Print literal value) q
+prints p at literal e left q value hl hw kl kw ks = record {
+  passed = Print at literal e ∷ [];
+  split = hl ∙ ap (λ x. Print at literal e ∷ x) (sym kl);
   arrived = refl;
   departed = ap (λ w. waiting w + 0) (hw ∙ sym kw);
   setting = ks;
@@ -82,9 +82,10 @@ statement_moves p (Barrier at) left at' a go hl hw e =
       fits = refl;
       ready = inr (λ s es i at. tt);
     })
-statement_moves p (Print at ThisProc) left at' a go hl hw e = by_asks p at at' _ a _ go e (λ r. prints p at ThisProc left _ _ hl hw refl refl refl)
-statement_moves p (Print at NumProcs) left at' a go hl hw e = by_asks p at at' _ a _ go e (λ r. prints p at NumProcs left _ _ hl hw refl refl refl)
-statement_moves p (Print at (Number n)) left at' a go hl hw e = by_asks p at at' _ a _ go e (λ r. prints p at (Number n) left _ _ hl hw refl refl refl)
+statement_moves p (Print at literal None) left at' a go hl hw e = by_asks p at at' _ a _ go e (λ r. prints p at literal None left _ _ hl hw refl refl refl)
+statement_moves p (Print at literal (Some ThisProc)) left at' a go hl hw e = by_asks p at at' _ a _ go e (λ r. prints p at literal (Some ThisProc) left _ _ hl hw refl refl refl)
+statement_moves p (Print at literal (Some NumProcs)) left at' a go hl hw e = by_asks p at at' _ a _ go e (λ r. prints p at literal (Some NumProcs) left _ _ hl hw refl refl refl)
+statement_moves p (Print at literal (Some (Number n))) left at' a go hl hw e = by_asks p at at' _ a _ go e (λ r. prints p at literal (Some (Number n)) left _ _ hl hw refl refl refl)
 
 ends_not : (at at' : Place) (a : Action) (go : Answer → Process) → Ends at ≡ At at' a go → ⊥
 ends_not at at' a go e = cc
@@ -117,9 +118,10 @@ shown_by false at at' a g e = cc
 ends_works : (p : Process) (left : List Statement) (at : Place) → shown (works p left) ≡ Some (next.End at) → left ≡ []
 ends_works p [] at e = refl
 ends_works p (Barrier at' ∷ left) at e = absurd (shown_by (nat_lt p.spent p.setting.fuel) _ _ _ _ e)
-ends_works p (Print at' ThisProc ∷ left) at e = absurd (shown_by (nat_lt p.spent p.setting.fuel) _ _ _ _ e)
-ends_works p (Print at' NumProcs ∷ left) at e = absurd (shown_by (nat_lt p.spent p.setting.fuel) _ _ _ _ e)
-ends_works p (Print at' (Number n) ∷ left) at e = absurd (shown_by (nat_lt p.spent p.setting.fuel) _ _ _ _ e)
+ends_works p (Print at' literal None ∷ left) at e = absurd (shown_by (nat_lt p.spent p.setting.fuel) _ _ _ _ e)
+ends_works p (Print at' literal (Some ThisProc) ∷ left) at e = absurd (shown_by (nat_lt p.spent p.setting.fuel) _ _ _ _ e)
+ends_works p (Print at' literal (Some NumProcs) ∷ left) at e = absurd (shown_by (nat_lt p.spent p.setting.fuel) _ _ _ _ e)
+ends_works p (Print at' literal (Some (Number n)) ∷ left) at e = absurd (shown_by (nat_lt p.spent p.setting.fuel) _ _ _ _ e)
 
 ends_steps : (p : Process) (w : Option Wait) (at : Place) → shown (steps p w) ≡ Some (next.End at) → (p.left ≡ []) × (waiting w ≡ 0)
 ends_steps p None at e = (ends_works p p.left at e, refl)
@@ -157,9 +159,10 @@ arrives_works p [] at kind arg deposit hl e = absurd (other _ _ _ e)
 arrives_works p (Barrier at' ∷ left) at kind arg deposit hl e =
     let same = arrived_by (nat_lt p.spent p.setting.fuel) at' at kind arg deposit _ _ e in
     record { rest = left; left = hl ∙ ap (λ x. Barrier x ∷ left) same.0; kind_is = same.1; arg_is = same.2 }
-arrives_works p (Print at' ThisProc ∷ left) at kind arg deposit hl e = absurd (not_arrived (nat_lt p.spent p.setting.fuel) _ _ _ kind arg deposit _ refl e)
-arrives_works p (Print at' NumProcs ∷ left) at kind arg deposit hl e = absurd (not_arrived (nat_lt p.spent p.setting.fuel) _ _ _ kind arg deposit _ refl e)
-arrives_works p (Print at' (Number n) ∷ left) at kind arg deposit hl e = absurd (not_arrived (nat_lt p.spent p.setting.fuel) _ _ _ kind arg deposit _ refl e)
+arrives_works p (Print at' literal None ∷ left) at kind arg deposit hl e = absurd (not_arrived (nat_lt p.spent p.setting.fuel) _ _ _ kind arg deposit _ refl e)
+arrives_works p (Print at' literal (Some ThisProc) ∷ left) at kind arg deposit hl e = absurd (not_arrived (nat_lt p.spent p.setting.fuel) _ _ _ kind arg deposit _ refl e)
+arrives_works p (Print at' literal (Some NumProcs) ∷ left) at kind arg deposit hl e = absurd (not_arrived (nat_lt p.spent p.setting.fuel) _ _ _ kind arg deposit _ refl e)
+arrives_works p (Print at' literal (Some (Number n)) ∷ left) at kind arg deposit hl e = absurd (not_arrived (nat_lt p.spent p.setting.fuel) _ _ _ kind arg deposit _ refl e)
 
 arrives_steps : (p : Process) (w : Option Wait) (at : Place) (kind : CollKind) (arg : Option ℕ) (deposit : Deposit) → shown (steps p w) ≡ Some (next.Act at (act.Arrive kind arg deposit)) → AtBarrier p at kind arg
 arrives_steps p None at kind arg deposit e = arrives_works p p.left at kind arg deposit refl e
