@@ -5,7 +5,9 @@ pub mod Ended
 pub mod Ending
 pub mod FirstForm
 pub mod FirstFormReading
+pub mod Flattening
 pub mod Job
+pub mod Judging
 pub mod Line
 pub mod Reading
 pub mod Setting

@@ -3,13 +3,19 @@
 
 mod command;
 mod cursor;
+mod earliest;
 mod ending;
 mod first_form;
+mod flatten;
+mod judge;
 mod line;
+mod main_form;
+mod main_method;
 mod printing;
 mod reading;
 mod runner;
 mod seat;
+mod unbuilt;
 mod walker;
 mod words;
 mod work;
