@@ -8,6 +8,7 @@ pub mod FirstFormReading
 pub mod Job
 pub mod Line
 pub mod Reading
+pub mod RunEnds
 pub mod Setting
 pub mod Team
 pub mod Walking
