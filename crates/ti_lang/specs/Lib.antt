@@ -2,6 +2,8 @@ pub mod Alignment
 pub mod Answers
 pub mod Evaluation
 pub mod Lines
+pub mod Listings
+pub mod MainMethod
 pub mod NextStep
 pub mod Processes
 pub mod Programs

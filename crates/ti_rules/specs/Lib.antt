@@ -1,3 +1,6 @@
 pub mod LexicalRefusals
+pub mod MainForm
+pub mod RefusalOf
 pub mod Refusals
 pub mod Rules
+pub mod Unbuilt

@@ -36,6 +36,39 @@ number_of S7 = 27
 number_of S8 = 28
 number_of S9 = 29
 
+-- the code that users see
+abbrev pub code_of : Rule → List ℕ
+code_of X1 = codes "X1"
+code_of X2 = codes "X2"
+code_of X3 = codes "X3"
+code_of X4 = codes "X4"
+code_of X5 = codes "X5"
+code_of G1 = codes "G1"
+code_of G2 = codes "G2"
+code_of N1 = codes "N1"
+code_of N2 = codes "N2"
+code_of N3 = codes "N3"
+code_of N4 = codes "N4"
+code_of Y1 = codes "Y1"
+code_of Y2 = codes "Y2"
+code_of Y3 = codes "Y3"
+code_of Y4 = codes "Y4"
+code_of Y5 = codes "Y5"
+code_of Y6 = codes "Y6"
+code_of Y7 = codes "Y7"
+code_of Q1 = codes "Q1"
+code_of Q2 = codes "Q2"
+code_of Q3 = codes "Q3"
+code_of S1 = codes "S1"
+code_of S2 = codes "S2"
+code_of S3 = codes "S3"
+code_of S4 = codes "S4"
+code_of S5 = codes "S5"
+code_of S6 = codes "S6"
+code_of S7 = codes "S7"
+code_of S8 = codes "S8"
+code_of S9 = codes "S9"
+
 -- what a refusal says beside the rule's code
 abbrev pub text_of : Rule → List ℕ
 text_of X1 = codes "a byte outside the language"

@@ -1,6 +1,6 @@
 // The rules that a text must keep.
 ghost use Rattle.std.specs.Prelude.{◌≡◌};
-ghost use Rattle.ti_rules.specs.Rules.{number_of, text_of};
+ghost use Rattle.ti_rules.specs.Rules.{code_of, number_of, text_of};
 
 /// A rule that a text can break, by the code that users see.
 ///
@@ -75,6 +75,44 @@ impl Rule {
         ensures { result ≡ number_of self }
     {
         self as u8
+    }
+
+    /// The code that users see, such as `G1`.
+    pub fn code(self) -> &'static str
+        ensures { result.now ≡ code_of self }
+    {
+        match self {
+            Rule::X1 => "X1",
+            Rule::X2 => "X2",
+            Rule::X3 => "X3",
+            Rule::X4 => "X4",
+            Rule::X5 => "X5",
+            Rule::G1 => "G1",
+            Rule::G2 => "G2",
+            Rule::N1 => "N1",
+            Rule::N2 => "N2",
+            Rule::N3 => "N3",
+            Rule::N4 => "N4",
+            Rule::Y1 => "Y1",
+            Rule::Y2 => "Y2",
+            Rule::Y3 => "Y3",
+            Rule::Y4 => "Y4",
+            Rule::Y5 => "Y5",
+            Rule::Y6 => "Y6",
+            Rule::Y7 => "Y7",
+            Rule::Q1 => "Q1",
+            Rule::Q2 => "Q2",
+            Rule::Q3 => "Q3",
+            Rule::S1 => "S1",
+            Rule::S2 => "S2",
+            Rule::S3 => "S3",
+            Rule::S4 => "S4",
+            Rule::S5 => "S5",
+            Rule::S6 => "S6",
+            Rule::S7 => "S7",
+            Rule::S8 => "S8",
+            Rule::S9 => "S9",
+        }
     }
 }
 

@@ -1,0 +1,74 @@
+-- The refusal of a text, by phases: bytes, tokens, names, types and qualifiers, single values. A later phase is judged only where no
+-- earlier one has a refusal.
+use Rattle.std.specs.Prelude.{ℕ, ◌≤◌, List, length, Some}
+use Rattle.ti_base.specs.declared.place.Place.{Place}
+use Rattle.ti_lang.specs.declared.token.Token.{Token}
+use Rattle.ti_lang.specs.Tokenizing.{IsTokenized}
+use Rattle.ti_lang.specs.Trees.Classes.{TextTree}
+use Rattle.ti_lang.specs.Spelling.{Spells, IsShallow, Misfit, Unexpected, TooDeep, IsGrammarRefusal}
+use Rattle.ti_lang.specs.Programs.{Program}
+use Rattle.ti_lang.specs.Listings.{IsProgramOf}
+use Rattle.ti_rules.specs.declared.rule.Rule.{Rule}
+use Rattle.ti_rules.specs.declared.rule.Rule.TheVariants.{G1, G2, N3, Y1}
+use Rattle.ti_rules.specs.declared.refusal.Refusal.{Refusal}
+use Rattle.ti_rules.specs.Refusals.{IsFirstRefusal}
+use Rattle.ti_rules.specs.LexicalRefusals.{most_bytes, IsLexicalRefusal}
+use Rattle.ti_rules.specs.MainForm.{BreaksMainForm}
+use Rattle.ti_rules.specs.Unbuilt.{IsUnbuilt}
+
+-- ---- the phases over trees
+
+-- the tree breaks a rule of names
+pub data BreaksNames (tree : TextTree) : Refusal → Type 0 where
+  main_form : {place : Place} → BreaksMainForm tree place → BreaksNames tree (record { rule = N3; place = place })
+
+-- the tree breaks a rule of types and qualifiers
+pub data BreaksTypes (tree : TextTree) : Refusal → Type 0 where
+  unbuilt : {place : Place} → IsUnbuilt tree place → BreaksTypes tree (record { rule = Y1; place = place })
+
+-- none of these refusals is there
+abbrev pub HasNone : (Refusal → Type 0) → Type 0
+HasNone broken = (refusal : Refusal) → broken refusal → ⊥
+
+-- the refusal of a tree is the first one of its first phase that has any
+pub data IsTreeRefusal (tree : TextTree) : Refusal → Type 0 where
+  of_names : {refusal : Refusal} → IsFirstRefusal (BreaksNames tree) refusal → IsTreeRefusal tree refusal
+  of_types : {refusal : Refusal} → HasNone (BreaksNames tree) → IsFirstRefusal (BreaksTypes tree) refusal → IsTreeRefusal tree refusal
+
+-- the tree has no refusal
+pub record IsAccepted (tree : TextTree) : Type 0 where
+  pub names : HasNone (BreaksNames tree)
+  pub types : HasNone (BreaksTypes tree)
+
+-- ---- texts
+
+-- the text isn't too long, and is these tokens
+pub record HasTokens (text : List ℕ) (tokens : List Token) : Type 0 where
+  pub short : length text ≤ most_bytes
+  pub tokenized : IsTokenized text tokens
+
+-- the tokens of the text spell this tree, and none is too deep
+pub record HasTree (text : List ℕ) (tree : TextTree) : Type 0 where
+  pub tokens : List Token
+  pub has_tokens : HasTokens text tokens
+  pub spells : Spells tokens tree
+  pub shallow : IsShallow tokens
+
+-- the rule that a misfit breaks
+abbrev pub rule_of_misfit : Misfit → Rule
+rule_of_misfit Unexpected = G1
+rule_of_misfit TooDeep = G2
+
+-- the refusal of a text
+pub data IsRefusal (text : List ℕ) : Refusal → Type 0 where
+  of_bytes : {refusal : Refusal} → IsLexicalRefusal text refusal → IsRefusal text refusal
+  of_tokens : {tokens : List Token} {misfit : Misfit} {place : Place} → HasTokens text tokens → IsGrammarRefusal tokens (Some (misfit, place))
+      → IsRefusal text (record { rule = rule_of_misfit misfit; place = place })
+  of_tree : {tree : TextTree} {refusal : Refusal} → HasTree text tree → IsTreeRefusal tree refusal → IsRefusal text refusal
+
+-- the program of a text that has no refusal
+pub record HasProgram (text : List ℕ) (program : Program) : Type 0 where
+  pub tree : TextTree
+  pub has_tree : HasTree text tree
+  pub accepted : IsAccepted tree
+  pub is_program : IsProgramOf tree program
