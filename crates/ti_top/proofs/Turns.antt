@@ -450,6 +450,6 @@ pushed {s} seats es all i seat n e x h is z k =
     z ∙ ap (λ e. es ++ e ∷ []) (k ∙ ap (λ i. entry_of i n Done) number)
 
 -- what a turn leaves
-pub leaves : {E : Type 0} (s : Setting) (es all : List Entry) (seats : List Seat) (i : ℕ) (seat new : Seat) (n : Next) (fault : Option Fault) → Turn s es seats i seat n → Moves s seat n new fault → all ≡ es ++ entry_of i n Done ∷ [] → TurnLeaves {E = E} s es seats all (slice_set seats i new) (Ok fault)
-leaves s es all seats i seat new n None t moves z = record { standing = standing s es all seats i seat new n t moves z; lighter = lighter s es seats i seat new n t moves }
-leaves s es all seats i seat new n (Some fault) t moves z = stops s es all seats i seat new n fault t moves z
+pub leaves : (E : Type 0) (s : Setting) (es all : List Entry) (seats : List Seat) (i : ℕ) (seat new : Seat) (n : Next) (fault : Option Fault) → Turn s es seats i seat n → Moves s seat n new fault → all ≡ es ++ entry_of i n Done ∷ [] → TurnLeaves {E = E} s es seats all (slice_set seats i new) (Ok fault)
+leaves E s es all seats i seat new n None t moves z = record { standing = standing s es all seats i seat new n t moves z; lighter = lighter s es seats i seat new n t moves }
+leaves E s es all seats i seat new n (Some fault) t moves z = stops s es all seats i seat new n fault t moves z

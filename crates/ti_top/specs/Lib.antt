@@ -1,10 +1,8 @@
 pub mod Call
 pub mod Clauses
-pub mod Cursor
+pub mod Compiling
 pub mod Ended
 pub mod Ending
-pub mod FirstForm
-pub mod FirstFormReading
 pub mod Job
 pub mod Line
 pub mod Reading

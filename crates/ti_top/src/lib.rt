@@ -2,12 +2,13 @@
 #![tactic(auto)]
 
 mod command;
-mod cursor;
+mod compiling;
 mod ending;
-mod first_form;
+mod fault;
 mod line;
 mod printing;
 mod reading;
+mod run_line;
 mod runner;
 mod seat;
 mod walker;
