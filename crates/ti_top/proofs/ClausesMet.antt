@@ -19,7 +19,7 @@ use Rattle.ti_top.specs.Reading.{ReadsWhole}
 use Rattle.ti_top.specs.Ending.{status_of}
 use Rattle.ti_top.specs.Ended.{Ended}
 use Rattle.ti_top.specs.RunEnds.{fault_entry, EndsWithFault}
-use Rattle.ti_top.specs.Compiling.{HasProgramAlone, IsRefusedAs}
+use Rattle.ti_top.specs.Compiling.{IsRefusedAs}
 use Rattle.ti_top.specs.Setting.{run_of}
 use Rattle.ti_top.specs.Work.{RanNothing, Ran, ReadsFile, FileSays, SaysNoCommand, WorkSays}
 use Rattle.ti_top.specs.Call.{Call, IsCommand, file_of, work_of, SourceRose, ErrRose, Yields}

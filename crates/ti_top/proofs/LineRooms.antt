@@ -1,5 +1,5 @@
 -- Room for the lines of a run.
-use Rattle.std.proofs.Common.{ℕ, ◌+◌, ◌≤◌, List, [], length, Option, Some, None, arith}
+use Rattle.std.proofs.Common.{ℕ, ◌+◌, ◌≤◌, List, length, Option, Some, None, arith}
 use Rattle.ti_lang.specs.Lines.{literal_text}
 use Rattle.ti_top.specs.Line.{RoomyLine, HasRoom}
 

@@ -1,5 +1,5 @@
 -- How an action takes a seat on.
-use Rattle.std.proofs.Common.{◌≡◌, ℕ, ◌+◌, ◌*◌, ◌-◌, ◌<◌, ◌≤◌, nat_lt, Bool, true, false, if◌then◌else◌, Option, Some, None, List, [], length, drop, ◌⊎◌, inl, inr, sym, ◌∙◌, subst, refl, arith}
+use Rattle.std.proofs.Common.{◌≡◌, ℕ, ◌+◌, ◌*◌, ◌-◌, ◌<◌, ◌≤◌, nat_lt, Bool, true, false, if◌then◌else◌, Option, Some, None, List, [], length, drop, ◌⊎◌, inl, inr, subst, refl, arith}
 use Rattle.std.proofs.lemmas.List.{drop_all}
 use borrow.Author.Tests.{ltb-true, ltb-false}
 use Rattle.ti_base.specs.declared.place.Place.{Place}
@@ -13,7 +13,7 @@ use Rattle.ti_lang.proofs.Moves.{acts}
 use Rattle.ti_top.specs.declared.seat.Seat.{Seat}
 use Rattle.ti_top.specs.declared.walker.Walker.{Walker}
 use Rattle.ti_top.specs.Walking.{wait_at, waits, process_of, Walks}
-use Rattle.ti_top.specs.Team.{steps_left, GoesOn}
+use Rattle.ti_top.specs.Team.{GoesOn}
 
 -- a process at an action waits, or has a statement left
 at_statement : (s : Setting) (w : Walker) (v : Option Place) (at : Place) (a : Action) → shown (steps (process_of s w) (wait_at v)) ≡ Some (next.Act at a) → (waits v ≡ 1) ⊎ (w.at < length s.program.statements)

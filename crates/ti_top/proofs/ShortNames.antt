@@ -1,5 +1,5 @@
 -- Codes and texts of rules and names of faults are short.
-use Rattle.std.proofs.Common.{ℕ, ◌≤◌, length, lit≤}
+use Rattle.std.proofs.Common.{◌≤◌, length, lit≤}
 use Rattle.ti_base.specs.declared.fault.FaultKind.{FaultKind}
 use Rattle.ti_base.specs.declared.fault.FaultKind.TheVariants.{DivZero}
 use Rattle.ti_base.specs.FaultNames.{name_of}

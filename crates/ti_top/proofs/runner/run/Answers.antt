@@ -20,7 +20,8 @@ returns-in-Err-clause-end c = λ complete.
 
 pub returns-clause-end : goal.returns-clause-end
 returns-clause-end c =
-    let s = setting_of c.args.listing.now c.args.procs FUEL in
-    (all_ended s c.turns.history.items c.turns.seats.items c.turns.invariant (sym (rw c.deref.ensures.value at c.in_default-first_able.ensures))
-    (c.aligned.ensures c.args.procs FUEL c.turns.history.items c.requires.some c.requires.procs (lit≤ tt) (lit≤ tt) (c.solo_is_run.ensures s c.turns.history.items c.turns.invariant.solo)),
-    c.turns.invariant.goes_on)
+    let s = setting_of c.args.listing.now c.args.procs FUEL in (
+      all_ended s c.turns.history.items c.turns.seats.items c.turns.invariant (sym (rw c.deref.ensures.value at c.in_default-first_able.ensures))
+          (c.aligned.ensures c.args.procs FUEL c.turns.history.items c.requires.some c.requires.procs (lit≤ tt) (lit≤ tt) (c.solo_is_run.ensures s c.turns.history.items c.turns.invariant.solo)),
+      c.turns.invariant.goes_on,
+    )

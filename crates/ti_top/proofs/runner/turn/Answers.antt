@@ -1,4 +1,3 @@
-use Rattle.std.proofs.Common.{◌≡◌, subst}
 use Rattle.ti_base.specs.declared.memory.Memory.{Memory}
 use Rattle.ti_top.specs.Walking.{setting_of}
 use Rattle.ti_top.specs.declared.runner.TheConstants.{FUEL}
