@@ -1,6 +1,8 @@
+pub mod Bridges
 pub mod Counting
 pub mod Entries
 pub mod Moves
+pub mod OneMain
+pub mod OneProgram
 pub mod Standing
 pub mod Steps
-pub mod Bridges

@@ -1,0 +1,75 @@
+-- A text has at most one refusal or one program, by what is known of its bytes and tokens.
+use Rattle.std.proofs.Common.{◌≡◌, ℕ, ◌≤◌, List, length, Option, None, Some, ap, subst}
+use Rattle.std.proofs.lemmas.Option.{same_Some, none-some}
+use Rattle.ti_base.specs.declared.place.Place.{Place}
+use Rattle.ti_lang.specs.declared.token.Token.{Token}
+use Rattle.ti_lang.specs.Tokenizing.{IsTokenized}
+use Rattle.ti_lang.specs.Trees.Classes.{TextTree}
+use Rattle.ti_lang.specs.Spelling.{Spells, Misfit, IsGrammarRefusal, fits}
+use Rattle.ti_lang.specs.Programs.{Program}
+use Rattle.ti_lang.specs.Listings.{IsProgramOf}
+use Rattle.ti_lang.proofs.OneProgram.{one_program as one_program_of}
+use Rattle.ti_rules.specs.declared.refusal.Refusal.{Refusal}
+use Rattle.ti_rules.specs.LexicalRefusals.{most_bytes, IsLexicalRefusal}
+use Rattle.ti_rules.specs.RefusalOf.{BreaksNames, BreaksTypes, IsTreeRefusal, of_names, of_types, IsAccepted, HasTokens, HasTree, rule_of_misfit, IsRefusal, of_bytes, of_tokens, of_tree, HasProgram}
+use Rattle.ti_rules.proofs.FirstRefusal.{first_only}
+
+-- that texts and lists of tokens are read in one way
+pub record OneReading : Type 0 where
+  pub one_list : (text : List ℕ) (a b : List Token) → IsTokenized text a → IsTokenized text b → a ≡ b
+  pub one_flaw : (text : List ℕ) (a b : Refusal) → IsLexicalRefusal text a → IsLexicalRefusal text b → a ≡ b
+  pub not_both : (text : List ℕ) (tokens : List Token) (refusal : Refusal) → length text ≤ most_bytes → IsTokenized text tokens → IsLexicalRefusal text refusal → ⊥
+  pub one_tree : (list : List Token) (a b : TextTree) → Spells list a → Spells list b → a ≡ b
+  pub one_misfit : (list : List Token) (a b : Option (Misfit × Place)) → IsGrammarRefusal list a → IsGrammarRefusal list b → a ≡ b
+
+tokens_or_bytes : OneReading → (text : List ℕ) (tokens : List Token) (refusal : Refusal) → HasTokens text tokens → IsLexicalRefusal text refusal → ⊥
+tokens_or_bytes known text tokens refusal has is = known.not_both text tokens refusal has.short has.tokenized is
+
+tree_or_misfit : OneReading → (text : List ℕ) (tree : TextTree) (tokens : List Token) (misfit : Misfit × Place) → HasTree text tree → HasTokens text tokens → IsGrammarRefusal tokens (Some misfit) → ⊥
+tree_or_misfit known text tree tokens misfit has others is =
+    let same = known.one_list text tokens has.tokens others.tokenized has.has_tokens.tokenized in
+    none-some misfit (known.one_misfit has.tokens None (Some misfit) (fits has.spells has.shallow) (subst (λ (list : List Token). IsGrammarRefusal list (Some misfit)) same is))
+
+one_tree_of : OneReading → (text : List ℕ) (a b : TextTree) → HasTree text a → HasTree text b → a ≡ b
+one_tree_of known text a b has other =
+    let same = known.one_list text has.tokens other.tokens has.has_tokens.tokenized other.has_tokens.tokenized in
+    known.one_tree other.tokens a b (subst (λ (list : List Token). Spells list a) same has.spells) other.spells
+
+abbrev refusal_at : Misfit × Place → Refusal
+refusal_at found = record { rule = rule_of_misfit found.0; place = found.1 }
+
+one_tree_refusal : (tree : TextTree) (r s : Refusal) → IsTreeRefusal tree r → IsTreeRefusal tree s → r ≡ s
+one_tree_refusal tree r s (of_names first) (of_names other) = first_only (BreaksNames tree) r s first other
+one_tree_refusal tree r s (of_names first) (of_types none other) = absurd (none r first.is_broken)
+one_tree_refusal tree r s (of_types none first) (of_names other) = absurd (none s other.is_broken)
+one_tree_refusal tree r s (of_types none first) (of_types nothing other) = first_only (BreaksTypes tree) r s first other
+
+pub one_refusal : OneReading → (text : List ℕ) (r s : Refusal) → IsRefusal text r → IsRefusal text s → r ≡ s
+one_refusal known text r s (of_bytes is) (of_bytes other) = known.one_flaw text r s is other
+one_refusal known text r s (of_bytes is) (of_tokens {tokens = tokens} has other) = absurd (tokens_or_bytes known text tokens r has is)
+one_refusal known text r s (of_bytes is) (of_tree has other) = absurd (tokens_or_bytes known text has.tokens r has.has_tokens is)
+one_refusal known text r s (of_tokens {tokens = tokens} has is) (of_bytes other) = absurd (tokens_or_bytes known text tokens s has other)
+one_refusal known text r s (of_tokens {tokens = tokens} {misfit = misfit} {place = place} has is) (of_tokens {tokens = others} {misfit = another} {place = elsewhere} other_has other) =
+    let same = known.one_list text tokens others has.tokenized other_has.tokenized in
+    let found = known.one_misfit others (Some (misfit, place)) (Some (another, elsewhere)) (subst (λ (list : List Token). IsGrammarRefusal list (Some (misfit, place))) same is) other in
+    ap refusal_at (same_Some (misfit, place) (another, elsewhere) found)
+one_refusal known text r s (of_tokens {tokens = tokens} {misfit = misfit} {place = place} has is) (of_tree {tree = tree} has_tree other) = absurd (tree_or_misfit known text tree tokens (misfit, place) has_tree has is)
+one_refusal known text r s (of_tree has is) (of_bytes other) = absurd (tokens_or_bytes known text has.tokens s has.has_tokens other)
+one_refusal known text r s (of_tree {tree = tree} has_tree is) (of_tokens {tokens = tokens} {misfit = misfit} {place = place} has other) = absurd (tree_or_misfit known text tree tokens (misfit, place) has_tree has other)
+one_refusal known text r s (of_tree {tree = tree} has is) (of_tree {tree = another} other_has other) =
+    one_tree_refusal another r s (subst (λ (t : TextTree). IsTreeRefusal t r) (one_tree_of known text tree another has other_has) is) other
+
+accepted_or_refused : (tree : TextTree) (r : Refusal) → IsAccepted tree → IsTreeRefusal tree r → ⊥
+accepted_or_refused tree r accepted (of_names first) = accepted.names r first.is_broken
+accepted_or_refused tree r accepted (of_types none first) = accepted.types r first.is_broken
+
+pub never_both : OneReading → (text : List ℕ) (program : Program) (r : Refusal) → HasProgram text program → IsRefusal text r → ⊥
+never_both known text program r has (of_bytes is) = tokens_or_bytes known text has.has_tree.tokens r has.has_tree.has_tokens is
+never_both known text program r has (of_tokens {tokens = tokens} {misfit = misfit} {place = place} others is) = tree_or_misfit known text has.tree tokens (misfit, place) has.has_tree others is
+never_both known text program r has (of_tree {tree = tree} other is) =
+    accepted_or_refused tree r (subst IsAccepted (one_tree_of known text has.tree tree has.has_tree other) has.accepted) is
+
+pub one_program : OneReading → (text : List ℕ) (p q : Program) → HasProgram text p → HasProgram text q → p ≡ q
+one_program known text p q has other =
+    let same = one_tree_of known text has.tree other.tree has.has_tree other.has_tree in
+    one_program_of other.tree p q (subst (λ (t : TextTree). IsProgramOf t p) same has.is_program) other.is_program
