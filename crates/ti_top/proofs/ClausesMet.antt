@@ -1,24 +1,30 @@
 -- From what was done and how the line on err was written to the clauses of the command.
-use Rattle.std.proofs.Common.{◌≡◌, ◌⊎◌, inl, inr, ℕ, ◌≤◌, [], ◌++◌, Some, refl, sym, ◌∙◌, ap, subst, arith, append-nil}
-use Rattle.ti_base.specs.declared.place.Place.{Place}
+use Rattle.std.proofs.Common.{◌≡◌, ◌⊎◌, inl, inr, ℕ, ◌≤◌, true, List, [], ◌∷◌, ◌++◌, Some, refl, sym, ◌∙◌, ap, subst, arith, append-nil}
+use Rattle.ti_base.specs.declared.entry.Entry.{Entry}
 use Rattle.ti_io.specs.Source.{IsMissing}
-use Rattle.ti_io.specs.Sink.{GrewBy}
-use Rattle.ti_lang.specs.Runs.{AllEnded, IsRun, IsSolo, IsComplete as IsCompleteRun, none}
+use Rattle.ti_io.specs.Sink.{GrewBy, GrewByFront}
+use Rattle.ti_lang.specs.Runs.{AllEnded, IsRun, IsSolo, IsComplete as IsCompleteRun, none, has_fault}
 use Rattle.ti_lang.specs.Lines.{lines_of}
 use Rattle.ti_lang.specs.Alignment.{IsAligned}
+use Rattle.ti_lang.proofs.Entries.{fault_more}
+use Rattle.ti_lang.proofs.Standing.{true_false, or_right}
+use Rattle.ti_rules.specs.declared.refusal.Refusal.{Refusal}
+use Rattle.ti_top.specs.declared.fault.Fault.{Fault}
 use Rattle.ti_top.specs.declared.reading.ReadEnd.{ReadEnd}
 use Rattle.ti_top.specs.declared.reading.ReadEnd.TheVariants as Read
 use Rattle.ti_top.specs.declared.ending.Ending.{Ending}
-use Rattle.ti_top.specs.declared.ending.Ending.TheVariants.{Done, Refused, NoCommand, CantRead, CantWrite, NoMemory}
+use Rattle.ti_top.specs.declared.ending.Ending.TheVariants.{Done, Refused, Faulted, NoCommand, CantRead, CantWrite, NoMemory}
 use Rattle.ti_top.specs.Job.{Job, job_of}
 use Rattle.ti_top.specs.Reading.{ReadsWhole}
 use Rattle.ti_top.specs.Ending.{status_of}
 use Rattle.ti_top.specs.Ended.{Ended}
+use Rattle.ti_top.specs.RunEnds.{fault_entry, EndsWithFault}
+use Rattle.ti_top.specs.Compiling.{IsRefusedAs}
 use Rattle.ti_top.specs.Setting.{run_of}
 use Rattle.ti_top.specs.Work.{RanNothing, Ran, ReadsFile, FileSays, SaysNoCommand, WorkSays}
 use Rattle.ti_top.specs.Call.{Call, IsCommand, file_of, work_of, SourceRose, ErrRose, Yields}
-use Rattle.ti_top.specs.Clauses.{IsReadWhole, ReadsText, IsRefused, RefusesExactly, KeepsRun, WritesOutput, IsAlignedRun, EndsRun, NothingFailed, IsComplete, Says, Meets}
-use Rattle.ti_top.proofs.StatusFrom.{StatusFrom, status_from, not_five, is_done}
+use Rattle.ti_top.specs.Clauses.{IsReadWhole, ReadsText, IsRefused, RefusesExactly, KeepsRun, WritesLines, WritesOutput, IsAlignedRun, EndsRun, NothingFailed, IsComplete, Says, Meets}
+use Rattle.ti_top.proofs.StatusFrom.{StatusFrom, status_from, not_five, is_done, is_faulted, is_no_memory}
 use Rattle.ti_top.proofs.WordsAnswered.{not_both, no_command_answers, command_answers}
 use Rattle.ti_top.proofs.TextRead.{EndsAs, read_whole, reads_text}
 use Rattle.ti_top.proofs.ErrWritten.{writes_err}
@@ -42,15 +48,17 @@ calm before c (inr cut) h = absurd (h cut.1)
 output_nothing : (c : Call) → RanNothing c.out c.out_after c.history → WritesOutput c
 output_nothing c x =
     let same : c.out_after.taken ≡ c.out.taken = ap (λ s. s.taken) x.unwritten in
-    let grew : GrewBy c.out c.out_after (lines_of c.history) = same ∙ sym (append-nil c.out.taken) ∙ ap (λ h. c.out.taken ++ lines_of h) (sym x.no_entry) in
+    let grew : WritesLines c = λ program _. same ∙ sym (append-nil c.out.taken) ∙ ap (λ h. c.out.taken ++ lines_of program h) (sym x.no_entry) in
     record {
       done = λ _ _. grew;
+      faulted = λ _ _. grew;
       nothing_at_one = λ _. same;
       nothing_at_three = λ _. same;
       nothing_at_four = λ _. same;
       no_command = λ _. same;
       not_whole = λ _ _ _. same;
-      failed = λ _ _. (lines_of c.history, ([], append-nil (lines_of c.history)), grew);
+      no_program = λ _. same;
+      failed = λ _ _ program has. (lines_of program c.history, ([], append-nil (lines_of program c.history)), grew program has);
       no_memory = λ _ _. grew;
     }
 
@@ -60,6 +68,18 @@ run_nothing job c x = record {
   solo = λ program _. subst (IsSolo (run_of program job.procs)) (sym x.no_entry) none;
   none = λ _. x.no_entry;
 }
+
+-- where nothing was run, no fault is last
+no_fault_of_nothing : (c : Call) (fault : Fault) → RanNothing c.out c.out_after c.history → EndsWithFault c.history fault → ⊥
+no_fault_of_nothing c fault x e = short e.before (fault_entry fault) (sym x.no_entry ∙ e.last)
+  where
+    short : (before : List Entry) (e : Entry) → [] ≡ before ++ e ∷ [] → ⊥
+    short [] e h = cc
+    short (b ∷ before) e h = cc
+
+-- where the last entry is a fault, some entry is
+fault_is_there : (es : List Entry) (fault : Fault) → EndsWithFault es fault → has_fault es ≡ true
+fault_is_there es fault e = ap has_fault e.last ∙ fault_more e.before (fault_entry fault) ∙ or_right (has_fault e.before) true refl
 
 -- the words are no command
 meets_no_command : (c : Call) → SaysNoCommand (work_of c) → Ended NoCommand (file_of c) c.err c.err_after c.status → Meets c
@@ -71,7 +91,10 @@ meets_no_command c x ended =
       refusal = λ job some. absurd (not_both c job some x.words);
       run = λ job some. absurd (not_both c job some x.words);
       output = output_nothing c x.nothing;
-      alignment = λ program _ is. absurd (never NoCommand c 0 from (λ e. omega arith) (λ e. omega arith) is);
+      alignment = record {
+        done = λ is. absurd (never NoCommand c 0 from (λ e. omega arith) (λ e. omega arith) is);
+        faulted = λ is. absurd (never NoCommand c 2 from (λ e. omega arith) (λ e. omega arith) is);
+      };
       end = λ job some. absurd (not_both c job some x.words);
       err = writes_err c NoCommand x.words ended;
       completeness = λ job some. absurd (not_both c job some x.words);
@@ -117,25 +140,32 @@ meets_command before end job c x says k =
     }
 
 -- the text is refused
-clauses_refused : (place : Place) (job : Job) (c : Call) → StatusFrom (Refused place) c → IsRefused job c place → RanNothing c.out c.out_after c.history → Clauses job c
-clauses_refused place job c from refused x = record {
+clauses_refused : (refusal : Refusal) (job : Job) (c : Call) → StatusFrom (Refused refusal) c → IsReadWhole job c → IsRefusedAs c.text refusal → RanNothing c.out c.out_after c.history → Clauses job c
+clauses_refused refusal job c from whole refused x = record {
   refusal = record {
-    only_where = λ _. (place, refused);
-    everywhere = λ _ _. yields (Refused place) c from (λ same. inl same) (λ y. inr (inl y));
+    only_where = λ _. (refusal, record { whole = whole; refused = refused.is });
+    everywhere = λ _ _. yields (Refused refusal) c from (λ same. inl same) (λ y. inr (inl y));
     no_history = λ _ _. x.no_entry;
     no_output = λ _ _. ap (λ s. s.taken) x.unwritten;
+    program_at_zero = λ is. absurd (never (Refused refusal) c 0 from (λ e. omega arith) (λ e. omega arith) is);
+    program_at_two = λ is. absurd (never (Refused refusal) c 2 from (λ e. omega arith) (λ e. omega arith) is);
   };
   run = run_nothing job c x;
   output = output_nothing c x;
-  alignment = λ program spells _. absurd (refused.refused.none program spells);
+  alignment = record {
+    done = λ _ program has. absurd (refused.no_program program has);
+    faulted = λ _ program has. absurd (refused.no_program program has);
+  };
   end = record {
-    ended = λ program spells _. absurd (refused.refused.none program spells);
-    unfinished = λ program spells _. absurd (refused.refused.none program spells);
+    ended = λ _ program has. absurd (refused.no_program program has);
+    fault_only_where = λ is. absurd (never (Refused refusal) c 2 from (λ e. omega arith) (λ e. omega arith) is);
+    fault_everywhere = λ fault e. absurd (no_fault_of_nothing c fault x e);
+    unfinished = λ _ program has. absurd (refused.no_program program has);
   };
   completeness = λ nothing. record {
-    refused = λ _ _. calm (Refused place) c from nothing.err;
-    accepted = λ program spells. absurd (refused.refused.none program spells);
-    ended = λ program spells. absurd (refused.refused.none program spells);
+    refused = λ _ _. calm (Refused refusal) c from nothing.err;
+    accepted = λ program has. absurd (refused.no_program program has);
+    ended = λ program has. absurd (refused.no_program program has);
   };
 }
 
@@ -144,18 +174,25 @@ clauses_cant_read : (job : Job) (c : Call) → StatusFrom CantRead c → IsMissi
 clauses_cant_read job c from cause x = record {
   refusal = record {
     only_where = λ is. absurd (never CantRead c 1 from (λ e. omega arith) (λ e. omega arith) is);
-    everywhere = λ place refused. yields CantRead c from
+    everywhere = λ refusal refused. yields CantRead c from
         (λ same. elim cause [ inl missing ↦ absurd (refused.whole.there missing) | inr rose ↦ inr (inr (same, rose)) ])
         (λ y. inr (inl y));
     no_history = λ _ _. x.no_entry;
     no_output = λ _ _. ap (λ s. s.taken) x.unwritten;
+    program_at_zero = λ is. absurd (never CantRead c 0 from (λ e. omega arith) (λ e. omega arith) is);
+    program_at_two = λ is. absurd (never CantRead c 2 from (λ e. omega arith) (λ e. omega arith) is);
   };
   run = run_nothing job c x;
   output = output_nothing c x;
-  alignment = λ program _ is. absurd (never CantRead c 0 from (λ e. omega arith) (λ e. omega arith) is);
+  alignment = record {
+    done = λ is. absurd (never CantRead c 0 from (λ e. omega arith) (λ e. omega arith) is);
+    faulted = λ is. absurd (never CantRead c 2 from (λ e. omega arith) (λ e. omega arith) is);
+  };
   end = record {
-    ended = λ program _ is. absurd (never CantRead c 0 from (λ e. omega arith) (λ e. omega arith) is);
-    unfinished = λ program _ is. absurd (never CantRead c 6 from (λ e. omega arith) (λ e. omega arith) is);
+    ended = λ is. absurd (never CantRead c 0 from (λ e. omega arith) (λ e. omega arith) is);
+    fault_only_where = λ is. absurd (never CantRead c 2 from (λ e. omega arith) (λ e. omega arith) is);
+    fault_everywhere = λ fault e. absurd (no_fault_of_nothing c fault x e);
+    unfinished = λ is. absurd (never CantRead c 6 from (λ e. omega arith) (λ e. omega arith) is);
   };
   completeness = λ nothing. elim cause [ inl missing ↦ absurd (nothing.there missing) | inr rose ↦ absurd (nothing.source rose) ];
 }
@@ -168,87 +205,131 @@ clauses_no_memory job c some from x = record {
     everywhere = λ _ _. yields NoMemory c from (λ same. inr (inl (inl same))) (λ y. inr (inl y));
     no_history = λ _ _. x.no_entry;
     no_output = λ _ _. ap (λ s. s.taken) x.unwritten;
+    program_at_zero = λ is. absurd (never NoMemory c 0 from (λ e. omega arith) (λ e. omega arith) is);
+    program_at_two = λ is. absurd (never NoMemory c 2 from (λ e. omega arith) (λ e. omega arith) is);
   };
   run = run_nothing job c x;
   output = output_nothing c x;
-  alignment = λ program _ is. absurd (never NoMemory c 0 from (λ e. omega arith) (λ e. omega arith) is);
+  alignment = record {
+    done = λ is. absurd (never NoMemory c 0 from (λ e. omega arith) (λ e. omega arith) is);
+    faulted = λ is. absurd (never NoMemory c 2 from (λ e. omega arith) (λ e. omega arith) is);
+  };
   end = record {
-    ended = λ program _ is. absurd (never NoMemory c 0 from (λ e. omega arith) (λ e. omega arith) is);
-    unfinished = λ program _ _ complete. unbegun (run_of program job.procs) some (subst (λ h. IsCompleteRun (run_of program job.procs) h) x.no_entry complete);
+    ended = λ is. absurd (never NoMemory c 0 from (λ e. omega arith) (λ e. omega arith) is);
+    fault_only_where = λ is. absurd (never NoMemory c 2 from (λ e. omega arith) (λ e. omega arith) is);
+    fault_everywhere = λ fault e. absurd (no_fault_of_nothing c fault x e);
+    unfinished = λ _ program _ complete. unbegun (run_of program job.procs) some (subst (λ h. IsCompleteRun (run_of program job.procs) h) x.no_entry complete);
   };
   completeness = λ nothing. absurd (nothing.memory (calm NoMemory c from nothing.err));
 }
-
--- the program was run
-by_end : (before : Ending) {P : Type 0} → (before ≡ Done) ⊎ (before ≡ NoMemory) ⊎ (before ≡ CantWrite) → (before ≡ Done → P) → (before ≡ NoMemory → P) → (before ≡ CantWrite → P) → P
-by_end before (inl e) f g h = f e
-by_end before (inr (inl e)) f g h = g e
-by_end before (inr (inr e)) f g h = h e
-
-status_at : (before e : Ending) (n : ℕ) → before ≡ e → status_of before ≡ n → status_of e ≡ n
-status_at before e n is h = ap status_of (sym is) ∙ h
 
 -- the ending of a run with a status
 done_at : (before : Ending) (c : Call) → StatusFrom before c → c.status ≡ 0 → before ≡ Done
 done_at before c from is = is_done before (not_five before 0 c from is (λ e. omega arith))
 
-no_memory_at : (before : Ending) (c : Call) → (before ≡ Done) ⊎ (before ≡ NoMemory) ⊎ (before ≡ CantWrite) → StatusFrom before c → c.status ≡ 6 → before ≡ NoMemory
-no_memory_at before c known from is =
-    let six = not_five before 6 c from is (λ e. omega arith) in
-    by_end before known
-    (λ e. absurd (let x = status_at before Done 6 e six in omega arith))
-    (λ e. e)
-    (λ e. absurd (let x = status_at before CantWrite 6 e six in omega arith))
+faulted_at : (before : Ending) (c : Call) → StatusFrom before c → c.status ≡ 2 → (fault : Fault) × (before ≡ Faulted fault)
+faulted_at before c from is = is_faulted before (not_five before 2 c from is (λ e. omega arith))
 
-apart : (before a b : Ending) → before ≡ a → before ≡ b → a ≡ b
-apart before a b x y = sym x ∙ y
+no_memory_at : (before : Ending) (c : Call) → StatusFrom before c → c.status ≡ 6 → before ≡ NoMemory
+no_memory_at before c from is = is_no_memory before (not_five before 6 c from is (λ e. omega arith))
 
 done_not_cut : (before : Ending) → before ≡ Done → before ≡ CantWrite → ⊥
-done_not_cut before x y = let e = apart before Done CantWrite x y in cc
+done_not_cut before x y = let e = sym x ∙ y in cc
+
+faulted_not_cut : (before : Ending) (fault : Fault) → before ≡ Faulted fault → before ≡ CantWrite → ⊥
+faulted_not_cut before fault x y = let e = sym x ∙ y in cc
 
 memory_not_cut : (before : Ending) → before ≡ NoMemory → before ≡ CantWrite → ⊥
-memory_not_cut before x y = let e = apart before NoMemory CantWrite x y in cc
+memory_not_cut before x y = let e = sym x ∙ y in cc
 
+-- the program was run
 clauses_ran : (before : Ending) (job : Job) (c : Call) → IsCommand c job → StatusFrom before c → IsReadWhole job c → Ran job.procs c.text c.out c.out_after c.history before → Clauses job c
 clauses_ran before job c command from whole x =
     let says = x.says in
-    let other : (n : ℕ) → (0 ≡ n → ⊥) → (6 ≡ n → ⊥) → (5 ≡ n → ⊥) → c.status ≡ n → ⊥ = λ n a b d is. never before c n from (λ e. by_end before says.known (λ k. a (status_at before Done n k e)) (λ k. b (status_at before NoMemory n k e)) (λ k. d (status_at before CantWrite n k e))) d is in
+    let only = x.compiled.only in
+    let unrefused = x.compiled.unrefused in
     record {
       refusal = record {
-        only_where = λ is. absurd (other 1 (λ e. omega arith) (λ e. omega arith) (λ e. omega arith) is);
-        everywhere = λ place refused. absurd (refused.refused.none x.program x.spells);
-        no_history = λ place refused. absurd (refused.none x.program x.spells);
-        no_output = λ place refused. absurd (refused.none x.program x.spells);
+        only_where = λ is. absurd (other 1 (λ e. omega arith) (λ e. omega arith) (λ e. omega arith) (λ e. omega arith) is);
+        everywhere = λ refusal refused. absurd (unrefused refusal refused.refused);
+        no_history = λ refusal refused. absurd (unrefused refusal refused);
+        no_output = λ refusal refused. absurd (unrefused refusal refused);
+        program_at_zero = λ _. (x.program, x.compiled.has);
+        program_at_two = λ _. (x.program, x.compiled.has);
       };
       run = record {
-        run = λ p spells. subst (λ q. IsRun (run_of q job.procs) c.history) (sym (x.only p spells)) says.run;
-        solo = λ p spells. subst (λ q. IsSolo (run_of q job.procs) c.history) (sym (x.only p spells)) says.solo;
-        none = λ h. absurd (h x.program x.spells);
+        run = λ p has. subst (λ q. IsRun (run_of q job.procs) c.history) (sym (only p has)) says.run;
+        solo = λ p has. subst (λ q. IsSolo (run_of q job.procs) c.history) (sym (only p has)) says.solo;
+        none = λ h. absurd (h x.program x.compiled.has);
       };
       output = record {
-        done = λ is told. says.lines (done_not_cut before (done_at before c from is)) told;
-        nothing_at_one = λ is. absurd (other 1 (λ e. omega arith) (λ e. omega arith) (λ e. omega arith) is);
-        nothing_at_three = λ is. absurd (other 3 (λ e. omega arith) (λ e. omega arith) (λ e. omega arith) is);
-        nothing_at_four = λ is. absurd (other 4 (λ e. omega arith) (λ e. omega arith) (λ e. omega arith) is);
-        no_command = λ x. absurd (not_both c job command x);
+        done = λ is told. lines (done_not_cut before (done_at before c from is)) told;
+        faulted = λ is told. let f = faulted_at before c from is in lines (faulted_not_cut before f.0 f.1) told;
+        nothing_at_one = λ is. absurd (other 1 (λ e. omega arith) (λ e. omega arith) (λ e. omega arith) (λ e. omega arith) is);
+        nothing_at_three = λ is. absurd (other 3 (λ e. omega arith) (λ e. omega arith) (λ e. omega arith) (λ e. omega arith) is);
+        nothing_at_four = λ is. absurd (other 4 (λ e. omega arith) (λ e. omega arith) (λ e. omega arith) (λ e. omega arith) is);
+        no_command = λ none. absurd (not_both c job command none);
         not_whole = λ j some cut. absurd (cut (subst (λ j. IsReadWhole j c) (job_same c job j command some) whole));
-        failed = λ _ told. says.part told;
-        no_memory = λ is told. says.lines (memory_not_cut before (no_memory_at before c says.known from is)) told;
+        no_program = λ h. absurd (h x.program x.compiled.has);
+        failed = λ _ told p has. subst (λ q. GrewByFront c.out c.out_after (lines_of q c.history)) (sym (only p has)) (says.part told);
+        no_memory = λ is told. lines (memory_not_cut before (no_memory_at before c from is)) told;
       };
-      alignment = λ p spells _. subst IsAligned (sym (x.only p spells)) says.aligned;
+      alignment = record {
+        done = λ _ p has. subst IsAligned (sym (only p has)) says.aligned;
+        faulted = λ _ p has. subst IsAligned (sym (only p has)) says.aligned;
+      };
       end = record {
-        ended = λ p spells is. subst (λ q. AllEnded (run_of q job.procs) c.history) (sym (x.only p spells)) (says.ended (done_at before c from is));
-        unfinished = λ p spells is complete. says.unfinished (no_memory_at before c says.known from is) (subst (λ q. IsCompleteRun (run_of q job.procs) c.history) (x.only p spells) complete);
+        ended = λ is p has. subst (λ q. AllEnded (run_of q job.procs) c.history) (sym (only p has)) (says.ended (done_at before c from is));
+        fault_only_where = λ is. let f = faulted_at before c from is in (f.0, says.faulted f.0 f.1);
+        fault_everywhere = λ fault last. by_end
+            (λ e. absurd (true_false (sym (fault_is_there c.history fault last) ∙ says.no_fault e)))
+            (λ f. yields before c from (λ same. inl (same ∙ ap status_of f.1)) (λ y. elim y [
+              | inl six ↦ absurd (faulted_is_not_six f (no_memory_at before c from six))
+              | inr five ↦ inr five
+            ]))
+            (λ e. absurd (says.unfinished e (inl (fault_is_there c.history fault last))))
+            (λ e. yields before c from
+            (λ same. inr (same ∙ ap status_of e, inl (says.rose e)))
+            (λ y. elim y [
+              | inl six ↦ absurd (memory_not_cut before (no_memory_at before c from six) e)
+              | inr five ↦ inr five
+            ]));
+        unfinished = λ is p has complete. says.unfinished (no_memory_at before c from is) (subst (λ q. IsCompleteRun (run_of q job.procs) c.history) (only p has) complete);
       };
       completeness = λ nothing.
           let is = calm before c from nothing.err in
-          let done : before ≡ Done = by_end before says.known (λ e. e) (λ e. absurd (nothing.memory (is ∙ ap status_of e))) (λ e. absurd (nothing.out (says.rose e))) in
-          record {
-            refused = λ place refused. absurd (refused.none x.program x.spells);
-            accepted = λ p spells. is ∙ ap status_of done;
-            ended = λ p spells. subst (λ q. AllEnded (run_of q job.procs) c.history) (sym (x.only p spells)) (says.ended done);
-          };
+          by_end
+          (λ e. record {
+            refused = λ refusal refused. absurd (unrefused refusal refused);
+            accepted = λ p has. inl (is ∙ ap status_of e);
+            ended = λ p has. inr (subst (λ q. AllEnded (run_of q job.procs) c.history) (sym (only p has)) (says.ended e));
+          })
+          (λ f. record {
+            refused = λ refusal refused. absurd (unrefused refusal refused);
+            accepted = λ p has. inr (is ∙ ap status_of f.1);
+            ended = λ p has. inl (fault_is_there c.history f.0 (says.faulted f.0 f.1));
+          })
+          (λ e. absurd (nothing.memory (is ∙ ap status_of e)))
+          (λ e. absurd (nothing.out (says.rose e)));
     }
+  where
+    by_end : {P : Type 0} → (before ≡ Done → P) → ((fault : Fault) × (before ≡ Faulted fault) → P) → (before ≡ NoMemory → P) → (before ≡ CantWrite → P) → P
+    by_end f g h k = elim x.says.known [
+      | inl e ↦ f e
+      | inr (inl e) ↦ g e
+      | inr (inr (inl e)) ↦ h e
+      | inr (inr (inr e)) ↦ k e
+    ]
+
+    faulted_is_not_six : (fault : Fault) × (before ≡ Faulted fault) → before ≡ NoMemory → ⊥
+    faulted_is_not_six f e = let x = sym f.1 ∙ e in cc
+
+    -- a status that no ending of a run has
+    other : (n : ℕ) → (0 ≡ n → ⊥) → (2 ≡ n → ⊥) → (6 ≡ n → ⊥) → (5 ≡ n → ⊥) → c.status ≡ n → ⊥
+    other n a b d e is = never before c n from (λ s. by_end (λ k. a (sym (ap status_of k) ∙ s)) (λ k. b (sym (ap status_of k.1) ∙ s)) (λ k. d (sym (ap status_of k) ∙ s)) (λ k. e (sym (ap status_of k) ∙ s))) e is
+
+    lines : (before ≡ CantWrite → ⊥) → c.out.tells ≡ true → WritesLines c
+    lines whole told p has = subst (λ q. GrewBy c.out c.out_after (lines_of q c.history)) (sym (x.compiled.only p has)) (x.says.lines whole told)
 
 -- the words are a command, and the text was read whole
 meets_text : (before : Ending) (job : Job) (c : Call) → ReadsFile job Read.Whole (work_of c) → FileSays Read.Whole before job (work_of c) → Ended before (file_of c) c.err c.err_after c.status → Meets c
@@ -256,12 +337,18 @@ meets_text Done job c file says ended =
     let from = status_from Done c ended in
     let fits : EndsAs Read.Whole Done = (λ e. let x = e in cc, λ e. let x = e in cc) in
     let whole = read_whole Done job c file.read fits from in
-    meets_command Done Read.Whole job c (record { words = file.words; some = file.some; read = file.read; fits = fits; ended = ended }) (job, file.words, (says.program, says.spells)) (clauses_ran Done job c file.words from whole says)
-meets_text (Refused place) job c file says ended =
-    let from = status_from (Refused place) c ended in
-    let fits : EndsAs Read.Whole (Refused place) = (λ e. let x = e in cc, λ e. let x = e in cc) in
-    let refused : IsRefused job c place = record { whole = read_whole (Refused place) job c file.read fits from; refused = says.0 } in
-    meets_command (Refused place) Read.Whole job c (record { words = file.words; some = file.some; read = file.read; fits = fits; ended = ended }) (job, file.words, refused) (clauses_refused place job c from refused says.1)
+    meets_command Done Read.Whole job c (record { words = file.words; some = file.some; read = file.read; fits = fits; ended = ended }) (job, file.words, (says.program, says.compiled.has)) (clauses_ran Done job c file.words from whole says)
+meets_text (Refused refusal) job c file says ended =
+    let from = status_from (Refused refusal) c ended in
+    let fits : EndsAs Read.Whole (Refused refusal) = (λ e. let x = e in cc, λ e. let x = e in cc) in
+    let whole = read_whole (Refused refusal) job c file.read fits from in
+    let refused : IsRefused job c refusal = record { whole = whole; refused = says.0.is } in
+    meets_command (Refused refusal) Read.Whole job c (record { words = file.words; some = file.some; read = file.read; fits = fits; ended = ended }) (job, file.words, refused) (clauses_refused refusal job c from whole says.0 says.1)
+meets_text (Faulted fault) job c file says ended =
+    let from = status_from (Faulted fault) c ended in
+    let fits : EndsAs Read.Whole (Faulted fault) = (λ e. let x = e in cc, λ e. let x = e in cc) in
+    let whole = read_whole (Faulted fault) job c file.read fits from in
+    meets_command (Faulted fault) Read.Whole job c (record { words = file.words; some = file.some; read = file.read; fits = fits; ended = ended }) (job, file.words, says.says.faulted fault refl) (clauses_ran (Faulted fault) job c file.words from whole says)
 meets_text NoCommand job c file says ended = absurd says
 meets_text CantRead job c file says ended = absurd says
 meets_text CantWrite job c file says ended =

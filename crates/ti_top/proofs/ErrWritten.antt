@@ -2,7 +2,7 @@
 use Rattle.std.proofs.Common.{◌≡◌, inl, inr, [], arith, sym, ◌∙◌, ap}
 use Rattle.std.proofs.lemmas.List.{append-nil}
 use Rattle.ti_top.specs.declared.ending.Ending.{Ending}
-use Rattle.ti_top.specs.declared.ending.Ending.TheVariants.{Done, Refused, NoCommand, CantRead, CantWrite, NoMemory}
+use Rattle.ti_top.specs.declared.ending.Ending.TheVariants.{Done, Refused, Faulted, NoCommand, CantRead, CantWrite, NoMemory}
 use Rattle.ti_top.specs.Ended.{Ended, EndedWhole, EndedCut}
 use Rattle.ti_top.specs.Call.{Call, file_of, SinkRose}
 use Rattle.ti_top.proofs.StatusFrom.{is_done, is_cant_write}
@@ -12,7 +12,8 @@ use Rattle.ti_top.specs.Clauses.{Says, WritesErr, line}
 out_rose : (c : Call) (before : Ending) → before ≡ CantWrite → Says c before → SinkRose c
 out_rose c CantWrite is says = inl says.2
 out_rose c Done is says = absurd (let x = is in cc)
-out_rose c (Refused place) is says = absurd (let x = is in cc)
+out_rose c (Refused refusal) is says = absurd (let x = is in cc)
+out_rose c (Faulted fault) is says = absurd (let x = is in cc)
 out_rose c NoCommand is says = absurd (let x = is in cc)
 out_rose c CantRead is says = absurd (let x = is in cc)
 out_rose c NoMemory is says = absurd (let x = is in cc)

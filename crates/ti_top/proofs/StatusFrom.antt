@@ -1,7 +1,8 @@
 -- The status of a call, from the ending that it had before its line on err was written.
 use Rattle.std.proofs.Common.{◌≡◌, ◌⊎◌, inl, inr, ℕ, arith, refl, sym, ◌∙◌}
+use Rattle.ti_top.specs.declared.fault.Fault.{Fault}
 use Rattle.ti_top.specs.declared.ending.Ending.{Ending}
-use Rattle.ti_top.specs.declared.ending.Ending.TheVariants.{Done, Refused, NoCommand, CantRead, CantWrite, NoMemory}
+use Rattle.ti_top.specs.declared.ending.Ending.TheVariants.{Done, Refused, Faulted, NoCommand, CantRead, CantWrite, NoMemory}
 use Rattle.ti_top.specs.Ending.{status_of}
 use Rattle.ti_top.specs.Ended.{Ended}
 use Rattle.ti_top.specs.Call.{Call, file_of, ErrRose}
@@ -21,7 +22,8 @@ not_five before n c (inr cut) is other = absurd (other (sym is ∙ cut.0))
 -- a status is that of its ending alone
 pub is_done : (ending : Ending) → status_of ending ≡ 0 → ending ≡ Done
 is_done Done e = refl
-is_done (Refused place) e = absurd (omega arith)
+is_done (Refused refusal) e = absurd (omega arith)
+is_done (Faulted fault) e = absurd (omega arith)
 is_done NoCommand e = absurd (omega arith)
 is_done CantRead e = absurd (omega arith)
 is_done CantWrite e = absurd (omega arith)
@@ -29,7 +31,8 @@ is_done NoMemory e = absurd (omega arith)
 
 pub is_no_command : (ending : Ending) → status_of ending ≡ 3 → ending ≡ NoCommand
 is_no_command Done e = absurd (omega arith)
-is_no_command (Refused place) e = absurd (omega arith)
+is_no_command (Refused refusal) e = absurd (omega arith)
+is_no_command (Faulted fault) e = absurd (omega arith)
 is_no_command NoCommand e = refl
 is_no_command CantRead e = absurd (omega arith)
 is_no_command CantWrite e = absurd (omega arith)
@@ -37,7 +40,8 @@ is_no_command NoMemory e = absurd (omega arith)
 
 pub is_cant_read : (ending : Ending) → status_of ending ≡ 4 → ending ≡ CantRead
 is_cant_read Done e = absurd (omega arith)
-is_cant_read (Refused place) e = absurd (omega arith)
+is_cant_read (Refused refusal) e = absurd (omega arith)
+is_cant_read (Faulted fault) e = absurd (omega arith)
 is_cant_read NoCommand e = absurd (omega arith)
 is_cant_read CantRead e = refl
 is_cant_read CantWrite e = absurd (omega arith)
@@ -45,8 +49,27 @@ is_cant_read NoMemory e = absurd (omega arith)
 
 pub is_cant_write : (ending : Ending) → status_of ending ≡ 5 → ending ≡ CantWrite
 is_cant_write Done e = absurd (omega arith)
-is_cant_write (Refused place) e = absurd (omega arith)
+is_cant_write (Refused refusal) e = absurd (omega arith)
+is_cant_write (Faulted fault) e = absurd (omega arith)
 is_cant_write NoCommand e = absurd (omega arith)
 is_cant_write CantRead e = absurd (omega arith)
 is_cant_write CantWrite e = refl
 is_cant_write NoMemory e = absurd (omega arith)
+
+pub is_faulted : (ending : Ending) → status_of ending ≡ 2 → (fault : Fault) × (ending ≡ Faulted fault)
+is_faulted Done e = absurd (omega arith)
+is_faulted (Refused refusal) e = absurd (omega arith)
+is_faulted (Faulted fault) e = (fault, refl)
+is_faulted NoCommand e = absurd (omega arith)
+is_faulted CantRead e = absurd (omega arith)
+is_faulted CantWrite e = absurd (omega arith)
+is_faulted NoMemory e = absurd (omega arith)
+
+pub is_no_memory : (ending : Ending) → status_of ending ≡ 6 → ending ≡ NoMemory
+is_no_memory Done e = absurd (omega arith)
+is_no_memory (Refused refusal) e = absurd (omega arith)
+is_no_memory (Faulted fault) e = absurd (omega arith)
+is_no_memory NoCommand e = absurd (omega arith)
+is_no_memory CantRead e = absurd (omega arith)
+is_no_memory CantWrite e = absurd (omega arith)
+is_no_memory NoMemory e = refl

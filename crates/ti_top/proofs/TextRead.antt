@@ -57,6 +57,7 @@ reads_text end before job c read fits from = record {
   bound = read.bound;
   whole_at_zero = λ is. whole_at 0 end before job c read fits from is (omega arith);
   whole_at_one = λ is. whole_at 1 end before job c read fits from is (omega arith);
+  whole_at_two = λ is. whole_at 2 end before job c read fits from is (omega arith);
   nothing_of_missing = read.nothing;
   four_only_where = λ is. read.cause (cause_of_four end before job c read fits (is_cant_read before (not_five before 4 c from is (λ e. omega arith))));
   missing = missing_is_told end before job c read fits from;

@@ -1,5 +1,5 @@
 -- One more entry of the lowest process that can take one.
-use Rattle.std.proofs.Common.{◌≡◌, ℕ, zero, suc, ◌+◌, ◌*◌, ◌<◌, ◌≤◌, nat_lt, nat_le, Bool, true, false, not, ◌||◌, ◌&&◌, ◌==◌, is_none, if◌then◌else◌, Option, Some, None, List, [], ◌∷◌, ◌++◌, length, get_or, slice_set, position, map, count_by, ◌⊎◌, inl, inr, ⊎_elim, refl, sym, ◌∙◌, ap, subst, arith, eqb-true, length-set, length-append, get_or-set_same, get_or-set_other}
+use Rattle.std.proofs.Common.{◌≡◌, ℕ, zero, suc, ◌+◌, ◌<◌, ◌≤◌, nat_lt, nat_le, Bool, true, false, not, ◌||◌, ◌&&◌, ◌==◌, is_none, if◌then◌else◌, Option, Some, None, Ok, List, [], ◌∷◌, ◌++◌, length, get_or, slice_set, position, map, count_by, ◌⊎◌, inl, inr, ⊎_elim, refl, sym, ◌∙◌, ap, subst, arith, eqb-true, length-set, length-append, get_or-set_same, get_or-set_other}
 use Rattle.std.specs.List.{list_any, list_all, prefix_len}
 use Rattle.std.proofs.lemmas.List.{map-append, get_or_append_left}
 use Rattle.std.proofs.Math.Seq.{get_or-append_seam}
@@ -8,6 +8,7 @@ use Rattle.std.proofs.lemmas.List.Sums.{sum_by-set}
 use borrow.Author.Tests.{ltb-true, ltb-false}
 use Rattle.std.proofs.lemmas.Bool.{eqb-false}
 use Rattle.ti_base.specs.declared.place.Place.{Place}
+use Rattle.ti_base.specs.declared.fault.FaultKind.{FaultKind}
 use Rattle.ti_base.specs.declared.fault.FaultKind.TheVariants.{Fuel}
 use Rattle.ti_base.specs.declared.action.Action.{Action}
 use Rattle.ti_base.specs.declared.action.Action.TheVariants as act
@@ -19,16 +20,18 @@ use Rattle.ti_base.specs.declared.entry.Next.TheVariants as next
 use Rattle.ti_lang.specs.Processes.{Setting, Process, begin}
 use Rattle.ti_lang.specs.NextStep.{At, Faults, step, steps, shown, Reaches, here, After, IsNext}
 use Rattle.ti_lang.specs.NextStep as st
-use Rattle.ti_lang.specs.Runs.{is_end, is_fault, is_arrival, is_departure, entries_of, answers_of, arrivals, departures, IsReady, FitsNext, entry_of, CanTake, AllEnded, IsComplete, none, more}
+use Rattle.ti_lang.specs.Runs.{is_end, is_fault, is_arrival, is_departure, entries_of, answers_of, arrivals, departures, IsReady, FitsNext, entry_of, CanTake, IsSolo, AllEnded, IsComplete, none, more}
 use Rattle.ti_lang.specs.Alignment.{IsAlignedRun}
 use Rattle.ti_lang.proofs.Steps.{after_same, after_more, shows_at, next_same}
 use Rattle.ti_lang.proofs.Entries.{one, entries_own, entries_other, count_more, end_more, fault_more}
 use Rattle.ti_lang.proofs.Moves as m
 use Rattle.ti_lang.proofs.Standing.{entry_proc, plain, true_false}
+use Rattle.ti_top.specs.declared.fault.Fault.{Fault}
 use Rattle.ti_top.specs.declared.seat.Seat.{Seat}
 use Rattle.ti_top.specs.declared.walker.Walker.{Walker}
 use Rattle.ti_top.specs.Walking.{wait_at, waits, process_of, after_step}
-use Rattle.ti_top.specs.Team.{is_able, Seated, Standing, steps_left, all_steps_left, GoesOn, Ends, Moves}
+use Rattle.ti_top.specs.RunEnds.{fault_entry}
+use Rattle.ti_top.specs.Team.{is_able, Seated, Standing, steps_left, all_steps_left, GoesOn, Ends, Moves, Stops, TurnLeaves}
 
 and_true : (a b : Bool) → (a && b) ≡ true → (a ≡ true) × (b ≡ true)
 and_true true b h = (refl, h)
@@ -85,52 +88,59 @@ departs p None t e = absurd (omega arith)
 departs p (Some place) t e = (place, shows_departure (nat_lt p.spent p.setting.fuel) place _ t)
 
 -- the able process is ready
-record Able (seats : List Seat) (seat : Seat) : Type 0 where
+record Able (fuel : ℕ) (seats : List Seat) (seat : Seat) : Type 0 where
   pub going : seat.ended ≡ false
-  pub ready : (waits seat.walker.wait ≡ 0) ⊎ (list_all (λ other. nat_le seat.arrivals other.arrivals) seats ≡ true)
+  pub ready : (waits seat.walker.wait ≡ 0) ⊎ (nat_le fuel seat.walker.spent ≡ true) ⊎ (list_all (λ other. nat_le seat.arrivals other.arrivals) seats ≡ true)
 
-or_true : (w : Option Place) (b : Bool) → (is_none w || b) ≡ true → (waits w ≡ 0) ⊎ (b ≡ true)
-or_true None b h = inl refl
-or_true (Some place) b h = inr h
+or_true : (w : Option Place) (a b : Bool) → (is_none w || a || b) ≡ true → (waits w ≡ 0) ⊎ (a ≡ true) ⊎ (b ≡ true)
+or_true None a b h = inl refl
+or_true (Some place) true b h = inr (inl refl)
+or_true (Some place) false b h = inr (inr h)
 
-able : (seats : List Seat) (seat : Seat) → is_able seats seat ≡ true → Able seats seat
-able seats seat h =
-    let both = and_true (not seat.ended) (is_none seat.walker.wait || list_all (λ other. nat_le seat.arrivals other.arrivals) seats) h in
-    record { going = not_true seat.ended both.0; ready = or_true seat.walker.wait _ both.1 }
+able : (fuel : ℕ) (seats : List Seat) (seat : Seat) → is_able fuel seats seat ≡ true → Able fuel seats seat
+able fuel seats seat h =
+    let both = and_true (not seat.ended) (is_none seat.walker.wait || nat_le fuel seat.walker.spent || list_all (λ other. nat_le seat.arrivals other.arrivals) seats) h in
+    record { going = not_true seat.ended both.0; ready = or_true seat.walker.wait _ _ both.1 }
 
-or_false : (w : Option Place) (b : Bool) → (is_none w || b) ≡ false → (waits w ≡ 1) × (b ≡ false)
-or_false None b h = absurd (true_false h)
-or_false (Some place) b h = (refl, h)
+or_false : (w : Option Place) (a b : Bool) → (is_none w || a || b) ≡ false → (waits w ≡ 1) × (a ≡ false) × (b ≡ false)
+or_false None a b h = absurd (true_false h)
+or_false (Some place) true b h = absurd (true_false h)
+or_false (Some place) false b h = (refl, refl, h)
 
 not_false : (a : Bool) → not a ≡ false → a ≡ true
 not_false true h = refl
 not_false false h = absurd (true_false h)
 
--- one that isn't able has its end, or waits for another
-unable : (seats : List Seat) (seat : Seat) → is_able seats seat ≡ false → (seat.ended ≡ true) ⊎ ((waits seat.walker.wait ≡ 1) × (list_all (λ other. nat_le seat.arrivals other.arrivals) seats ≡ false))
-unable seats seat h =
+-- one that isn't able has its end, or waits for another with a tick left
+unable : (fuel : ℕ) (seats : List Seat) (seat : Seat) → is_able fuel seats seat ≡ false → (seat.ended ≡ true) ⊎ ((waits seat.walker.wait ≡ 1) × (nat_le fuel seat.walker.spent ≡ false) × (list_all (λ other. nat_le seat.arrivals other.arrivals) seats ≡ false))
+unable fuel seats seat h =
     ⊎_elim
     (λ ended. inl (not_false seat.ended ended))
-    (λ waiting. inr (or_false seat.walker.wait _ waiting))
-    (and_false (not seat.ended) (is_none seat.walker.wait || list_all (λ other. nat_le seat.arrivals other.arrivals) seats) h)
+    (λ waiting. inr (or_false seat.walker.wait _ _ waiting))
+    (and_false (not seat.ended) (is_none seat.walker.wait || nat_le fuel seat.walker.spent || list_all (λ other. nat_le seat.arrivals other.arrivals) seats) h)
 
 -- what is shown at a departure is ready
 ready_act : (s : Setting) (es : List Entry) (i : ℕ) (at : Place) (a : Action) → (is_departure a ≡ true → (j : ℕ) → j < s.procs → departures i es < arrivals j es) → IsReady s es i (next.Act at a)
 ready_act s es i at act.Depart h = h refl
 ready_act s es i at a h = tt
 
-ready : (s : Setting) (es : List Entry) (seats : List Seat) (i : ℕ) (seat : Seat) (n : Next) → Standing s es seats → Seated s i (entries_of i es) seat → Able seats seat → shown (step (process_of s seat.walker)) ≡ Some n → IsReady s es i n
+ready : (s : Setting) (es : List Entry) (seats : List Seat) (i : ℕ) (seat : Seat) (n : Next) → Standing s es seats → Seated s i (entries_of i es) seat → Able s.fuel seats seat → shown (step (process_of s seat.walker)) ≡ Some n → IsReady s es i n
 ready s es seats i seat (next.End at) x y b e = tt
 ready s es seats i seat (next.Fault kind at) x y b e = tt
 ready s es seats i seat (next.Act at a) x y b e =
     ready_act s es i at a (λ d j l.
     ⊎_elim
     (λ none. absurd (stays (process_of s seat.walker) at a (waits_same seat.walker.wait ∙ none) e d))
+    (⊎_elim
+    (λ spent.
+    let most = le_true s.fuel seat.walker.spent spent in
+    let left = ltb-true seat.walker.spent s.fuel (m.acts (process_of s seat.walker) at a e) in
+    absurd (omega arith))
     (λ all.
     let k : j < length seats = omega (arith, x.count) in
     let other = x.seated seat j k in
     let as_often = le_true seat.arrivals (get_or seats j seat).arrivals (all_at (λ other. nat_le seat.arrivals other.arrivals) seats seat j all k) in
-    waits_for seat.walker.wait (λ none. stays (process_of s seat.walker) at a (waits_same seat.walker.wait ∙ none) e d) (departures i es) seat.arrivals (arrivals j es) (get_or seats j seat).arrivals y.departed other.arrived as_often)
+    waits_for seat.walker.wait (λ none. stays (process_of s seat.walker) at a (waits_same seat.walker.wait ∙ none) e d) (departures i es) seat.arrivals (arrivals j es) (get_or seats j seat).arrivals y.departed other.arrived as_often))
     b.ready)
   where
     waits_for : (w : Option Place) → (waits w ≡ 0 → ⊥) → (d a b o : ℕ) → d + waits w ≡ a → b ≡ o → a ≤ o → d < b
@@ -138,23 +148,23 @@ ready s es seats i seat (next.Act at a) x y b e =
     waits_for (Some place) h d a b o e f l = omega arith
 
 -- one that isn't able can take no entry
-takes_none : (s : Setting) (es : List Entry) (seats : List Seat) (j : ℕ) (seat : Seat) (e : Entry) → Standing s es seats → Seated s j (entries_of j es) seat → seat.walker.spent < s.fuel → is_able seats seat ≡ false → CanTake s es j e → ⊥
-takes_none s es seats j seat e x y tick h t =
+takes_none : (s : Setting) (es : List Entry) (seats : List Seat) (j : ℕ) (seat : Seat) (e : Entry) → Standing s es seats → Seated s j (entries_of j es) seat → is_able s.fuel seats seat ≡ false → CanTake s es j e → ⊥
+takes_none s es seats j seat e x y h t =
     ⊎_elim
     (λ ended. true_false (sym ended ∙ sym y.ended ∙ t.unended))
     (λ w.
     let open_ : seat.ended ≡ false = sym y.ended ∙ t.unended in
     let p = process_of s seat.walker in
     let same : t.process ≡ p = after_same (begin s j) t.process p (answers_of j es) t.world (y.world open_) in
-    let d = departs p seat.walker.wait (lt_true seat.walker.spent s.fuel tick) w.0 in
+    let d = departs p seat.walker.wait (lt_true seat.walker.spent s.fuel (le_false s.fuel seat.walker.spent w.1)) w.0 in
     let n : t.next ≡ next.Act d.0 act.Depart = next_same p t.next (next.Act d.0 act.Depart) (subst (λ q. IsNext q t.next) same t.is_next) (p, record { reaches = here; stands = d.1 }) in
     let r : IsReady s es j (next.Act d.0 act.Depart) = subst (IsReady s es j) n t.ready in
-    let k = not_all_at (λ other. nat_le seat.arrivals other.arrivals) seats seat w.1 in
+    let k = not_all_at (λ other. nat_le seat.arrivals other.arrivals) seats seat w.2 in
     let other = x.seated seat k.0 k.1 in
     let less = le_false seat.arrivals (get_or seats k.0 seat).arrivals k.2 in
     let most : departures j es < arrivals k.0 es = r k.0 (omega (arith, x.count, k.1)) in
     absurd (omega (arith, y.departed, w.0, other.arrived, less, most)))
-    (unable seats seat h)
+    (unable s.fuel seats seat h)
   where
     lt_true : (a b : ℕ) → a < b → nat_lt a b ≡ true
     lt_true a b h = grind (arith, h)
@@ -177,8 +187,8 @@ seated_act s i own old new at a y going e g =
           let v = waits_same old.walker.wait in
           rw (count_more (λ e. is_departure e.act) own entry) (departed_more _ _ _ _ _ _ _ _ _ y.departed moves.departed v w g.arrivals);
       within = g.within;
-      few = g.few y.few;
-      spent = g.spent y.spent;
+      few = few_more _ _ _ _ (is_arrival a) y.few g.arrivals g.tick;
+      spent = g.fuel;
     }
   where
     or_none : (b : Bool) → (b || false) ≡ b
@@ -188,8 +198,12 @@ seated_act s i own old new at a y going e g =
     departed_more : (d w a w' v v' b e c : ℕ) → d + w ≡ a → w' + b ≡ v' + e → w' ≡ w → v ≡ v' → c ≡ a + b → d + e + v ≡ c
     departed_more d w a w' v v' b e c x y z u t = omega arith
 
+    few_more : (a b c d : ℕ) (k : Bool) → a ≤ b → c ≡ a + one k → d ≡ b + 1 → c ≤ d
+    few_more a b c d true x y z = omega arith
+    few_more a b c d false x y z = omega arith
+
 -- where its seat stands after its end
-seated_end : (s : Setting) (i : ℕ) (own : List Entry) (old new : Seat) (at : Place) → Seated s i own old → Ends s old new → Seated s i (own ++ entry_of i (next.End at) Done ∷ []) new
+seated_end : (s : Setting) (i : ℕ) (own : List Entry) (old new : Seat) (at : Place) → Seated s i own old → Ends old new → Seated s i (own ++ entry_of i (next.End at) Done ∷ []) new
 seated_end s i own old new at y g =
     let entry = entry_of i (next.End at) Done in
     record {
@@ -199,8 +213,8 @@ seated_end s i own old new at y g =
       arrived = count_more (λ e. is_arrival e.act) own entry ∙ plus_none (count_by (λ e. is_arrival e.act) own) ∙ y.arrived ∙ sym g.arrivals;
       departed = rw (count_more (λ e. is_departure e.act) own entry) (departed_still _ _ _ _ _ y.departed (ap (λ (w : Walker). waits w.wait) g.walker) g.arrivals);
       within = subst (λ (w : Walker). w.at ≤ length s.program.statements) (sym g.walker) y.within;
-      few = few_still _ _ _ _ y.few g.arrivals (ap (λ (w : Walker). w.at) g.walker);
-      spent = subst (λ (w : Walker). w.spent + waits w.wait ≤ 2 * w.at) (sym g.walker) y.spent;
+      few = few_still _ _ _ _ y.few g.arrivals (ap (λ (w : Walker). w.spent) g.walker);
+      spent = subst (λ (w : Walker). w.spent ≤ s.fuel) (sym g.walker) y.spent;
     }
   where
     or_some : (b : Bool) → (b || true) ≡ true
@@ -216,56 +230,58 @@ seated_end s i own old new at y g =
     few_still : (a b c d : ℕ) → a ≤ b → c ≡ a → d ≡ b → c ≤ d
     few_still a b c d x y z = omega arith
 
-seated_next : (s : Setting) (i : ℕ) (own : List Entry) (old new : Seat) (n : Next) → Seated s i own old → old.ended ≡ false → shown (step (process_of s old.walker)) ≡ Some n → Moves s old n new → Seated s i (own ++ entry_of i n Done ∷ []) new
-seated_next s i own old new (next.Act at a) y going e g = seated_act s i own old new at a y going e g
-seated_next s i own old new (next.End at) y going e g = seated_end s i own old new at y g
-seated_next s i own old new (next.Fault kind at) y going e g = absurd g
+seated_next : (s : Setting) (i : ℕ) (own : List Entry) (old new : Seat) (n : Next) → Seated s i own old → old.ended ≡ false → shown (step (process_of s old.walker)) ≡ Some n → Moves s old n new None → Seated s i (own ++ entry_of i n Done ∷ []) new
+seated_next s i own old new (next.Act at a) y going e g = seated_act s i own old new at a y going e g.0
+seated_next s i own old new (next.End at) y going e g = seated_end s i own old new at y g.0
+seated_next s i own old new (next.Fault kind at) y going e g = cc
 
-lighter_next : (s : Setting) (old new : Seat) (n : Next) → old.ended ≡ false → Moves s old n new → steps_left s new < steps_left s old
-lighter_next s old new (next.Act at a) going g = g.lighter
-lighter_next s old new (next.End at) going g = rw (g.walker, g.ended, going) (omega arith)
-lighter_next s old new (next.Fault kind at) going g = absurd g
+lighter_next : (s : Setting) (old new : Seat) (n : Next) → old.ended ≡ false → Moves s old n new None → steps_left s new < steps_left s old
+lighter_next s old new (next.Act at a) going g = g.0.lighter
+lighter_next s old new (next.End at) going g = rw (g.0.walker, g.0.ended, going) (omega arith)
+lighter_next s old new (next.Fault kind at) going g = cc
 
-quiet : (s : Setting) (i : ℕ) (old new : Seat) (n : Next) → shown (step (process_of s old.walker)) ≡ Some n → Moves s old n new → (is_fault (entry_of i n Done).act ≡ false) × FitsNext n Done
-quiet s i old new (next.Act at a) e g =
-    let stands = shows_at (step (process_of s old.walker)) at a e in
-    let moves = m.moves (process_of s old.walker) at a stands.0 stands.1 Done in
-    ((plain a Done moves.fits).1, moves.fits)
-quiet s i old new (next.End at) e g = (refl, refl)
-quiet s i old new (next.Fault kind at) e g = absurd g
+fits : (s : Setting) (i : ℕ) (seat : Seat) (n : Next) → shown (step (process_of s seat.walker)) ≡ Some n → FitsNext n Done
+fits s i seat (next.Act at a) e =
+    let stands = shows_at (step (process_of s seat.walker)) at a e in
+    (m.moves (process_of s seat.walker) at a stands.0 stands.1 Done).fits
+fits s i seat (next.End at) e = refl
+fits s i seat (next.Fault kind at) e = refl
+
+quiet : (s : Setting) (i : ℕ) (old new : Seat) (n : Next) → FitsNext n Done → Moves s old n new None → is_fault (entry_of i n Done).act ≡ false
+quiet s i old new (next.Act at a) f g = (plain a Done f).1
+quiet s i old new (next.End at) f g = refl
+quiet s i old new (next.Fault kind at) f g = cc
 
 -- one turn: the lowest process that can take an entry takes it
-pub record Turn (s : Setting) (es : List Entry) (seats : List Seat) (i : ℕ) (seat new : Seat) (n : Next) : Type 0 where
+pub record Turn (s : Setting) (es : List Entry) (seats : List Seat) (i : ℕ) (seat : Seat) (n : Next) : Type 0 where
   pub standing : Standing s es seats
-  pub lowest : position (is_able seats) seats ≡ Some i
+  pub lowest : position (is_able s.fuel seats) seats ≡ Some i
   pub seat_is : seat ≡ get_or seats i seat
   pub next : shown (step (process_of s seat.walker)) ≡ Some n
-  pub moves : Moves s seat n new
-  pub ticks : 2 * length s.program.statements < s.fuel
 
-lowest_able : (seats : List Seat) (i : ℕ) (seat : Seat) → position (is_able seats) seats ≡ Some i → seat ≡ get_or seats i seat → (i < length seats) × Able seats seat
-lowest_able seats i seat h e =
-    let p = position-Some (is_able seats) seats i seat h in
-    (p.0, able seats seat (subst (λ x. is_able seats x ≡ true) (sym e) p.1))
+lowest_able : (fuel : ℕ) (seats : List Seat) (i : ℕ) (seat : Seat) → position (is_able fuel seats) seats ≡ Some i → seat ≡ get_or seats i seat → (i < length seats) × Able fuel seats seat
+lowest_able fuel seats i seat h e =
+    let p = position-Some (is_able fuel seats) seats i seat h in
+    (p.0, able fuel seats seat (subst (λ x. is_able fuel seats x ≡ true) (sym e) p.1))
 
-pub open_seat : (seats : List Seat) (i : ℕ) (seat : Seat) → position (is_able seats) seats ≡ Some i → seat ≡ get_or seats i seat → seat.ended ≡ false
-open_seat seats i seat h e = (lowest_able seats i seat h e).1.going
+pub open_seat : (fuel : ℕ) (seats : List Seat) (i : ℕ) (seat : Seat) → position (is_able fuel seats) seats ≡ Some i → seat ≡ get_or seats i seat → seat.ended ≡ false
+open_seat fuel seats i seat h e = (lowest_able fuel seats i seat h e).1.going
 
-pub lighter : (s : Setting) (es : List Entry) (seats : List Seat) (i : ℕ) (seat new : Seat) (n : Next) → Turn s es seats i seat new n → all_steps_left s (slice_set seats i new) < all_steps_left s seats
-lighter s es seats i seat new n t =
-    let l = lowest_able seats i seat t.lowest t.seat_is in
+pub lighter : (s : Setting) (es : List Entry) (seats : List Seat) (i : ℕ) (seat new : Seat) (n : Next) → Turn s es seats i seat n → Moves s seat n new None → all_steps_left s (slice_set seats i new) < all_steps_left s seats
+lighter s es seats i seat new n t moves =
+    let l = lowest_able s.fuel seats i seat t.lowest t.seat_is in
     let sums = sum_by-set (steps_left s) seats i new seat l.0 in
-    let less = lighter_next s seat new n l.1.going t.moves in
+    let less = lighter_next s seat new n l.1.going moves in
     let same : steps_left s (get_or seats i seat) ≡ steps_left s seat = ap (steps_left s) (sym t.seat_is) in
     omega (arith, sums, less, same)
 
-own_seat : (s : Setting) (es : List Entry) (seats : List Seat) (i : ℕ) (seat : Seat) → Standing s es seats → i < length seats → seat ≡ get_or seats i seat → Seated s i (entries_of i es) seat
-own_seat s es seats i seat x l e = subst (Seated s i (entries_of i es)) (sym e) (x.seated seat i l)
+pub own_seat : (s : Setting) (es : List Entry) (seats : List Seat) (i : ℕ) (seat : Seat) → Standing s es seats → position (is_able s.fuel seats) seats ≡ Some i → seat ≡ get_or seats i seat → Seated s i (entries_of i es) seat
+own_seat s es seats i seat x h e = subst (Seated s i (entries_of i es)) (sym e) (x.seated seat i (lowest_able s.fuel seats i seat h e).0)
 
-taken : (s : Setting) (es : List Entry) (seats : List Seat) (i : ℕ) (seat new : Seat) (n : Next) → Turn s es seats i seat new n → CanTake s es i (entry_of i n Done)
-taken s es seats i seat new n t =
-    let l = lowest_able seats i seat t.lowest t.seat_is in
-    let y = own_seat s es seats i seat t.standing l.0 t.seat_is in
+taken : (s : Setting) (es : List Entry) (seats : List Seat) (i : ℕ) (seat : Seat) (n : Next) → Turn s es seats i seat n → CanTake s es i (entry_of i n Done)
+taken s es seats i seat n t =
+    let l = lowest_able s.fuel seats i seat t.lowest t.seat_is in
+    let y = own_seat s es seats i seat t.standing t.lowest t.seat_is in
     record {
       within = omega (arith, l.0, t.standing.count);
       goes_on = t.standing.goes_on;
@@ -276,26 +292,26 @@ taken s es seats i seat new n t =
       is_next = (process_of s seat.walker, record { reaches = here; stands = t.next });
       ready = ready s es seats i seat n t.standing y l.1 t.next;
       answer = Done;
-      fits = (quiet s i seat new n t.next t.moves).1;
+      fits = fits s i seat n t.next;
       entry = refl;
     }
 
-few_ticks : (k w a n f : ℕ) → k + w ≤ 2 * a → a ≤ n → 2 * n < f → k < f
-few_ticks k w a n f x y z = omega arith
-
-first : (s : Setting) (es : List Entry) (seats : List Seat) (i : ℕ) (seat new : Seat) (n : Next) → Turn s es seats i seat new n → (j : ℕ) (d : Entry) → j < i → CanTake s es j d → ⊥
-first s es seats i seat new n t j d l c =
-    let p = position-Some (is_able seats) seats i seat t.lowest in
+first : (s : Setting) (es : List Entry) (seats : List Seat) (i : ℕ) (seat : Seat) (n : Next) → Turn s es seats i seat n → (j : ℕ) (d : Entry) → j < i → CanTake s es j d → ⊥
+first s es seats i seat n t j d l c =
+    let p = position-Some (is_able s.fuel seats) seats i seat t.lowest in
     let other = t.standing.seated seat j (omega (arith, p.0)) in
-    takes_none s es seats j (get_or seats j seat) d t.standing other (few_ticks _ _ _ _ _ other.spent other.within t.ticks) (p.2 j l) c
+    takes_none s es seats j (get_or seats j seat) d t.standing other (p.2 j l) c
 
-pub standing : (s : Setting) (es all : List Entry) (seats : List Seat) (i : ℕ) (seat new : Seat) (n : Next) → Turn s es seats i seat new n → all ≡ es ++ entry_of i n Done ∷ [] → Standing s all (slice_set seats i new)
-standing s es all seats i seat new n t z =
-    let l = lowest_able seats i seat t.lowest t.seat_is in
+-- the run goes on by the entry of the lowest process
+goes_on : (s : Setting) (es all : List Entry) (seats : List Seat) (i : ℕ) (seat : Seat) (n : Next) → Turn s es seats i seat n → all ≡ es ++ entry_of i n Done ∷ [] → IsSolo s all
+goes_on s es all seats i seat n t z = more t.standing.solo (taken s es seats i seat n t) (first s es seats i seat n t) z
+
+pub standing : (s : Setting) (es all : List Entry) (seats : List Seat) (i : ℕ) (seat new : Seat) (n : Next) → Turn s es seats i seat n → Moves s seat n new None → all ≡ es ++ entry_of i n Done ∷ [] → Standing s all (slice_set seats i new)
+standing s es all seats i seat new n t moves z =
     let entry = entry_of i n Done in
     rw z (record {
-      solo = more t.standing.solo (taken s es seats i seat new n t) (first s es seats i seat new n t) refl;
-      goes_on = fault_more es entry ∙ both_false _ _ t.standing.goes_on (quiet s i seat new n t.next t.moves).0;
+      solo = goes_on s es (es ++ entry ∷ []) seats i seat n t refl;
+      goes_on = fault_more es entry ∙ both_false _ _ t.standing.goes_on (quiet s i seat new n (fits s i seat n t.next) moves);
       count = length-set seats i new ∙ t.standing.count;
       seated = λ d k h. by_seat d k (subst (λ c. k < c) (length-set seats i new) h) (i == k) refl;
     })
@@ -305,14 +321,32 @@ standing s es all seats i seat new n t z =
 
     by_seat : (d : Seat) (k : ℕ) → k < length seats → (b : Bool) → (i == k) ≡ b → Seated s k (entries_of k (es ++ entry_of i n Done ∷ [])) (get_or (slice_set seats i new) k d)
     by_seat d k h true e =
-        let l = lowest_able seats i seat t.lowest t.seat_is in
-        let next_seat = seated_next s i (entries_of i es) seat new n (own_seat s es seats i seat t.standing l.0 t.seat_is) l.1.going t.next t.moves in
+        let l = lowest_able s.fuel seats i seat t.lowest t.seat_is in
+        let next_seat = seated_next s i (entries_of i es) seat new n (own_seat s es seats i seat t.standing t.lowest t.seat_is) l.1.going t.next moves in
         let here = subst (λ own. Seated s i own new) (sym (entries_own i es (entry_of i n Done) (entry_proc i n Done))) next_seat in
         let set = subst (Seated s i (entries_of i (es ++ entry_of i n Done ∷ []))) (sym (get_or-set_same seats i new d l.0)) here in
         subst (λ k. Seated s k (entries_of k (es ++ entry_of i n Done ∷ [])) (get_or (slice_set seats i new) k d)) (eqb-true i k e) set
     by_seat d k h false e =
         let other = subst (λ own. Seated s k own (get_or seats k d)) (sym (entries_other k es (entry_of i n Done) (ap (λ p. p == k) (entry_proc i n Done) ∙ e))) (t.standing.seated d k h) in
         subst (Seated s k (entries_of k (es ++ entry_of i n Done ∷ []))) (sym (get_or-set_other seats i k new d (λ same. eqb-false i k e (sym same)))) other
+
+-- the run ends by the fault of the lowest process
+pub stops : (s : Setting) (es all : List Entry) (seats : List Seat) (i : ℕ) (seat new : Seat) (n : Next) (fault : Fault) → Turn s es seats i seat n → Moves s seat n new (Some fault) → all ≡ es ++ entry_of i n Done ∷ [] → Stops s all fault
+stops s es all seats i seat new (next.Act at a) fault t moves z = absurd (let x = moves.1 in cc)
+stops s es all seats i seat new (next.End at) fault t moves z = absurd (let x = moves.1 in cc)
+stops s es all seats i seat new (next.Fault kind at) fault t moves z =
+    let number : seat.walker.number ≡ i = (own_seat s es seats i seat t.standing t.lowest t.seat_is).number in
+    let same : record { kind = kind; proc = i; place = at } ≡ fault = sym (ap (λ k. fault_at kind k at) number) ∙ sym (some_same fault (fault_at kind seat.walker.number at) moves) in
+    record {
+      solo = goes_on s es all seats i seat (next.Fault kind at) t z;
+      fault_last = record { before = es; last = z ∙ ap (λ f. es ++ fault_entry f ∷ []) same };
+    }
+  where
+    fault_at : FaultKind → ℕ → Place → Fault
+    fault_at kind k at = record { kind = kind; proc = k; place = at }
+
+    some_same : (f g : Fault) → Some f ≡ Some g → f ≡ g
+    some_same f g e = cc
 
 -- a process before its first step
 pub record IsFresh (s : Setting) (i : ℕ) (seat : Seat) : Type 0 where
@@ -333,7 +367,7 @@ seated_fresh s i seat x =
       departed = wait_none _ _ wait x.arrivals;
       within = below_all _ _ x.at;
       few = few_none _ _ x.arrivals;
-      spent = omega (arith, wait, spent);
+      spent = omega (arith, spent);
     }
   where
     wait_none : (w a : ℕ) → w ≡ 0 → a ≡ 0 → 0 + w ≡ a
@@ -389,29 +423,33 @@ none_able p xs d k h l = none_at p xs d k (past (nat_lt (prefix_len (λ x. not (
         some_none n e = cc
     past false e h = ltb-false _ _ e
 
-pub all_ended : (s : Setting) (es : List Entry) (seats : List Seat) → Standing s es seats → position (is_able seats) seats ≡ None → 2 * length s.program.statements < s.fuel → IsAlignedRun s es → AllEnded s es
-all_ended s es seats x h ticks aligned = aligned.all_end x.goes_on nobody
+pub all_ended : (s : Setting) (es : List Entry) (seats : List Seat) → Standing s es seats → position (is_able s.fuel seats) seats ≡ None → IsAlignedRun s es → AllEnded s es
+all_ended s es seats x h aligned = aligned.all_end x.goes_on nobody
   where
     nobody : (i : ℕ) (e : Entry) → CanTake s es i e → ⊥
     nobody i e t =
         let l : i < length seats = omega (arith, t.within, x.count) in
         let y = x.seated any_seat i l in
-        takes_none s es seats i (get_or seats i any_seat) e x y (few_ticks _ _ _ _ _ y.spent y.within ticks) (none_able (is_able seats) seats any_seat i h l) t
+        takes_none s es seats i (get_or seats i any_seat) e x y (none_able (is_able s.fuel seats) seats any_seat i h l) t
 
 -- where one is able, the run goes on
-pub unfinished : (s : Setting) (es : List Entry) (seats : List Seat) (i : ℕ) → Standing s es seats → position (is_able seats) seats ≡ Some i → IsComplete s es → ⊥
+pub unfinished : (s : Setting) (es : List Entry) (seats : List Seat) (i : ℕ) → Standing s es seats → position (is_able s.fuel seats) seats ≡ Some i → IsComplete s es → ⊥
 unfinished s es seats i x h (inl fault) = true_false (sym fault ∙ x.goes_on)
 unfinished s es seats i x h (inr ended) =
-    let p = position-Some (is_able seats) seats i any_seat h in
-    true_false (sym (ended i (omega (arith, p.0, x.count))) ∙ (x.seated any_seat i p.0).ended ∙ (able seats (get_or seats i any_seat) p.1).going)
+    let p = position-Some (is_able s.fuel seats) seats i any_seat h in
+    true_false (sym (ended i (omega (arith, p.0, x.count))) ∙ (x.seated any_seat i p.0).ended ∙ (able s.fuel seats (get_or seats i any_seat) p.1).going)
 
 pub unbegun : (s : Setting) → 1 ≤ s.procs → IsComplete s [] → ⊥
 unbegun s l (inl fault) = true_false (sym fault)
 unbegun s l (inr ended) = true_false (sym (ended 0 (omega arith)))
 
 -- the entry that was pushed is that of the lowest process
-pub pushed : {s : Setting} (seats : List Seat) (es all : List Entry) (i : ℕ) (seat : Seat) (n : Next) (e : Entry) → Standing s es seats → position (is_able seats) seats ≡ Some i → seat ≡ get_or seats i seat → all ≡ es ++ e ∷ [] → e ≡ entry_of seat.walker.number n Done → all ≡ es ++ entry_of i n Done ∷ []
-pushed seats es all i seat n e x h is z k =
-    let p = position-Some (is_able seats) seats i seat h in
-    let number : seat.walker.number ≡ i = ap (λ (seat : Seat). seat.walker.number) is ∙ (x.seated seat i p.0).number in
+pub pushed : {s : Setting} (seats : List Seat) (es all : List Entry) (i : ℕ) (seat : Seat) (n : Next) (e : Entry) → Standing s es seats → position (is_able s.fuel seats) seats ≡ Some i → seat ≡ get_or seats i seat → all ≡ es ++ e ∷ [] → e ≡ entry_of seat.walker.number n Done → all ≡ es ++ entry_of i n Done ∷ []
+pushed {s} seats es all i seat n e x h is z k =
+    let number : seat.walker.number ≡ i = (own_seat s es seats i seat x h is).number in
     z ∙ ap (λ e. es ++ e ∷ []) (k ∙ ap (λ i. entry_of i n Done) number)
+
+-- what a turn leaves
+pub leaves : (E : Type 0) (s : Setting) (es all : List Entry) (seats : List Seat) (i : ℕ) (seat new : Seat) (n : Next) (fault : Option Fault) → Turn s es seats i seat n → Moves s seat n new fault → all ≡ es ++ entry_of i n Done ∷ [] → TurnLeaves {E = E} s es seats all (slice_set seats i new) (Ok fault)
+leaves E s es all seats i seat new n None t moves z = record { standing = standing s es all seats i seat new n t moves z; lighter = lighter s es seats i seat new n t moves }
+leaves E s es all seats i seat new n (Some fault) t moves z = stops s es all seats i seat new n fault t moves z

@@ -1,17 +1,19 @@
 -- The contract of the command, a record for each of its clauses.
 use Rattle.std.specs.Prelude.{◌≡◌, ◌⊎◌, ℕ, ◌≤◌, true, false, List, [], length, take}
-use Rattle.ti_base.specs.declared.place.Place.{Place}
 use Rattle.ti_io.specs.Source.{SameFiles, IsMissing, Holds}
 use Rattle.ti_io.specs.Sink.{IsFront, GrewBy, GrewByFront}
 use Rattle.ti_lang.specs.Programs.{Program}
 use Rattle.ti_lang.specs.Runs.{AllEnded, IsRun, IsSolo, IsComplete as IsCompleteRun}
 use Rattle.ti_lang.specs.Lines.{lines_of}
 use Rattle.ti_lang.specs.Alignment.{IsAligned}
+use Rattle.ti_rules.specs.declared.refusal.Refusal.{Refusal}
+use Rattle.ti_rules.specs.RefusalOf.{HasProgram, IsRefusal}
+use Rattle.ti_top.specs.declared.fault.Fault.{Fault}
 use Rattle.ti_top.specs.declared.ending.Ending.{Ending}
-use Rattle.ti_top.specs.declared.ending.Ending.TheVariants.{Done, Refused, NoCommand, CantRead, CantWrite, NoMemory}
-use Rattle.ti_top.specs.FirstForm.{Spells, IsRefusedAt}
+use Rattle.ti_top.specs.declared.ending.Ending.TheVariants.{Done, Refused, Faulted, NoCommand, CantRead, CantWrite, NoMemory}
 use Rattle.ti_top.specs.Job.{Job}
 use Rattle.ti_top.specs.Reading.{most_read}
+use Rattle.ti_top.specs.RunEnds.{EndsWithFault}
 use Rattle.ti_top.specs.Ending.{status_of, err_line}
 use Rattle.ti_top.specs.Setting.{run_of}
 use Rattle.ti_top.specs.Call.{Call, IsCommand, IsNoCommand, file_of, SourceRose, OutRose, ErrRose, SinkRose, Yields}
@@ -34,63 +36,80 @@ pub record IsReadWhole (job : Job) (c : Call) : Type 0 where
   pub untold_at_three : c.source.tells ≡ false → c.status ≡ 3 → ⊥
   pub untold_at_four : c.source.tells ≡ false → c.status ≡ 4 → ⊥
 
--- The text: a front of what the file holds, and the whole with status 0 or 1. Status 4 says that it can't be read.
+-- The text: a front of what the file holds, and the whole with status 0, 1 or 2. Status 4 says that it can't be read.
 pub record ReadsText (job : Job) (c : Call) : Type 0 where
   pub front : (bytes : List ℕ) → Holds c.source job.file bytes → IsFront c.text bytes
   pub bound : length c.text ≤ most_read
   pub whole_at_zero : c.status ≡ 0 → IsReadWhole job c
   pub whole_at_one : c.status ≡ 1 → IsReadWhole job c
+  pub whole_at_two : c.status ≡ 2 → IsReadWhole job c
   pub nothing_of_missing : IsMissing c.source job.file → c.text ≡ []
   pub four_only_where : c.status ≡ 4 → IsMissing c.source job.file ⊎ SourceRose c
   pub missing : IsMissing c.source job.file → (c.status ≡ 4) ⊎ Yields c
   pub same_files : SameFiles c.source c.source_after
 
--- The text was read whole, and is refused at a place.
-pub record IsRefused (job : Job) (c : Call) (place : Place) : Type 0 where
+-- The text was read whole, and this is its refusal.
+pub record IsRefused (job : Job) (c : Call) (refusal : Refusal) : Type 0 where
   pub whole : IsReadWhole job c
-  pub refused : IsRefusedAt c.text place
+  pub refused : IsRefusal c.text refusal
 
--- The refusal: status 1 says that the text is refused, and then nothing was run and nothing written.
+-- The refusal: status 1 says that the text is refused, and then nothing was run and nothing written; with status 0 or 2 it
+-- has a program.
 pub record RefusesExactly (job : Job) (c : Call) : Type 0 where
-  pub only_where : c.status ≡ 1 → (place : Place) × IsRefused job c place
+  pub only_where : c.status ≡ 1 → (refusal : Refusal) × IsRefused job c refusal
   -- memory may be wanting, a sink or a reading may fail
-  pub everywhere : (place : Place) → IsRefused job c place → (c.status ≡ 1) ⊎ (Yields c ⊎ ((c.status ≡ 4) × SourceRose c))
-  pub no_history : (place : Place) → IsRefusedAt c.text place → c.history ≡ []
-  pub no_output : (place : Place) → IsRefusedAt c.text place → c.out_after.taken ≡ c.out.taken
+  pub everywhere : (refusal : Refusal) → IsRefused job c refusal → (c.status ≡ 1) ⊎ (Yields c ⊎ ((c.status ≡ 4) × SourceRose c))
+  pub no_history : (refusal : Refusal) → IsRefusal c.text refusal → c.history ≡ []
+  pub no_output : (refusal : Refusal) → IsRefusal c.text refusal → c.out_after.taken ≡ c.out.taken
+  pub program_at_zero : c.status ≡ 0 → (program : Program) × HasProgram c.text program
+  pub program_at_two : c.status ≡ 2 → (program : Program) × HasProgram c.text program
 
 -- The run: whatever the status, the history is a run of the text's program, and as far as it goes the one in which each
 -- entry is that of the lowest-numbered process that can take one; where there is no program it is empty.
 pub record KeepsRun (job : Job) (c : Call) : Type 0 where
-  pub run : (program : Program) → Spells c.text program → IsRun (run_of program job.procs) c.history
-  pub solo : (program : Program) → Spells c.text program → IsSolo (run_of program job.procs) c.history
-  pub none : ((program : Program) → Spells c.text program → ⊥) → c.history ≡ []
+  pub run : (program : Program) → HasProgram c.text program → IsRun (run_of program job.procs) c.history
+  pub solo : (program : Program) → HasProgram c.text program → IsSolo (run_of program job.procs) c.history
+  pub none : ((program : Program) → HasProgram c.text program → ⊥) → c.history ≡ []
+
+-- out grew by the lines of the history
+abbrev pub WritesLines : Call → Type 0
+WritesLines c = (program : Program) → HasProgram c.text program → GrewBy c.out c.out_after (lines_of program c.history)
 
 -- The output: what out has taken in the call.
 pub record WritesOutput (c : Call) : Type 0 where
-  pub done : c.status ≡ 0 → c.out.tells ≡ true → GrewBy c.out c.out_after (lines_of c.history)
+  pub done : c.status ≡ 0 → c.out.tells ≡ true → WritesLines c
+  pub faulted : c.status ≡ 2 → c.out.tells ≡ true → WritesLines c
   pub nothing_at_one : c.status ≡ 1 → c.out_after.taken ≡ c.out.taken
   pub nothing_at_three : c.status ≡ 3 → c.out_after.taken ≡ c.out.taken
   pub nothing_at_four : c.status ≡ 4 → c.out_after.taken ≡ c.out.taken
   pub no_command : IsNoCommand c → c.out_after.taken ≡ c.out.taken
   pub not_whole : (job : Job) → IsCommand c job → (IsReadWhole job c → ⊥) → c.out_after.taken ≡ c.out.taken
+  pub no_program : ((program : Program) → HasProgram c.text program → ⊥) → c.out_after.taken ≡ c.out.taken
   -- a write to out or err failed
-  pub failed : c.status ≡ 5 → c.out.tells ≡ true → GrewByFront c.out c.out_after (lines_of c.history)
+  pub failed : c.status ≡ 5 → c.out.tells ≡ true → (program : Program) → HasProgram c.text program
+      → GrewByFront c.out c.out_after (lines_of program c.history)
   -- the lines of the kept history are written
-  pub no_memory : c.status ≡ 6 → c.out.tells ≡ true → GrewBy c.out c.out_after (lines_of c.history)
+  pub no_memory : c.status ≡ 6 → c.out.tells ≡ true → WritesLines c
 
--- Alignment: with status 0 the program of the text is aligned.
-abbrev pub IsAlignedRun : Call → Type 0
-IsAlignedRun c = (program : Program) → Spells c.text program → c.status ≡ 0 → IsAligned program
+-- Alignment: with status 0 or 2 the program of the text is aligned.
+pub record IsAlignedRun (c : Call) : Type 0 where
+  pub done : c.status ≡ 0 → (program : Program) → HasProgram c.text program → IsAligned program
+  pub faulted : c.status ≡ 2 → (program : Program) → HasProgram c.text program → IsAligned program
 
--- The end: with status 0 all processes have their end; status 6 never comes with a complete history.
+-- The end: with status 0 all processes have their end; status 2 says that the last entry is a fault, which the line on err
+-- names with its process and place; status 6 never comes with a complete history.
 pub record EndsRun (job : Job) (c : Call) : Type 0 where
-  pub ended : (program : Program) → Spells c.text program → c.status ≡ 0 → AllEnded (run_of program job.procs) c.history
-  pub unfinished : (program : Program) → Spells c.text program → c.status ≡ 6 → IsCompleteRun (run_of program job.procs) c.history → ⊥
+  pub ended : c.status ≡ 0 → (program : Program) → HasProgram c.text program → AllEnded (run_of program job.procs) c.history
+  pub fault_only_where : c.status ≡ 2 → (fault : Fault) × EndsWithFault c.history fault
+  -- a sink may fail
+  pub fault_everywhere : (fault : Fault) → EndsWithFault c.history fault → (c.status ≡ 2) ⊎ ((c.status ≡ 5) × SinkRose c)
+  pub unfinished : c.status ≡ 6 → (program : Program) → HasProgram c.text program → IsCompleteRun (run_of program job.procs) c.history → ⊥
 
 -- What an ending says of the call.
 abbrev pub Says : Call → Ending → Type 0
-Says c Done = (job : Job) × IsCommand c job × ((program : Program) × Spells c.text program)
-Says c (Refused place) = (job : Job) × IsCommand c job × IsRefused job c place
+Says c Done = (job : Job) × IsCommand c job × ((program : Program) × HasProgram c.text program)
+Says c (Refused refusal) = (job : Job) × IsCommand c job × IsRefused job c refusal
+Says c (Faulted fault) = (job : Job) × IsCommand c job × EndsWithFault c.history fault
 Says c NoCommand = IsNoCommand c
 Says c CantRead = (job : Job) × IsCommand c job × (IsMissing c.source job.file ⊎ SourceRose c)
 Says c CantWrite = (job : Job) × IsCommand c job × OutRose c
@@ -124,11 +143,12 @@ pub record NothingFailed (job : Job) (c : Call) : Type 0 where
   pub there : IsMissing c.source job.file → ⊥
   pub memory : c.status ≡ 6 → ⊥
 
--- Completeness: where nothing failed the text decides, and an accepted one is run to its end.
+-- Completeness: where nothing failed the text decides, and an accepted one is run until all processes have their end, or one
+-- has a fault.
 pub record IsComplete (job : Job) (c : Call) : Type 0 where
-  pub refused : (place : Place) → IsRefusedAt c.text place → c.status ≡ 1
-  pub accepted : (program : Program) → Spells c.text program → c.status ≡ 0
-  pub ended : (program : Program) → Spells c.text program → AllEnded (run_of program job.procs) c.history
+  pub refused : (refusal : Refusal) → IsRefusal c.text refusal → c.status ≡ 1
+  pub accepted : (program : Program) → HasProgram c.text program → (c.status ≡ 0) ⊎ (c.status ≡ 2)
+  pub ended : (program : Program) → HasProgram c.text program → IsCompleteRun (run_of program job.procs) c.history
 
 -- What the command promises.
 pub record Meets (c : Call) : Type 0 where

@@ -1,26 +1,37 @@
 -- How a call ends, by its status and its line on err.
 use Rattle.std.specs.Prelude.{ℕ, List, [], ◌++◌, codes, decimal}
-use Rattle.ti_base.specs.declared.place.Place.{Place}
+use Rattle.ti_base.specs.FaultNames.{name_of}
+use Rattle.ti_rules.specs.declared.refusal.Refusal.{Refusal}
+use Rattle.ti_rules.specs.Rules.{code_of, text_of}
+use Rattle.ti_top.specs.declared.fault.Fault.{Fault}
 use Rattle.ti_top.specs.declared.ending.Ending.{Ending}
-use Rattle.ti_top.specs.declared.ending.Ending.TheVariants.{Done, Refused, NoCommand, CantRead, CantWrite, NoMemory}
+use Rattle.ti_top.specs.declared.ending.Ending.TheVariants.{Done, Refused, Faulted, NoCommand, CantRead, CantWrite, NoMemory}
 
 -- the status of an ending
 abbrev pub status_of : Ending → ℕ
 status_of Done = 0
-status_of (Refused place) = 1
+status_of (Refused refusal) = 1
+status_of (Faulted fault) = 2
 status_of NoCommand = 3
 status_of CantRead = 4
 status_of CantWrite = 5
 status_of NoMemory = 6
 
 -- what stands behind the name of the file in the line of a refused text
-abbrev pub refused_at : Place → List ℕ
-refused_at place = codes ":" ++ decimal place.line ++ codes ":" ++ decimal place.col ++ codes ": G1 an unexpected token\n"
+abbrev pub refused_as : Refusal → List ℕ
+refused_as refusal =
+    codes ":" ++ decimal refusal.place.line ++ codes ":" ++ decimal refusal.place.col ++ codes ": " ++ code_of refusal.rule ++ codes " " ++ text_of refusal.rule ++ codes "\n"
+
+-- the line of a fault
+abbrev pub fault_line : Fault → List ℕ
+fault_line fault =
+    codes "titan: fault " ++ name_of fault.kind ++ codes " in process " ++ decimal fault.proc ++ codes " at " ++ decimal fault.place.line ++ codes ":" ++ decimal fault.place.col ++ codes "\n"
 
 -- the line on err of an ending, where the file has this name; a command that was done has none
 abbrev pub err_line : Ending → List ℕ → List ℕ
 err_line Done file = []
-err_line (Refused place) file = file ++ refused_at place
+err_line (Refused refusal) file = file ++ refused_as refusal
+err_line (Faulted fault) file = fault_line fault
 err_line NoCommand file = codes "titan: the words are no command\n"
 err_line CantRead file = codes "titan: the source can't be read\n"
 err_line CantWrite file = codes "titan: the output can't be written\n"

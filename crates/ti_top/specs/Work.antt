@@ -1,21 +1,23 @@
 -- What was done before the line on err, for each way in which it may end.
-use Rattle.std.specs.Prelude.{◌≡◌, ◌⊎◌, ℕ, ◌≤◌, true, List, [], Result, Ok, Err, None, Some}
+use Rattle.std.specs.Prelude.{◌≡◌, ◌⊎◌, ℕ, ◌≤◌, true, false, List, [], Result, Ok, Err, None, Some}
 use Rattle.ti_base.specs.declared.entry.Entry.{Entry}
 use Rattle.ti_io.specs.Faults.{Rose}
 use Rattle.ti_io.specs.Source.{SourceState}
 use Rattle.ti_io.specs.Sink.{SinkState, GrewBy, GrewByFront}
 use Rattle.ti_lang.specs.Programs.{Program}
-use Rattle.ti_lang.specs.Runs.{AllEnded, IsComplete, IsRun, IsSolo}
+use Rattle.ti_lang.specs.Runs.{AllEnded, IsComplete, IsRun, IsSolo, has_fault}
 use Rattle.ti_lang.specs.Lines.{lines_of}
 use Rattle.ti_lang.specs.Alignment.{IsAligned}
+use Rattle.ti_top.specs.declared.fault.Fault.{Fault}
 use Rattle.ti_top.specs.declared.reading.ReadEnd.{ReadEnd}
 use Rattle.ti_top.specs.declared.reading.ReadEnd.TheVariants as Read
 use Rattle.ti_top.specs.declared.runner.How.{How}
 use Rattle.ti_top.specs.declared.ending.Ending.{Ending}
-use Rattle.ti_top.specs.declared.ending.Ending.TheVariants.{Done, Refused, NoCommand, CantRead, CantWrite, NoMemory}
-use Rattle.ti_top.specs.FirstForm.{Spells, IsRefusedAt}
+use Rattle.ti_top.specs.declared.ending.Ending.TheVariants.{Done, Refused, Faulted, NoCommand, CantRead, CantWrite, NoMemory}
+use Rattle.ti_top.specs.Compiling.{HasProgramAlone, IsRefusedAs}
 use Rattle.ti_top.specs.Job.{Job, job_of}
 use Rattle.ti_top.specs.Reading.{ReadsWhole}
+use Rattle.ti_top.specs.RunEnds.{EndsWithFault}
 use Rattle.ti_top.specs.Setting.{run_of}
 
 -- the source and out before and after, what was read, and the entries of the run
@@ -31,6 +33,7 @@ pub record Work : Type 0 where
 -- how the work ends, by how the run and the writing of its lines ended
 abbrev pub ending_of : {E : Type 0} → How → Result (Unit {0}) E → Ending
 ending_of How.Ended (Ok done) = Done
+ending_of (How.Faulted fault) (Ok done) = Faulted fault
 ending_of How.Memory (Ok done) = NoMemory
 ending_of how (Err e) = CantWrite
 
@@ -45,25 +48,27 @@ pub record RunSays (program : Program) (procs : ℕ) (out out_after : SinkState)
   pub run : IsRun (run_of program procs) history
   pub solo : IsSolo (run_of program procs) history
   pub ended : ending ≡ Done → AllEnded (run_of program procs) history
+  pub no_fault : ending ≡ Done → has_fault history ≡ false
+  pub faulted : (fault : Fault) → ending ≡ Faulted fault → EndsWithFault history fault
   pub unfinished : ending ≡ NoMemory → IsComplete (run_of program procs) history → ⊥
-  pub known : (ending ≡ Done) ⊎ (ending ≡ NoMemory) ⊎ (ending ≡ CantWrite)
+  pub known : (ending ≡ Done) ⊎ ((fault : Fault) × (ending ≡ Faulted fault)) ⊎ (ending ≡ NoMemory) ⊎ (ending ≡ CantWrite)
   pub never_falls : out.faults ≤ out_after.faults
   pub tells : out_after.tells ≡ out.tells
   pub rose : ending ≡ CantWrite → Rose out.faults out_after.faults
-  pub lines : (ending ≡ CantWrite → ⊥) → out.tells ≡ true → GrewBy out out_after (lines_of history)
-  pub part : out.tells ≡ true → GrewByFront out out_after (lines_of history)
+  pub lines : (ending ≡ CantWrite → ⊥) → out.tells ≡ true → GrewBy out out_after (lines_of program history)
+  pub part : out.tells ≡ true → GrewByFront out out_after (lines_of program history)
 
--- so was the program that the text spells
+-- so was the program of the text
 pub record Ran (procs : ℕ) (text : List ℕ) (out out_after : SinkState) (history : List Entry) (ending : Ending) : Type 0 where
   pub program : Program
-  pub spells : Spells text program
-  pub only : (p : Program) → Spells text p → p ≡ program
+  pub compiled : HasProgramAlone text program
   pub says : RunSays program procs out out_after history ending
 
 -- what became of a text that was read whole
 abbrev pub TextSays : Ending → ℕ → List ℕ → SinkState → SinkState → List Entry → Type 0
 TextSays Done procs text out out_after history = Ran procs text out out_after history Done
-TextSays (Refused place) procs text out out_after history = IsRefusedAt text place × RanNothing out out_after history
+TextSays (Refused refusal) procs text out out_after history = IsRefusedAs text refusal × RanNothing out out_after history
+TextSays (Faulted fault) procs text out out_after history = Ran procs text out out_after history (Faulted fault)
 TextSays CantWrite procs text out out_after history = Ran procs text out out_after history CantWrite
 TextSays NoMemory procs text out out_after history = RanNothing out out_after history ⊎ Ran procs text out out_after history NoMemory
 TextSays NoCommand procs text out out_after history = ⊥

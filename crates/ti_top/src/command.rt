@@ -14,8 +14,9 @@ use ti_io::{Sink, Source};
 /// What the command did.
 #[derive(Drop)]
 pub struct Outcome {
-    /// How it ended: 0 the command was done, 1 the text is refused, 3 the words are no command, 4 the
-    /// source can't be read, 5 the output can't be written, 6 memory was wanting.
+    /// How it ended: 0 the command was done, 1 the text is refused, 2 the run ended with a fault, 3 the
+    /// words are no command, 4 the source can't be read, 5 the output can't be written, 6 memory was
+    /// wanting.
     pub status: u8,
     /// What was read.
     pub text: Vec<u8>,

@@ -1,20 +1,26 @@
 // The end of a call: its status, and its line on err.
-ghost use Rattle.std.specs.Prelude.{◌≡◌};
+ghost use Rattle.std.specs.Prelude.{◌≡◌, ◌≤◌, length};
+ghost use Rattle.ti_base.specs.FaultNames.{name_of};
 ghost use Rattle.ti_io.specs.Sink.{Writes};
+ghost use Rattle.ti_rules.specs.Rules.{code_of, text_of};
 ghost use Rattle.ti_top.specs.Ended.{Ended};
-ghost use Rattle.ti_top.specs.Ending.{status_of, refused_at, err_line};
+ghost use Rattle.ti_top.specs.Ending.{status_of, refused_as, fault_line as fault_spec, err_line};
 
+use crate::fault::Fault;
 use crate::line::Line;
-use ti_base::Place;
+use ti_base::{FaultKind, fault_name};
 use ti_io::{Failed, Sink, write_piece};
+use ti_rules::{Refusal, Rule, rule_text};
 
 /// How a call ends, before its line on err is written.
 #[derive(Clone, Copy, PartialEq, Eq)]
 pub enum Ending {
     /// The command was done.
     Done,
-    /// The text is refused at a place.
-    Refused(Place),
+    /// The text is refused.
+    Refused(Refusal),
+    /// The run ended with a fault.
+    Faulted(Fault),
     /// The words are no command.
     NoCommand,
     /// The source can't be read.
@@ -33,6 +39,7 @@ impl Ending {
         match self {
             Ending::Done => 0,
             Ending::Refused(_) => 1,
+            Ending::Faulted(_) => 2,
             Ending::NoCommand => 3,
             Ending::CantRead => 4,
             Ending::CantWrite => 5,
@@ -41,25 +48,70 @@ impl Ending {
     }
 }
 
+// The code of a rule.
+fn code_bytes(rule: Rule) -> &'static [u8]
+    ensures value { result.now ≡ code_of rule }
+    ensures short { length result.now ≤ 2 }
+{
+    rule.code().as_bytes()
+}
+
+// The text of a rule.
+fn text_bytes(rule: Rule) -> &'static [u8]
+    ensures value { result.now ≡ text_of rule }
+    ensures short { length result.now ≤ 64 }
+{
+    rule_text(rule).as_bytes()
+}
+
+// The name of a fault.
+fn name_bytes(kind: FaultKind) -> &'static [u8]
+    ensures value { result.now ≡ name_of kind }
+    ensures short { length result.now ≤ 16 }
+{
+    fault_name(kind).as_bytes()
+}
+
 // What stands behind the name of the file in the line of a refused text.
-fn refused_line(place: Place) -> Line
-    ensures { result ≡ refused_at place }
+fn refused_line(refusal: Refusal) -> Line
+    ensures { result ≡ refused_as refusal }
 {
     let mut line = Line::new();
     line.text(b":");
-    line.number(place.line);
+    line.number(refusal.place.line);
     line.text(b":");
-    line.number(place.col);
-    line.text(b": G1 an unexpected token\n");
+    line.number(refusal.place.col);
+    line.text(b": ");
+    line.text(code_bytes(refusal.rule));
+    line.text(b" ");
+    line.text(text_bytes(refusal.rule));
+    line.text(b"\n");
+    line
+}
+
+// The line of a fault.
+fn fault_line(fault: Fault) -> Line
+    ensures { result ≡ fault_spec fault }
+{
+    let mut line = Line::new();
+    line.text(b"titan: fault ");
+    line.text(name_bytes(fault.kind));
+    line.text(b" in process ");
+    line.number(fault.proc);
+    line.text(b" at ");
+    line.number(fault.place.line);
+    line.text(b":");
+    line.number(fault.place.col);
+    line.text(b"\n");
     line
 }
 
 // Writes the line of a refused text in two pieces, since a name has no bound.
-fn write_refused<K: Sink>(err: &mut K, file: &str, place: Place) -> Result<(), Failed>
-    ensures { Writes (err_line (Ending.Refused place) file.now) (K.state err.old) (K.state err.new) result }
+fn write_refused<K: Sink>(err: &mut K, file: &str, refusal: Refusal) -> Result<(), Failed>
+    ensures { Writes (err_line (Ending.Refused refusal) file.now) (K.state err.old) (K.state err.new) result }
 {
     write_piece(err, file.as_bytes())?;
-    write_piece(err, refused_line(place).as_slice())
+    write_piece(err, refused_line(refusal).as_slice())
 }
 
 // Writes the line of an ending.
@@ -68,7 +120,8 @@ fn write_line<K: Sink>(err: &mut K, ending: Ending, file: &str) -> Result<(), Fa
 {
     match ending {
         Ending::Done => Ok(()),
-        Ending::Refused(place) => write_refused(err, file, place),
+        Ending::Refused(refusal) => write_refused(err, file, refusal),
+        Ending::Faulted(fault) => write_piece(err, fault_line(fault).as_slice()),
         Ending::NoCommand => write_piece(err, b"titan: the words are no command\n"),
         Ending::CantRead => write_piece(err, b"titan: the source can't be read\n"),
         Ending::CantWrite => write_piece(err, b"titan: the output can't be written\n"),

@@ -2,10 +2,10 @@
 #![tactic(auto)]
 
 mod command;
-mod cursor;
+mod compiling;
 mod earliest;
 mod ending;
-mod first_form;
+mod fault;
 mod flatten;
 mod judge;
 mod line;
@@ -13,6 +13,7 @@ mod main_form;
 mod main_method;
 mod printing;
 mod reading;
+mod run_line;
 mod runner;
 mod seat;
 mod unbuilt;

@@ -6,6 +6,7 @@ ghost use Rattle.ti_lang.specs.Runs.{is_arrival as arrives_spec};
 ghost use Rattle.ti_top.specs.Walking.{setting_of, process_of};
 ghost use Rattle.ti_top.specs.Team.{is_able as able_spec, Moves};
 
+use crate::fault::Fault;
 use crate::walker::Walker;
 use ti_base::{Action, Next};
 use ti_lang::Listing;
@@ -45,30 +46,40 @@ fn all_have_arrived(arrivals: u32, seats: &[Seat]) -> bool
 }
 
 impl Seat {
-    /// Whether the process can take an entry: it has no end, and where it waits at a barrier all have
-    /// arrived as often as it has.
-    pub fn is_able(&self, seats: &[Seat]) -> bool
-        ensures { result ≡ able_spec seats.now self.now }
+    /// Whether the process can take an entry: it has no end, and where it waits at a barrier with a tick
+    /// left all have arrived as often as it has.
+    pub fn is_able(&self, seats: &[Seat], fuel: u32) -> bool
+        ensures { result ≡ able_spec fuel seats.now self.now }
     {
-        !self.ended && (self.walker.wait.is_none() || all_have_arrived(self.arrivals, seats))
+        !self.ended
+            && (self.walker.wait.is_none()
+                || fuel <= self.walker.spent
+                || all_have_arrived(self.arrivals, seats))
     }
 
-    /// Goes on from the next step, which was recorded.
-    pub fn go_on(&mut self, next: Next, listing: &Listing, procs: u32, fuel: u32)
+    /// Goes on from the next step. Some: that is a fault, which ends the run.
+    pub fn go_on(&mut self, next: Next, listing: &Listing, procs: u32, fuel: u32) -> Option<Fault>
         requires stands { shown (step (process_of (setting_of listing.now procs fuel) self.old.walker)) ≡ Some next }
-        requires tick { self.old.walker.spent < fuel }
         requires going { self.old.ended ≡ false }
         requires within { self.old.walker.at ≤ vec_len listing.now.statements }
         requires few { self.old.arrivals + 1 < 2 ^ 32 }
-        ensures { Moves (setting_of listing.now procs fuel) self.old next self.new }
+        ensures { Moves (setting_of listing.now procs fuel) self.old next self.new result }
     {
         match next {
             Next::Act(_, action) => {
                 self.walker.go_on(listing, procs, fuel);
                 self.arrivals = arrivals_after(self.arrivals, action);
+                None
             }
-            Next::End(_) => self.ended = true,
-            Next::Fault(_, _) => unreachable!(),
+            Next::End(_) => {
+                self.ended = true;
+                None
+            }
+            Next::Fault(kind, place) => Some(Fault {
+                kind,
+                proc: self.walker.number,
+                place,
+            }),
         }
     }
 }

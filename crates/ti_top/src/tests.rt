@@ -3,12 +3,23 @@
 use crate::{Outcome, titan_top};
 use std::alloc::{AllocError, Global};
 use std::test::Fail;
-use ti_base::{Action, CollKind};
+use ti_base::{Action, Answer, CollKind, Deposit, Entry, FaultKind, Place, Value};
 use ti_io::{MemSink, MemSource};
 
-// Two prints with a barrier between them.
-const TWO_PRINTS: &str =
-    "class Main { public static single void main(String[] args) { println(Ti.thisProc()); Ti.barrier(); println(Ti.numProcs()); } }";
+// Two prints with a barrier between them: the statements of `main`.
+const TWO_PRINTS: &str = "println(Ti.thisProc()); Ti.barrier(); println(Ti.numProcs());";
+
+// What the file holds.
+#[derive(Clone, Copy)]
+enum Text {
+    Whole(&'static str),
+    // `main` with these statements, on one line, where they begin in column 62
+    Main(&'static str),
+    // the same with a comment behind it that goes on for so many bytes
+    Commented(&'static str, usize),
+    // `main` with so many empty prints, and then these statements
+    Prints(usize, &'static str),
+}
 
 // The numbers of the calls that fail: of the source, out and err.
 #[derive(Clone, Copy)]
@@ -41,22 +52,53 @@ fn words_of(alloc: Global, line: &str) -> Result<Vec<String>, AllocError> {
     Ok(words)
 }
 
+// The pieces one behind the other, the second one so often.
+fn joined(
+    alloc: Global,
+    front: &str,
+    piece: &str,
+    count: usize,
+    back: &str,
+) -> Result<Vec<u8>, AllocError> {
+    let mut bytes = front.as_bytes().to_vec(alloc)?;
+    for _ in 0..count {
+        bytes.extend_from_slice(piece.as_bytes())?;
+    }
+    bytes.extend_from_slice(back.as_bytes())?;
+    Ok(bytes)
+}
+
+fn bytes_of(alloc: Global, text: Text) -> Result<Vec<u8>, AllocError> {
+    let opening = "class Main { public static single void main(String[] args) { ";
+    match text {
+        Text::Whole(text) => text.as_bytes().to_vec(alloc),
+        Text::Main(body) => joined(alloc, opening, body, 1, " } }"),
+        Text::Commented(body, count) => {
+            let mut bytes = joined(alloc, opening, body, 1, " } } //")?;
+            bytes.extend_from_slice(&joined(alloc, "", "x", count, "")?)?;
+            Ok(bytes)
+        }
+        Text::Prints(count, body) => {
+            let mut bytes = joined(alloc, opening, "println();", count, body)?;
+            bytes.extend_from_slice(b" } }")?;
+            Ok(bytes)
+        }
+    }
+}
+
 fn sink_of(alloc: Global, fails: &[u32]) -> Result<MemSink, Fail> {
-    match MemSink::new(alloc, 3, 1000, fails.to_vec(alloc)?) {
+    match MemSink::new(alloc, 3, 200_000, fails.to_vec(alloc)?) {
         Ok(sink) => Ok(sink),
         Err(_) => Err(Fail::from(AllocError)),
     }
 }
 
 // The command over one file `a.ti`, which is read in pieces of 8 bytes and written in pieces of 3.
-fn run_line(rt: &HostRuntime, line: &str, text: &str, fails: Fails) -> Result<Left, Fail> {
+fn run_line(rt: &HostRuntime, line: &str, text: Text, fails: Fails) -> Result<Left, Fail> {
     let alloc = rt.alloc();
     let words = words_of(alloc, line)?;
     let mut files = Vec::new(alloc);
-    files.push((
-        String::from_str(alloc, "a.ti")?,
-        text.as_bytes().to_vec(alloc)?,
-    ))?;
+    files.push((String::from_str(alloc, "a.ti")?, bytes_of(alloc, text)?))?;
     let mut source = MemSource::new(files, 8, fails.source.to_vec(alloc)?);
     let mut out = sink_of(alloc, fails.out)?;
     let mut err = sink_of(alloc, fails.err)?;
@@ -64,35 +106,116 @@ fn run_line(rt: &HostRuntime, line: &str, text: &str, fails: Fails) -> Result<Le
     Ok(Left { outcome, out, err })
 }
 
-#[test]
-fn rows(rt: HostRuntime) -> Result<(), Fail> {
-    let one = "class Main { public static single void main(String[] args) { println(1 + 2); } }";
-    let refused = "a.ti:1:1: G1 an unexpected token\n";
+// A command, its file, and what it has to leave: the status, out and err.
+type Row = (&'static str, Text, u8, &'static str, &'static str);
+
+const BLOCKS: &str =
+    "{{{{{{{{{{{{{{{{{{{{{{{{{{{{{{{{{{{{{{{{{{{{{{{{{{{{{{{{{{{{{{{{}}}}}}}}}}}}}}}}}}}}}}}}}}}}}}}}}}}}}}}}}}}}}}}}}}}}}}}}}}}}}}}}";
+
+const DEEPER_BLOCKS: &str =
+    "{{{{{{{{{{{{{{{{{{{{{{{{{{{{{{{{{{{{{{{{{{{{{{{{{{{{{{{{{{{{{{{{{}}}}}}}}}}}}}}}}}}}}}}}}}}}}}}}}}}}}}}}}}}}}}}}}}}}}}}}}}}}}}}}}}";
+
+// Words, and texts that are run.
+fn accepted() -> [Row; 14] {
+    let two = Text::Main(TWO_PRINTS);
     let no_command = "titan: the words are no command\n";
-    let unread = "titan: the source can't be read\n";
-    let cases: [(&str, &str, u8, &str, &str); 10] = [
-        ("--procs 2 a.ti", TWO_PRINTS, 0, "0\n1\n2\n2\n", ""),
+    [
+        ("--procs 2 a.ti", two, 0, "0\n1\n2\n2\n", ""),
+        ("--procs 04 a.ti", two, 0, "0\n1\n2\n3\n4\n4\n4\n4\n", ""),
+        ("a.ti", two, 0, "0\n1\n", ""),
+        ("nofile.ti", two, 4, "", "titan: the source can't be read\n"),
+        ("", two, 3, "", no_command),
+        ("--procs 0 a.ti", two, 3, "", no_command),
+        ("--procs 33 a.ti", two, 3, "", no_command),
+        ("a.ti b.ti", two, 3, "", no_command),
+        ("a.ti", Text::Main("println();"), 0, "\n", ""),
         (
-            "--procs 04 a.ti",
-            TWO_PRINTS,
+            "a.ti",
+            Text::Main("println(\"a\\tb\" + 3);"),
             0,
-            "0\n1\n2\n3\n4\n4\n4\n4\n",
+            "a\tb3\n",
             "",
         ),
-        ("a.ti", TWO_PRINTS, 0, "0\n1\n", ""),
-        ("a.ti", one, 1, "", refused),
-        ("a.ti", "", 1, "", refused),
-        ("b.ti", TWO_PRINTS, 4, "", unread),
-        ("", TWO_PRINTS, 3, "", no_command),
-        ("--procs 0 a.ti", TWO_PRINTS, 3, "", no_command),
-        ("--procs 33 a.ti", TWO_PRINTS, 3, "", no_command),
-        ("a.ti b.ti", TWO_PRINTS, 3, "", no_command),
-    ];
-    for (line, text, status, out, err) in cases {
+        (
+            "--procs 2 a.ti",
+            Text::Main("println(\"p \" + Ti.thisProc()); { ; println((7)); println(\"\\\\\"); }"),
+            0,
+            "p 0\n7\n\\\np 1\n7\n\\\n",
+            "",
+        ),
+        (
+            "--procs 2 a.ti",
+            Text::Commented(TWO_PRINTS, 1_048_447),
+            0,
+            "0\n1\n2\n2\n",
+            "",
+        ),
+        (
+            "a.ti",
+            Text::Commented(TWO_PRINTS, 1_048_448),
+            1,
+            "",
+            "a.ti:1:1: X5 the source is too long\n",
+        ),
+        ("a.ti", Text::Main(BLOCKS), 0, "", ""),
+    ]
+}
+
+// Texts that are refused: the line on err.
+fn refused() -> [(Text, &'static str); 9] {
+    [
+        (
+            Text::Whole(""),
+            "a.ti:1:1: N3 no method Main.main of the required form\n",
+        ),
+        (
+            Text::Main("println(1)"),
+            "a.ti:1:73: G1 an unexpected token\n",
+        ),
+        (
+            Text::Main("int x = 1;"),
+            "a.ti:1:62: Y1 an operand of the wrong type\n",
+        ),
+        (
+            Text::Main("println(1 + 2);"),
+            "a.ti:1:70: Y1 an operand of the wrong type\n",
+        ),
+        (
+            Text::Whole("class Main { int x; \"ab"),
+            "a.ti:1:21: X3 a string without end\n",
+        ),
+        (
+            Text::Whole("class Main { /* ab"),
+            "a.ti:1:14: X2 a comment without end\n",
+        ),
+        (
+            Text::Whole("class Main {"),
+            "a.ti:1:13: G1 an unexpected token\n",
+        ),
+        (
+            Text::Main("int x = 1 ? 2;"),
+            "a.ti:1:72: X1 a byte outside the language\n",
+        ),
+        (
+            Text::Main(DEEPER_BLOCKS),
+            "a.ti:1:126: G2 nested too deeply\n",
+        ),
+    ]
+}
+
+#[test]
+fn rows(rt: HostRuntime) -> Result<(), Fail> {
+    for (line, text, status, out, err) in accepted() {
         let left = run_line(&rt, line, text, NONE_FAILS)?;
         assert_eq!(rt; left.outcome.status, status, "of {line}");
         assert_eq!(rt; left.out.bytes(), out.as_bytes(), "of {line}");
         assert_eq!(rt; left.err.bytes(), err.as_bytes(), "of {line}");
+    }
+    for (text, err) in refused() {
+        let left = run_line(&rt, "a.ti", text, NONE_FAILS)?;
+        assert_eq!(rt; left.outcome.status, 1, "of {err}");
+        assert_eq!(rt; left.out.bytes(), b"".as_slice(), "of {err}");
+        assert_eq!(rt; left.err.bytes(), err.as_bytes());
     }
     Ok(())
 }
@@ -159,7 +282,7 @@ fn calls_that_fail(rt: HostRuntime) -> Result<(), Fail> {
         ),
     ];
     for (line, fails, status, out, err) in cases {
-        let left = run_line(&rt, line, TWO_PRINTS, fails)?;
+        let left = run_line(&rt, line, Text::Main(TWO_PRINTS), fails)?;
         assert_eq!(rt; left.outcome.status, status, "of {line}");
         assert_eq!(rt; left.out.bytes(), out.as_bytes(), "of {line}");
         assert_eq!(rt; left.err.bytes(), err.as_bytes(), "of {line}");
@@ -167,41 +290,72 @@ fn calls_that_fail(rt: HostRuntime) -> Result<(), Fail> {
     Ok(())
 }
 
-// What an entry does, as a letter.
-fn letter_of(action: Action) -> u8 {
-    match action {
-        Action::Print { .. } => b'p',
-        Action::Arrive {
-            kind: CollKind::Barrier,
-            ..
-        } => b'a',
-        Action::Depart => b'd',
-        Action::End => b'e',
-        _ => b'?',
+fn entry(proc: u32, col: u32, act: Action) -> Entry {
+    Entry {
+        proc,
+        place: Place { line: 1, col },
+        act,
+        answer: Answer::Done,
     }
 }
 
+fn print(literal: Option<u32>, value: i32) -> Action {
+    Action::Print {
+        literal,
+        value: Some(Value::Int(value)),
+    }
+}
+
+const ARRIVE: Action = Action::Arrive {
+    kind: CollKind::Barrier,
+    arg: None,
+    deposit: Deposit::Nothing,
+};
+
 #[test]
 fn entries_in_order(rt: HostRuntime) -> Result<(), Fail> {
-    let left = run_line(&rt, "--procs 2 a.ti", TWO_PRINTS, NONE_FAILS)?;
-    let entries: [(u32, u8, u32); 10] = [
-        (0, b'p', 62),
-        (0, b'a', 89),
-        (1, b'p', 62),
-        (1, b'a', 89),
-        (0, b'd', 89),
-        (0, b'p', 100),
-        (0, b'e', 124),
-        (1, b'd', 89),
-        (1, b'p', 100),
-        (1, b'e', 124),
+    let two = run_line(&rt, "--procs 2 a.ti", Text::Main(TWO_PRINTS), NONE_FAILS)?;
+    let entries = [
+        entry(0, 62, print(None, 0)),
+        entry(0, 89, ARRIVE),
+        entry(1, 62, print(None, 1)),
+        entry(1, 89, ARRIVE),
+        entry(0, 89, Action::Depart),
+        entry(0, 100, print(None, 2)),
+        entry(0, 124, Action::End),
+        entry(1, 89, Action::Depart),
+        entry(1, 100, print(None, 2)),
+        entry(1, 124, Action::End),
     ];
-    assert_eq!(rt; left.outcome.history.len(), entries.len());
-    for (entry, (proc, letter, col)) in left.outcome.history.iter().zip(entries) {
-        assert_eq!(rt; entry.proc, proc);
-        assert_eq!(rt; letter_of(entry.act), letter);
-        assert_eq!(rt; entry.place.line, 1);
-        assert_eq!(rt; entry.place.col, col);
-    }
+    assert_eq!(rt; two.outcome.history.as_slice(), entries.as_slice());
+
+    let literals = Text::Main("println(\"a\\tb\" + 3); println(\"c\" + Ti.numProcs());");
+    let one = run_line(&rt, "a.ti", literals, NONE_FAILS)?;
+    let entries = [
+        entry(0, 62, print(Some(0), 3)),
+        entry(0, 83, print(Some(1), 1)),
+        entry(0, 113, Action::End),
+    ];
+    assert_eq!(rt; one.outcome.history.as_slice(), entries.as_slice());
+    Ok(())
+}
+
+// The last tick goes into the arrival, so none is left for the departure.
+#[test]
+fn fuel(rt: HostRuntime) -> Result<(), Fail> {
+    let text = Text::Prints(99_999, "Ti.barrier();");
+    let left = run_line(&rt, "--procs 2 a.ti", text, NONE_FAILS)?;
+    assert_eq!(rt; left.outcome.status, 2);
+    assert_eq!(rt;
+        left.err.bytes(),
+        b"titan: fault fuel in process 0 at 1:1000055\n".as_slice()
+    );
+    assert_eq!(rt; left.out.bytes().len(), 99_999);
+    let last = Action::Fault {
+        kind: FaultKind::Fuel,
+    };
+    let history = left.outcome.history.as_slice();
+    assert_eq!(rt; history.len(), 100_001);
+    assert_eq!(rt; history.last(), Some(&entry(0, 1_000_055, last)));
     Ok(())
 }

@@ -78,16 +78,13 @@ impl Walker {
         }
         match listing.statements[self.at] {
             Statement::Barrier(place) => self.asks(fuel, place, arrival()),
-            Statement::Print(place, operand) => {
+            Statement::Print(place, literal, None) => {
+                let value = None;
+                self.asks(fuel, place, Action::Print { literal, value })
+            }
+            Statement::Print(place, literal, Some(operand)) => {
                 let value = Some(value_of(operand, self.number, procs));
-                self.asks(
-                    fuel,
-                    place,
-                    Action::Print {
-                        literal: None,
-                        value,
-                    },
-                )
+                self.asks(fuel, place, Action::Print { literal, value })
             }
         }
     }

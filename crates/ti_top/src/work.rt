@@ -1,18 +1,19 @@
 // What is done before the line on err.
-ghost use Rattle.std.specs.Prelude.{◌≡◌, ◌≤◌, [], map, string_bytes, vec_len};
+ghost use Rattle.std.specs.Prelude.{◌≡◌, ◌≤◌, [], map, string_bytes};
 ghost use Rattle.ti_lang.specs.Programs.{listed_program};
-ghost use Rattle.ti_top.specs.declared.runner.TheConstants.{MOST_STATEMENTS};
 ghost use Rattle.ti_top.specs.declared.words.TheConstants.{MOST_PROCS};
+ghost use Rattle.ti_top.specs.Line.{HasRoom};
 ghost use Rattle.ti_top.specs.Work.{ending_of, RunSays, TextSays, WorkSays};
 
+use crate::compiling::{CompileErr, compile};
 use crate::ending::Ending;
-use crate::first_form::read_listing;
 use crate::printing::write_lines;
 use crate::reading::{ReadEnd, read_whole};
+use crate::run_line::RunLine;
 use crate::runner::{How, run};
 use crate::words::read_words;
 use std::alloc::Global;
-use ti_base::{Entry, Memory, Place};
+use ti_base::{Entry, Memory};
 use ti_io::{Failed, Sink, Source};
 use ti_lang::{Listing, aligned, solo_is_run};
 
@@ -44,18 +45,24 @@ impl Written {
     }
 }
 
-// Runs a program and writes its lines. A want of memory in the run lets the lines of the entries so
-// far be written.
-fn run_program<K: Sink>(alloc: Global, procs: u32, listing: &Listing, out: &mut K) -> Written
+// Runs a program and writes its lines, for which there is room. A want of memory in the run lets the
+// lines of the entries so far be written.
+fn run_program<K: Sink>(
+    alloc: Global,
+    procs: u32,
+    listing: &Listing,
+    line: &mut RunLine,
+    out: &mut K,
+) -> Written
     requires some { 1 ≤ procs }
     requires procs { procs ≤ MOST_PROCS }
-    requires few { vec_len listing.now.statements ≤ MOST_STATEMENTS }
+    requires room { HasRoom listing.now.literals.items line.old }
     ensures { RunSays (listed_program listing.now) procs (K.state out.old) (K.state out.new) result.history.items result.ending }
 {
     let run = run(alloc, listing, procs);
     solo_is_run();
     aligned(listing);
-    let lines = write_lines(out, &run.history);
+    let lines = write_lines(out, line, listing, &run.history);
     Written {
         ending: run_ending(run.how, lines),
         history: run.history,
@@ -69,22 +76,26 @@ fn run_ending(how: How, lines: Result<(), Failed>) -> Ending
     match lines {
         Ok(()) => match how {
             How::Ended => Ending::Done,
+            How::Faulted(fault) => Ending::Faulted(fault),
             How::Memory => Ending::NoMemory,
         },
         Err(_) => Ending::CantWrite,
     }
 }
 
-// Compiles and runs a text that was read whole.
+// Compiles and runs a text that was read whole. Room for its lines is taken before the run.
 fn run_text<K: Sink>(alloc: Global, procs: u32, text: &[u8], out: &mut K) -> Written
     requires some { 1 ≤ procs }
     requires procs { procs ≤ MOST_PROCS }
     ensures { TextSays result.ending procs text.now (K.state out.old) (K.state out.new) result.history.items }
 {
-    match read_listing(alloc, text) {
-        Ok(Some(listing)) => run_program(alloc, procs, &listing, out),
-        Ok(None) => Written::nothing(alloc, Ending::Refused(Place::first())),
-        Err(Memory) => Written::nothing(alloc, Ending::NoMemory),
+    match compile(alloc, text) {
+        Ok(listing) => match RunLine::with_room(alloc, &listing.literals) {
+            Ok(mut line) => run_program(alloc, procs, &listing, &mut line, out),
+            Err(Memory) => Written::nothing(alloc, Ending::NoMemory),
+        },
+        Err(CompileErr::Refused(refusal)) => Written::nothing(alloc, Ending::Refused(refusal)),
+        Err(CompileErr::Memory) => Written::nothing(alloc, Ending::NoMemory),
     }
 }
 

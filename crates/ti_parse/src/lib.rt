@@ -1,0 +1,8 @@
+//! The tree of a text.
+#![tactic(auto)]
+
+mod error;
+mod text;
+
+pub use error::ParseErr;
+pub use text::parse;

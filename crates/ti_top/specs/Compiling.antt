@@ -1,0 +1,25 @@
+-- What compiling a text answers.
+use Rattle.std.specs.Prelude.{◌≡◌, ℕ, List, Result, Ok, Err}
+use Rattle.ti_lang.specs.declared.listing.Listing.{Listing}
+use Rattle.ti_lang.specs.Programs.{Program, listed_program}
+use Rattle.ti_rules.specs.declared.refusal.Refusal.{Refusal}
+use Rattle.ti_rules.specs.RefusalOf.{HasProgram, IsRefusal}
+use Rattle.ti_top.specs.declared.compiling.CompileErr.{CompileErr}
+use Rattle.ti_top.specs.declared.compiling.CompileErr.TheVariants.{Refused, Memory}
+
+-- the text has this program alone, and no refusal
+pub record HasProgramAlone (text : List ℕ) (program : Program) : Type 0 where
+  pub has : HasProgram text program
+  pub only : (other : Program) → HasProgram text other → other ≡ program
+  pub unrefused : (refusal : Refusal) → IsRefusal text refusal → ⊥
+
+-- the text has this refusal, and no program
+pub record IsRefusedAs (text : List ℕ) (refusal : Refusal) : Type 0 where
+  pub is : IsRefusal text refusal
+  pub no_program : (program : Program) → HasProgram text program → ⊥
+
+-- the program of the text or its refusal; memory may be wanting at any time
+abbrev pub Compiles : List ℕ → Result Listing CompileErr → Type 0
+Compiles text (Ok listing) = HasProgramAlone text (listed_program listing)
+Compiles text (Err (Refused refusal)) = IsRefusedAs text refusal
+Compiles text (Err Memory) = Unit {0}
