@@ -5,7 +5,7 @@ use Rattle.ti_lang.specs.Spelling.Weights.{weigh}
 use Rattle.ti_parse_expr.specs.Answers.{Answers, IsPhrase, IsNoPhrase, IsTooHeavy, most_weight}
 use Rattle.ti_parse_expr.specs.Input.{Fails, take_within}
 use Rattle.ti_parse_expr.specs.Expr.{phrase}
-use Rattle.ti_parse_expr.proofs.Answered.{SaysOk, ok_answer, refused_answer, heavy_answer}
+use Rattle.ti_parse_expr.proofs.Answered.{SaysOk, ok_answer, refused_answer, heavy_answer, never_deep}
 use Rattle.ti_parse_expr.proofs.Weights.{cut_rest, rest_ends}
 use Rattle.ti_parse_expr.proofs.parse.parse_expr.Goals as goal
 use Rattle.ti_parse_expr.proofs.parse.parse_expr.Goals.{After-left, After-weigh, After-refused, After-refused-in-Err-Spent}
@@ -58,3 +58,9 @@ returns-in-Err-Spent c =
     (heavy_answer c.args.form c.args.weight (drop c.args.at c.args.toks.now) c.cut-front.result.now (cut_rest c.args.weight c.args.at c.args.toks.now c.cut-front.result.now c.cut-front.ensures)
     (ap (phrase take_within (length c.cut-front.result.now + 1) c.args.form) (sym c.new-tokens.ensures)
     ∙ subst (λ e. Fails (phrase take_within (length c.cut-front.result.now + 1) c.args.form c.new-tokens.result) e c.phrase.new.tokens) c.in-Err-Spent.field-0-is c.in-Err-Spent.ensures)))
+
+pub unreachable-requires : goal.unreachable-requires
+unreachable-requires c =
+    never_deep c.args.form c.args.weight (drop c.args.at c.args.toks.now) c.cut-front.result.now (cut_rest c.args.weight c.args.at c.args.toks.now c.cut-front.result.now c.cut-front.ensures) c.phrase.new.tokens
+    (ap (phrase take_within (length c.cut-front.result.now + 1) c.args.form) (sym c.new-tokens.ensures)
+    ∙ subst (λ e. Fails (phrase take_within (length c.cut-front.result.now + 1) c.args.form c.new-tokens.result) e c.phrase.new.tokens) c.in-Err-TooDeep.field-0-is c.in-Err-TooDeep.ensures)
