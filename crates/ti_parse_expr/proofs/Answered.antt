@@ -8,7 +8,7 @@ use Rattle.ti_lang.specs.Spelling.Weights.{weigh}
 use Rattle.ti_parse_expr.specs.declared.parse.Form.{Form}
 use Rattle.ti_parse_expr.specs.declared.parse.Form.TheVariants as form
 use Rattle.ti_parse_expr.specs.Answers.{Phrase, BeginsPhrase, IsLight, IsPhrase, IsNoPhrase, IsTooHeavy, most_weight}
-use Rattle.ti_parse_expr.specs.Input.{At, Spent, Outcome, place, take_token, take_within}
+use Rattle.ti_parse_expr.specs.Input.{At, Over, Spent, Outcome, place, take_token, take_within}
 use Rattle.ti_parse_expr.specs.Reach.{IsCut, ends_expression}
 use Rattle.ti_parse_expr.specs.Expr.{phrase}
 use Rattle.ti_parse_expr.proofs.Law.{Says, Any, append_nil, token}
@@ -16,6 +16,7 @@ use Rattle.ti_parse_expr.proofs.Phrases.{whole_some, postfixed_some}
 use Rattle.ti_parse_expr.proofs.Follows.{Stops, closer_stops, end_closes}
 use Rattle.ti_parse_expr.proofs.Local.{Same}
 use Rattle.ti_parse_expr.proofs.Cut.{Alike, Passed}
+use Rattle.ti_parse_expr.proofs.Shallow.{IsShallow, phrase_shallow}
 use Rattle.ti_parse_expr.proofs.Weights.{light_front, light_whole}
 use Rattle.ti_parse_expr.proofs.Ends.{ends, ends-append, end_of, phrase_ends}
 use Rattle.ti_parse_expr.proofs.Forms.{level_of, phrase_says, phrase_reads, phrase_near, phrase_cut, phrase_stops}
@@ -70,6 +71,7 @@ one_tree f l x y s q =
 abbrev left_in : Outcome Exp → ℕ
 left_in (Ok p) = length p.1
 left_in (Err (At r)) = 0
+left_in (Err (Over r)) = 0
 left_in (Err Spent) = 0
 
 -- ---- reading stopped at t, with a tree or refused: then no phrase goes on with t
@@ -176,6 +178,11 @@ module _ (form : Form) (weight : ℕ) (l c : List Token) (cut : IsCut weight l c
         at = refl;
       }
 
+  over_never : (r : List Token) → read ≡ Err (Over r) → ⊥
+  over_never r is =
+      let shallow : IsShallow read = phrase_shallow form (length c + 1) c in
+      subst IsShallow is shallow
+
   begins_all : (o : Outcome Exp) → read ≡ o → Passed o → BeginsPhrase form c
   begins_all (Ok p) is h =
       let (f, e, s, q) : PhraseSays (Ok (p.0, p.1)) = read_says (Ok (p.0, p.1)) is in
@@ -184,6 +191,7 @@ module _ (form : Form) (weight : ℕ) (l c : List Token) (cut : IsCut weight l c
   begins_all (Err (At r)) is h =
       let (f, e, b) : PhraseSays (Err (At r)) = read_says (Err (At r)) is in
       subst (BeginsPhrase form) (sym (e ∙ ap (λ z. f ++ z) (nothing r h) ∙ append_nil f)) b
+  begins_all (Err (Over r)) is h = absurd (over_never r is)
   begins_all (Err Spent) is h =
       let few : length c + 1 ≤ length c = read_says (Err Spent) is in
       absurd (omega (arith, few))
@@ -212,6 +220,9 @@ module _ (form : Form) (weight : ℕ) (l c : List Token) (cut : IsCut weight l c
 
   pub refused_answer : (r : List Token) → read_front ≡ Err (At r) → IsNoPhrase form weight l (place r)
   refused_answer r is = let (plain, some) = alike_front (Err (At r)) is in refused_by r plain some
+
+  pub never_deep : (r : List Token) → read_front ≡ Err (Over r) → ⊥
+  never_deep r is = let (plain, some) = alike_front (Err (Over r)) is in over_never r plain
 
   pub heavy_answer : read_front ≡ Err Spent → IsTooHeavy form weight l cut.last.place
   heavy_answer is = heavy_by (begins_all read refl (alike_front (Err Spent) is))

@@ -36,8 +36,8 @@ base_turn t ts q h = ap (λ z. spec.base_by take_token z (t ∷ ts)) h
 pub base_reads : {l : List Token} {x : Base} → Based l x → (r : List Token) → base take_token (l ++ r) ≡ Ok (x, r)
 base_reads (grammar.int t h) r = base_turn t r k.KeywordInt h
 base_reads (grammar.boolean t h) r = base_turn t r k.KeywordBoolean h
-base_reads (grammar.point {l = l} t h s) r = base_turn t (l ++ r) k.KeywordPoint h ∙ then_ok (λ n i. Ok (b.Point n, i)) (arity_reads s r)
-base_reads (grammar.rect_domain {l = l} t h s) r = base_turn t (l ++ r) k.KeywordRectDomain h ∙ then_ok (λ n i. Ok (b.RectDomain n, i)) (arity_reads s r)
+base_reads (grammar.point {l = l} t h s) r = base_turn t (l ++ r) k.KeywordPoint h ∙ then_ok (λ n i. Ok (b.Point t.place n, i)) (arity_reads s r)
+base_reads (grammar.rect_domain {l = l} t h s) r = base_turn t (l ++ r) k.KeywordRectDomain h ∙ then_ok (λ n i. Ok (b.RectDomain t.place n, i)) (arity_reads s r)
 base_reads (grammar.named t {name = name} h) r = base_turn t r (k.Name name) h
 
 -- ---- qualifiers

@@ -6,8 +6,9 @@ use Rattle.ti_lang.specs.declared.token.Token.{Token}
 use Rattle.ti_lang.specs.Trees.Expressions.{Exp}
 use Rattle.ti_parse_expr.specs.declared.parse.Form.{Form}
 use Rattle.ti_parse_expr.specs.Answers.{Phrase, BeginsPhrase, IsPhrase, IsNoPhrase}
-use Rattle.ti_parse_expr.specs.Input.{At, Spent, Outcome, place, take_token}
+use Rattle.ti_parse_expr.specs.Input.{At, Over, Spent, Outcome, place, take_token}
 use Rattle.ti_parse_expr.specs.Expr.{phrase}
+use Rattle.ti_parse_expr.proofs.Shallow.{IsShallow, phrase_shallow}
 use Rattle.ti_parse_expr.proofs.Law.{Says, Any, append_nil}
 use Rattle.ti_parse_expr.proofs.Follows.{Stops}
 use Rattle.ti_parse_expr.proofs.Answered.{no_more_ok, no_more_refused}
@@ -87,6 +88,7 @@ module _ (form : Form) (n : ℕ) where
     refused_by : length list < n → (o : Outcome Exp) → phrase take_token n form list ≡ o → Says n (Phrase form) Any list o → phrase take_token n form list ≡ refused
     refused_by lt (Ok p) q (f, e, s, any) = absurd (no_tree f p.1 p.0 e s q (apart f p.1 h.run h.after rest (sym e ∙ h.is_run.is)))
     refused_by lt (Err (At r)) q (f, e, b) = refused_at f r e b q (apart f r h.run h.after rest (sym e ∙ h.is_run.is))
+    refused_by lt (Err (Over r)) q says = absurd (subst IsShallow q (phrase_shallow form n list))
     refused_by lt (Err Spent) q few = absurd (omega (arith, lt, few))
 
     -- the token behind the run is refused

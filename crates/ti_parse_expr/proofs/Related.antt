@@ -100,10 +100,14 @@ module _ (Q : (A : Type 0) → Parser A → Parser A → Type 0) (T : ℕ → �
   r_arity = r_then (r_expect k.Less) (λ _. r_then (r_kind (types.dimension_by take_token) (types.dimension_by take) r_dimension_by) (λ n. r_then (r_expect k.Greater) (λ _. r_pure n)))
 
   r_base_by : (q : TokenKind) → R (types.base_by take_token q) (types.base_by take q)
-  r_base_by k.KeywordInt = r_then r_take (λ _. r_pure b.Int)
-  r_base_by k.KeywordBoolean = r_then r_take (λ _. r_pure b.Boolean)
-  r_base_by k.KeywordPoint = r_then r_take (λ _. r_then r_arity (λ n. r_pure (b.Point n)))
-  r_base_by k.KeywordRectDomain = r_then r_take (λ _. r_then r_arity (λ n. r_pure (b.RectDomain n)))
+  r_base_by k.KeywordInt = r_place (λ at i. and_then (take_token i) (λ _ j. Ok (b.Int at, j))) (λ at i. and_then (take i) (λ _ j. Ok (b.Int at, j))) (λ at. r_then r_take (λ _. r_pure (b.Int at)))
+  r_base_by k.KeywordBoolean = r_place (λ at i. and_then (take_token i) (λ _ j. Ok (b.Boolean at, j))) (λ at i. and_then (take i) (λ _ j. Ok (b.Boolean at, j))) (λ at. r_then r_take (λ _. r_pure (b.Boolean at)))
+  r_base_by k.KeywordPoint =
+      r_place (λ at i. and_then (take_token i) (λ _ i. and_then (arity take_token i) (λ n j. Ok (b.Point at n, j)))) (λ at i. and_then (take i) (λ _ i. and_then (arity take i) (λ n j. Ok (b.Point at n, j))))
+      (λ at. r_then r_take (λ _. r_then r_arity (λ n. r_pure (b.Point at n))))
+  r_base_by k.KeywordRectDomain =
+      r_place (λ at i. and_then (take_token i) (λ _ i. and_then (arity take_token i) (λ n j. Ok (b.RectDomain at n, j)))) (λ at i. and_then (take i) (λ _ i. and_then (arity take i) (λ n j. Ok (b.RectDomain at n, j))))
+      (λ at. r_then r_take (λ _. r_then r_arity (λ n. r_pure (b.RectDomain at n))))
   r_base_by (k.Name name) = r_place (λ at i. and_then (take_token i) (λ _ j. Ok (b.Named at name, j))) (λ at i. and_then (take i) (λ _ j. Ok (b.Named at name, j))) (λ at. r_then r_take (λ _. r_pure (b.Named at name)))
   r_base_by _ = r_refuse
 

@@ -68,7 +68,7 @@ arity_says {m = m} l =
 -- ---- what a field's type begins with
 
 pub some_base : BeginsIn Based []
-some_base = (token k.KeywordInt ∷ [], b.Int, grammar.int (token k.KeywordInt) refl)
+some_base = (token k.KeywordInt ∷ [], b.Int (token k.KeywordInt).place, grammar.int (token k.KeywordInt) refl)
 
 with_arity : {m : ℕ} (t : Token) (ts : List Token) (make : ℕ → Base) → ((f : List Token) (n : ℕ) → Arity f n → Based (t ∷ f) (make n))
     → Said m (λ f x. Based (t ∷ f) x) Any ts (and_then (arity take_token ts) (λ n i. Ok (make n, i)))
@@ -79,8 +79,8 @@ with_arity {m = m} t ts make made =
 base_by_says : {m : ℕ} (t : Token) (ts : List Token) (q : TokenKind) → t.kind ≡ q → Said m Based Any (t ∷ ts) (spec.base_by take_token q (t ∷ ts))
 base_by_says {m = m} t ts k.KeywordInt h = after_said {m = m} (omega arith) (done_said (grammar.int t h) tt)
 base_by_says {m = m} t ts k.KeywordBoolean h = after_said {m = m} (omega arith) (done_said (grammar.boolean t h) tt)
-base_by_says {m = m} t ts k.KeywordPoint h = after_said {m = m} (omega arith) (with_arity t ts b.Point (λ f n s. grammar.point t h s))
-base_by_says {m = m} t ts k.KeywordRectDomain h = after_said {m = m} (omega arith) (with_arity t ts b.RectDomain (λ f n s. grammar.rect_domain t h s))
+base_by_says {m = m} t ts k.KeywordPoint h = after_said {m = m} (omega arith) (with_arity t ts (b.Point t.place) (λ f n s. grammar.point t h s))
+base_by_says {m = m} t ts k.KeywordRectDomain h = after_said {m = m} (omega arith) (with_arity t ts (b.RectDomain t.place) (λ f n s. grammar.rect_domain t h s))
 base_by_says {m = m} t ts (k.Name name) h = after_said {m = m} (omega arith) (done_said (grammar.named t h) tt)
 base_by_says t ts _ h = refused_said some_base
 
@@ -232,8 +232,8 @@ reserved_arity {m = m} t ts make plain made =
 reserved_by : {m : ℕ} (t : Token) (ts : List Token) (q : TokenKind) → t.kind ≡ q → begins_type q ≡ true → Said m (λ f x. Based f x × (is_named x ≡ false)) Any (t ∷ ts) (spec.base_by take_token q (t ∷ ts))
 reserved_by {m = m} t ts k.KeywordInt h r = after_said {m = m} (omega arith) (done_said (grammar.int t h, refl) tt)
 reserved_by {m = m} t ts k.KeywordBoolean h r = after_said {m = m} (omega arith) (done_said (grammar.boolean t h, refl) tt)
-reserved_by {m = m} t ts k.KeywordPoint h r = after_said {m = m} (omega arith) (reserved_arity t ts b.Point (λ n. refl) (λ f n s. grammar.point t h s))
-reserved_by {m = m} t ts k.KeywordRectDomain h r = after_said {m = m} (omega arith) (reserved_arity t ts b.RectDomain (λ n. refl) (λ f n s. grammar.rect_domain t h s))
+reserved_by {m = m} t ts k.KeywordPoint h r = after_said {m = m} (omega arith) (reserved_arity t ts (b.Point t.place) (λ n. refl) (λ f n s. grammar.point t h s))
+reserved_by {m = m} t ts k.KeywordRectDomain h r = after_said {m = m} (omega arith) (reserved_arity t ts (b.RectDomain t.place) (λ n. refl) (λ f n s. grammar.rect_domain t h s))
 reserved_by t ts _ h r = cc
 
 pub reserved_says : {m : ℕ} (t : Token) (ts : List Token) → begins_type t.kind ≡ true → Said m (λ f x. Based f x × (is_named x ≡ false)) Any (t ∷ ts) (base take_token (t ∷ ts))

@@ -25,9 +25,11 @@ next (t ∷ ts) = ts
 
 -- ---- parsers
 
--- why no tree was read: the list from the token that was refused; or no turns were left, or the last token would have been taken
+-- why no tree was read: the list from the token that was refused; the list from the token that was too deep; or no turns were
+-- left, or the last token would have been taken
 pub data Halt : Type 0 where
   At : List Token → Halt
+  Over : List Token → Halt
   Spent : Halt
 
 abbrev pub Outcome : Type 0 → Type 0
@@ -104,6 +106,7 @@ name_with take = peek >>= named_by take
 abbrev pub Fails : {A : Type 0} → Outcome A → Stop → List Token → Type 0
 Fails outcome stop.Memory new = Unit {0}
 Fails outcome stop.Refused new = outcome ≡ Err (At new)
+Fails outcome stop.TooDeep new = outcome ≡ Err (Over new)
 Fails outcome stop.Spent new = outcome ≡ Err Spent
 
 abbrev pub Reads : {A : Type 0} → Outcome A → Result A Stop → List Token → Type 0

@@ -38,10 +38,10 @@ module _ (take : Parser (Unit {0})) where
     pure n
 
   abbrev pub base_by : TokenKind → Parser Base
-  base_by k.KeywordInt = take >> pure b.Int
-  base_by k.KeywordBoolean = take >> pure b.Boolean
-  base_by k.KeywordPoint = take >> b.Point <$> arity
-  base_by k.KeywordRectDomain = take >> b.RectDomain <$> arity
+  base_by k.KeywordInt = (do at ← here; take; pure (b.Int at))
+  base_by k.KeywordBoolean = (do at ← here; take; pure (b.Boolean at))
+  base_by k.KeywordPoint = (do at ← here; take; n ← arity; pure (b.Point at n))
+  base_by k.KeywordRectDomain = (do at ← here; take; n ← arity; pure (b.RectDomain at n))
   base_by (k.Name name) = (do at ← here; take; pure (b.Named at name))
   base_by _ = refuse
 

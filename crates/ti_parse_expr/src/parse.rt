@@ -86,6 +86,7 @@ pub fn parse_expr(
         }
         Err(Stop::Memory) => Err(ParseErr::Memory),
         Err(Stop::Refused) => Err(refused(Rule::G1, tokens.place())),
+        Err(Stop::TooDeep) => unreachable!(),
         Err(Stop::Spent) => Err(refused(Rule::G2, last_place(front))),
     }
 }

@@ -9,6 +9,8 @@ pub enum Stop {
     Memory,
     /// The next token can't stand here.
     Refused,
+    /// The next token is nested too deeply.
+    TooDeep,
     /// The last token would have been taken.
     Spent,
 }

@@ -307,12 +307,12 @@ fn show_qualifiers(
 
 fn show_base(alloc: Global, base: &Base, shown: &mut Vec<u8>) -> Result<(), AllocError> {
     let text = match base {
-        Base::Int => format!(in alloc; "int")?,
-        Base::Boolean => format!(in alloc; "boolean")?,
-        Base::Point(arity) => format!(in alloc; "Point<{arity}>")?,
-        Base::RectDomain(arity) => format!(in alloc; "RectDomain<{arity}>")?,
-        Base::Domain(arity) => format!(in alloc; "Domain<{arity}>")?,
-        Base::SharedRegion => format!(in alloc; "SharedRegion")?,
+        Base::Int(_) => format!(in alloc; "int")?,
+        Base::Boolean(_) => format!(in alloc; "boolean")?,
+        Base::Point(_, arity) => format!(in alloc; "Point<{arity}>")?,
+        Base::RectDomain(_, arity) => format!(in alloc; "RectDomain<{arity}>")?,
+        Base::Domain(_, arity) => format!(in alloc; "Domain<{arity}>")?,
+        Base::SharedRegion(_) => format!(in alloc; "SharedRegion")?,
         Base::Named(place, name) => return show_node(alloc, name.as_bytes(), *place, shown),
     };
     shown.extend_from_slice(text.as_bytes())

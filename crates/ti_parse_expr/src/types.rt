@@ -41,7 +41,7 @@ fn dimension(tokens: &mut Tokens<'_>) -> Result<u8, Stop>
 
 /// `<` n `>`
 #[tactic(auto, unfolding(crate::specs::Types::arity))]
-fn arity(tokens: &mut Tokens<'_>) -> Result<u8, Stop>
+pub fn arity(tokens: &mut Tokens<'_>) -> Result<u8, Stop>
     ensures { Reads (spec.arity take_within tokens.old) result tokens.new }
 {
     tokens.expect(TokenKind::Less)?;
@@ -55,26 +55,26 @@ fn arity(tokens: &mut Tokens<'_>) -> Result<u8, Stop>
 pub fn base(alloc: Global, tokens: &mut Tokens<'_>) -> Result<Base, Stop>
     ensures { Reads (spec.base take_within tokens.old) result tokens.new }
 {
+    let place = tokens.place();
     match tokens.peek() {
         TokenKind::KeywordInt => {
             tokens.take()?;
-            Ok(Base::Int)
+            Ok(Base::Int(place))
         }
         TokenKind::KeywordBoolean => {
             tokens.take()?;
-            Ok(Base::Boolean)
+            Ok(Base::Boolean(place))
         }
         TokenKind::KeywordPoint => {
             tokens.take()?;
-            Ok(Base::Point(arity(tokens)?))
+            Ok(Base::Point(place, arity(tokens)?))
         }
         TokenKind::KeywordRectDomain => {
             tokens.take()?;
-            Ok(Base::RectDomain(arity(tokens)?))
+            Ok(Base::RectDomain(place, arity(tokens)?))
         }
         TokenKind::Name(name) => {
             let name = name.copy(alloc)?;
-            let place = tokens.place();
             tokens.take()?;
             Ok(Base::Named(place, name))
         }

@@ -1,0 +1,81 @@
+-- Reading a full expression within the limit on weights: as without a limit, but that the first token that weighs too much
+-- is too deep.
+use Rattle.std.specs.Prelude.{ℕ, suc, ◌+◌, ◌-◌, Bool, false, nat_lt, if◌then◌else◌, List, [], ◌∷◌, length, take, drop, Ok, Err}
+use Rattle.ti_base.specs.declared.place.Place.{Place}
+use Rattle.ti_lang.specs.declared.token.Token.{Token}
+use Rattle.ti_lang.specs.Trees.Expressions.{Exp}
+use Rattle.ti_lang.specs.Spelling.Loads.{Load, Free, Level, Weight, weights_behind}
+use Rattle.ti_lang.specs.Spelling.Weights.{weigh}
+use Rattle.ti_parse_expr.specs.declared.parse.Form.{Form}
+use Rattle.ti_parse_expr.specs.Input.{At, Over, Spent, Outcome, Parser, next, take_token, take_within}
+use Rattle.ti_parse_expr.specs.Reach.{reach}
+use Rattle.ti_parse_expr.specs.Expr.{Operand, operand, expr, phrase, behind_name, behind_bracket}
+
+-- whether a load is above its limit
+abbrev pub is_above : Load → Bool
+is_above Free = false
+is_above (Level n) = nat_lt 64 n
+is_above (Weight n) = nat_lt 256 n
+
+-- the outcome of reading a list that begins with tokens of these loads: at the first of them that is above its limit, or else this one
+abbrev pub limited : {A : Type 0} → List Load → List Token → Outcome A → Outcome A
+limited [] l out = out
+limited (x ∷ loads) l out = if is_above x then Err (Over l) else limited loads (next l) out
+
+-- what an outcome leaves
+abbrev pub rest_of : {A : Type 0} → Outcome A → List Token
+rest_of (Ok p) = p.1
+rest_of (Err (At r)) = r
+rest_of (Err (Over r)) = r
+rest_of (Err Spent) = []
+
+-- what was taken of the list
+abbrev pub taken : {A : Type 0} → List Token → Outcome A → List Token
+taken l out = take (length l - length (rest_of out)) l
+
+-- a reader within the limit, where the weight is counted on from a number
+abbrev pub light : {A : Type 0} → ℕ → Parser A → Parser A
+light weight p l = limited (weights_behind 0 weight (taken l (p l))) l (p l)
+
+-- ---- full expressions: an expression of a form; a Postfix; a Postfix behind its first name, and behind its first name and a `[`
+
+abbrev pub full : Form → Parser Exp
+full form l = light 0 (phrase take_token (suc (length l)) form) l
+
+abbrev pub full_operand : Parser Operand
+full_operand l = light 0 (operand take_token (suc (length l)) (expr take_token (suc (length l)))) l
+
+abbrev pub full_behind_name : Place → List ℕ → Parser Operand
+full_behind_name at name l = light 0 (behind_name take_token (suc (suc (length l))) at name) l
+
+abbrev pub full_behind_bracket : Place → Place → List ℕ → Parser Operand
+full_behind_bracket bracket_at at name l = light 1 (behind_bracket take_token (suc (suc (length l))) bracket_at at name) l
+
+-- ---- as the code reads: a front of the list, whose last token stays
+
+-- the front up to and including the first token that weighs too much or stands in no expression
+abbrev pub front_of : ℕ → List Token → List Token
+front_of weight l = take (reach 0 (256 - weight) l) l
+
+-- what the outcome for a front of the list is for the list
+abbrev pub widened : {A : Type 0} → ℕ → List Token → List Token → Outcome A → Outcome A
+widened weight l front (Ok p) = Ok (p.0, drop (length front - length p.1) l)
+widened weight l front (Err (At r)) = Err (At (drop (length front - length r) l))
+widened weight l front (Err (Over r)) = Err (Over (drop (length front - length r) l))
+widened weight l front (Err Spent) = if nat_lt 256 (weight + weigh front) then Err (Over (drop (length front - 1) l)) else Err Spent
+
+-- a reader of the front, given one turn more than the front has tokens
+abbrev pub within : {A : Type 0} → ℕ → (ℕ → Parser A) → Parser A
+within weight p l = let front = front_of weight l in widened weight l front (p (suc (length front)) front)
+
+abbrev pub full_within : Form → Parser Exp
+full_within form = within 0 (λ n. phrase take_within n form)
+
+abbrev pub operand_within : Parser Operand
+operand_within = within 0 (λ n. operand take_within n (expr take_within n))
+
+abbrev pub behind_name_within : Place → List ℕ → Parser Operand
+behind_name_within at name = within 0 (λ n. behind_name take_within n at name)
+
+abbrev pub behind_bracket_within : Place → Place → List ℕ → Parser Operand
+behind_bracket_within bracket_at at name = within 1 (λ n. behind_bracket take_within n bracket_at at name)
