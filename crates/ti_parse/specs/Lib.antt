@@ -1,0 +1,4 @@
+pub mod Way
+pub mod Parts
+pub mod Statements
+pub mod Classes

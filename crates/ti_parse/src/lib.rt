@@ -1,0 +1,2 @@
+//! The trees of texts.
+#![tactic(auto)]
