@@ -1,1 +1,3 @@
 pub mod Related
+pub mod Near
+pub mod Ends
