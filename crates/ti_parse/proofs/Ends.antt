@@ -93,8 +93,24 @@ initial_lasts (s.value x) = whole_lasts x
 initial_lasts (s.new_region n t o c h h2 h3 h4) = omega (arith, ap last_of h, ap last_of h2, ap last_of h3, ap last_of h4)
 initial_lasts (s.new_object {l = l} n t o c h r h2 h3 h4) = omega (arith, lasts-append l (t ∷ o ∷ c ∷ []), ap last_of h, ap last_of h2, ap last_of h3, ap last_of h4, region_lasts r)
 initial_lasts (s.new_grid {l = l} {a = a} {q = q} {d = d} {g = g} n o c h r b qs h2 x h3 gs few) =
-    omega (arith, lasts-append l (a ++ (q ++ o ∷ (d ++ c ∷ g))), lasts-append a (q ++ o ∷ (d ++ c ∷ g)), lasts-append q (o ∷ (d ++ c ∷ g)), lasts-append d (c ∷ g), ap last_of h, ap last_of h2, ap last_of h3, region_lasts r, lasts_few a,
-    based_ends b, lasts_few q, qualified_ends qs, dims_lasts x, lasts_few g, gridded_ends gs)
+    omega (
+      arith,
+      lasts-append l (a ++ (q ++ o ∷ (d ++ c ∷ g))),
+      lasts-append a (q ++ o ∷ (d ++ c ∷ g)),
+      lasts-append q (o ∷ (d ++ c ∷ g)),
+      lasts-append d (c ∷ g),
+      ap last_of h,
+      ap last_of h2,
+      ap last_of h3,
+      region_lasts r,
+      lasts_few a,
+      based_ends b,
+      lasts_few q,
+      qualified_ends qs,
+      dims_lasts x,
+      lasts_few g,
+      gridded_ends gs,
+    )
 initial_lasts (s.broadcast {l = l} {m = m} b f h x h2 y) = omega (arith, lasts-append l (f ∷ m), ap last_of h, ap last_of h2, whole_lasts x, whole_lasts y)
 
 -- ---- simple statements
@@ -143,8 +159,21 @@ mutual
   stated_lasts (s.if_else {l = l} {m = m} {v = v} i d h e x h2 y) = omega (arith, lasts-append l (m ++ d ∷ v), lasts-append m (d ∷ v), ap last_of h, ap last_of h2, condition_lasts e, stated_lasts x, stated_lasts y)
   stated_lasts (s.while {l = l} {m = m} w h e x) = omega (arith, lasts-append l m, ap last_of h, condition_lasts e, stated_lasts x)
   stated_lasts (s.for {l = l} {m = m} {u = u} {v = v} f o p q c h h2 first h3 test h4 update h5 x) =
-      omega (arith, lasts-append l (p ∷ (m ++ q ∷ (u ++ c ∷ v))), lasts-append m (q ∷ (u ++ c ∷ v)), lasts-append u (c ∷ v), ap last_of h, ap last_of h2, ap last_of h3, ap last_of h4, ap last_of h5, first_lasts first, test_lasts test,
-      update_lasts update, stated_lasts x)
+      omega (
+        arith,
+        lasts-append l (p ∷ (m ++ q ∷ (u ++ c ∷ v))),
+        lasts-append m (q ∷ (u ++ c ∷ v)),
+        lasts-append u (c ∷ v),
+        ap last_of h,
+        ap last_of h2,
+        ap last_of h3,
+        ap last_of h4,
+        ap last_of h5,
+        first_lasts first,
+        test_lasts test,
+        update_lasts update,
+        stated_lasts x,
+      )
   stated_lasts (s.foreach {l = l} {m = m} f o t i c h h2 h3 h4 e h5 x) =
       omega (arith, lasts-append l (c ∷ m), ap last_of h, ap last_of h2, ap last_of h3, ap last_of h4, ap last_of h5, whole_lasts e, stated_lasts x)
   stated_lasts (s.change {l = l} t d h) = omega (arith, lasts-append l (t ∷ []), ap last_of h, changed_lasts d)
