@@ -1,11 +1,12 @@
 -- What reading a text answers is what the grammar says of the list.
-use Rattle.std.proofs.Common.{◌≡◌, ◌⊎◌, inl, inr, ℕ, suc, ◌+◌, ◌<◌, ◌≤◌, true, List, [], ◌∷◌, ◌++◌, length, Some, Ok, Err, refl, sym, ap, ◌∙◌, subst, append_assoc, arith, length-append}
+use Rattle.std.proofs.Common.{◌≡◌, ◌⊎◌, inl, inr, ℕ, suc, ◌+◌, ◌<◌, ◌≤◌, true, List, [], ◌∷◌, ◌++◌, length, Option, Some, None, Ok, Err, refl, sym, ap, ◌∙◌, subst, append_assoc, arith, length-append}
+use Rattle.ti_base.specs.declared.place.Place.{Place}
 use Rattle.ti_lang.specs.declared.token.Token.{Token}
 use Rattle.ti_lang.specs.declared.token.TokenKind.{TokenKind}
 use Rattle.ti_lang.specs.declared.token.TokenKind.TheVariants as k
 use Rattle.ti_lang.specs.Tokens.{same_kind}
 use Rattle.ti_lang.specs.Trees.Classes.{ClassTree, TextTree}
-use Rattle.ti_lang.specs.Spelling.{Spells, BeginsText, IsTooDeep, IsShallow, IsGrammarRefusal, Unexpected, TooDeep, unexpected, too_deep, refused}
+use Rattle.ti_lang.specs.Spelling.{Spells, BeginsText, IsTooDeep, IsShallow, Misfit, IsGrammarRefusal, fits, Unexpected, TooDeep, unexpected, too_deep, refused}
 use Rattle.ti_lang.specs.Spelling.Classes.{AllClasses}
 use Rattle.ti_lang.specs.Spelling.Loads.{classes_loads}
 use Rattle.ti_parse_expr.specs.Answers.{EndsAtEnd}
@@ -43,16 +44,16 @@ begins_text : (f w : List Token) (tree : TextTree) → AllClasses (f ++ w) tree 
 begins_text f w tree s = (w ++ last, tree, text_of s (sym (append_assoc f w last)))
 
 -- what reading says of a list: a tree and no token too deep, or the one token that shows what is wrong
-abbrev pub Decides : List Token → Outcome TextTree → Type 0
+abbrev Decides : List Token → Outcome TextTree → Type 0
 Decides list (Ok p) = Spells list p.0 × IsShallow list
 Decides list (Err (At r)) = IsGrammarRefusal list (Some (Unexpected, place r))
 Decides list (Err (Over r)) = IsGrammarRefusal list (Some (TooDeep, place r))
 Decides list (Err Spent) = ⊥
 
 -- some token is left, and that is what reading says
-pub record Judged (list : List Token) (out : Outcome TextTree) : Type 0 where
-  pub left : 0 < length (rest_of out)
-  pub decides : Decides list out
+record Judged (list : List Token) (out : Outcome TextTree) : Type 0 where
+  left : 0 < length (rest_of out)
+  decides : Decides list out
 
 module _ (says : (turns : ℕ) (l : List Token) → Said turns AllClasses (λ r. sees k.End r ≡ true) l (classes plain turns turns [] l))
     (reads : (l : List Token) (xs : List ClassTree) (s : AllClasses l xs) (turns : ℕ) (r : List Token) → kind r ≡ k.End → length (l ++ r) < turns
@@ -191,8 +192,37 @@ module _ (says : (turns : ℕ) (l : List Token) → Said turns AllClasses (λ r.
     alike (Err (Over r)) (Err Spent) j passed = absurd (omega (arith, j.left, passed))
     alike (Err Spent) (Err Spent) j passed = absurd j.decides
 
-    pub text_answers : Judged list (text careful n list)
+    text_answers : Judged list (text careful n list)
     text_answers = alike (text plain n list) (text careful n list) plain_answers ((cut n).alike list (omega (arith, ap length closed.2, length-append closed.0 (closed.1 ∷ []))))
+
+    answers_as : (o : Outcome TextTree) → text careful n list ≡ o → Judged list o
+    answers_as o is = subst (Judged list) is text_answers
+
+    -- a tree is that of the list, and no token is too deep
+    pub ok_answer : (tree : TextTree) (r : List Token) → text careful n list ≡ Ok (tree, r) → Spells list tree × IsShallow list
+    ok_answer tree r is = (answers_as (Ok (tree, r)) is).decides
+
+    -- some token is left, which is the first that is unexpected
+    pub refused_answer : (r : List Token) → text careful n list ≡ Err (At r) → (0 < length r) × IsGrammarRefusal list (Some (Unexpected, place r))
+    refused_answer r is = let j : Judged list (Err (At r)) = answers_as (Err (At r)) is in (j.left, j.decides)
+
+    -- some token is left, which is the first that is too deep
+    pub deep_answer : (r : List Token) → text careful n list ≡ Err (Over r) → (0 < length r) × IsGrammarRefusal list (Some (TooDeep, place r))
+    deep_answer r is = let j : Judged list (Err (Over r)) = answers_as (Err (Over r)) is in (j.left, j.decides)
+
+    -- turns suffice, and the last token is never taken
+    pub never_spent : text careful n list ≡ Err Spent → ⊥
+    never_spent is = (answers_as (Err Spent) is).decides
+
+    refusal_by : (o : Outcome TextTree) → Judged list o → (a : Option (Misfit × Place)) × IsGrammarRefusal list a
+    refusal_by (Ok p) j = (None, fits j.decides.0 j.decides.1)
+    refusal_by (Err (At r)) j = (Some (Unexpected, place r), j.decides)
+    refusal_by (Err (Over r)) j = (Some (TooDeep, place r), j.decides)
+    refusal_by (Err Spent) j = absurd j.decides
+
+    -- the grammar says of each list that it fits, or what is wrong with it
+    pub has_refusal : (a : Option (Misfit × Place)) × IsGrammarRefusal list a
+    has_refusal = refusal_by (text plain n list) plain_answers
 
   -- ---- one tree
 

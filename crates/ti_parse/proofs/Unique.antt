@@ -52,8 +52,7 @@ same_refusal {f = f} {g = g} {t = t} v w x y (inl (a, b, is, longer)) =
     absurd (none_before g b x (longer ∙ ap (λ z. f ++ z ∷ b) (sym head)) (misfit_begins y) (misfit_shallow y))
 same_refusal {m2 = m2} {t = t} {u = u} v w x y (inr (inl (is, tails))) =
     let head : t ≡ u = cc in
-    let misfit = one_misfit x y is head in
-    ap (λ z. Some (z, t.place)) misfit ∙ ap (λ (z : Token). Some (m2, z.place)) head
+    ap (λ z. Some (z, t.place)) (one_misfit x y is head) ∙ ap (λ (z : Token). Some (m2, z.place)) head
 same_refusal {f = f} v w x y (inr (inr (b, longer))) = absurd (none_before f b y longer (misfit_begins x) (misfit_shallow x))
 
 -- a list has at most one grammar refusal
