@@ -1,1 +1,5 @@
 pub mod Answer
+pub mod Way
+pub mod Parts
+pub mod Statements
+pub mod Classes

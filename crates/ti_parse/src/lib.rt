@@ -1,8 +1,2 @@
-//! The tree of a text.
+//! The trees of texts.
 #![tactic(auto)]
-
-mod error;
-mod text;
-
-pub use error::ParseErr;
-pub use text::parse;

@@ -24,7 +24,7 @@ use Rattle.ti_parse_expr.proofs.Forms.{level_of, phrase_says, phrase_reads, phra
 -- ---- lists
 
 -- what stands before some token of a list stands in front of its last
-inside : (a b front : List Token) (u last : Token) → a ++ u ∷ b ≡ front ++ last ∷ [] → (c : List Token) × (front ≡ a ++ c)
+pub inside : (a b front : List Token) (u last : Token) → a ++ u ∷ b ≡ front ++ last ∷ [] → (c : List Token) × (front ≡ a ++ c)
 inside [] b front u last h = (front, refl)
 inside (x ∷ a) b [] u last h = absurd (omega (arith, ap length h, length-append a (u ∷ b)))
 inside (x ∷ a) b (y ∷ front) u last h =

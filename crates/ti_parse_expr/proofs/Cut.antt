@@ -35,7 +35,7 @@ pub record Cut {A : Type 0} (p q : Parser A) : Type 0 where
 pub cut_pure : {A : Type 0} (x : A) → Cut (λ i. Ok (x, i)) (λ i. Ok (x, i))
 cut_pure x = record { shrinks = λ l. omega arith; alike = λ l some. (refl, some) }
 
-cut_refuse : {A : Type 0} → Cut {A = A} (λ i. Err (At i)) (λ i. Err (At i))
+pub cut_refuse : {A : Type 0} → Cut {A = A} (λ i. Err (At i)) (λ i. Err (At i))
 cut_refuse = record { shrinks = λ l. omega arith; alike = λ l some. (refl, some) }
 
 pub cut_over : {A : Type 0} → Cut {A = A} (λ i. Err (Over i)) (λ i. Err (Over i))
@@ -54,7 +54,7 @@ take_alike [] some = absurd (omega arith)
 take_alike (t ∷ []) some = refl
 take_alike (t ∷ u ∷ l) some = (refl, omega arith)
 
-cut_take : Cut take_token take_within
+pub cut_take : Cut take_token take_within
 cut_take = record { shrinks = take_shrinks; alike = take_alike }
 
 shrinks_more : {A : Type 0} (l r : List Token) (o : Outcome A) → length r ≤ length l → Shrinks r o → Shrinks l o
@@ -94,11 +94,11 @@ cut_then {p = p} {q = q} {f = f} {g = g} c more = record {
 }
 
 -- what depends on the next token
-cut_by : {A X : Type 0} (look : List Token → X) {f g : X → Parser A} → ((x : X) → Cut (f x) (g x)) → Cut (λ i. f (look i) i) (λ i. g (look i) i)
+pub cut_by : {A X : Type 0} (look : List Token → X) {f g : X → Parser A} → ((x : X) → Cut (f x) (g x)) → Cut (λ i. f (look i) i) (λ i. g (look i) i)
 cut_by look more = record { shrinks = λ l. (more (look l)).shrinks l; alike = λ l. (more (look l)).alike l }
 
 -- no turns in the one way are none in the other
-cut_none : {A : Type 0} (q : ℕ → Parser A) (m : ℕ) → zero ≡ m → q zero ≡ (λ i. Err Spent) → Cut (λ i. Err Spent) (q m)
+pub cut_none : {A : Type 0} (q : ℕ → Parser A) (m : ℕ) → zero ≡ m → q zero ≡ (λ i. Err Spent) → Cut (λ i. Err Spent) (q m)
 cut_none q m h is = subst (λ z. Cut (λ i. Err Spent) (q z)) h (subst (λ z. Cut (λ i. Err Spent) z) (sym is) cut_spent)
 
 none_more : (m : ℕ) → suc m ≡ zero → ⊥

@@ -53,21 +53,21 @@ qualifier_goes_on _ word h = cc
 
 -- ---- types
 
-arity_ends : {l : List Token} {n : ℕ} → Arity l n → ends l ≡ 0
+pub arity_ends : {l : List Token} {n : ℕ} → Arity l n → ends l ≡ 0
 arity_ends (types.arity o t c h h2 low high h3) = omega (arith, ap end_of h, ap end_of h2, ap end_of h3)
 
-based_ends : {l : List Token} {x : Base} → Based l x → ends l ≡ 0
+pub based_ends : {l : List Token} {x : Base} → Based l x → ends l ≡ 0
 based_ends (types.int t h) = omega (arith, ap end_of h)
 based_ends (types.boolean t h) = omega (arith, ap end_of h)
 based_ends (types.point t h s) = omega (arith, ap end_of h, arity_ends s)
 based_ends (types.rect_domain t h s) = omega (arith, ap end_of h, arity_ends s)
 based_ends (types.named t h) = omega (arith, ap end_of h)
 
-qualified_ends : {l : List Token} {qs : List Qualifier} → Qualified l qs → ends l ≡ 0
+pub qualified_ends : {l : List Token} {qs : List Qualifier} → Qualified l qs → ends l ≡ 0
 qualified_ends types.none = refl
 qualified_ends (types.more t {word = word} h s) = omega (arith, qualifier_goes_on t.kind word h, qualified_ends s)
 
-gridded_ends : {l : List Token} {gs : List GridTree} → Gridded l gs → ends l ≡ 0
+pub gridded_ends : {l : List Token} {gs : List GridTree} → Gridded l gs → ends l ≡ 0
 gridded_ends types.none = refl
 gridded_ends (types.more {l = l} {m = m} o t c h h2 h3 s g) = omega (arith, ends-append l m, ap end_of h, ap end_of h2, ap end_of h3, qualified_ends s, gridded_ends g)
 
@@ -112,7 +112,7 @@ mutual
   listed_ends (grammar.last s) = whole_ends s
   listed_ends (grammar.more {l = l} {m = m} t s h q) = omega (arith, ends-append l (t ∷ m), ap end_of h, whole_ends s, listed_ends q)
 
-  ranges_ends : {l : List Token} {rs : List RangeTree} → Ranges l rs → ends l ≡ 0
+  pub ranges_ends : {l : List Token} {rs : List RangeTree} → Ranges l rs → ends l ≡ 0
   ranges_ends (grammar.last_range s) = range_ends s
   ranges_ends (grammar.more_ranges {l = l} {m = m} t s h q) = omega (arith, ends-append l (t ∷ m), ap end_of h, range_ends s, ranges_ends q)
 

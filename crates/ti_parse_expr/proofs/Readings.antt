@@ -16,7 +16,7 @@ use Rattle.ti_parse_expr.proofs.Forms.{level_of, phrase_says, phrase_reads, phra
 
 -- ---- one list taken apart in two ways
 
-abbrev Apart : (a b c : List Token) (t : Token) (d : List Token) → Type 0
+abbrev pub Apart : (a b c : List Token) (t : Token) (d : List Token) → Type 0
 Apart a b c t d =
     ((u : Token) × (v : List Token) × (b ≡ u ∷ (v ++ t ∷ d)) × (c ≡ a ++ u ∷ v))
     ⊎ (((a ≡ c) × (b ≡ t ∷ d)) ⊎ ((v : List Token) × (a ≡ c ++ t ∷ v)))
@@ -26,7 +26,7 @@ also x y a b c t d same (inl (u, v, is, more)) = inl (u, v, is, ap (λ z. z ∷ 
 also x y a b c t d same (inr (inl (is, rest))) = inr (inl (ap (λ z. z ∷ a) same ∙ ap (λ z. y ∷ z) is, rest))
 also x y a b c t d same (inr (inr (v, is))) = inr (inr (v, ap (λ z. z ∷ a) same ∙ ap (λ z. y ∷ z) is))
 
-apart : (a b c : List Token) (t : Token) (d : List Token) → a ++ b ≡ c ++ t ∷ d → Apart a b c t d
+pub apart : (a b c : List Token) (t : Token) (d : List Token) → a ++ b ≡ c ++ t ∷ d → Apart a b c t d
 apart [] b [] t d h = inr (inl (refl, h))
 apart [] b (u ∷ c) t d h = inl (u, c, h, refl)
 apart (x ∷ a) b [] t d h = let same : x ≡ t = cc in inr (inr (a, ap (λ z. z ∷ a) same))

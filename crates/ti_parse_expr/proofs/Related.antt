@@ -95,7 +95,7 @@ module _ (Q : (A : Type 0) → Parser A → Parser A → Type 0) (T : ℕ → �
   r_dimension_by (k.Int n) = r_dimension_if (dim_of n)
   r_dimension_by _ = r_refuse
 
-  r_arity : R (arity take_token) (arity take)
+  pub r_arity : R (arity take_token) (arity take)
   unfolding arity
   r_arity = r_then (r_expect k.Less) (λ _. r_then (r_kind (types.dimension_by take_token) (types.dimension_by take) r_dimension_by) (λ n. r_then (r_expect k.Greater) (λ _. r_pure n)))
 
@@ -111,7 +111,7 @@ module _ (Q : (A : Type 0) → Parser A → Parser A → Type 0) (T : ℕ → �
   r_base_by (k.Name name) = r_place (λ at i. and_then (take_token i) (λ _ j. Ok (b.Named at name, j))) (λ at i. and_then (take i) (λ _ j. Ok (b.Named at name, j))) (λ at. r_then r_take (λ _. r_pure (b.Named at name)))
   r_base_by _ = r_refuse
 
-  r_base : R (type_base take_token) (type_base take)
+  pub r_base : R (type_base take_token) (type_base take)
   unfolding type_base
   r_base = r_kind (types.base_by take_token) (types.base_by take) r_base_by
 
@@ -120,7 +120,7 @@ module _ (Q : (A : Type 0) → Parser A → Parser A → Type 0) (T : ℕ → �
   r_qualifiers_if f g more found (Some word) =
       r_place (λ at i. and_then (take_token i) (λ _. f (found ++ record { word = word; place = at } ∷ []))) (λ at i. and_then (take i) (λ _. g (found ++ record { word = word; place = at } ∷ []))) (λ at. r_then r_take (λ _. more (found ++ record { word = word; place = at } ∷ [])))
 
-  r_qualifiers : (m m2 : ℕ) → T m m2 → (found : List Qualifier) → R (qualifiers take_token m found) (qualifiers take m2 found)
+  pub r_qualifiers : (m m2 : ℕ) → T m m2 → (found : List Qualifier) → R (qualifiers take_token m found) (qualifiers take m2 found)
   unfolding qualifiers
   r_qualifiers zero m2 h found = r_spent (λ z. qualifiers take z found) m2 h refl
   r_qualifiers (suc m) zero h found = absurd (t_none m h)
@@ -133,16 +133,16 @@ module _ (Q : (A : Type 0) → Parser A → Parser A → Type 0) (T : ℕ → �
   r_dim_by _ = r_refuse
 
   module _ (turns more : ℕ) (most : T turns more) where
-    r_grid : R (grid take_token turns) (grid take more)
+    pub r_grid : R (grid take_token turns) (grid take more)
     unfolding grid
     r_grid = r_then (r_kind (types.dim_by take_token) (types.dim_by take) r_dim_by) (λ n. r_then (r_expect k.RightBracket) (λ _. r_then (r_qualifiers turns more most []) (λ qs. r_pure (record { dim = n; qualifiers = qs }))))
 
-    r_grids : (n : ℕ) (found : List GridTree) → R (grids take_token turns n found) (grids take more n found)
+    pub r_grids : (n : ℕ) (found : List GridTree) → R (grids take_token turns n found) (grids take more n found)
     unfolding grids
     r_grids zero found = r_pure found
     r_grids (suc n) found = r_sees k.LeftBracket (r_then r_take (λ _. r_then r_grid (λ g. r_grids n (found ++ g ∷ [])))) (r_pure found)
 
-    r_field_type : (begin : Base) → R (field_type take_token turns begin) (field_type take more begin)
+    pub r_field_type : (begin : Base) → R (field_type take_token turns begin) (field_type take more begin)
     unfolding field_type
     r_field_type begin = r_then (r_qualifiers turns more most []) (λ qs. r_then (r_grids 3 []) (λ gs. r_pure (record { base = begin; qualifiers = qs; grids = gs })))
 

@@ -1,0 +1,137 @@
+-- Reading statements, by one token of sight.
+use Rattle.std.specs.Prelude.{ℕ, zero, suc, Bool, true, false, if◌then◌else◌, List, [], ◌∷◌, ◌++◌, Ok, Err, codes}
+use Rattle.ti_base.specs.declared.place.Place.{Place}
+use Rattle.ti_lang.specs.declared.token.TokenKind.{TokenKind}
+use Rattle.ti_lang.specs.declared.token.TokenKind.TheVariants as k
+use Rattle.ti_lang.specs.Trees.Statements.{Stm}
+use Rattle.ti_lang.specs.Trees.Statements as s
+use Rattle.ti_lang.specs.Spelling.Statements.{starts}
+use Rattle.ti_parse_expr.specs.declared.parse.Form.TheVariants as form
+use Rattle.ti_parse_expr.specs.Input.{Parser, Over, Spent, ◌>>=◌, ◌>>◌, ◌<$>◌, pure, refuse, peek, here, kind, sees, expect_by, expect_word_by, name_with}
+use Rattle.ti_parse.specs.Way.{Way}
+use Rattle.ti_parse.specs.Parts.{Begun, Declares, Starts, begins_declaration, typed, declared, simple, begun, print, barrier, condition, first, test, update}
+
+-- the tokens that compound statements begin with
+abbrev pub is_compound : TokenKind → Bool
+is_compound k.LeftBrace = true
+is_compound k.KeywordIf = true
+is_compound k.KeywordWhile = true
+is_compound k.KeywordFor = true
+is_compound k.KeywordForeach = true
+is_compound _ = false
+
+-- the tokens behind the last item
+abbrev pub ends_items : TokenKind → Bool
+ends_items k.RightBrace = true
+ends_items k.KeywordReturn = true
+ends_items _ = false
+
+-- the next token is nested too deeply
+abbrev pub too_deep : {A : Type 0} → Parser A
+too_deep = λ i. Err (Over i)
+
+module _ (w : Way) (turns : ℕ) where
+  -- ---- the parts of compound statements, with a reader of the statements in them
+
+  module _ (stmt : Parser Stm) where
+    -- what began with a name
+    abbrev pub named_item : Begun → Parser Stm
+    named_item (Declares ty) = (do x ← declared w turns ty; expect_by w.take k.Semicolon; pure x)
+    named_item (Starts o) = simple w turns o
+
+    abbrev pub item_by : TokenKind → Parser Stm
+    item_by (k.Name name) = (do at ← here; w.take; x ← begun w turns at name; named_item x)
+    item_by kind = if begins_declaration kind then (do ty ← typed w turns; x ← declared w turns ty; expect_by w.take k.Semicolon; pure x) else stmt
+
+    -- a declaration or a statement
+    unfoldable pub item : Parser Stm
+    item = peek >>= item_by
+
+    -- as many as there are, in at most so many turns
+    unfoldable pub items : ℕ → List Stm → Parser (List Stm)
+    items zero found = λ i. Err Spent
+    items (suc n) found = do
+      is_end ← (λ i. Ok (ends_items (kind i), i))
+      if is_end then pure found else (do x ← item; items n (found ++ x ∷ []))
+
+    -- after `{`
+    unfoldable pub block : Parser Stm
+    block = do
+      xs ← items turns []
+      expect_by w.take k.RightBrace
+      pure (s.block xs)
+
+    -- after `if`
+    unfoldable pub conditional : Place → Parser Stm
+    conditional at = do
+      c ← condition w turns
+      x ← stmt
+      has_else ← (λ i. Ok (sees k.KeywordElse i, i))
+      if has_else then (do w.take; y ← stmt; pure (s.IfElse at c x y)) else pure (s.If at c x)
+
+    -- after `while`
+    unfoldable pub while_loop : Place → Parser Stm
+    while_loop at = do
+      c ← condition w turns
+      x ← stmt
+      pure (s.While at c x)
+
+    -- after `for`
+    unfoldable pub for_loop : Place → Parser Stm
+    for_loop at = do
+      expect_by w.take k.LeftParen
+      begin ← first w turns
+      expect_by w.take k.Semicolon
+      c ← test w turns
+      expect_by w.take k.Semicolon
+      change ← update w turns
+      expect_by w.take k.RightParen
+      x ← stmt
+      pure (s.For at begin c change x)
+
+    -- after `foreach`
+    unfoldable pub foreach_loop : Place → Parser Stm
+    foreach_loop at = do
+      expect_by w.take k.LeftParen
+      name_at ← here
+      name ← name_with w.take
+      expect_word_by w.take (codes "in")
+      domain ← w.full form.Whole
+      expect_by w.take k.RightParen
+      x ← stmt
+      pure (s.Foreach at name_at name domain x)
+
+    -- after the first token of a compound statement
+    abbrev pub compound : Place → TokenKind → Parser Stm
+    compound at k.LeftBrace = block
+    compound at k.KeywordIf = conditional at
+    compound at k.KeywordWhile = while_loop at
+    compound at k.KeywordFor = for_loop at
+    compound at _ = foreach_loop at
+
+  -- ---- statements
+
+  -- a statement that isn't compound
+  abbrev pub small_by : TokenKind → Parser Stm
+  small_by k.Semicolon = w.take >> pure s.Empty
+  small_by k.KeywordPrintln = print w turns
+  small_by k.KeywordSystem = print w turns
+  small_by k.KeywordTi = w.take >> barrier w turns
+  small_by kind = if starts kind then w.operand >>= simple w turns else refuse
+
+  unfoldable pub small : Parser Stm
+  small = peek >>= small_by
+
+  -- a statement where so many levels of compound ones may still begin
+  unfoldable pub stmt : ℕ → Parser Stm
+  stmt zero = do
+    is_deep ← (λ i. Ok (is_compound (kind i), i))
+    if is_deep then too_deep else small
+  stmt (suc n) = do
+    begin ← peek
+    at ← here
+    if is_compound begin then w.take >> compound (stmt n) at begin else small
+
+  -- the items of a method
+  abbrev pub body : Parser (List Stm)
+  body = items (stmt 64) turns []
