@@ -38,6 +38,10 @@ as_tells {n = n} as_u tells =
     let (w, y, s) = tells.some in
     record { some = (w, y, as_u w y s); said = as_said {m = n} (omega arith) as_u (λ _ _. tt) tells.said; meets = tells.meets }
 
+-- fewer turns
+pub fewer_tells : {A : Type 0} {n m : ℕ} {U : List Token → A → Type 0} {Q : A → List Token → Type 0} {l : List Token} {out : Outcome A} → n ≤ m → Tells m U Q l out → Tells n U Q l out
+fewer_tells le tells = record { some = tells.some; said = as_said le (λ g y s. s) (λ _ _. tt) tells.said; meets = tells.meets }
+
 meets_so : {A : Type 0} (n : ℕ) (U : List Token → A → Type 0) (P Q : A → List Token → Type 0) (l : List Token) → ((f r : List Token) (x : A) → U f x → P x r → Q x r) → (out : Outcome A) → Said n U Any l out → Meets P out → Meets Q out
 meets_so n U P Q l so (Ok p) said q = let (f, e, s, any) = said.says in so f p.1 p.0 s q
 meets_so n U P Q l so (Err e) said q = tt
@@ -81,13 +85,17 @@ if_tells true p q holds fails = holds refl
 if_tells false p q holds fails = fails refl
 
 -- whether the next token is of a kind
+pub if_head : {A : Type 0} {n : ℕ} {U : List Token → A → Type 0} {Q : A → List Token → Type 0} {l : List Token} (q : TokenKind) → ((a : TokenKind) → same_kind a q ≡ true → a ≡ q) → same_kind k.End q ≡ false → (p r : Parser A)
+    → ((t : Token) (ts : List Token) → l ≡ t ∷ ts → t.kind ≡ q → Tells n U Q (t ∷ ts) (p (t ∷ ts))) → (sees q l ≡ false → Tells n U Q l (r l)) → Tells n U Q l ((if sees q l then p else r) l)
+if_head {n = n} {U = U} {Q = Q} {l = l} q is_q not_end p r holds fails = if_tells (sees q l) p r (there l refl) fails
+  where
+    there : (v : List Token) → l ≡ v → sees q v ≡ true → Tells n U Q v (p v)
+    there [] is h = let wrong : false ≡ true = sym not_end ∙ h in cc
+    there (t ∷ ts) is h = holds t ts is (is_q t.kind h)
+
 pub if_sees : {A : Type 0} {n : ℕ} {U : List Token → A → Type 0} {Q : A → List Token → Type 0} {l : List Token} (q : TokenKind) → ((a : TokenKind) → same_kind a q ≡ true → a ≡ q) → same_kind k.End q ≡ false → (p r : Parser A)
     → ((t : Token) (ts : List Token) → t.kind ≡ q → Tells n U Q (t ∷ ts) (p (t ∷ ts))) → (sees q l ≡ false → Tells n U Q l (r l)) → Tells n U Q l ((if sees q l then p else r) l)
-if_sees {n = n} {U = U} {Q = Q} {l = l} q is_q not_end p r holds fails = if_tells (sees q l) p r (there l) fails
-  where
-    there : (l : List Token) → sees q l ≡ true → Tells n U Q l (p l)
-    there [] h = let wrong : false ≡ true = sym not_end ∙ h in cc
-    there (t ∷ ts) h = holds t ts (is_q t.kind h)
+if_sees q is_q not_end p r holds fails = if_head q is_q not_end p r (λ t ts is h. holds t ts h) fails
 
 -- the next token is read, and then what is left
 after_by : {A : Type 0} {n m : ℕ} {U : List Token → A → Type 0} {Q : A → List Token → Type 0} {t : Token} {ts : List Token} {out : Outcome A}
@@ -207,6 +215,7 @@ name_here {n = n} {U = U} {Q = Q} {l = l} p next = go l
   where
     some : BeginsIn U []
     some = let (w, x, s) = (next (token (k.Name [])) [] [] refl).some in (token (k.Name []) ∷ w, x, s)
+
     go : (l : List Token) → Tells n U Q l (and_then (named_by take_token (kind l) l) (p (place l)))
     go [] = refused_tells some
     go (t ∷ ts) = name_by p next some t ts t.kind refl
