@@ -4,3 +4,9 @@ pub mod Ends
 pub mod Limited
 pub mod Answered
 pub mod Unique
+pub mod Laws
+pub mod SoundKinds
+pub mod FullStub
+pub mod SoundParts
+pub mod SoundStatements
+pub mod SoundClasses
