@@ -3,7 +3,9 @@ pub mod Clauses
 pub mod Compiling
 pub mod Ended
 pub mod Ending
+pub mod Flattening
 pub mod Job
+pub mod Judging
 pub mod Line
 pub mod Reading
 pub mod RunEnds

@@ -3,14 +3,20 @@
 
 mod command;
 mod compiling;
+mod earliest;
 mod ending;
 mod fault;
+mod flatten;
+mod judge;
 mod line;
+mod main_form;
+mod main_method;
 mod printing;
 mod reading;
 mod run_line;
 mod runner;
 mod seat;
+mod unbuilt;
 mod walker;
 mod words;
 mod work;
