@@ -4,6 +4,10 @@ use Rattle.ti_lang.specs.declared.listing.Listing.{Listing}
 use Rattle.ti_lang.specs.Programs.{Program, listed_program}
 use Rattle.ti_rules.specs.declared.refusal.Refusal.{Refusal}
 use Rattle.ti_rules.specs.RefusalOf.{HasProgram, IsRefusal}
+use Rattle.ti_lex.specs.declared.error.LexErr.{LexErr}
+use Rattle.ti_lex.specs.declared.error.LexErr.TheVariants as lexer
+use Rattle.ti_parse_expr.specs.declared.error.ParseErr.{ParseErr}
+use Rattle.ti_parse_expr.specs.declared.error.ParseErr.TheVariants as parser
 use Rattle.ti_top.specs.declared.compiling.CompileErr.{CompileErr}
 use Rattle.ti_top.specs.declared.compiling.CompileErr.TheVariants.{Refused, Memory}
 
@@ -23,3 +27,12 @@ abbrev pub Compiles : List ℕ → Result Listing CompileErr → Type 0
 Compiles text (Ok listing) = HasProgramAlone text (listed_program listing)
 Compiles text (Err (Refused refusal)) = IsRefusedAs text refusal
 Compiles text (Err Memory) = Unit {0}
+
+-- what the errors of the lexer and the parser say of a text
+abbrev pub of_lexer : LexErr → CompileErr
+of_lexer (lexer.Refused refusal) = Refused refusal
+of_lexer lexer.Memory = Memory
+
+abbrev pub of_parser : ParseErr → CompileErr
+of_parser (parser.Refused refusal) = Refused refusal
+of_parser parser.Memory = Memory
