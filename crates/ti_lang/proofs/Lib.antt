@@ -4,3 +4,4 @@ pub mod Moves
 pub mod Standing
 pub mod Steps
 pub mod Bridges
+pub mod ProgramBridges

@@ -4,6 +4,7 @@ pub mod Evaluation
 pub mod Lines
 pub mod NextStep
 pub mod Processes
+pub mod Program
 pub mod Programs
 pub mod Runs
 pub mod Tokenizing
