@@ -2,11 +2,17 @@ pub mod Alignment
 pub mod Answers
 pub mod Evaluation
 pub mod Lines
+pub mod MainForm
+pub mod MainMethod
+pub mod Members
 pub mod NextStep
+pub mod Nodes
+pub mod Numbering
 pub mod Processes
 pub mod Program
 pub mod Programs
 pub mod Runs
+pub mod Scopes
 pub mod Tokenizing
 pub mod Tokens
 pub mod Trees

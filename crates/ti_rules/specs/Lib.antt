@@ -1,3 +1,5 @@
+pub mod BrokenNames
 pub mod LexicalRefusals
+pub mod MainForm
 pub mod Refusals
 pub mod Rules
