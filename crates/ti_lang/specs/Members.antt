@@ -1,6 +1,6 @@
 -- The classes, fields and methods of a text, and which of them a name means: the first of that name. They are numbered from 0
 -- in the order of the text, classes and methods over the whole text, fields in their class.
-use Rattle.std.specs.Prelude.{◌≡◌, ℕ, ◌+◌, Bool, true, false, ◌&&◌, ◌==◌, if◌then◌else◌, List, [], ◌∷◌, ◌++◌, map, flat_map, fold, position, Option, Some, None, slice_get, bytes_eq, codes}
+use Rattle.std.specs.Prelude.{ℕ, ◌+◌, Bool, true, false, ◌&&◌, ◌==◌, if◌then◌else◌, List, [], ◌∷◌, ◌++◌, map, flat_map, fold, position, Option, Some, None, slice_get, bytes_eq, codes}
 use Rattle.std.specs.List.{list_any, position_or_len}
 use Rattle.std.specs.Option.{option_map_or}
 use Rattle.ti_lang.specs.declared.tree.classes.Modifier.{Modifier}

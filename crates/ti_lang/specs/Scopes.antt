@@ -1,9 +1,7 @@
 -- What is in scope where, and what a name means there.
-use Rattle.std.specs.Prelude.{◌≡◌, ℕ, ◌+◌, ◌<◌, Bool, true, false, not, ◌||◌, if◌then◌else◌, List, [], ◌∷◌, ◌++◌, map, flat_map, length, Option, Some, None, is_some, bytes_eq}
+use Rattle.std.specs.Prelude.{◌≡◌, ℕ, ◌+◌, ◌<◌, Bool, true, false, not, ◌||◌, if◌then◌else◌, List, [], ◌∷◌, ◌++◌, flat_map, length, Option, Some, None, is_some, bytes_eq}
 use Rattle.std.specs.List.{list_any}
 use Rattle.std.specs.Map.{lookup}
-use Rattle.std.specs.Option.{option_map, option_map_or}
-use Rattle.ti_base.specs.declared.place.Place.{Place}
 use Rattle.ti_lang.specs.declared.tree.types.Base.{Base}
 use Rattle.ti_lang.specs.declared.tree.types.Base.TheVariants as b
 use Rattle.ti_lang.specs.declared.tree.types.Qualifier.{Qualifier}
@@ -14,7 +12,7 @@ use Rattle.ti_lang.specs.Trees.Expressions.{Exp}
 use Rattle.ti_lang.specs.Trees.Expressions as t
 use Rattle.ti_lang.specs.Trees.Statements.{PrintTree, Stm, MaybeStm, Stms, stms}
 use Rattle.ti_lang.specs.Trees.Statements as s
-use Rattle.ti_lang.specs.Trees.Classes.{ParamTree, ParamsTree, Words, Params, MethodTree, TextTree}
+use Rattle.ti_lang.specs.Trees.Classes.{ParamTree, ParamsTree, Words, Params, TextTree}
 use Rattle.ti_lang.specs.Program.Types.{ValueType, NumberedType, Declaration, Typed, Foreach, VariableUse}
 use Rattle.ti_lang.specs.Program.Types as ty
 use Rattle.ti_lang.specs.Members.{only_if, class_named, field_named, OwnMethod, methods_of, method_named, is_static, is_static_method}

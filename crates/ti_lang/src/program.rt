@@ -5,11 +5,18 @@
 // is written by the number of its name in the program's table of names.
 
 mod classes;
+mod copy;
 mod exprs;
+mod numbered;
+mod scope;
 mod stmts;
 mod types;
+mod words;
 
 pub use classes::{Class, Field, Method, Params, Parts, ResultType, Return};
 pub use exprs::{Expr, Range};
+pub use numbered::Program;
+pub use scope::{InScope, Scope};
 pub use stmts::{Dims, Init, Printed, Stmt};
 pub use types::{Declared, Ty, TypeUse, Variable};
+pub use words::{has_local, has_single, has_static};
