@@ -4,5 +4,6 @@ pub mod Entries
 pub mod Moves
 pub mod OneMain
 pub mod OneProgram
+pub mod ProgramBridges
 pub mod Standing
 pub mod Steps

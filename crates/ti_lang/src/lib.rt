@@ -3,6 +3,7 @@
 
 mod laws;
 mod listing;
+pub mod program;
 mod spelled;
 mod token;
 pub mod tree;

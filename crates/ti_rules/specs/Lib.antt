@@ -1,3 +1,4 @@
+pub mod BrokenNames
 pub mod LexicalRefusals
 pub mod MainForm
 pub mod RefusalOf

@@ -1,0 +1,53 @@
+// Types, and variables as they are used.
+
+use crate::tree::{Brackets, Qualifier};
+
+/// A type. It tells nothing of `single`.
+#[derive(Debug, Drop)]
+#[cycle(ty)]
+pub enum Ty {
+    Int,
+    Bool,
+    /// `Point<N>`
+    Pt(u8),
+    /// `RectDomain<N>`
+    Rc(u8),
+    /// `Domain<N>`
+    Dm(u8),
+    /// `SharedRegion`
+    Region,
+    /// The class of a number, local or global.
+    Class { class: u32, local: bool },
+    /// `T [Nd]`, local or global.
+    Grid { elem: Box<Ty>, dim: u8, local: bool },
+    /// That of `null`.
+    Null,
+    /// That of a call without a result.
+    Void,
+}
+
+/// A type where it is written, with the words that qualify its parts.
+#[derive(Debug, Drop)]
+pub struct TypeUse {
+    pub ty: Ty,
+    /// Those behind the base.
+    pub qualifiers: Vec<Qualifier>,
+    /// The brackets from the outermost grid on, with those behind each.
+    pub grids: Vec<Brackets>,
+}
+
+/// What is written where a variable is declared.
+#[derive(Debug, Drop)]
+pub enum Declared {
+    /// Its type, and whether it is single.
+    Typed { single: bool, ty: Ty },
+    /// Nothing but its name: it runs over the points of a domain.
+    Foreach,
+}
+
+/// A variable where it is used: its number in its method, and what is written where it is declared.
+#[derive(Debug, Drop)]
+pub struct Variable {
+    pub number: u32,
+    pub declared: Declared,
+}
