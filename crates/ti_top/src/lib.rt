@@ -22,6 +22,7 @@ mod words;
 mod work;
 
 pub use command::{Outcome, titan_top};
+pub use compiling::one_answer;
 
 #[cfg(test)]
 mod tests;
