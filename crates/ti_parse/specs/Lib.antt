@@ -2,3 +2,4 @@ pub mod Way
 pub mod Parts
 pub mod Statements
 pub mod Classes
+pub mod Seen
