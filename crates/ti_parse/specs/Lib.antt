@@ -3,3 +3,4 @@ pub mod Parts
 pub mod Statements
 pub mod Classes
 pub mod Seen
+pub mod Nests
