@@ -155,11 +155,7 @@ impl Reader {
 
     /// A member, after its modifiers.
     #[tactic(auto, unfolding(crate::specs::Classes::member_from))]
-    fn member_from(
-        self,
-        tokens: &mut Tokens<'_>,
-        modifiers: Vec<Modifier>,
-    ) -> Result<Member, Stop>
+    fn member_from(self, tokens: &mut Tokens<'_>, modifiers: Vec<Modifier>) -> Result<Member, Stop>
         ensures { ReadsAs member_of (spec.member_from careful self.turns modifiers.items tokens.old) result tokens.new }
     {
         match tokens.peek() {
@@ -181,11 +177,7 @@ impl Reader {
 
     /// As many modifiers as there are.
     #[tactic(auto, unfolding(crate::specs::Classes::modifiers))]
-    fn modifiers(
-        self,
-        tokens: &mut Tokens<'_>,
-        modified: Modified,
-    ) -> Result<Vec<Modifier>, Stop>
+    fn modifiers(self, tokens: &mut Tokens<'_>, modified: Modified) -> Result<Vec<Modifier>, Stop>
         ensures { ReadsAs modifiers_of (spec.modifiers careful self.turns (word_of modified) self.turns [] tokens.old) result tokens.new }
     {
         let mut found = Vec::new(self.alloc);
@@ -227,11 +219,7 @@ impl Reader {
 
     /// A class, after its modifiers.
     #[tactic(auto, unfolding(crate::specs::Classes::class_from))]
-    fn class_from(
-        self,
-        tokens: &mut Tokens<'_>,
-        modifiers: Vec<Modifier>,
-    ) -> Result<Class, Stop>
+    fn class_from(self, tokens: &mut Tokens<'_>, modifiers: Vec<Modifier>) -> Result<Class, Stop>
         ensures { ReadsAs class_of (spec.class_from careful self.turns modifiers.items tokens.old) result tokens.new }
     {
         let word = tokens.place();

@@ -135,12 +135,7 @@ impl Reader {
 
     /// A new object or grid, after its region.
     #[tactic(auto, unfolding(crate::specs::Parts::made))]
-    fn made(
-        self,
-        tokens: &mut Tokens<'_>,
-        place: Place,
-        region: Option<Expr>,
-    ) -> Result<Init, Stop>
+    fn made(self, tokens: &mut Tokens<'_>, place: Place, region: Option<Expr>) -> Result<Init, Stop>
         ensures { ReadsAs init_of (spec.made careful self.turns place (maybe_of exp_of region) tokens.old) result tokens.new }
     {
         match tokens.peek() {

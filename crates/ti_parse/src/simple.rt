@@ -158,12 +158,7 @@ impl Reader {
 
     /// What begins with a name, after it.
     #[tactic(auto, unfolding(crate::specs::Parts::begun))]
-    pub fn begun(
-        self,
-        tokens: &mut Tokens<'_>,
-        place: Place,
-        name: Spelled,
-    ) -> Result<Begun, Stop>
+    pub fn begun(self, tokens: &mut Tokens<'_>, place: Place, name: Spelled) -> Result<Begun, Stop>
         ensures { ReadsAs begun_of (spec.begun careful self.turns place name tokens.old) result tokens.new }
     {
         match tokens.peek() {
