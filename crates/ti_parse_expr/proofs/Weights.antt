@@ -1,10 +1,11 @@
 -- Weights of fronts, and where a list is cut.
-use Rattle.std.proofs.Common.{◌≡◌, inl, inr, ℕ, zero, suc, ◌+◌, ◌-◌, ◌<◌, ◌≤◌, List, [], ◌∷◌, ◌++◌, length, refl, sym, ap, ◌∙◌, subst, arith, length-append, true, false, Bool, if◌then◌else◌, take, drop, append_assoc}
+use Rattle.std.proofs.Common.{◌≡◌, ◌⊎◌, inl, inr, ℕ, zero, suc, ◌+◌, ◌-◌, ◌<◌, ◌≤◌, List, [], ◌∷◌, ◌++◌, length, refl, sym, ap, ◌∙◌, subst, arith, length-append, true, false, Bool, if◌then◌else◌, take, drop, append_assoc}
 use Rattle.std.proofs.Math.Seq.{take-append_seam}
 use Rattle.std.proofs.lemmas.List.{take_all, length-drop}
 use Rattle.ti_lang.specs.declared.token.Token.{Token}
 use Rattle.ti_lang.specs.Spelling.Weights.{counts, arity_behind, weigh, weigh_behind}
 use Rattle.ti_parse_expr.specs.Answers.{EndsAtEnd, IsLight, most_weight}
+use Rattle.ti_parse_expr.proofs.Follows.{last_kind, last_append}
 use Rattle.ti_parse_expr.specs.Reach.{ends_expression, weighed, onward, reach, reach_by, IsCut}
 
 -- more tokens weigh no less
@@ -21,14 +22,14 @@ light_of weight w l small most front t rest is =
 pub light_front : (weight : ℕ) (a b : List Token) → IsLight weight (a ++ b) → IsLight weight a
 light_front weight a b light front t rest is = light front t (rest ++ b) (ap (λ z. z ++ b) is ∙ append_assoc front (t ∷ rest) b)
 
+pub last_of : (l : List Token) → 0 < length l → (f : List Token) × (t : Token) × (l ≡ f ++ t ∷ [])
+last_of [] some = absurd (omega (arith, some))
+last_of (t ∷ []) some = ([], t, refl)
+last_of (t ∷ u ∷ l) some = let (f, v, is) = last_of (u ∷ l) (omega arith) in (t ∷ f, v, ap (λ z. t ∷ z) is)
+
 -- the whole of a light list weighs no more than the most, if it has a token
 pub light_whole : (weight : ℕ) (l : List Token) → 0 < length l → IsLight weight l → weight + weigh l ≤ most_weight
 light_whole weight l some light = let (f, t, is) = last_of l some in subst (λ z. weight + weigh z ≤ most_weight) (sym is) (light f t [] is)
-  where
-    last_of : (l : List Token) → 0 < length l → (f : List Token) × (t : Token) × (l ≡ f ++ t ∷ [])
-    last_of [] some = absurd (omega (arith, some))
-    last_of (t ∷ []) some = ([], t, refl)
-    last_of (t ∷ u ∷ l) some = let (f, v, is) = last_of (u ∷ l) (omega arith) in (t ∷ f, v, ap (λ z. t ∷ z) is)
 
 -- ---- the first so many tokens, with so many tokens of an arity in front
 
@@ -75,37 +76,74 @@ take_front f t r =
 cut_made : (l f r : List Token) (t : Token) (m : ℕ) → l ≡ f ++ t ∷ r → m ≡ suc (length f) → take m l ≡ f ++ t ∷ []
 cut_made l f r t m is long = ap (λ z. take z l) long ∙ ap (take (suc (length f))) is ∙ take_front f t r
 
-cut_by : (weight w : ℕ) (l : List Token) (m : ℕ) → EndsAtEnd l → weight + w ≡ most_weight → Reaches 0 w l m → IsCut weight l (take m l) × (m ≡ length (take m l))
-cut_by weight w l m (fr, la, is, h) all (whole_list long light) =
-    let same = ap weigh is in
-    let size = ap length is in
-    let size2 = length-append fr (la ∷ []) in (
-      record {
-        front = fr;
-        last = la;
-        rest = [];
-        is = is;
-        made = cut_made l fr [] la m is (omega (arith, long, size, size2));
-        light = light_of weight w fr (omega (arith, light, same, weigh_front 0 fr (la ∷ []))) (omega (arith, all));
-        stops = inl (ap ends_expression h);
-      },
-      omega (arith, long, size, size2, ap length (cut_made l fr [] la m is (omega (arith, long, size, size2))), length-append fr (la ∷ [])),
-    )
-cut_by weight w l m at_end all (stop_at f t r is long light ends) =
-    let size = ap length is in
-    let size2 = length-append f (t ∷ r) in (
-      record { front = f; last = t; rest = r; is = is; made = cut_made l f r t m is long; light = light_of weight w f light (omega (arith, all)); stops = inl ends },
-      omega (arith, long, ap length (cut_made l f r t m is long), length-append f (t ∷ [])),
-    )
-cut_by weight w l m at_end all (heavy_at f t r is long light above) =
-    let size = ap length is in
-    let size2 = length-append f (t ∷ r) in (
-      record { front = f; last = t; rest = r; is = is; made = cut_made l f r t m is long; light = light_of weight w f light (omega (arith, all)); stops = inr (omega (arith, all, above)) },
-      omega (arith, long, ap length (cut_made l f r t m is long), length-append f (t ∷ [])),
-    )
+-- ---- the front that is read of any list
 
-pub cut_of : (weight : ℕ) (l : List Token) (m : ℕ) → EndsAtEnd l → weight ≤ most_weight → m ≡ reach 0 (most_weight - weight) l → IsCut weight l (take m l) × (m ≡ length (take m l))
-cut_of weight l m at_end small is = cut_by weight (most_weight - weight) l m at_end (omega (arith, small)) (subst (Reaches 0 (most_weight - weight) l) (sym is) (reaches 0 (most_weight - weight) l))
+pub record IsFront (weight : ℕ) (l front : List Token) : Type 0 where
+  pub before : List Token
+  pub last : Token
+  pub rest : List Token
+  pub is : l ≡ before ++ last ∷ rest
+  pub made : front ≡ before ++ last ∷ []
+  pub light : weight + weigh before ≤ most_weight
+  pub stops : (rest ≡ []) ⊎ ((ends_expression last.kind ≡ true) ⊎ (most_weight < weight + weigh (before ++ last ∷ [])))
+
+front_by : (weight w : ℕ) (l : List Token) (m : ℕ) → 0 < length l → weight + w ≡ most_weight → Reaches 0 w l m → IsFront weight l (take m l)
+front_by weight w l m some all (whole_list long light) =
+    let (f, t, is) = last_of l some in
+    let size = ap length is in
+    let size2 = length-append f (t ∷ []) in record {
+      before = f;
+      last = t;
+      rest = [];
+      is = is;
+      made = cut_made l f [] t m is (omega (arith, long, size, size2));
+      light = omega (arith, light, all, ap weigh is, weigh_front 0 f (t ∷ []));
+      stops = inl refl;
+    }
+front_by weight w l m some all (stop_at f t r is long light ends) = record { before = f; last = t; rest = r; is = is; made = cut_made l f r t m is long; light = omega (arith, all, light); stops = inr (inl ends) }
+front_by weight w l m some all (heavy_at f t r is long light above) =
+    record { before = f; last = t; rest = r; is = is; made = cut_made l f r t m is long; light = omega (arith, all, light); stops = inr (inr (omega (arith, all, above))) }
+
+pub front_is : (weight : ℕ) (l : List Token) → weight ≤ most_weight → 0 < length l → IsFront weight l (take (reach 0 (most_weight - weight) l) l)
+front_is weight l small some =
+    front_by weight (most_weight - weight) l (reach 0 (most_weight - weight) l) some (omega (arith, small)) (reaches 0 (most_weight - weight) l)
+
+one_at_most : (c : Bool) → (if c then 1 else 0) ≤ 1
+one_at_most true = omega arith
+one_at_most false = omega arith
+
+-- one token weighs one at most
+weigh_last : (n : ℕ) (f : List Token) (t : Token) → weigh_behind n (f ++ t ∷ []) ≤ weigh_behind n f + 1
+weigh_last zero [] t = omega (arith, one_at_most (counts t.kind))
+weigh_last (suc n) [] t = omega arith
+weigh_last zero (x ∷ f) t = omega (arith, weigh_last (arity_behind x.kind) f t)
+weigh_last (suc n) (x ∷ f) t = weigh_last n f t
+
+pub front_some : (weight : ℕ) (l front : List Token) → IsFront weight l front → 0 < length front
+front_some weight l front is = omega (arith, ap length is.made, length-append is.before (is.last ∷ []))
+
+pub front_light : (weight : ℕ) (l front : List Token) → IsFront weight l front → weight + weigh front ≤ most_weight + 1
+front_light weight l front is = omega (arith, ap weigh is.made, weigh_last 0 is.before is.last, is.light)
+
+cut_stops : (l before rest : List Token) (last : Token) (heavy : Type 0) → EndsAtEnd l → l ≡ before ++ last ∷ rest → (rest ≡ []) ⊎ ((ends_expression last.kind ≡ true) ⊎ heavy) → (ends_expression last.kind ≡ true) ⊎ heavy
+cut_stops l before rest last heavy (fr, la, ends, h) is (inl none) =
+    let all : l ≡ before ++ last ∷ [] = is ∙ ap (λ z. before ++ last ∷ z) none in
+    inl (ap ends_expression (sym (last_append before last []) ∙ ap last_kind (sym all ∙ ends) ∙ last_append fr la [] ∙ h))
+cut_stops l before rest last heavy at_end is (inr stops) = stops
+
+pub cut_of : (weight : ℕ) (l front : List Token) → EndsAtEnd l → IsFront weight l front → IsCut weight l front
+cut_of weight l front at_end is = record {
+  front = is.before;
+  last = is.last;
+  rest = is.rest;
+  is = is.is;
+  made = is.made;
+  light = light_of weight (weigh is.before) is.before (omega arith) is.light;
+  stops = cut_stops l is.before is.rest is.last (most_weight < weight + weigh (is.before ++ is.last ∷ [])) at_end is.is is.stops;
+}
+
+pub ending_some : (l : List Token) → EndsAtEnd l → 0 < length l
+ending_some l (fr, la, is, h) = omega (arith, ap length is, length-append fr (la ∷ []))
 
 -- where the weight is above the most from the start
 pub first_cut : (weight : ℕ) (l : List Token) → EndsAtEnd l → most_weight < weight → IsCut weight l (take 1 l)

@@ -269,6 +269,6 @@ phrase take turns form.Postfix = (λ x. x.0) <$> operand take turns (expr take t
 unfoldable pub behind_name : Parser (Unit {0}) → ℕ → Place → List ℕ → Parser Operand
 behind_name take turns at name = named take turns (expr take turns) at name >>= postfix take turns (expr take turns) turns
 
--- a Postfix behind its first name and an opening bracket
+-- a Postfix behind its first name and an opening bracket, with so many turns behind its index
 unfoldable pub behind_bracket : Parser (Unit {0}) → ℕ → Place → Place → List ℕ → Parser Operand
-behind_bracket take turns bracket_at at name = index take turns (expr take turns) bracket_at (e.Name at name) >>= postfix take turns (expr take turns) turns
+behind_bracket take turns bracket_at at name = index take (suc turns) (expr take (suc turns)) bracket_at (e.Name at name) >>= postfix take (suc turns) (expr take (suc turns)) turns

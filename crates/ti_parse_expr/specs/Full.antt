@@ -49,7 +49,7 @@ abbrev pub full_behind_name : Place → List ℕ → Parser Operand
 full_behind_name at name l = light 0 (behind_name take_token (suc (suc (length l))) at name) l
 
 abbrev pub full_behind_bracket : Place → Place → List ℕ → Parser Operand
-full_behind_bracket bracket_at at name l = light 1 (behind_bracket take_token (suc (suc (suc (length l)))) bracket_at at name) l
+full_behind_bracket bracket_at at name l = light 1 (behind_bracket take_token (suc (suc (length l))) bracket_at at name) l
 
 -- ---- as the code reads: a front of the list, whose last token stays
 
@@ -64,18 +64,18 @@ widened weight l front (Err (At r)) = Err (At (drop (length front - length r) l)
 widened weight l front (Err (Over r)) = Err (Over (drop (length front - length r) l))
 widened weight l front (Err Spent) = if nat_lt 256 (weight + weigh front) then Err (Over (drop (length front - 1) l)) else Err Spent
 
--- a reader of the front, given as many turns as the front has tokens
+-- a reader of the front, given one turn more than the front has tokens
 abbrev pub within : {A : Type 0} → ℕ → (ℕ → Parser A) → Parser A
-within weight p l = let front = front_of weight l in widened weight l front (p (length front) front)
+within weight p l = let front = front_of weight l in widened weight l front (p (suc (length front)) front)
 
 abbrev pub full_within : Form → Parser Exp
-full_within form = within 0 (λ n. phrase take_within (suc n) form)
+full_within form = within 0 (λ n. phrase take_within n form)
 
 abbrev pub operand_within : Parser Operand
-operand_within = within 0 (λ n. operand take_within (suc n) (expr take_within (suc n)))
+operand_within = within 0 (λ n. operand take_within n (expr take_within n))
 
 abbrev pub behind_name_within : Place → List ℕ → Parser Operand
-behind_name_within at name = within 0 (λ n. behind_name take_within (suc (suc n)) at name)
+behind_name_within at name = within 0 (λ n. behind_name take_within n at name)
 
 abbrev pub behind_bracket_within : Place → Place → List ℕ → Parser Operand
-behind_bracket_within bracket_at at name = within 1 (λ n. behind_bracket take_within (suc (suc (suc n))) bracket_at at name)
+behind_bracket_within bracket_at at name = within 1 (λ n. behind_bracket take_within n bracket_at at name)

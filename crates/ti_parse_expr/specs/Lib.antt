@@ -3,6 +3,7 @@ pub mod Seen
 pub mod Types
 pub mod Expr
 pub mod Full
+pub mod ByFront
 pub mod Nests
 pub mod Answers
 pub mod Reach

@@ -1,7 +1,7 @@
 // Expressions, by one token of sight. The rules take the reader of expressions as a parameter, so that each is proved by
 // itself.
 
-ghost use Rattle.std.specs.Prelude.{[], ◌∷◌, ◌++◌, ◌≡◌, IfOk};
+ghost use Rattle.std.specs.Prelude.{[], ◌∷◌, ◌++◌, ◌≡◌, ◌+◌, ◌<◌, ◌^◌, IfOk};
 ghost use Rattle.ti_lang.specs.Trees.Views.{exp_of, exps_of, range_of, ranges_of, type_of};
 ghost use Rattle.ti_parse_expr.specs.Input.{Reads, ReadsAs, take_within};
 ghost use Rattle.ti_parse_expr.specs.Seen.{operand_of};
@@ -234,14 +234,19 @@ impl<F: Fn(Global, &mut Tokens<'_>, usize, u8) -> Result<Expr, Stop>> Grammar<F>
         })
     }
 
-    /// What stands behind an operand.
+    /// What stands behind an operand, in at most so many turns.
     #[tactic(auto, unfolding(crate::specs::Expr::postfix))]
-    pub fn postfix(&self, tokens: &mut Tokens<'_>, first: Operand) -> Result<Operand, Stop>
+    pub fn postfix(
+        &self,
+        tokens: &mut Tokens<'_>,
+        turns: usize,
+        first: Operand,
+    ) -> Result<Operand, Stop>
         requires { Nests self.now.turns (F.pre self.now.expr) (F.post self.now.expr) }
-        ensures { ReadsAs operand_of (spec.postfix take_within self.now.turns (spec.expr take_within self.now.turns) self.now.turns (operand_of first) tokens.old) result tokens.new }
+        ensures { ReadsAs operand_of (spec.postfix take_within self.now.turns (spec.expr take_within self.now.turns) turns (operand_of first) tokens.old) result tokens.new }
     {
         let mut left = first;
-        for _turn in 0..self.turns {
+        for _turn in 0..turns {
             match tokens.peek() {
                 TokenKind::Dot => {
                     tokens.take()?;
@@ -267,6 +272,7 @@ impl<F: Fn(Global, &mut Tokens<'_>, usize, u8) -> Result<Expr, Stop>> Grammar<F>
         tokens.expect(TokenKind::RightParen)?;
         self.postfix(
             tokens,
+            self.turns,
             Operand {
                 expr,
                 ending: Ending::Other,
@@ -306,7 +312,7 @@ impl<F: Fn(Global, &mut Tokens<'_>, usize, u8) -> Result<Expr, Stop>> Grammar<F>
                 let name = name.copy(self.alloc)?;
                 tokens.take()?;
                 let first = self.named(tokens, place, name)?;
-                return self.postfix(tokens, first);
+                return self.postfix(tokens, self.turns, first);
             }
             TokenKind::LeftParen => {
                 tokens.take()?;
@@ -324,6 +330,7 @@ impl<F: Fn(Global, &mut Tokens<'_>, usize, u8) -> Result<Expr, Stop>> Grammar<F>
         };
         self.postfix(
             tokens,
+            self.turns,
             Operand {
                 expr,
                 ending: Ending::Other,
@@ -413,14 +420,14 @@ impl<F: Fn(Global, &mut Tokens<'_>, usize, u8) -> Result<Expr, Stop>> Grammar<F>
         requires { Nests self.now.turns (F.pre self.now.expr) (F.post self.now.expr) }
         ensures { ReadsAs exp_of (spec.group_from take_within self.now.turns (spec.expr take_within self.now.turns) (operand_of first) tokens.old) result tokens.new }
     {
-        let left = self.postfix(tokens, first)?;
+        let left = self.postfix(tokens, self.turns, first)?;
         let expr = self.climb(tokens, 1, left.expr)?;
         tokens.expect(TokenKind::RightParen)?;
         let inner = Operand {
             expr,
             ending: Ending::Other,
         };
-        Ok(self.postfix(tokens, inner)?.expr)
+        Ok(self.postfix(tokens, self.turns, inner)?.expr)
     }
 
     #[tactic(auto, unfolding(crate::specs::Expr::paren_name))]
@@ -594,10 +601,10 @@ pub fn behind_name(
 {
     let grammar = Grammar { alloc, turns, expr };
     let first = grammar.named(tokens, place, name)?;
-    grammar.postfix(tokens, first)
+    grammar.postfix(tokens, turns, first)
 }
 
-/// A Postfix, after its first name and a `[`.
+/// A Postfix, after its first name and a `[`, with so many turns behind its index.
 #[tactic(auto, unfolding(crate::specs::Expr::behind_bracket))]
 pub fn behind_bracket(
     alloc: Global,
@@ -607,9 +614,14 @@ pub fn behind_bracket(
     place: Place,
     name: Spelled,
 ) -> Result<Operand, Stop>
+    requires { turns + 1 < 2 ^ 64 }
     ensures { ReadsAs operand_of (spec.behind_bracket take_within turns bracket place name tokens.old) result tokens.new }
 {
-    let grammar = Grammar { alloc, turns, expr };
+    let grammar = Grammar {
+        alloc,
+        turns: turns + 1,
+        expr,
+    };
     let first = grammar.index(tokens, bracket, Expr::Name(place, name))?;
-    grammar.postfix(tokens, first)
+    grammar.postfix(tokens, turns, first)
 }

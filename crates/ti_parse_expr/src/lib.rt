@@ -3,6 +3,7 @@
 
 pub mod error;
 pub mod expr;
+pub mod full;
 pub mod operand;
 pub mod operators;
 pub mod parse;
@@ -14,6 +15,7 @@ mod tokens;
 pub mod types;
 
 pub use error::ParseErr;
+pub use operand::{Ending, Operand};
 pub use parse::{Form, one_tree, parse_expr};
 pub use stop::Stop;
 pub use tokens::Tokens;

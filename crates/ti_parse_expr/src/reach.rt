@@ -1,16 +1,17 @@
 // How far a list of tokens is read.
 
-ghost use Rattle.std.specs.Prelude.{[], ◌≡◌, ◌≤◌, ◌+◌};
+ghost use Rattle.std.specs.Prelude.{[], ◌≡◌, ◌≤◌, ◌<◌, ◌+◌, ◌^◌, length};
 ghost use Rattle.ti_lang.specs.Spelling.Weights.{weigh as weigh_spec};
 ghost use Rattle.ti_parse_expr.specs.Answers.{EndsAtEnd, most_weight};
 ghost use Rattle.ti_parse_expr.specs.Reach.{IsCut};
 ghost use Rattle.ti_parse_expr.specs.Reach as spec;
+ghost use Rattle.ti_parse_expr.specs.Full as full;
 
 use crate::operators::{arity_behind, counts};
 use ti_lang::{Token, TokenKind};
 
 /// The most that a token may weigh.
-const MOST_WEIGHT: u32 = 256;
+pub const MOST_WEIGHT: u32 = 256;
 
 /// Whether a token stands in no expression.
 fn ends_expression(kind: &TokenKind) -> bool
@@ -41,7 +42,8 @@ fn onward(kind: &TokenKind, arity: u32, left: u32) -> Option<(u32, u32)>
 /// How many tokens there are up to and including the first that weighs more than the limit or stands in no expression.
 #[tactic(auto, unfolding(crate::specs::Reach::reach))]
 pub fn reach(list: &[Token], limit: u32) -> usize
-    ensures { result ≡ spec.reach 0 limit list.now }
+    ensures value { result ≡ spec.reach 0 limit list.now }
+    ensures within { result ≤ length list.now }
 {
     let mut arity = 0;
     let mut left = limit;
@@ -64,6 +66,17 @@ pub fn reach(list: &[Token], limit: u32) -> usize
 
 /// The tokens up to and including the first that weighs too much, where the weight is counted on from a number, or
 /// stands in no expression.
+pub fn front_of(list: &[Token], weight: u32) -> &[Token]
+    requires some { 0 < length list.now }
+    requires small { weight ≤ most_weight }
+    ensures front { result.now ≡ full.front_of weight list.now }
+    ensures taken { 0 < length result.now }
+    ensures light { weight + weigh_spec result.now ≤ most_weight + 1 }
+{
+    &list[..reach(list, MOST_WEIGHT - weight)]
+}
+
+/// The same for a list that ends with the end of the text, where the weight may be above the limit from the start.
 pub fn cut(list: &[Token], weight: u32) -> &[Token]
     requires { EndsAtEnd list.now }
     ensures { IsCut weight list.now result.now }
@@ -71,12 +84,12 @@ pub fn cut(list: &[Token], weight: u32) -> &[Token]
     if weight > MOST_WEIGHT {
         return &list[..1];
     }
-    &list[..reach(list, MOST_WEIGHT - weight)]
+    front_of(list, weight)
 }
 
 /// The weight of the last token.
 pub fn weigh(list: &[Token]) -> u32
-    requires { weigh_spec list.now ≤ most_weight }
+    requires { weigh_spec list.now < 2 ^ 32 }
     ensures { result ≡ weigh_spec list.now }
 {
     let mut arity = 0;

@@ -1,6 +1,6 @@
 // A cursor over a list of tokens.
 
-ghost use Rattle.std.specs.Prelude.{◌≡◌, ◌<◌, Ok, length};
+ghost use Rattle.std.specs.Prelude.{◌≡◌, ◌<◌, Ok, length, drop};
 ghost use Rattle.ti_parse_expr.specs.Input as spec;
 ghost use Rattle.ti_parse_expr.specs.Input.{Reads};
 
@@ -15,17 +15,18 @@ use ti_lang::{Spelled, Token, TokenKind};
 /// The last token of the list is never taken.
 #[derive(Drop)]
 pub struct Tokens<'a> {
-    first: &'a Token,
-    rest: &'a [Token],
+    list: &'a [Token],
 }
 
 impl<'a> Model for Tokens<'a> {
-    ghost use Rattle.std.specs.Prelude.{List, ◌∷◌};
+    ghost use Rattle.std.specs.Prelude.{List, length, ◌<◌};
     ghost use Rattle.ti_lang.specs.declared.token.Token.{Token};
 
     ghost Value = { List Token };
 
-    ghost view = { λ t. t.first.now ∷ t.rest.now };
+    ghost view = { λ t. t.list.now };
+
+    ghost invariant = { λ t. 0 < length t.list.now };
 }
 
 impl<'a> Tokens<'a> {
@@ -34,8 +35,15 @@ impl<'a> Tokens<'a> {
         requires { 0 < length list.now }
         ensures { result ≡ list.now }
     {
-        match list {
-            [first, rest @ ..] => Tokens { first, rest },
+        Tokens { list }
+    }
+
+    fn first(&self) -> &'a Token
+        ensures kind { result.now.kind ≡ spec.kind self.now }
+        ensures place { result.now.place ≡ spec.place self.now }
+    {
+        match self.list {
+            [first, ..] => first,
             [] => unreachable!(),
         }
     }
@@ -44,14 +52,14 @@ impl<'a> Tokens<'a> {
     pub fn peek(&self) -> &'a TokenKind
         ensures { result.now ≡ spec.kind self.now }
     {
-        &self.first.kind
+        &self.first().kind
     }
 
     /// The place of the next token.
     pub fn place(&self) -> Place
         ensures { result ≡ spec.place self.now }
     {
-        self.first.place
+        self.first().place
     }
 
     /// Takes the next token, but the last one stays.
@@ -59,13 +67,15 @@ impl<'a> Tokens<'a> {
     pub fn take(&mut self) -> Result<(), Stop>
         ensures { Reads (spec.take_within self.old) result self.new }
     {
-        match self.rest {
-            [] => Err(Stop::Spent),
-            [first, rest @ ..] => {
-                self.first = first;
-                self.rest = rest;
-                Ok(())
-            }
+        match self.list {
+            [_, rest @ ..] => match rest {
+                [_, ..] => {
+                    self.list = rest;
+                    Ok(())
+                }
+                [] => Err(Stop::Spent),
+            },
+            [] => unreachable!(),
         }
     }
 
@@ -124,8 +134,25 @@ impl<'a> Tokens<'a> {
 
     /// How many tokens are left.
     pub fn left(&self) -> usize
-        ensures { result ≡ length self.now }
+        ensures count { result ≡ length self.now }
+        ensures some { 0 < result }
     {
-        self.rest.len() + 1
+        self.list.len()
+    }
+
+    /// The tokens that are left.
+    pub fn as_slice(&self) -> &'a [Token]
+        ensures all { result.now ≡ self.now }
+        ensures some { 0 < length result.now }
+    {
+        self.list
+    }
+
+    /// Takes so many tokens.
+    pub fn skip(&mut self, count: usize)
+        requires { count < length self.old }
+        ensures { self.new ≡ drop count self.old }
+    {
+        self.list = &self.list[count..];
     }
 }

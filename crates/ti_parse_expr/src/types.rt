@@ -41,7 +41,7 @@ fn dimension(tokens: &mut Tokens<'_>) -> Result<u8, Stop>
 
 /// `<` n `>`
 #[tactic(auto, unfolding(crate::specs::Types::arity))]
-fn arity(tokens: &mut Tokens<'_>) -> Result<u8, Stop>
+pub fn arity(tokens: &mut Tokens<'_>) -> Result<u8, Stop>
     ensures { Reads (spec.arity take_within tokens.old) result tokens.new }
 {
     tokens.expect(TokenKind::Less)?;

@@ -19,11 +19,11 @@ pub cut-front-requires : goal.cut-front-requires
 cut-front-requires c = rest_ends c.args.at c.args.toks.now c.requires.below c.requires.ended
 
 pub overflow_sub-size : goal.overflow_sub-size
-overflow_sub-size c = omega (arith, (said_ok c).within, c.left.ensures)
+overflow_sub-size c = omega (arith, (said_ok c).within, c.left.ensures.count)
 
 -- the weight of the run, and the number of its tokens as the code counts them
 run_small : (c : After-left) → c.args.weight + weigh (take (length c.cut-front.result.now - c.left.result) c.cut-front.result.now) ≤ most_weight
-run_small c = subst (λ n. c.args.weight + weigh (take (length c.cut-front.result.now - n) c.cut-front.result.now) ≤ most_weight) (sym c.left.ensures) (said_ok c).small
+run_small c = subst (λ n. c.args.weight + weigh (take (length c.cut-front.result.now - n) c.cut-front.result.now) ≤ most_weight) (sym c.left.ensures.count) (said_ok c).small
 
 pub weigh-requires : goal.weigh-requires
 weigh-requires c = omega (arith, run_small c)
@@ -40,7 +40,7 @@ returns-in-Ok c =
       length c.cut-front.result.now - c.left.result,
       refl,
       subst (λ w. IsPhrase c.args.form c.args.weight (drop c.args.at c.args.toks.now) (exp_of c.in-Ok.tree) (length c.cut-front.result.now - c.left.result) (c.args.weight + w)) (sym c.weigh.ensures)
-          (subst (λ n. IsPhrase c.args.form c.args.weight (drop c.args.at c.args.toks.now) (exp_of c.in-Ok.tree) (length c.cut-front.result.now - n) (c.args.weight + weigh (take (length c.cut-front.result.now - n) c.cut-front.result.now))) (sym c.left.ensures) (said_ok after).phrase),
+          (subst (λ n. IsPhrase c.args.form c.args.weight (drop c.args.at c.args.toks.now) (exp_of c.in-Ok.tree) (length c.cut-front.result.now - n) (c.args.weight + weigh (take (length c.cut-front.result.now - n) c.cut-front.result.now))) (sym c.left.ensures.count) (said_ok after).phrase),
     )
 
 pub returns-in-Err-Refused : goal.returns-in-Err-Refused

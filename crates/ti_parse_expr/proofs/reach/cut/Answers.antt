@@ -1,11 +1,15 @@
-use Rattle.ti_parse_expr.proofs.Weights.{cut_of, first_cut}
+use Rattle.std.proofs.Common.{sym, subst}
+use Rattle.ti_parse_expr.specs.Reach.{IsCut}
+use Rattle.ti_parse_expr.proofs.Weights.{front_is, cut_of, ending_some, first_cut}
 use Rattle.ti_parse_expr.proofs.reach.cut.Goals as goal
 
 pub returns-then-weight-gt-MOST_WEIGHT : goal.returns-then-weight-gt-MOST_WEIGHT
 returns-then-weight-gt-MOST_WEIGHT c = first_cut c.args.weight c.args.list.now c.requires c.if-weight-gt-MOST_WEIGHT.true
 
-pub slice_bounds-result-end-2 : goal.slice_bounds-result-end-2
-slice_bounds-result-end-2 c = (cut_of c.args.weight c.args.list.now c.reach.result c.requires c.if-weight-gt-MOST_WEIGHT.false c.reach.ensures).1
+pub front_of-requires-clause-some : goal.front_of-requires-clause-some
+front_of-requires-clause-some c = ending_some c.args.list.now c.requires
 
 pub returns : goal.returns
-returns c = (cut_of c.args.weight c.args.list.now c.reach.result c.requires c.if-weight-gt-MOST_WEIGHT.false c.reach.ensures).0
+returns c =
+    subst (IsCut c.args.weight c.args.list.now) (sym c.front_of.ensures.front)
+    (cut_of c.args.weight c.args.list.now _ c.requires (front_is c.args.weight c.args.list.now c.if-weight-gt-MOST_WEIGHT.false (ending_some c.args.list.now c.requires)))

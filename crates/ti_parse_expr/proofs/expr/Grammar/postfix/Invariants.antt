@@ -5,4 +5,4 @@ use Rattle.ti_parse_expr.specs.Expr.{expr, postfix}
 use Rattle.ti_parse_expr.proofs.expr.Grammar.postfix.Given as goal
 
 abbrev pub invariant-loop-turn : goal.invariant-loop-turn
-invariant-loop-turn g l = postfix take_within l.self.turns (expr take_within l.self.turns) l.self.turns (operand_of l.fn.first) l.fn.tokens ≡ postfix take_within l.self.turns (expr take_within l.self.turns) (l._turn-end - l._turn) (operand_of l.left) l.tokens
+invariant-loop-turn g l = postfix take_within l.self.turns (expr take_within l.self.turns) l.turns (operand_of l.fn.first) l.fn.tokens ≡ postfix take_within l.self.turns (expr take_within l.self.turns) (l.turns - l._turn) (operand_of l.left) l.tokens
