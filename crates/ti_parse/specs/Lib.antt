@@ -3,3 +3,5 @@ pub mod Way
 pub mod Parts
 pub mod Statements
 pub mod Classes
+pub mod Seen
+pub mod Nests

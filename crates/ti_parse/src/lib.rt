@@ -1,2 +1,15 @@
 //! The trees of texts.
 #![tactic(auto)]
+
+mod classes;
+mod heads;
+mod inits;
+mod reader;
+mod simple;
+mod stmts;
+mod text;
+mod types;
+mod words;
+
+pub use text::parse;
+pub use ti_parse_expr::ParseErr;

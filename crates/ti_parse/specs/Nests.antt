@@ -1,0 +1,17 @@
+-- A function value that reads statements where so many levels of compound ones may still begin.
+use Rattle.std.specs.Prelude.{ℕ, Result, List}
+use denote.Ref.{MutBor}
+use Rattle.ti_lang.specs.declared.token.Token.{Token}
+use Rattle.ti_lang.specs.declared.tree.stmts.Stmt.{Stmt}
+use Rattle.ti_lang.specs.Trees.Views.{stm_of}
+use Rattle.ti_parse_expr.specs.declared.stop.Stop.{Stop}
+use Rattle.ti_parse_expr.specs.Input.{ReadsAs}
+use Rattle.ti_parse.specs.declared.reader.Reader.{Reader}
+use Rattle.ti_parse.specs.Way.{careful}
+use Rattle.ti_parse.specs.Statements.{stmt}
+
+pub record Nests (reader : Reader) (levels : ℕ) (pre : Reader → MutBor (List Token) → ℕ → Type 0)
+    (post : Reader → MutBor (List Token) → ℕ → Result Stmt Stop → MutBor (List Token) → Type 0) : Type 0 where
+  pub callable : (old : MutBor (List Token)) → pre reader old levels
+  pub reads : (old new : MutBor (List Token)) (r : Result Stmt Stop) → post reader old levels r new
+      → ReadsAs stm_of (stmt careful reader.turns levels old.now) r new.now

@@ -1,0 +1,263 @@
+// Classes and their members, by one token of sight.
+
+ghost use Rattle.std.specs.Prelude.{[], ◌≡◌};
+ghost use Rattle.ti_lang.specs.Trees.Views.{class_of, maybe_of, member_of, params_of, result_of, return_of, type_of};
+ghost use Rattle.ti_parse.specs.Classes as spec;
+ghost use Rattle.ti_parse.specs.Seen.{classes_of, members_of, modifiers_of, param_list_of, word_of};
+ghost use Rattle.ti_parse.specs.Way.{careful};
+ghost use Rattle.ti_parse_expr.specs.Input.{ReadsAs};
+
+use crate::reader::Reader;
+use crate::words::{Modified, modifier_of};
+use ti_base::Place;
+use ti_lang::tree::{
+    Class, Field, Member, Method, Modifier, Param, Params, ResultType, Return, TypeName,
+};
+use ti_lang::{Spelled, TokenKind};
+use ti_parse_expr::{Stop, Tokens};
+
+impl Reader {
+    // ---- methods
+
+    /// One or more parameters.
+    #[tactic(auto, unfolding(crate::specs::Classes::more_params))]
+    fn more_params(self, tokens: &mut Tokens<'_>) -> Result<Vec<Param>, Stop>
+        ensures { ReadsAs param_list_of (spec.more_params careful self.turns self.turns [] tokens.old) result tokens.new }
+    {
+        let mut found = Vec::new(self.alloc);
+        for _turn in 0..self.turns {
+            let ty = self.typed(tokens)?;
+            let place = tokens.place();
+            let name = tokens.name(self.alloc)?;
+            found.push(Param { ty, place, name })?;
+            if !tokens.sees(TokenKind::Comma) {
+                return Ok(found);
+            }
+            tokens.take()?;
+        }
+        Err(Stop::Spent)
+    }
+
+    /// The one parameter that begins with `String`, after that word.
+    #[tactic(auto, unfolding(crate::specs::Classes::words))]
+    fn words(self, tokens: &mut Tokens<'_>) -> Result<Params, Stop>
+        ensures { ReadsAs params_of (spec.words careful self.turns tokens.old) result tokens.new }
+    {
+        tokens.expect(TokenKind::LeftBracket)?;
+        tokens.expect(TokenKind::RightBracket)?;
+        let place = tokens.place();
+        let name = tokens.name(self.alloc)?;
+        Ok(Params::Words(place, name))
+    }
+
+    /// What stands between the parentheses of a method.
+    #[tactic(auto, unfolding(crate::specs::Classes::params))]
+    fn params(self, tokens: &mut Tokens<'_>) -> Result<Params, Stop>
+        ensures { ReadsAs params_of (spec.params careful self.turns tokens.old) result tokens.new }
+    {
+        match tokens.peek() {
+            TokenKind::RightParen => Ok(Params::Typed(Vec::new(self.alloc))),
+            TokenKind::KeywordString => {
+                tokens.take()?;
+                self.words(tokens)
+            }
+            _ => Ok(Params::Typed(self.more_params(tokens)?)),
+        }
+    }
+
+    /// The last `return` of a method.
+    #[tactic(auto, unfolding(crate::specs::Classes::returned))]
+    fn returned(self, tokens: &mut Tokens<'_>) -> Result<Option<Return>, Stop>
+        ensures { ReadsAs (maybe_of return_of) (spec.returned careful self.turns tokens.old) result tokens.new }
+    {
+        if !tokens.sees(TokenKind::KeywordReturn) {
+            return Ok(None);
+        }
+        let place = tokens.place();
+        tokens.take()?;
+        let value = self.test(tokens)?;
+        tokens.expect(TokenKind::Semicolon)?;
+        Ok(Some(Return { place, value }))
+    }
+
+    /// A method, after its name.
+    #[tactic(auto, unfolding(crate::specs::Classes::method))]
+    fn method(
+        self,
+        tokens: &mut Tokens<'_>,
+        modifiers: Vec<Modifier>,
+        result_type: ResultType,
+        place: Place,
+        name: Spelled,
+    ) -> Result<Member, Stop>
+        ensures { ReadsAs member_of (spec.method careful self.turns modifiers.items (result_of result_type) place name tokens.old) result tokens.new }
+    {
+        tokens.expect(TokenKind::LeftParen)?;
+        let params = self.params(tokens)?;
+        tokens.expect(TokenKind::RightParen)?;
+        tokens.expect(TokenKind::LeftBrace)?;
+        let body = self.body(tokens)?;
+        let last = self.returned(tokens)?;
+        let end = tokens.place();
+        tokens.expect(TokenKind::RightBrace)?;
+        Ok(Member::Method(Method {
+            modifiers,
+            result: result_type,
+            place,
+            name,
+            params,
+            body,
+            last,
+            end,
+        }))
+    }
+
+    // ---- members
+
+    /// A method, after its result.
+    #[tactic(auto, unfolding(crate::specs::Classes::method_named))]
+    fn method_named(
+        self,
+        tokens: &mut Tokens<'_>,
+        modifiers: Vec<Modifier>,
+        result_type: ResultType,
+    ) -> Result<Member, Stop>
+        ensures { ReadsAs member_of (spec.method_named careful self.turns modifiers.items (result_of result_type) tokens.old) result tokens.new }
+    {
+        let place = tokens.place();
+        let name = tokens.name(self.alloc)?;
+        self.method(tokens, modifiers, result_type, place, name)
+    }
+
+    /// A field or a method, after the type.
+    #[tactic(auto, unfolding(crate::specs::Classes::field_or_method))]
+    fn field_or_method(
+        self,
+        tokens: &mut Tokens<'_>,
+        modifiers: Vec<Modifier>,
+        ty: TypeName,
+    ) -> Result<Member, Stop>
+        ensures { ReadsAs member_of (spec.field_or_method careful self.turns modifiers.items (type_of ty) tokens.old) result tokens.new }
+    {
+        let place = tokens.place();
+        let name = tokens.name(self.alloc)?;
+        if !tokens.sees(TokenKind::Semicolon) {
+            return self.method(tokens, modifiers, ResultType::Typed(ty), place, name);
+        }
+        tokens.take()?;
+        Ok(Member::Field(Field {
+            modifiers,
+            ty,
+            place,
+            name,
+        }))
+    }
+
+    /// A member, after its modifiers.
+    #[tactic(auto, unfolding(crate::specs::Classes::member_from))]
+    fn member_from(self, tokens: &mut Tokens<'_>, modifiers: Vec<Modifier>) -> Result<Member, Stop>
+        ensures { ReadsAs member_of (spec.member_from careful self.turns modifiers.items tokens.old) result tokens.new }
+    {
+        match tokens.peek() {
+            TokenKind::KeywordVoid => {
+                let place = tokens.place();
+                tokens.take()?;
+                self.method_named(tokens, modifiers, ResultType::Void(place))
+            }
+            TokenKind::KeywordDomain | TokenKind::KeywordSharedRegion => {
+                let ty = self.wide(tokens)?;
+                self.method_named(tokens, modifiers, ResultType::Typed(ty))
+            }
+            _ => {
+                let ty = self.field(tokens)?;
+                self.field_or_method(tokens, modifiers, ty)
+            }
+        }
+    }
+
+    /// As many modifiers as there are.
+    #[tactic(auto, unfolding(crate::specs::Classes::modifiers))]
+    fn modifiers(self, tokens: &mut Tokens<'_>, modified: Modified) -> Result<Vec<Modifier>, Stop>
+        ensures { ReadsAs modifiers_of (spec.modifiers careful self.turns (word_of modified) self.turns [] tokens.old) result tokens.new }
+    {
+        let mut found = Vec::new(self.alloc);
+        for _turn in 0..self.turns {
+            let Some(word) = modifier_of(modified, tokens.peek()) else {
+                return Ok(found);
+            };
+            let place = tokens.place();
+            tokens.take()?;
+            found.push(Modifier { word, place })?;
+        }
+        Err(Stop::Spent)
+    }
+
+    #[tactic(auto, unfolding(crate::specs::Classes::member))]
+    fn member(self, tokens: &mut Tokens<'_>) -> Result<Member, Stop>
+        ensures { ReadsAs member_of (spec.member careful self.turns tokens.old) result tokens.new }
+    {
+        let modifiers = self.modifiers(tokens, Modified::Member)?;
+        self.member_from(tokens, modifiers)
+    }
+
+    /// As many members as there are in front of a `}`.
+    #[tactic(auto, unfolding(crate::specs::Classes::members))]
+    fn members(self, tokens: &mut Tokens<'_>) -> Result<Vec<Member>, Stop>
+        ensures { ReadsAs members_of (spec.members careful self.turns self.turns [] tokens.old) result tokens.new }
+    {
+        let mut found = Vec::new(self.alloc);
+        for _turn in 0..self.turns {
+            if tokens.sees(TokenKind::RightBrace) {
+                return Ok(found);
+            }
+            found.push(self.member(tokens)?)?;
+        }
+        Err(Stop::Spent)
+    }
+
+    // ---- classes
+
+    /// A class, after its modifiers.
+    #[tactic(auto, unfolding(crate::specs::Classes::class_from))]
+    fn class_from(self, tokens: &mut Tokens<'_>, modifiers: Vec<Modifier>) -> Result<Class, Stop>
+        ensures { ReadsAs class_of (spec.class_from careful self.turns modifiers.items tokens.old) result tokens.new }
+    {
+        let word = tokens.place();
+        tokens.expect(TokenKind::KeywordClass)?;
+        let place = tokens.place();
+        let name = tokens.name(self.alloc)?;
+        tokens.expect(TokenKind::LeftBrace)?;
+        let members = self.members(tokens)?;
+        tokens.expect(TokenKind::RightBrace)?;
+        Ok(Class {
+            modifiers,
+            word,
+            place,
+            name,
+            members,
+        })
+    }
+
+    #[tactic(auto, unfolding(crate::specs::Classes::class))]
+    fn class(self, tokens: &mut Tokens<'_>) -> Result<Class, Stop>
+        ensures { ReadsAs class_of (spec.class careful self.turns tokens.old) result tokens.new }
+    {
+        let modifiers = self.modifiers(tokens, Modified::Class)?;
+        self.class_from(tokens, modifiers)
+    }
+
+    /// As many classes as there are in front of the end.
+    #[tactic(auto, unfolding(crate::specs::Classes::classes))]
+    pub fn classes(self, tokens: &mut Tokens<'_>) -> Result<Vec<Class>, Stop>
+        ensures { ReadsAs classes_of (spec.classes careful self.turns self.turns [] tokens.old) result tokens.new }
+    {
+        let mut found = Vec::new(self.alloc);
+        for _turn in 0..self.turns {
+            if tokens.sees(TokenKind::End) {
+                return Ok(found);
+            }
+            found.push(self.class(tokens)?)?;
+        }
+        Err(Stop::Spent)
+    }
+}

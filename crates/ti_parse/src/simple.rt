@@ -1,0 +1,270 @@
+// Statements with no others in them, by one token of sight.
+
+ghost use Rattle.std.specs.Prelude.{◌≡◌, false};
+ghost use Rattle.ti_lang.specs.Trees.Views.{exp_of, print_of, stm_of, type_of};
+ghost use Rattle.ti_lang.specs.Spelling.Expressions.{Target};
+ghost use Rattle.ti_parse.specs.Parts as spec;
+ghost use Rattle.ti_lang.specs.declared.token.TokenKind.TheVariants.{KeywordPrintln, Semicolon};
+ghost use Rattle.ti_parse.specs.Seen.{Keeps, begun_of, before_semicolon};
+ghost use Rattle.ti_parse.specs.Way.{careful};
+ghost use Rattle.ti_parse_expr.specs.Input.{Reads, ReadsAs, expect_by, take_within};
+ghost use Rattle.ti_parse_expr.specs.Seen.{operand_of};
+
+use crate::reader::Reader;
+use crate::words::{is_dim, starts, step_of, update_of};
+use ti_base::Place;
+use ti_lang::tree::{Base, Expr, Printed, Stmt, TypeName};
+use ti_lang::{Spelled, TokenKind};
+use ti_parse_expr::full::{full, full_behind_bracket, full_behind_name, full_operand};
+use ti_parse_expr::operators::qualifier_of;
+use ti_parse_expr::types::{field_type, grid, grids};
+use ti_parse_expr::{Ending, Form, Operand, Stop, Tokens};
+
+/// What begins with a name.
+#[derive(Debug, Drop)]
+pub enum Begun {
+    /// A declaration of this type.
+    Declares(TypeName),
+    /// A change or a call.
+    Starts(Operand),
+}
+
+/// What was read, if a semicolon follows it.
+fn with_semicolon<T: Drop>(tokens: &mut Tokens<'_>, read: T) -> Result<T, Stop>
+    ensures { Keeps read (expect_by take_within Semicolon tokens.old) result tokens.new }
+{
+    match tokens.expect(TokenKind::Semicolon) {
+        Ok(()) => Ok(read),
+        Err(stop) => Err(stop),
+    }
+}
+
+impl Reader {
+    // ---- declarations, changes and calls
+
+    /// A declaration, after its type.
+    #[tactic(auto, unfolding(crate::specs::Parts::declared))]
+    pub fn declared(self, tokens: &mut Tokens<'_>, ty: TypeName) -> Result<Stmt, Stop>
+        ensures { ReadsAs stm_of (spec.declared careful self.turns (type_of ty) tokens.old) result tokens.new }
+    {
+        let place = tokens.place();
+        let name = tokens.name(self.alloc)?;
+        tokens.expect(TokenKind::Assign)?;
+        let value = self.initial(tokens)?;
+        Ok(Stmt::Declare(place, ty, name, value))
+    }
+
+    /// A declaration with its semicolon, after its type.
+    pub fn declared_alone(self, tokens: &mut Tokens<'_>, ty: TypeName) -> Result<Stmt, Stop>
+        ensures { ReadsAs stm_of (before_semicolon (spec.declared careful self.turns (type_of ty)) tokens.old) result tokens.new }
+    {
+        let declared = self.declared(tokens, ty)?;
+        with_semicolon(tokens, declared)
+    }
+
+    /// A change, after its target.
+    fn changed_target(self, tokens: &mut Tokens<'_>, target: Expr) -> Result<Stmt, Stop>
+        ensures { ReadsAs stm_of (spec.changed_if careful self.turns (exp_of target) Target tokens.old) result tokens.new }
+    {
+        let place = tokens.place();
+        if tokens.sees(TokenKind::Assign) {
+            tokens.take()?;
+            let value = self.initial(tokens)?;
+            return Ok(Stmt::Assign(place, target, value));
+        }
+        if let Some(op) = update_of(tokens.peek()) {
+            tokens.take()?;
+            let value = self.expr(tokens)?;
+            return Ok(Stmt::Update(place, op, target, value));
+        }
+        match step_of(tokens.peek()) {
+            Some(op) => {
+                tokens.take()?;
+                Ok(Stmt::Step(place, op, target))
+            }
+            None => Err(Stop::Refused),
+        }
+    }
+
+    /// A change, after the operand that it begins with.
+    #[tactic(auto, unfolding(crate::specs::Parts::changed))]
+    pub fn changed(self, tokens: &mut Tokens<'_>, operand: Operand) -> Result<Stmt, Stop>
+        ensures { ReadsAs stm_of (spec.changed careful self.turns (operand_of operand) tokens.old) result tokens.new }
+    {
+        match operand.ending {
+            Ending::Target => self.changed_target(tokens, operand.expr),
+            Ending::Call | Ending::Other => Err(Stop::Refused),
+        }
+    }
+
+    /// A change with its semicolon, after the operand that it begins with.
+    fn changed_alone(self, tokens: &mut Tokens<'_>, operand: Operand) -> Result<Stmt, Stop>
+        ensures { ReadsAs stm_of (spec.simple_if careful self.turns (operand_of operand) false tokens.old) result tokens.new }
+    {
+        let changed = self.changed(tokens, operand)?;
+        with_semicolon(tokens, changed)
+    }
+
+    /// A call or a change with its semicolon, after the operand that it begins with.
+    #[tactic(auto, unfolding(crate::specs::Parts::simple))]
+    pub fn simple(self, tokens: &mut Tokens<'_>, operand: Operand) -> Result<Stmt, Stop>
+        ensures { ReadsAs stm_of (spec.simple careful self.turns (operand_of operand) tokens.old) result tokens.new }
+    {
+        if matches!(operand.ending, Ending::Call) && tokens.sees(TokenKind::Semicolon) {
+            tokens.take()?;
+            return Ok(Stmt::Call(operand.expr));
+        }
+        self.changed_alone(tokens, operand)
+    }
+
+    /// A change.
+    #[tactic(auto, unfolding(crate::specs::Parts::change))]
+    pub fn change(self, tokens: &mut Tokens<'_>) -> Result<Stmt, Stop>
+        ensures { ReadsAs stm_of (spec.change careful self.turns tokens.old) result tokens.new }
+    {
+        if !starts(tokens.peek()) {
+            return Err(Stop::Refused);
+        }
+        let operand = full_operand(self.alloc, tokens)?;
+        self.changed(tokens, operand)
+    }
+
+    // ---- what begins with a name
+
+    /// What begins with a name and a `[`, after both.
+    #[tactic(auto, unfolding(crate::specs::Parts::begun_bracket))]
+    fn begun_bracket(
+        self,
+        tokens: &mut Tokens<'_>,
+        place: Place,
+        name: Spelled,
+        bracket: Place,
+    ) -> Result<Begun, Stop>
+        ensures { ReadsAs begun_of (spec.begun_bracket careful self.turns place name bracket tokens.old) result tokens.new }
+    {
+        if !is_dim(tokens.peek()) {
+            let operand = full_behind_bracket(self.alloc, tokens, bracket, place, name)?;
+            return Ok(Begun::Starts(operand));
+        }
+        let mut found = Vec::new(self.alloc);
+        found.push(grid(self.alloc, tokens, self.turns)?)?;
+        let grids = grids(self.alloc, tokens, self.turns, 2, found)?;
+        Ok(Begun::Declares(TypeName {
+            base: Base::Named(place, name),
+            qualifiers: Vec::new(self.alloc),
+            grids,
+        }))
+    }
+
+    /// What begins with a name, after it.
+    #[tactic(auto, unfolding(crate::specs::Parts::begun))]
+    pub fn begun(self, tokens: &mut Tokens<'_>, place: Place, name: Spelled) -> Result<Begun, Stop>
+        ensures { ReadsAs begun_of (spec.begun careful self.turns place name tokens.old) result tokens.new }
+    {
+        match tokens.peek() {
+            TokenKind::Name(_) => Ok(Begun::Declares(TypeName {
+                base: Base::Named(place, name),
+                qualifiers: Vec::new(self.alloc),
+                grids: Vec::new(self.alloc),
+            })),
+            TokenKind::LeftBracket => {
+                let bracket = tokens.place();
+                tokens.take()?;
+                self.begun_bracket(tokens, place, name, bracket)
+            }
+            kind => {
+                if qualifier_of(kind).is_some() {
+                    let base = Base::Named(place, name);
+                    let ty = field_type(self.alloc, tokens, self.turns, base)?;
+                    return Ok(Begun::Declares(ty));
+                }
+                let operand = full_behind_name(self.alloc, tokens, place, name)?;
+                Ok(Begun::Starts(operand))
+            }
+        }
+    }
+
+    // ---- prints and barriers
+
+    /// `println`, with its place.
+    fn println(self, tokens: &mut Tokens<'_>) -> Result<Place, Stop>
+        ensures { Reads (spec.printer_by careful self.turns KeywordPrintln tokens.old) result tokens.new }
+    {
+        let place = tokens.place();
+        tokens.expect(TokenKind::KeywordPrintln)?;
+        Ok(place)
+    }
+
+    /// The place of `println`, which may stand behind `System.out.`.
+    #[tactic(auto, unfolding(crate::specs::Parts::printer))]
+    fn printer(self, tokens: &mut Tokens<'_>) -> Result<Place, Stop>
+        ensures { Reads (spec.printer careful self.turns tokens.old) result tokens.new }
+    {
+        match tokens.peek() {
+            TokenKind::KeywordSystem => {
+                tokens.take()?;
+                tokens.expect(TokenKind::Dot)?;
+                tokens.expect_word(b"out")?;
+                tokens.expect(TokenKind::Dot)?;
+                self.println(tokens)
+            }
+            _ => self.println(tokens),
+        }
+    }
+
+    /// What is printed, after a string literal.
+    #[tactic(auto, unfolding(crate::specs::Parts::printed_text))]
+    fn printed_text(self, tokens: &mut Tokens<'_>, text: Spelled) -> Result<Printed, Stop>
+        ensures { ReadsAs print_of (spec.printed_text careful self.turns text tokens.old) result tokens.new }
+    {
+        if !tokens.sees(TokenKind::Plus) {
+            return Ok(Printed::Text(text));
+        }
+        tokens.take()?;
+        let value = full(self.alloc, tokens, Form::Mul)?;
+        Ok(Printed::TextAndValue(text, value))
+    }
+
+    /// What stands between the parentheses of a print.
+    #[tactic(auto, unfolding(crate::specs::Parts::printed))]
+    fn printed(self, tokens: &mut Tokens<'_>) -> Result<Printed, Stop>
+        ensures { ReadsAs print_of (spec.printed careful self.turns tokens.old) result tokens.new }
+    {
+        match tokens.peek() {
+            TokenKind::RightParen => Ok(Printed::Nothing),
+            TokenKind::Str(text) => {
+                let text = text.copy(self.alloc)?;
+                tokens.take()?;
+                self.printed_text(tokens, text)
+            }
+            _ => Ok(Printed::Value(self.expr(tokens)?)),
+        }
+    }
+
+    /// A print.
+    #[tactic(auto, unfolding(crate::specs::Parts::print))]
+    pub fn print(self, tokens: &mut Tokens<'_>) -> Result<Stmt, Stop>
+        ensures { ReadsAs stm_of (spec.print careful self.turns tokens.old) result tokens.new }
+    {
+        let place = self.printer(tokens)?;
+        tokens.expect(TokenKind::LeftParen)?;
+        let printed = self.printed(tokens)?;
+        tokens.expect(TokenKind::RightParen)?;
+        tokens.expect(TokenKind::Semicolon)?;
+        Ok(Stmt::Print(place, printed))
+    }
+
+    /// A barrier, after `Ti`.
+    #[tactic(auto, unfolding(crate::specs::Parts::barrier))]
+    pub fn barrier(self, tokens: &mut Tokens<'_>) -> Result<Stmt, Stop>
+        ensures { ReadsAs stm_of (spec.barrier careful self.turns tokens.old) result tokens.new }
+    {
+        tokens.expect(TokenKind::Dot)?;
+        let place = tokens.place();
+        tokens.expect_word(b"barrier")?;
+        tokens.expect(TokenKind::LeftParen)?;
+        tokens.expect(TokenKind::RightParen)?;
+        tokens.expect(TokenKind::Semicolon)?;
+        Ok(Stmt::Barrier(place))
+    }
+}

@@ -1,0 +1,253 @@
+// Statements, by one token of sight. The rules take the reader of the statements inside as a parameter, so that each is
+// proved by itself.
+
+ghost use Rattle.std.specs.Prelude.{[], ◌≡◌};
+ghost use Rattle.ti_lang.specs.Trees.Views.{stm_of, stms_of};
+ghost use Rattle.ti_parse.specs.Nests.{Nests};
+ghost use Rattle.ti_parse.specs.Seen.{begun_of, boxed_stm};
+ghost use Rattle.ti_parse.specs.Statements as spec;
+ghost use Rattle.ti_parse.specs.Way.{careful};
+ghost use Rattle.ti_parse_expr.specs.Input.{ReadsAs};
+
+use crate::reader::Reader;
+use crate::simple::Begun;
+use crate::words::{begins_declaration, ends_items, is_compound, starts};
+use ti_base::Place;
+use ti_lang::TokenKind;
+use ti_lang::tree::Stmt;
+use ti_parse_expr::full::full_operand;
+use ti_parse_expr::{Stop, Tokens};
+
+/// The most levels of compound statements.
+pub const MOST_LEVELS: u32 = 64;
+
+/// The rules of statements, with a reader of the statements inside.
+#[derive(Clone, Copy)]
+pub struct Statements<F> {
+    pub reader: Reader,
+    /// How many levels of compound statements may still begin in them.
+    pub levels: u32,
+    pub stmt: F,
+}
+
+impl<F: Fn(Reader, &mut Tokens<'_>, u32) -> Result<Stmt, Stop>> Statements<F> {
+    fn stmt(&self, tokens: &mut Tokens<'_>) -> Result<Stmt, Stop>
+        requires { Nests self.now.reader self.now.levels (F.pre self.now.stmt) (F.post self.now.stmt) }
+        ensures { ReadsAs stm_of (spec.stmt careful self.now.reader.turns self.now.levels tokens.old) result tokens.new }
+    {
+        (self.stmt)(self.reader, tokens, self.levels)
+    }
+
+    fn boxed_stmt(&self, tokens: &mut Tokens<'_>) -> Result<Box<Stmt>, Stop>
+        requires { Nests self.now.reader self.now.levels (F.pre self.now.stmt) (F.post self.now.stmt) }
+        ensures { ReadsAs boxed_stm (spec.stmt careful self.now.reader.turns self.now.levels tokens.old) result tokens.new }
+    {
+        Ok(Box::new(self.reader.alloc, self.stmt(tokens)?)?)
+    }
+
+    // ---- items
+
+    /// An item, after what it begins with.
+    fn named_item(&self, tokens: &mut Tokens<'_>, begun: Begun) -> Result<Stmt, Stop>
+        requires { Nests self.now.reader self.now.levels (F.pre self.now.stmt) (F.post self.now.stmt) }
+        ensures { ReadsAs stm_of (spec.named_item careful self.now.reader.turns (spec.stmt careful self.now.reader.turns self.now.levels) (begun_of begun) tokens.old) result tokens.new }
+    {
+        match begun {
+            Begun::Declares(ty) => self.reader.declared_alone(tokens, ty),
+            Begun::Starts(operand) => self.reader.simple(tokens, operand),
+        }
+    }
+
+    /// A declaration or a statement.
+    #[tactic(auto, unfolding(crate::specs::Statements::item))]
+    fn item(&self, tokens: &mut Tokens<'_>) -> Result<Stmt, Stop>
+        requires { Nests self.now.reader self.now.levels (F.pre self.now.stmt) (F.post self.now.stmt) }
+        ensures { ReadsAs stm_of (spec.item careful self.now.reader.turns (spec.stmt careful self.now.reader.turns self.now.levels) tokens.old) result tokens.new }
+    {
+        match tokens.peek() {
+            TokenKind::Name(name) => {
+                let place = tokens.place();
+                let name = name.copy(self.reader.alloc)?;
+                tokens.take()?;
+                let begun = self.reader.begun(tokens, place, name)?;
+                self.named_item(tokens, begun)
+            }
+            kind => {
+                if !begins_declaration(kind) {
+                    return self.stmt(tokens);
+                }
+                let ty = self.reader.typed(tokens)?;
+                self.reader.declared_alone(tokens, ty)
+            }
+        }
+    }
+
+    /// As many items as there are.
+    #[tactic(auto, unfolding(crate::specs::Statements::items))]
+    pub fn items(&self, tokens: &mut Tokens<'_>) -> Result<Vec<Stmt>, Stop>
+        requires { Nests self.now.reader self.now.levels (F.pre self.now.stmt) (F.post self.now.stmt) }
+        ensures { ReadsAs stms_of (spec.items careful self.now.reader.turns (spec.stmt careful self.now.reader.turns self.now.levels) self.now.reader.turns [] tokens.old) result tokens.new }
+    {
+        let mut found = Vec::new(self.reader.alloc);
+        for _turn in 0..self.reader.turns {
+            if ends_items(tokens.peek()) {
+                return Ok(found);
+            }
+            found.push(self.item(tokens)?)?;
+        }
+        Err(Stop::Spent)
+    }
+
+    // ---- compound statements
+
+    /// A block, after its `{`.
+    #[tactic(auto, unfolding(crate::specs::Statements::block), using(ti_lang::proofs::Bridges::bridges))]
+    fn block(&self, tokens: &mut Tokens<'_>) -> Result<Stmt, Stop>
+        requires { Nests self.now.reader self.now.levels (F.pre self.now.stmt) (F.post self.now.stmt) }
+        ensures { ReadsAs stm_of (spec.block careful self.now.reader.turns (spec.stmt careful self.now.reader.turns self.now.levels) tokens.old) result tokens.new }
+    {
+        let body = self.items(tokens)?;
+        tokens.expect(TokenKind::RightBrace)?;
+        Ok(Stmt::Block(body))
+    }
+
+    /// What stands behind `if`.
+    #[tactic(auto, unfolding(crate::specs::Statements::conditional))]
+    fn conditional(&self, tokens: &mut Tokens<'_>, place: Place) -> Result<Stmt, Stop>
+        requires { Nests self.now.reader self.now.levels (F.pre self.now.stmt) (F.post self.now.stmt) }
+        ensures { ReadsAs stm_of (spec.conditional careful self.now.reader.turns (spec.stmt careful self.now.reader.turns self.now.levels) place tokens.old) result tokens.new }
+    {
+        let condition = self.reader.condition(tokens)?;
+        let then = self.boxed_stmt(tokens)?;
+        if !tokens.sees(TokenKind::KeywordElse) {
+            return Ok(Stmt::If(place, condition, then, None));
+        }
+        tokens.take()?;
+        let other = self.boxed_stmt(tokens)?;
+        Ok(Stmt::If(place, condition, then, Some(other)))
+    }
+
+    /// What stands behind `while`.
+    #[tactic(auto, unfolding(crate::specs::Statements::while_loop))]
+    fn while_loop(&self, tokens: &mut Tokens<'_>, place: Place) -> Result<Stmt, Stop>
+        requires { Nests self.now.reader self.now.levels (F.pre self.now.stmt) (F.post self.now.stmt) }
+        ensures { ReadsAs stm_of (spec.while_loop careful self.now.reader.turns (spec.stmt careful self.now.reader.turns self.now.levels) place tokens.old) result tokens.new }
+    {
+        let condition = self.reader.condition(tokens)?;
+        let body = self.boxed_stmt(tokens)?;
+        Ok(Stmt::While(place, condition, body))
+    }
+
+    /// What stands behind `for`.
+    #[tactic(auto, unfolding(crate::specs::Statements::for_loop))]
+    fn for_loop(&self, tokens: &mut Tokens<'_>, place: Place) -> Result<Stmt, Stop>
+        requires { Nests self.now.reader self.now.levels (F.pre self.now.stmt) (F.post self.now.stmt) }
+        ensures { ReadsAs stm_of (spec.for_loop careful self.now.reader.turns (spec.stmt careful self.now.reader.turns self.now.levels) place tokens.old) result tokens.new }
+    {
+        tokens.expect(TokenKind::LeftParen)?;
+        let first = self.reader.first(tokens)?;
+        tokens.expect(TokenKind::Semicolon)?;
+        let condition = self.reader.test(tokens)?;
+        tokens.expect(TokenKind::Semicolon)?;
+        let update = self.reader.update(tokens)?;
+        tokens.expect(TokenKind::RightParen)?;
+        let body = self.boxed_stmt(tokens)?;
+        Ok(Stmt::For(place, first, condition, update, body))
+    }
+
+    /// What stands behind `foreach`.
+    #[tactic(auto, unfolding(crate::specs::Statements::foreach_loop))]
+    fn foreach_loop(&self, tokens: &mut Tokens<'_>, place: Place) -> Result<Stmt, Stop>
+        requires { Nests self.now.reader self.now.levels (F.pre self.now.stmt) (F.post self.now.stmt) }
+        ensures { ReadsAs stm_of (spec.foreach_loop careful self.now.reader.turns (spec.stmt careful self.now.reader.turns self.now.levels) place tokens.old) result tokens.new }
+    {
+        tokens.expect(TokenKind::LeftParen)?;
+        let name_place = tokens.place();
+        let name = tokens.name(self.reader.alloc)?;
+        tokens.expect_word(b"in")?;
+        let domain = self.reader.expr(tokens)?;
+        tokens.expect(TokenKind::RightParen)?;
+        let body = self.boxed_stmt(tokens)?;
+        Ok(Stmt::Foreach(place, name_place, name, domain, body))
+    }
+
+    /// A compound statement, after its first token.
+    fn compound(
+        &self,
+        tokens: &mut Tokens<'_>,
+        place: Place,
+        kind: &TokenKind,
+    ) -> Result<Stmt, Stop>
+        requires { Nests self.now.reader self.now.levels (F.pre self.now.stmt) (F.post self.now.stmt) }
+        ensures { ReadsAs stm_of (spec.compound careful self.now.reader.turns (spec.stmt careful self.now.reader.turns self.now.levels) place kind.now tokens.old) result tokens.new }
+    {
+        match kind {
+            TokenKind::LeftBrace => self.block(tokens),
+            TokenKind::KeywordIf => self.conditional(tokens, place),
+            TokenKind::KeywordWhile => self.while_loop(tokens, place),
+            TokenKind::KeywordFor => self.for_loop(tokens, place),
+            _ => self.foreach_loop(tokens, place),
+        }
+    }
+}
+
+impl Reader {
+    /// A statement that isn't compound.
+    #[tactic(auto, unfolding(crate::specs::Statements::small))]
+    fn small(self, tokens: &mut Tokens<'_>) -> Result<Stmt, Stop>
+        ensures { ReadsAs stm_of (spec.small careful self.turns tokens.old) result tokens.new }
+    {
+        match tokens.peek() {
+            TokenKind::Semicolon => {
+                tokens.take()?;
+                Ok(Stmt::Empty)
+            }
+            TokenKind::KeywordPrintln | TokenKind::KeywordSystem => self.print(tokens),
+            TokenKind::KeywordTi => {
+                tokens.take()?;
+                self.barrier(tokens)
+            }
+            kind => {
+                if !starts(kind) {
+                    return Err(Stop::Refused);
+                }
+                let operand = full_operand(self.alloc, tokens)?;
+                self.simple(tokens, operand)
+            }
+        }
+    }
+
+    /// The items of a method.
+    pub fn body(self, tokens: &mut Tokens<'_>) -> Result<Vec<Stmt>, Stop>
+        ensures { ReadsAs stms_of (spec.body careful self.turns tokens.old) result tokens.new }
+    {
+        Statements {
+            reader: self,
+            levels: MOST_LEVELS,
+            stmt,
+        }
+        .items(tokens)
+    }
+}
+
+/// A statement where so many levels of compound ones may still begin.
+#[tactic(auto, unfolding(crate::specs::Statements::stmt))]
+pub fn stmt(reader: Reader, tokens: &mut Tokens<'_>, levels: u32) -> Result<Stmt, Stop>
+    ensures { ReadsAs stm_of (spec.stmt careful reader.turns levels tokens.old) result tokens.new }
+{
+    let kind = tokens.peek();
+    if !is_compound(kind) {
+        return reader.small(tokens);
+    }
+    if levels == 0 {
+        return Err(Stop::TooDeep);
+    }
+    let place = tokens.place();
+    tokens.take()?;
+    Statements {
+        reader,
+        levels: levels - 1,
+        stmt,
+    }
+    .compound(tokens, place, kind)
+}

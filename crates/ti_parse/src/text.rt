@@ -1,0 +1,51 @@
+// The tree of a text.
+
+ghost use Rattle.std.specs.Prelude.{◌≡◌, ◌+◌, length};
+ghost use Rattle.ti_lang.specs.Trees.Views.{tree_of};
+ghost use Rattle.ti_parse.specs.Classes as spec;
+ghost use Rattle.ti_parse.specs.Seen.{AnswersAs};
+ghost use Rattle.ti_parse.specs.Way.{careful};
+ghost use Rattle.ti_parse_expr.specs.Answers.{EndsAtEnd};
+ghost use Rattle.ti_parse_expr.specs.Input.{ReadsAs};
+
+use crate::reader::Reader;
+use std::alloc::Global;
+use ti_base::Place;
+use ti_lang::Token;
+use ti_lang::tree::Tree;
+use ti_parse_expr::{ParseErr, Stop, Tokens};
+use ti_rules::{Refusal, Rule};
+
+/// The classes up to the end, which nothing follows.
+#[tactic(auto, unfolding(crate::specs::Classes::text))]
+fn read_text(alloc: Global, tokens: &mut Tokens<'_>, turns: usize) -> Result<Tree, Stop>
+    ensures { ReadsAs tree_of (spec.text careful turns tokens.old) result tokens.new }
+{
+    let classes = Reader { alloc, turns }.classes(tokens)?;
+    if tokens.left() > 1 {
+        tokens.take()?;
+        return Err(Stop::Refused);
+    }
+    Ok(Tree { classes })
+}
+
+fn refused(rule: Rule, place: Place) -> ParseErr
+    ensures { result ≡ ParseErr.Refused (record { rule = rule; place = place }) }
+{
+    ParseErr::Refused(Refusal { rule, place })
+}
+
+/// The tree of a list of tokens.
+pub fn parse(alloc: Global, toks: &[Token]) -> Result<Tree, ParseErr>
+    requires { EndsAtEnd toks.now }
+    ensures { AnswersAs (spec.text careful (length toks.now + 1) toks.now) result }
+{
+    let mut tokens = Tokens::new(toks);
+    match read_text(alloc, &mut tokens, toks.len() + 1) {
+        Ok(tree) => Ok(tree),
+        Err(Stop::Memory) => Err(ParseErr::Memory),
+        Err(Stop::Refused) => Err(refused(Rule::G1, tokens.place())),
+        Err(Stop::TooDeep) => Err(refused(Rule::G2, tokens.place())),
+        Err(Stop::Spent) => Err(ParseErr::Memory),
+    }
+}

@@ -1,0 +1,62 @@
+// Types, by one token of sight.
+
+ghost use Rattle.std.specs.Prelude.{[], ◌≡◌};
+ghost use Rattle.ti_lang.specs.Trees.Views.{type_of};
+ghost use Rattle.ti_parse.specs.Parts as spec;
+ghost use Rattle.ti_parse.specs.Way.{careful};
+ghost use Rattle.ti_parse_expr.specs.Input.{ReadsAs};
+
+use crate::reader::Reader;
+use crate::words::is_wide;
+use ti_lang::TokenKind;
+use ti_lang::tree::{Base, TypeName};
+use ti_parse_expr::types::{arity, base, field_type, qualifiers};
+use ti_parse_expr::{Stop, Tokens};
+
+impl Reader {
+    /// A type that no field and no element has.
+    #[tactic(auto, unfolding(crate::specs::Parts::wide))]
+    pub fn wide(self, tokens: &mut Tokens<'_>) -> Result<TypeName, Stop>
+        ensures { ReadsAs type_of (spec.wide careful self.turns tokens.old) result tokens.new }
+    {
+        let place = tokens.place();
+        let base = match tokens.peek() {
+            TokenKind::KeywordDomain => {
+                tokens.take()?;
+                Base::Domain(place, arity(tokens)?)
+            }
+            TokenKind::KeywordSharedRegion => {
+                tokens.take()?;
+                Base::SharedRegion(place)
+            }
+            _ => return Err(Stop::Refused),
+        };
+        let qualifiers = qualifiers(self.alloc, tokens, self.turns)?;
+        Ok(TypeName {
+            base,
+            qualifiers,
+            grids: Vec::new(self.alloc),
+        })
+    }
+
+    /// The type of a field.
+    #[tactic(auto, unfolding(crate::specs::Parts::field))]
+    pub fn field(self, tokens: &mut Tokens<'_>) -> Result<TypeName, Stop>
+        ensures { ReadsAs type_of (spec.field careful self.turns tokens.old) result tokens.new }
+    {
+        let base = base(self.alloc, tokens)?;
+        field_type(self.alloc, tokens, self.turns, base)
+    }
+
+    /// Any type.
+    #[tactic(auto, unfolding(crate::specs::Parts::typed))]
+    pub fn typed(self, tokens: &mut Tokens<'_>) -> Result<TypeName, Stop>
+        ensures { ReadsAs type_of (spec.typed careful self.turns tokens.old) result tokens.new }
+    {
+        if is_wide(tokens.peek()) {
+            self.wide(tokens)
+        } else {
+            self.field(tokens)
+        }
+    }
+}
