@@ -1,0 +1,4 @@
+pub mod FullStub
+pub mod Limits
+pub mod ReadsTypes
+pub mod ReadsParts
