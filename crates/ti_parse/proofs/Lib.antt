@@ -2,3 +2,4 @@ pub mod FullStub
 pub mod Limits
 pub mod ReadsTypes
 pub mod ReadsParts
+pub mod ReadsStarts
