@@ -30,7 +30,8 @@ use Rattle.ti_parse.specs.Way.{plain}
 use Rattle.ti_parse.specs.Parts as spec
 use Rattle.ti_parse.specs.Parts.{Begun, Declares, Starts, begins_declaration, typed, begun, begun_bracket, declared, changed, change, first, update}
 use Rattle.ti_parse.proofs.FullStub.{operand_reads, behind_name_is, behind_bracket_is}
-use Rattle.ti_parse.proofs.Limits.{IsRead, weights_as_long, same_reads, then_reads, done_reads, last_reads, made_reads, regroup_reads, took, by_kind, test_reads, sees_reads, free_then, whole}
+use Rattle.ti_parse.proofs.Limits.{IsRead, same_reads, then_reads, done_reads, last_reads, made_reads, regroup_reads, took, by_kind, test_reads, sees_reads, free_then, whole}
+use Rattle.ti_parse.proofs.Lengths.{weights_loaded}
 use Rattle.ti_parse.proofs.ReadsTypes.{name_ends, typed_reads, begun_declares}
 use Rattle.ti_parse.proofs.ReadsParts.{EndsRight, initial_reads, declared_part}
 
@@ -128,7 +129,7 @@ front_name (expressions.member {l = l} {m = m} d t o c s h h2 h3 q h4) r behind 
 front_name (expressions.index {l = l} {m = m} o c s h q few h2) r behind =
     subst FrontName (sym (append_assoc l (o ∷ (m ++ c ∷ [])) r)) (front_name s (o ∷ ((m ++ c ∷ []) ++ r)) (index_behind q o c r h))
 
-front_starts : (a r : List Token) → starts_so a ≡ true → starts (kind (a ++ r)) ≡ true
+pub front_starts : (a r : List Token) → starts_so a ≡ true → starts (kind (a ++ r)) ≡ true
 front_starts [] r h = cc
 front_starts (t ∷ a) r h = h
 
@@ -149,7 +150,7 @@ module _ (turns : ℕ) where
 
   operand_part : {ending : Ending} {l : List Token} {x : Exp} → Postfixed ending l x → (r : List Token) → EndsOperand (kind r) → IsRead turns full_operand (weights l) l r (x, ending)
   operand_part {ending = ending} {l = l} {x = x} s r e = record {
-    long = weights_as_long l;
+    loaded = weights_loaded l;
     reads = λ lt. let small = binds_small (kind r) in operand_reads ending l r x s (record { operand = e.operand; call = λ _. e.call; operators = omega arith });
   }
 
@@ -312,7 +313,7 @@ module _ (turns : ℕ) where
   not_paren k.RightParen h = cc
   not_paren _ h = refl
 
-  starts_change : {l : List Token} {x : Stm} → Changed l x → (r : List Token) → starts (kind (l ++ r)) ≡ true
+  pub starts_change : {l : List Token} {x : Stm} → Changed l x → (r : List Token) → starts (kind (l ++ r)) ≡ true
   starts_change (grammar.assign {m = m} t (grammar.start {l = a} s h) h2 right) r = ap (λ z. starts (kind z)) (append_assoc a (t ∷ m) r) ∙ front_starts a (t ∷ (m ++ r)) h
   starts_change (grammar.update {m = m} t (grammar.start {l = a} s h) h2 right) r = ap (λ z. starts (kind z)) (append_assoc a (t ∷ m) r) ∙ front_starts a (t ∷ (m ++ r)) h
   starts_change (grammar.step t (grammar.start {l = a} s h) h2) r = ap (λ z. starts (kind z)) (append_assoc a (t ∷ []) r) ∙ front_starts a (t ∷ r) h
