@@ -5,3 +5,4 @@ pub mod ReadsTypes
 pub mod ReadsParts
 pub mod ReadsStarts
 pub mod ReadsStatements
+pub mod ReadsClasses

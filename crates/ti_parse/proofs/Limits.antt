@@ -2,6 +2,7 @@
 use Rattle.std.proofs.Common.{◌≡◌, ℕ, zero, suc, ◌+◌, ◌<◌, ◌≤◌, List, [], ◌∷◌, ◌++◌, length, Ok, Err, refl, sym, ap, ◌∙◌, subst, append_assoc, arith, length-append, true, false, Bool, if◌then◌else◌}
 use Rattle.std.specs.Str.{bytes_eq}
 use Rattle.std.proofs.lemmas.Bool.{eq-eqb}
+use Rattle.std.proofs.lemmas.List.{map-append}
 use Rattle.ti_lang.specs.declared.token.Token.{Token}
 use Rattle.ti_lang.specs.declared.token.TokenKind.{TokenKind}
 use Rattle.ti_lang.specs.declared.token.TokenKind.TheVariants as k
@@ -154,6 +155,10 @@ limited_free (t ∷ l) i out = limited_free l _ out
 
 pub free_reads : {A : Type 0} {turns : ℕ} {l r : List Token} {x : A} (p : Parser A) → (length l < turns → p (l ++ r) ≡ Ok (x, r)) → IsRead turns p (free l) l r x
 free_reads {l = l} {r = r} {x = x} p is = record { loaded = free_loaded l; reads = λ lt. is lt ∙ sym (limited_free l (l ++ r) (Ok (x, r))) }
+
+-- two such parts in a row
+pub free_both : {A : Type 0} {turns : ℕ} {p : Parser A} {r : List Token} {x : A} (a b : List Token) → IsRead turns p (free a ++ free b) (a ++ b) r x → IsRead turns p (free (a ++ b)) (a ++ b) r x
+free_both {turns = turns} {p = p} {r = r} {x = x} a b part = subst (λ z. IsRead turns p z (a ++ b) r x) (sym (map-append (λ t. Free) a b)) part
 
 -- behind such a part another reader goes on
 pub free_then : {A : Type 0} {turns : ℕ} {p : Parser A} {b r : List Token} {lb : List Load} {x : A} (l : List Token) (q : Parser A) → (length l < turns → p (l ++ (b ++ r)) ≡ q (b ++ r)) → IsRead turns q lb b r x

@@ -72,7 +72,7 @@ end_not_else : (q : TokenKind) → ends_items q ≡ true → same_kind q k.Keywo
 end_not_else k.KeywordElse h = cc
 end_not_else _ h = refl
 
-typed_front : {l : List Token} {ty : TypeTree} → Typed l ty → (r : List Token) → begins_item (kind (l ++ r)) ≡ true
+pub typed_front : {l : List Token} {ty : TypeTree} → Typed l ty → (r : List Token) → begins_item (kind (l ++ r)) ≡ true
 typed_front (types.field (types.field_type (types.int t h) q g few)) r = ap begins_item h
 typed_front (types.field (types.field_type (types.boolean t h) q g few)) r = ap begins_item h
 typed_front (types.field (types.field_type (types.point t h n) q g few)) r = ap begins_item h

@@ -69,7 +69,7 @@ module _ (turns : ℕ) where
   wide_reads (types.shared_region {l = l} t h q) r free lt =
       ap (λ z. wide_by plain turns z (t ∷ (l ++ r))) h ∙ then_ok (λ qs i. Ok (record { base = b.SharedRegion t.place; qualifiers = qs; grids = [] }, i)) (qualifiers_read q turns [] r free (omega arith))
 
-  wide_is_wide : {l : List Token} {ty : TypeTree} → WideType l ty → (r : List Token) → is_wide (kind (l ++ r)) ≡ true
+  pub wide_is_wide : {l : List Token} {ty : TypeTree} → WideType l ty → (r : List Token) → is_wide (kind (l ++ r)) ≡ true
   wide_is_wide (types.domain t h s q) r = ap is_wide h
   wide_is_wide (types.shared_region t h q) r = ap is_wide h
 
