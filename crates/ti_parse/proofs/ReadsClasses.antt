@@ -17,7 +17,7 @@ use Rattle.ti_lang.specs.Spelling.Types as types
 use Rattle.ti_lang.specs.Spelling.Statements as statements
 use Rattle.ti_lang.specs.Spelling.Classes.{ParamList, Parameters, Returned, Method, Modified, Member, Members, ClassModified, Class, AllClasses}
 use Rattle.ti_lang.specs.Spelling.Classes as grammar
-use Rattle.ti_lang.specs.Spelling.Loads.{free, items_loads, returned_loads, method_loads, member_loads, members_loads, class_loads, classes_loads}
+use Rattle.ti_lang.specs.Spelling.Loads.{free, returned_loads, method_loads, member_loads, members_loads, class_loads, classes_loads}
 use Rattle.ti_parse_expr.specs.Input.{and_then, kind, sees}
 use Rattle.ti_parse_expr.specs.Full.{limited}
 use Rattle.ti_parse_expr.proofs.Law.{append_nil}
@@ -27,7 +27,7 @@ use Rattle.ti_parse.specs.Statements.{ends_items, body}
 use Rattle.ti_parse.specs.Classes as spec
 use Rattle.ti_parse.specs.Classes.{more_params, words, params, returned, method, method_named, field_or_method, member_from, modifiers, member, members, class_from, class, classes}
 use Rattle.ti_parse.proofs.Lengths.{free_loaded, items_loaded, members_loaded, classes_loaded}
-use Rattle.ti_parse.proofs.Limits.{IsRead, bounded_reads, same_reads, result_reads, then_reads, done_reads, last_reads, made_reads, took, want, name_took, by_kind, test_reads, sees_reads, free_reads, free_both}
+use Rattle.ti_parse.proofs.Limits.{IsRead, bounded_reads, same_reads, result_reads, then_reads, done_reads, made_reads, took, want, name_took, by_kind, test_reads, sees_reads, free_reads, free_both}
 use Rattle.ti_parse.proofs.ReadsTypes.{begins_base, front_field, name_ends, field_reads, wide_reads, wide_is_wide, typed_reads}
 use Rattle.ti_parse.proofs.ReadsParts.{test_part}
 use Rattle.ti_parse.proofs.ReadsStatements.{begins_item, typed_front, items_reads}

@@ -1,5 +1,5 @@
 -- Right sides, heads and prints that are spelled are read, up to the first token whose load is above its limit.
-use Rattle.std.proofs.Common.{◌≡◌, ℕ, zero, suc, ◌<◌, ◌≤◌, List, [], ◌∷◌, ◌++◌, length, Option, Some, None, Ok, refl, sym, ap, ◌∙◌, subst, append_assoc, arith, true, false, Bool, codes}
+use Rattle.std.proofs.Common.{◌≡◌, ℕ, zero, suc, ◌≤◌, List, [], ◌∷◌, ◌++◌, length, Option, Some, None, Ok, refl, ap, append_assoc, arith, true, false, Bool, codes}
 use Rattle.ti_base.specs.declared.place.Place.{Place}
 use Rattle.ti_lang.specs.declared.token.Token.{Token}
 use Rattle.ti_lang.specs.declared.token.TokenKind.{TokenKind}
@@ -26,9 +26,9 @@ use Rattle.ti_parse_expr.specs.declared.parse.Form.TheVariants as form
 use Rattle.ti_parse_expr.specs.Input.{Parser, and_then, kind, sees, take_token}
 use Rattle.ti_parse_expr.specs.Types.{base, qualifiers, grids}
 use Rattle.ti_parse_expr.specs.Full.{full}
-use Rattle.ti_parse_expr.proofs.Follows.{test_reads as same_test, then_ok, IsCloser, paren_closes, colon_closes, comma_closes, bracket_closes}
+use Rattle.ti_parse_expr.proofs.Follows.{test_reads as same_test, IsCloser, paren_closes, colon_closes, comma_closes, bracket_closes}
 use Rattle.ti_parse_expr.proofs.Fronts.{begins, front_whole}
-use Rattle.ti_parse_expr.proofs.CompleteTypes.{base_reads, EndsType, grids_read, qualifiers_read}
+use Rattle.ti_parse_expr.proofs.CompleteTypes.{base_reads, grids_read, qualifiers_read}
 use Rattle.ti_parse.specs.Way.{plain}
 use Rattle.ti_parse.specs.Parts as spec
 use Rattle.ti_parse.specs.Parts.{region, range_from, more_ranges, dims, new_grid, new_named, made, new_thing, broadcast, initial, declared, printer, printed_text, printed, condition, test}

@@ -1,10 +1,8 @@
 -- What statements begin with: operands and types that are spelled are read, up to the first token whose load is above its limit.
-use Rattle.std.proofs.Common.{◌≡◌, ℕ, zero, suc, ◌<◌, ◌≤◌, List, [], ◌∷◌, ◌++◌, length, Option, Some, None, Ok, Err, refl, sym, ap, ◌∙◌, subst, append_assoc, arith, true, false, Bool}
-use Rattle.ti_base.specs.declared.place.Place.{Place}
+use Rattle.std.proofs.Common.{◌≡◌, ℕ, ◌<◌, List, [], ◌∷◌, ◌++◌, length, Some, None, Ok, Err, refl, sym, ap, ◌∙◌, subst, append_assoc, arith, true, false, Bool}
 use Rattle.ti_lang.specs.declared.token.Token.{Token}
 use Rattle.ti_lang.specs.declared.token.TokenKind.{TokenKind}
 use Rattle.ti_lang.specs.declared.token.TokenKind.TheVariants as k
-use Rattle.ti_lang.specs.declared.tree.types.QualifierWord.{QualifierWord}
 use Rattle.ti_lang.specs.declared.tree.exprs.BinaryOperator.{BinaryOperator}
 use Rattle.ti_lang.specs.declared.tree.stmts.StepOperator.{StepOperator}
 use Rattle.ti_lang.specs.Tokens.{same_kind}
@@ -23,7 +21,7 @@ use Rattle.ti_lang.specs.Spelling.Loads.{Load, Free, free, weights, initial_load
 use Rattle.ti_parse_expr.specs.Input.{Parser, Outcome, and_then, kind, next, sees}
 use Rattle.ti_parse_expr.specs.Expr.{Operand, is_dim}
 use Rattle.ti_parse_expr.specs.Full.{full_operand}
-use Rattle.ti_parse_expr.proofs.Phrases.{binds, binds_small}
+use Rattle.ti_parse_expr.proofs.Phrases.{binds_small}
 use Rattle.ti_parse_expr.proofs.Follows.{test_reads as same_test, then_ok, and_then_assoc, goes, is_name}
 use Rattle.ti_parse_expr.proofs.Fronts.{begins, front_whole, not_dim}
 use Rattle.ti_parse.specs.Way.{plain}
@@ -46,8 +44,8 @@ pub record EndsOperand (q : TokenKind) : Type 0 where
 assign_ends : {q : TokenKind} → q ≡ k.Assign → EndsOperand q
 assign_ends h = record { operand = ap goes h; call = ap (λ z. same_kind z k.LeftParen) h; name = ap is_name h; qualifier = ap qualifier_of h }
 
-pub done_ends : {q : TokenKind} → q ≡ k.Semicolon → EndsOperand q
-done_ends h = record { operand = ap goes h; call = ap (λ z. same_kind z k.LeftParen) h; name = ap is_name h; qualifier = ap qualifier_of h }
+pub call_ends : {q : TokenKind} → q ≡ k.Semicolon → EndsOperand q
+call_ends h = record { operand = ap goes h; call = ap (λ z. same_kind z k.LeftParen) h; name = ap is_name h; qualifier = ap qualifier_of h }
 
 update_ends : (q : TokenKind) (op : BinaryOperator) → update_of q ≡ Some op → EndsOperand q
 update_ends k.Dot op h = cc

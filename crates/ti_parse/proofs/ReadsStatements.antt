@@ -1,5 +1,5 @@
 -- Statements that are spelled are read, up to the first token whose load is above its limit.
-use Rattle.std.proofs.Common.{◌≡◌, ℕ, zero, suc, ◌+◌, ◌<◌, ◌≤◌, List, [], ◌∷◌, ◌++◌, length, Option, Ok, Err, refl, sym, ap, ◌∙◌, append_assoc, arith, length-append, true, false, Bool, ◌&&◌, if◌then◌else◌, nat_lt, codes}
+use Rattle.std.proofs.Common.{◌≡◌, ℕ, zero, suc, ◌+◌, ◌<◌, List, [], ◌∷◌, ◌++◌, length, Option, Ok, refl, sym, ap, ◌∙◌, append_assoc, arith, length-append, true, false, Bool, ◌&&◌, if◌then◌else◌, nat_lt, codes}
 use Rattle.std.proofs.lemmas.Bool.{le-ltb}
 use Rattle.ti_base.specs.declared.place.Place.{Place}
 use Rattle.ti_lang.specs.declared.token.Token.{Token}
@@ -12,7 +12,7 @@ use Rattle.ti_lang.specs.Trees.Statements.{PrintTree, Stm, MaybeStm}
 use Rattle.ti_lang.specs.Trees.Statements as tree
 use Rattle.ti_lang.specs.Spelling.Types.{Typed}
 use Rattle.ti_lang.specs.Spelling.Types as types
-use Rattle.ti_lang.specs.Spelling.Expressions.{Whole, Target, Call}
+use Rattle.ti_lang.specs.Spelling.Expressions.{Whole, Call}
 use Rattle.ti_lang.specs.Spelling.Statements.{Start, Declared, Changed, Printer, Printed, Condition, First, Test, Update, Stated, Items, starts}
 use Rattle.ti_lang.specs.Spelling.Statements as grammar
 use Rattle.ti_lang.specs.Spelling.Loads.{Load, Free, Level, free, weights, changed_loads, printed_loads, condition_loads, first_loads, test_loads, update_loads, declared_loads, stated_loads, items_loads}
@@ -22,13 +22,13 @@ use Rattle.ti_parse_expr.proofs.Follows.{test_reads as same_test, then_ok, is_na
 use Rattle.ti_parse_expr.proofs.Law.{append_nil}
 use Rattle.ti_parse.specs.Way.{plain}
 use Rattle.ti_parse.specs.Parts as parts
-use Rattle.ti_parse.specs.Parts.{Begun, begins_declaration, typed, declared, simple, begun, print, barrier}
+use Rattle.ti_parse.specs.Parts.{begins_declaration, typed, declared, simple, print, barrier}
 use Rattle.ti_parse.specs.Statements as spec
 use Rattle.ti_parse.specs.Statements.{is_compound, ends_items, item, items, block, conditional, while_loop, for_loop, foreach_loop, compound, small, stmt}
 use Rattle.ti_parse.proofs.Lengths.{Loaded, stated_loaded, items_loaded}
-use Rattle.ti_parse.proofs.Limits.{IsRead, bounded_reads, same_reads, result_reads, then_reads, done_reads, last_reads, made_reads, ungroup_reads, load_took, took, over_reads, want, want_word, name_took, by_kind, test_reads, sees_reads, ends, whole}
+use Rattle.ti_parse.proofs.Limits.{IsRead, bounded_reads, same_reads, result_reads, then_reads, done_reads, last_reads, made_reads, ungroup_reads, load_took, took, over_reads, want, want_word, name_took, test_reads, sees_reads, ends, whole}
 use Rattle.ti_parse.proofs.ReadsParts.{semicolon_ends, paren_ends, printer_reads, printed_reads, condition_reads, test_part}
-use Rattle.ti_parse.proofs.ReadsStarts.{StartsWith, DeclaresWith, done_ends, start_reads, changed_reads, declared_reads, declares_with, starts_with, named_starts, first_reads, update_reads, front_starts, starts_change}
+use Rattle.ti_parse.proofs.ReadsStarts.{StartsWith, DeclaresWith, call_ends, start_reads, changed_reads, declared_reads, declares_with, starts_with, named_starts, first_reads, update_reads, front_starts, starts_change}
 
 -- ---- what items begin with
 
@@ -120,7 +120,7 @@ module _ (turns : ℕ) where
   change_reads begin d t h r = changed_reads turns begin (λ x i. and_then (expect_by take_token k.Semicolon i) (λ _ i. Ok (x, i))) (λ target i. refl) d (semicolon_ends h) (want k.Semicolon _ h done_reads)
 
   call_reads : {p : Parser Stm} {l : List Token} {x : Exp} → StartsWith p (simple plain turns) → Start Call l x → (t : Token) → t.kind ≡ k.Semicolon → (r : List Token) → IsRead turns p (weights l ++ Free ∷ []) (l ++ t ∷ []) r (tree.Call x)
-  call_reads begin s t h r = start_reads turns begin s (done_ends h) (call_part _ t r h)
+  call_reads begin s t h r = start_reads turns begin s (call_ends h) (call_part _ t r h)
 
   print_reads : {l m : List Token} {what : PrintTree} (p o c t : Token) → Printer l p → o.kind ≡ k.LeftParen → (s : Printed m what) → c.kind ≡ k.RightParen → t.kind ≡ k.Semicolon → (r : List Token)
       → IsRead turns (print plain turns) (free l ++ Free ∷ (printed_loads s ++ Free ∷ Free ∷ [])) (l ++ o ∷ (m ++ c ∷ t ∷ [])) r (tree.Print p.place what)
