@@ -1,5 +1,5 @@
 -- What is answered for a list from an answer for its front is what the reader within the limit gives.
-use Rattle.std.proofs.Common.{◌≡◌, ℕ, suc, ◌+◌, ◌-◌, List, length, drop, Result, Ok, Err, refl, sym, ap, ◌∙◌, subst, arith, true, false, Bool, nat_lt, if◌then◌else◌}
+use Rattle.std.proofs.Common.{◌≡◌, ℕ, suc, ◌+◌, ◌-◌, List, length, drop, Result, Ok, Err, refl, sym, ap, ◌∙◌, subst, true, false, Bool, nat_lt, if◌then◌else◌}
 use denote.Ref.{MutBor}
 use borrow.Author.Tests.{ltb-true, ltb-false}
 use Rattle.ti_lang.specs.declared.token.Token.{Token}
@@ -7,7 +7,7 @@ use Rattle.ti_lang.specs.Spelling.Weights.{weigh}
 use Rattle.ti_parse_expr.specs.declared.stop.Stop.{Stop}
 use Rattle.ti_parse_expr.specs.declared.stop.Stop.TheVariants as stop
 use Rattle.ti_parse_expr.specs.Input.{At, Over, Spent, Outcome, Parser, ReadsAs}
-use Rattle.ti_parse_expr.specs.Full.{front_of, widened, within}
+use Rattle.ti_parse_expr.specs.Full.{widened, within}
 use Rattle.ti_parse_expr.specs.ByFront.{Widens, ByFront}
 
 module _ {T B : Type 0} (view : T → B) (weight : ℕ) (list front : List Token) where

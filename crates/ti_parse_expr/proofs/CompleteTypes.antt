@@ -24,7 +24,7 @@ dim_of_small n low high = rw (le-leb 1 n low, le-leb n 3 high) refl
 dimension_reads : (t : Token) (n : ℕ) (r : List Token) → t.kind ≡ k.Int (pos n) → 1 ≤ n → n ≤ 3 → dimension take_token (t ∷ r) ≡ Ok (n, r)
 dimension_reads t n r h low high = ap (λ q. spec.dimension_by take_token q (t ∷ r)) h ∙ ap (λ d. spec.dimension_if take_token d (t ∷ r)) (dim_of_small n low high)
 
-arity_reads : {l : List Token} {n : ℕ} → Arity l n → (r : List Token) → arity take_token (l ++ r) ≡ Ok (n, r)
+pub arity_reads : {l : List Token} {n : ℕ} → Arity l n → (r : List Token) → arity take_token (l ++ r) ≡ Ok (n, r)
 unfolding arity
 arity_reads (grammar.arity o t c {n = n} ho ht low high hc) r =
     then_ok _ (expect_reads k.Less o (t ∷ c ∷ r) refl ho) ∙ then_ok _ (dimension_reads t n (c ∷ r) ht low high) ∙ then_ok (λ _ j. Ok (n, j)) (expect_reads k.Greater c r refl hc)

@@ -2,8 +2,7 @@
 use Rattle.std.proofs.Common.{◌≡◌, ℕ, zero, suc, ◌<◌, ◌≤◌, List, [], ◌∷◌, length, Ok, Err, refl, sym, ap, subst, arith}
 use Rattle.ti_lang.specs.declared.token.Token.{Token}
 use Rattle.ti_parse_expr.specs.Input.{At, Over, Spent, Outcome, Parser, and_then, kind, place, take_token, take_within}
-use Rattle.ti_parse_expr.specs.Expr.{operand, expr}
-use Rattle.ti_parse_expr.proofs.Related.{expr_related, operand_related}
+use Rattle.ti_parse_expr.proofs.Related.{Readers, readers_related}
 
 -- what is left is no longer than what there was
 abbrev pub Shrinks : {A : Type 0} → List Token → Outcome A → Type 0
@@ -107,12 +106,7 @@ none_more m h = omega (arith, h)
 one_less : (m m2 : ℕ) → suc m ≡ suc m2 → m ≡ m2
 one_less m m2 h = omega (arith, h)
 
-pub expr_cut : (turns least : ℕ) → Cut (expr take_token turns least) (expr take_within turns least)
-expr_cut turns least =
-    expr_related (λ A p q. Cut {A = A} p q) (λ n m. n ≡ m) take_within (λ A x. cut_pure x) (λ A. cut_refuse) cut_take (λ A B p q f g first next. cut_then first next) (λ A f g each. cut_by kind {f = f} {g = g} each)
-    (λ A f g each. cut_by place {f = f} {g = g} each) (λ A q m h is. cut_none q m h is) none_more one_less turns turns refl least
-
-pub operand_cut : (turns : ℕ) → Cut (operand take_token turns (expr take_token turns)) (operand take_within turns (expr take_within turns))
-operand_cut turns =
-    operand_related (λ A p q. Cut {A = A} p q) (λ n m. n ≡ m) take_within (λ A x. cut_pure x) (λ A. cut_refuse) cut_take (λ A B p q f g first next. cut_then first next) (λ A f g each. cut_by kind {f = f} {g = g} each)
-    (λ A f g each. cut_by place {f = f} {g = g} each) (λ A q m h is. cut_none q m h is) none_more one_less turns turns refl
+pub readers_cut : (turns : ℕ) → Readers (λ A p q. Cut {A = A} p q) take_within turns turns
+readers_cut turns =
+    readers_related (λ A p q. Cut {A = A} p q) (λ n m. n ≡ m) take_within (λ A x. cut_pure x) (λ A. cut_refuse) cut_take (λ A B p q f g first next. cut_then first next) (λ A f g each. cut_by kind {f = f} {g = g} each)
+    (λ A f g each. cut_by place {f = f} {g = g} each) (λ A q m h is. cut_none q m h is) none_more one_less turns turns refl refl

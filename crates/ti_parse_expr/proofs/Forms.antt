@@ -2,7 +2,7 @@
 use Rattle.std.proofs.Common.{◌≡◌, ◌⊎◌, inl, inr, ℕ, suc, ◌<◌, ◌≤◌, List, [], ◌∷◌, ◌++◌, length, Ok, ◌∙◌, arith}
 use Rattle.ti_lang.specs.declared.token.Token.{Token}
 use Rattle.ti_lang.specs.Trees.Expressions.{Exp}
-use Rattle.ti_lang.specs.Spelling.Expressions.{Postfixed}
+use Rattle.ti_lang.specs.Spelling.Expressions.{Ending, Postfixed}
 use Rattle.ti_parse_expr.specs.declared.parse.Form.{Form}
 use Rattle.ti_parse_expr.specs.declared.parse.Form.TheVariants as form
 use Rattle.ti_parse_expr.specs.Answers.{Phrase, BeginsPhrase}
@@ -13,8 +13,9 @@ use Rattle.ti_parse_expr.proofs.Phrases.{Post, binds_small}
 use Rattle.ti_parse_expr.proofs.Sound.{expr_says, operand_says}
 use Rattle.ti_parse_expr.proofs.Follows.{then_ok, Stops}
 use Rattle.ti_parse_expr.proofs.Complete.{expr_reads, no_dimension, postfixed_law, postfix_stops}
-use Rattle.ti_parse_expr.proofs.Local.{Near, near_then, near_pure, expr_near, operand_near}
-use Rattle.ti_parse_expr.proofs.Cut.{Cut, cut_then, cut_pure, expr_cut, operand_cut}
+use Rattle.ti_parse_expr.proofs.Local.{Near, near_then, near_pure, readers_near}
+use Rattle.ti_parse_expr.proofs.Cut.{Cut, cut_then, cut_pure, readers_cut}
+use Rattle.ti_parse_expr.proofs.Enough.{Enough, enough_then, enough_pure, readers_enough}
 use Rattle.ti_parse_expr.proofs.GoesOn.{AnyPostfix, Halts, postfix_goes, whole_stops}
 
 -- ---- soundness
@@ -39,24 +40,32 @@ level_of form.Whole = 1
 level_of form.Mul = 10
 level_of form.Postfix = 11
 
+pub postfix_reads : (turns : ℕ) (ending : Ending) (l r : List Token) (x : Exp) → Postfixed ending l x → Stops 11 l r → length (l ++ r) < turns → operand take_token turns (expr take_token turns) (l ++ r) ≡ Ok ((x, ending), r)
+postfix_reads turns ending l r x s stops lt =
+    let loop = postfixed_law turns (expr take_token turns) (expr_reads turns) (no_dimension turns) s r stops.call (omega arith) in
+    loop.operand ∙ postfix_stops turns (expr take_token turns) (expr_reads turns) loop.left (x, ending) r stops.operand (omega (arith, loop.enough))
+
 pub phrase_reads : (f : Form) (turns : ℕ) (l r : List Token) (x : Exp) → Phrase f l x → Stops (level_of f) l r → length (l ++ r) < turns → phrase take_token turns f (l ++ r) ≡ Ok (x, r)
 phrase_reads form.Whole turns l r x s stops lt = expr_reads turns 1 l r x (omega arith) (omega arith) s stops lt
 phrase_reads form.Mul turns l r x s stops lt = expr_reads turns 10 l r x (omega arith) (omega arith) s stops lt
-phrase_reads form.Postfix turns l r x (ending, s) stops lt =
-    let loop = postfixed_law turns (expr take_token turns) (expr_reads turns) (no_dimension turns) s r stops.call (omega arith) in
-    then_ok (λ y j. Ok (y.0, j)) (loop.operand ∙ postfix_stops turns (expr take_token turns) (expr_reads turns) loop.left (x, ending) r stops.operand (omega (arith, loop.enough)))
+phrase_reads form.Postfix turns l r x (ending, s) stops lt = then_ok (λ y j. Ok (y.0, j)) (postfix_reads turns ending l r x s stops lt)
 
--- ---- locality, and the last token that stays
+-- ---- locality, the last token that stays, and more turns
 
 pub phrase_near : (t : Token) (w v : List Token) (f : Form) (turns more : ℕ) → turns ≤ more → Near t w v (phrase take_token turns f) (phrase take_token more f)
-phrase_near t w v form.Whole turns more le = expr_near t w v turns more le 1
-phrase_near t w v form.Mul turns more le = expr_near t w v turns more le 10
-phrase_near t w v form.Postfix turns more le = near_then t w v (operand_near t w v turns more le) (λ y. near_pure t w v y.0)
+phrase_near t w v form.Whole turns more le = (readers_near t w v turns more le).expr 1
+phrase_near t w v form.Mul turns more le = (readers_near t w v turns more le).expr 10
+phrase_near t w v form.Postfix turns more le = near_then t w v (readers_near t w v turns more le).operand (λ y. near_pure t w v y.0)
 
 pub phrase_cut : (f : Form) (turns : ℕ) → Cut (phrase take_token turns f) (phrase take_within turns f)
-phrase_cut form.Whole turns = expr_cut turns 1
-phrase_cut form.Mul turns = expr_cut turns 10
-phrase_cut form.Postfix turns = cut_then (operand_cut turns) (λ y. cut_pure y.0)
+phrase_cut form.Whole turns = (readers_cut turns).expr 1
+phrase_cut form.Mul turns = (readers_cut turns).expr 10
+phrase_cut form.Postfix turns = cut_then (readers_cut turns).operand (λ y. cut_pure y.0)
+
+pub phrase_enough : (f : Form) (turns more : ℕ) → turns ≤ more → Enough (phrase take_token turns f) (phrase take_token more f)
+phrase_enough form.Whole turns more le = (readers_enough turns more le).expr 1
+phrase_enough form.Mul turns more le = (readers_enough turns more le).expr 10
+phrase_enough form.Postfix turns more le = enough_then (readers_enough turns more le).operand (λ y. enough_pure y.0)
 
 -- ---- a phrase can end before a token, or goes on with it
 

@@ -2,8 +2,7 @@
 use Rattle.std.proofs.Common.{◌≡◌, ℕ, zero, suc, ◌≤◌, List, [], ◌∷◌, ◌++◌, length, Ok, Err, refl, sym, ap, ◌∙◌, subst, append_assoc, arith, length-append}
 use Rattle.ti_lang.specs.declared.token.Token.{Token}
 use Rattle.ti_parse_expr.specs.Input.{At, Over, Spent, Outcome, Parser, and_then, kind, place, take_token}
-use Rattle.ti_parse_expr.specs.Expr.{operand, expr}
-use Rattle.ti_parse_expr.proofs.Related.{expr_related, operand_related}
+use Rattle.ti_parse_expr.proofs.Related.{Readers, readers_related}
 
 pub cancel : (a b r : List Token) → a ++ r ≡ b ++ r → a ≡ b
 cancel [] [] r h = refl
@@ -115,12 +114,7 @@ module _ (t : Token) (w v : List Token) where
   one_less : (m m2 : ℕ) → suc m ≤ suc m2 → m ≤ m2
   one_less m m2 h = omega (arith, h)
 
-  pub expr_near : (turns more : ℕ) → turns ≤ more → (least : ℕ) → Near (expr take_token turns least) (expr take_token more least)
-  expr_near turns more le least =
-      expr_related (λ A p q. Near {A = A} p q) (λ n m. n ≤ m) take_token (λ A x. near_pure x) (λ A. near_refuse) near_take (λ A B p q f g first next. near_then first next) (λ A f g each. near_by kind {f = f} {g = g} kind_alike each)
-      (λ A f g each. near_by place {f = f} {g = g} place_alike each) (λ A q m h is. near_spent) no_fewer one_less turns more le least
-
-  pub operand_near : (turns more : ℕ) → turns ≤ more → Near (operand take_token turns (expr take_token turns)) (operand take_token more (expr take_token more))
-  operand_near turns more le =
-      operand_related (λ A p q. Near {A = A} p q) (λ n m. n ≤ m) take_token (λ A x. near_pure x) (λ A. near_refuse) near_take (λ A B p q f g first next. near_then first next) (λ A f g each. near_by kind {f = f} {g = g} kind_alike each)
-      (λ A f g each. near_by place {f = f} {g = g} place_alike each) (λ A q m h is. near_spent) no_fewer one_less turns more le
+  pub readers_near : (turns more : ℕ) → turns ≤ more → Readers (λ A p q. Near {A = A} p q) take_token turns more
+  readers_near turns more le =
+      readers_related (λ A p q. Near {A = A} p q) (λ n m. n ≤ m) take_token (λ A x. near_pure x) (λ A. near_refuse) near_take (λ A B p q f g first next. near_then first next) (λ A f g each. near_by kind {f = f} {g = g} kind_alike each)
+      (λ A f g each. near_by place {f = f} {g = g} place_alike each) (λ A q m h is. near_spent) no_fewer one_less turns more le (omega (arith, le))

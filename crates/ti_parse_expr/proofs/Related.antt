@@ -19,7 +19,14 @@ use Rattle.ti_parse_expr.specs.Input.{At, Spent, Parser, and_then, kind, place, 
 use Rattle.ti_parse_expr.specs.Types as types
 use Rattle.ti_parse_expr.specs.Types.{dim_of, dimension, arity, base as type_base, qualifiers, grid, grids, field_type}
 use Rattle.ti_parse_expr.specs.Expr as spec
-use Rattle.ti_parse_expr.specs.Expr.{Operand, begins_type, is_dim, more_args, args, more_parts, parts_from, parts, range_from, more_ranges, ranges_from, bracket, process_name, process, named, member, index, postfix, group, operand, operation, climb, cast, cast_from, cast_from_grid, group_from, paren_name_bracket, paren_name, paren, unary, prefix, level, expr}
+use Rattle.ti_parse_expr.specs.Expr.{Operand, begins_type, is_dim, more_args, args, more_parts, parts_from, parts, range_from, more_ranges, ranges_from, bracket, process_name, process, named, member, index, postfix, group, operand, operation, climb, cast, cast_from, cast_from_grid, group_from, paren_name_bracket, paren_name, paren, unary, prefix, level, expr, behind_name, behind_bracket}
+
+-- the readers with so many turns each, where a token is taken by `take` in the second way
+pub record Readers (Q : (A : Type 0) → Parser A → Parser A → Type 0) (take : Parser (Unit {0})) (turns more : ℕ) : Type 0 where
+  pub expr : (least : ℕ) → Q Exp (spec.expr take_token turns least) (spec.expr take more least)
+  pub operand : Q Operand (spec.operand take_token turns (spec.expr take_token turns)) (spec.operand take more (spec.expr take more))
+  pub behind_name : (at : Place) (name : List ℕ) → Q Operand (spec.behind_name take_token turns at name) (spec.behind_name take more at name)
+  pub behind_bracket : (bracket_at at : Place) (name : List ℕ) → Q Operand (spec.behind_bracket take_token turns bracket_at at name) (spec.behind_bracket take more bracket_at at name)
 
 -- Q is the relation, T relates the turns that are left, and `take` takes a token in the second way
 module _ (Q : (A : Type 0) → Parser A → Parser A → Type 0) (T : ℕ → ℕ → Type 0) (take : Parser (Unit {0})) (q_pure : (A : Type 0) (x : A) → Q A (λ i. Ok (x, i)) (λ i. Ok (x, i)))
@@ -361,12 +368,29 @@ module _ (Q : (A : Type 0) → Parser A → Parser A → Type 0) (T : ℕ → �
       unfolding level prefix
       r_level least = r_then (r_kind (spec.prefix_by take_token turns expr1) (spec.prefix_by take more expr2) r_prefix_by) (r_climb least turns more most)
 
-  pub expr_related : (turns more : ℕ) → T turns more → (least : ℕ) → R (expr take_token turns least) (expr take more least)
+  expr_related : (turns more : ℕ) → T turns more → (least : ℕ) → R (expr take_token turns least) (expr take more least)
   unfolding expr
   expr_related zero more h least = r_spent (λ z. expr take z least) more h refl
   expr_related (suc n) zero h least = absurd (t_none n h)
   expr_related (suc n) (suc m) h least = r_level n m (t_less n m h) (expr take_token n) (expr take m) (expr_related n m (t_less n m h)) least
 
-  -- an operand, where expressions are read with so many turns
-  pub operand_related : (turns more : ℕ) → T turns more → R (operand take_token turns (expr take_token turns)) (operand take more (expr take more))
-  operand_related turns more h = r_operand turns more h (expr take_token turns) (expr take more) (expr_related turns more h)
+  r_behind_name : (turns more : ℕ) → T turns more → (at : Place) (name : List ℕ) → R (behind_name take_token turns at name) (behind_name take more at name)
+  unfolding behind_name
+  r_behind_name turns more h at name =
+      let inner = expr_related turns more h in
+      r_then (r_named turns more h (expr take_token turns) (expr take more) inner at name) (r_postfix turns more h (expr take_token turns) (expr take more) inner turns more h)
+
+  r_behind_bracket : (turns more : ℕ) → T turns more → T (suc turns) (suc more) → (bracket_at at : Place) (name : List ℕ) → R (behind_bracket take_token turns bracket_at at name) (behind_bracket take more bracket_at at name)
+  unfolding behind_bracket
+  r_behind_bracket turns more h above bracket_at at name =
+      let inner = expr_related (suc turns) (suc more) above in
+      r_then (r_index (suc turns) (suc more) above (expr take_token (suc turns)) (expr take (suc more)) inner bracket_at (e.Name at name))
+      (r_postfix (suc turns) (suc more) above (expr take_token (suc turns)) (expr take (suc more)) inner turns more h)
+
+  pub readers_related : (turns more : ℕ) → T turns more → T (suc turns) (suc more) → Readers Q take turns more
+  readers_related turns more h above = record {
+    expr = expr_related turns more h;
+    operand = r_operand turns more h (expr take_token turns) (expr take more) (expr_related turns more h);
+    behind_name = r_behind_name turns more h;
+    behind_bracket = r_behind_bracket turns more h above;
+  }

@@ -8,7 +8,7 @@ use Rattle.ti_lang.specs.declared.tree.types.Qualifier.{Qualifier}
 use Rattle.ti_lang.specs.declared.tree.types.QualifierWord.{QualifierWord}
 use Rattle.ti_lang.specs.Trees.Types.{GridTree, TypeTree}
 use Rattle.ti_lang.specs.Spelling.Operators.{qualifier_of}
-use Rattle.ti_parse_expr.specs.Input.{Parser, Spent, ◌>>=◌, ◌>>◌, ◌<$>◌, pure, refuse, peek, here, sees, expect_by}
+use Rattle.ti_parse_expr.specs.Input.{Parser, Spent, ◌>>=◌, ◌>>◌, pure, refuse, peek, here, sees, expect_by}
 
 -- a number of dimensions
 abbrev pub dim_of : ℤ → Option ℕ

@@ -1,6 +1,4 @@
-use Rattle.std.proofs.Common.{ap, sym, subst, take, length, ◌<◌, ◌≤◌, ◌+◌}
-use Rattle.ti_lang.specs.Spelling.Weights.{weigh}
-use Rattle.ti_parse_expr.specs.Answers.{most_weight}
+use Rattle.std.proofs.Common.{sym, subst, take}
 use Rattle.ti_parse_expr.proofs.Weights.{IsFront, front_is, front_some, front_light}
 use Rattle.ti_parse_expr.proofs.reach.front_of.Goals as goal
 use Rattle.ti_parse_expr.proofs.reach.front_of.Goals.{After-reach}

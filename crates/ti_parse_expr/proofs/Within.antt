@@ -1,0 +1,438 @@
+-- Readers within the limit on weights: what they say, how far they look, and that the front of a list is enough for them.
+use Rattle.std.proofs.Common.{◌≡◌, ◌⊎◌, inl, inr, ℕ, suc, ◌+◌, ◌-◌, ◌<◌, ◌≤◌, List, [], ◌∷◌, ◌++◌, length, take, drop, Ok, Err, refl, sym, ap, ◌∙◌, subst, append_assoc, arith, length-append, true, false, Bool, nat_lt, if◌then◌else◌}
+use Rattle.std.proofs.Math.Seq.{take-append_seam, drop-append_seam}
+use borrow.Author.Tests.{ltb-true, ltb-false}
+use Rattle.ti_lang.specs.declared.token.Token.{Token}
+use Rattle.ti_lang.specs.declared.token.TokenKind.TheVariants as k
+use Rattle.ti_lang.specs.Spelling.Loads.{Load, Weight, weights_behind}
+use Rattle.ti_lang.specs.Spelling.Weights.{counts, arity_behind, weigh}
+use Rattle.ti_parse_expr.specs.Answers.{most_weight}
+use Rattle.ti_parse_expr.specs.Input.{At, Over, Spent, Outcome, Parser}
+use Rattle.ti_parse_expr.specs.Reach.{ends_expression}
+use Rattle.ti_parse_expr.specs.Full as spec
+use Rattle.ti_parse_expr.specs.Full.{limited, rest_of, taken, front_of, widened}
+use Rattle.ti_parse_expr.proofs.Law.{BeginsIn, Says, Said, Any, append_nil, token}
+use Rattle.ti_parse_expr.proofs.Local.{Suffix, Same, Near, cancel}
+use Rattle.ti_parse_expr.proofs.Cut.{Shrinks, Passed, Alike, Cut}
+use Rattle.ti_parse_expr.proofs.Enough.{Ended, Enough}
+use Rattle.ti_parse_expr.proofs.Ends.{ends, ends-append, end_of}
+use Rattle.ti_parse_expr.proofs.Weights.{IsFront, front_is, front_some, weigh_front}
+use Rattle.ti_parse_expr.proofs.Limits.{weights_behind_long, weights_front, limited_fits, below, limited_light, limited_heavy, limited_short, Loaded, all_light, heavy, loaded}
+
+-- ---- lists
+
+-- a list of which a front was taken: some token stays, or it was taken too
+data Split (a r b : List Token) (t : Token) (w : List Token) : Type 0 where
+  stays : (c : List Token) → b ≡ a ++ c → r ≡ c ++ t ∷ w → Split a r b t w
+  passes : (g : List Token) → a ≡ b ++ t ∷ g → w ≡ g ++ r → Split a r b t w
+
+one_further : (x y : Token) (a r b : List Token) (t : Token) (w : List Token) → x ≡ y → Split a r b t w → Split (x ∷ a) r (y ∷ b) t w
+one_further x y a r b t w same (stays c is rest) = stays c (ap (λ z. z ∷ b) (sym same) ∙ ap (λ z. x ∷ z) is) rest
+one_further x y a r b t w same (passes g is rest) = passes g (ap (λ z. z ∷ a) same ∙ ap (λ z. y ∷ z) is) rest
+
+split : (a r b : List Token) (t : Token) (w : List Token) → a ++ r ≡ b ++ t ∷ w → Split a r b t w
+split [] r b t w h = stays b refl h
+split (x ∷ a) r [] t w h =
+    let same : x ≡ t = cc in
+    let rest : a ++ r ≡ w = cc in
+    passes a (ap (λ z. z ∷ a) same) (sym rest)
+split (x ∷ a) r (y ∷ b) t w h =
+    let same : x ≡ y = cc in
+    let tails : a ++ r ≡ b ++ t ∷ w = cc in
+    one_further x y a r b t w same (split a r b t w tails)
+
+-- ---- outcomes
+
+-- the outcome with another rest
+abbrev put : {A : Type 0} → List Token → Outcome A → Outcome A
+put r (Ok p) = Ok (p.0, r)
+put r (Err (At q)) = Err (At r)
+put r (Err (Over q)) = Err (Over r)
+put r (Err Spent) = Err Spent
+
+rest_put : {A : Type 0} (r : List Token) (o : Outcome A) → Ended o → rest_of (put r o) ≡ r
+rest_put r (Ok p) ended = refl
+rest_put r (Err (At q)) ended = refl
+rest_put r (Err (Over q)) ended = refl
+rest_put r (Err Spent) ended = absurd ended
+
+put_ends : {A : Type 0} (r : List Token) (o : Outcome A) → Ended o → Ended (put r o)
+put_ends r (Ok p) ended = tt
+put_ends r (Err (At q)) ended = tt
+put_ends r (Err (Over q)) ended = tt
+put_ends r (Err Spent) ended = ended
+
+-- what was taken
+front_taken : {A : Type 0} (l : List Token) (o : Outcome A) → Suffix l o → (f : List Token) × (l ≡ f ++ rest_of o)
+front_taken l (Ok p) (f, e) = (f, e)
+front_taken l (Err (At r)) (f, e) = (f, e)
+front_taken l (Err (Over r)) (f, e) = (f, e)
+front_taken l (Err Spent) h = (l, sym (append_nil l))
+
+take_seam : (a b : List Token) (n : ℕ) → n ≡ length a → take n (a ++ b) ≡ a
+take_seam a b n e = ap (λ m. take m (a ++ b)) e ∙ take-append_seam a b
+
+drop_seam : (a b : List Token) (n : ℕ) → n ≡ length a → drop n (a ++ b) ≡ b
+drop_seam a b n e = ap (λ m. drop m (a ++ b)) e ∙ drop-append_seam a b
+
+-- where some token stays, another list behind it makes no difference but to the rest
+module _ (t : Token) (w v : List Token) where
+  same_put : {A : Type 0} (o o2 : Outcome A) → Ended o → Same t w v o o2 → (c : List Token) → rest_of o ≡ c ++ t ∷ w → o2 ≡ put (c ++ t ∷ v) o
+  same_put (Ok p) o2 ended same c e = same c e
+  same_put (Err (At r)) o2 ended same c e = same c e
+  same_put (Err (Over r)) o2 ended same c e = same c e
+  same_put (Err Spent) o2 ended same c e = absurd ended
+
+  put_same : {A : Type 0} (o : Outcome A) (c : List Token) → rest_of o ≡ c ++ t ∷ w → Same t w v o (put (c ++ t ∷ v) o)
+  put_same (Ok p) c e = λ b h. ap (λ z. Ok (p.0, z ++ t ∷ v)) (cancel c b (t ∷ w) (sym e ∙ h))
+  put_same (Err (At r)) c e = λ b h. ap (λ z. Err (At (z ++ t ∷ v))) (cancel c b (t ∷ w) (sym e ∙ h))
+  put_same (Err (Over r)) c e = λ b h. ap (λ z. Err (Over (z ++ t ∷ v))) (cancel c b (t ∷ w) (sym e ∙ h))
+  put_same (Err Spent) c e = tt
+
+  -- nothing is known where the token was taken
+  far_same : {A : Type 0} (o o2 : Outcome A) → length (rest_of o) ≤ length w → Same t w v o o2
+  far_same (Ok p) o2 short = λ b h. absurd (omega (arith, short, ap length h, length-append b (t ∷ w)))
+  far_same (Err (At r)) o2 short = λ b h. absurd (omega (arith, short, ap length h, length-append b (t ∷ w)))
+  far_same (Err (Over r)) o2 short = λ b h. absurd (omega (arith, short, ap length h, length-append b (t ∷ w)))
+  far_same (Err Spent) o2 short = tt
+
+-- ---- the limit on what was taken
+
+-- what the limit makes of an outcome
+abbrev pub held : {A : Type 0} → ℕ → List Token → Outcome A → Outcome A
+held weight l o = limited (weights_behind 0 weight (taken l o)) l o
+
+module _ {A : Type 0} (weight : ℕ) (l f : List Token) (o : Outcome A) (all : l ≡ f ++ rest_of o) where
+  held_is : held weight l o ≡ limited (weights_behind 0 weight f) (f ++ rest_of o) o
+  held_is =
+      let few : length l - length (rest_of o) ≡ length f = omega (arith, ap length all, length-append f (rest_of o)) in
+      let front : taken l o ≡ f = ap (take (length l - length (rest_of o))) all ∙ take_seam f (rest_of o) (length l - length (rest_of o)) few in
+      ap (λ z. limited (weights_behind 0 weight z) l o) front ∙ ap (λ z. limited (weights_behind 0 weight f) z o) all
+
+  held_light : weight + weigh f ≤ most_weight → held weight l o ≡ o
+  held_light small = held_is ∙ limited_light 0 weight f (rest_of o) o small
+
+  held_heavy : (g : List Token) (t : Token) (h : List Token) → f ≡ g ++ t ∷ h → weight + weigh g ≤ most_weight → most_weight < weight + weigh (g ++ t ∷ []) → held weight l o ≡ Err (Over (t ∷ (h ++ rest_of o)))
+  held_heavy g t h is small above = held_is ∙ ap (λ z. limited (weights_behind 0 weight z) (z ++ rest_of o) o) is ∙ limited_heavy 0 weight g t h (rest_of o) o small above
+
+  -- where a front of what was taken is light, the limit comes behind it or not at all
+  held_short : (a g : List Token) → f ≡ a ++ g → weight + weigh a ≤ most_weight → length (rest_of (held weight l o)) ≤ length (g ++ rest_of o)
+  held_short a g is small =
+      let (more, weighs) = weights_front 0 weight a g in
+      let r : List Token = rest_of o in
+      let front : List Load = weights_behind 0 weight a in
+      let e : held weight l o ≡ limited more (g ++ r) o =
+      held_is ∙ ap (λ z. limited (weights_behind 0 weight z) (z ++ r) o) is ∙ ap (λ z. limited z ((a ++ g) ++ r) o) weighs ∙ ap (λ z. limited (front ++ more) z o) (append_assoc a g r)
+      ∙ limited_fits front more a (g ++ r) o (weights_behind_long 0 weight a) ∙ limited_light 0 weight a (g ++ r) (limited more (g ++ r) o) small in
+      subst (λ z. length (rest_of z) ≤ length (g ++ r)) (sym e) (limited_short more (g ++ r) o (length (g ++ r)) (omega arith) (omega (arith, length-append g r)))
+
+-- a whole that is read
+pub held_reads : {A : Type 0} (weight : ℕ) (l r : List Token) (x : A) (o : Outcome A) → o ≡ Ok (x, r) → held weight (l ++ r) o ≡ limited (weights_behind 0 weight l) (l ++ r) (Ok (x, r))
+held_reads weight l r x o is = held_is weight (l ++ r) l o (ap (λ z. l ++ rest_of z) (sym is)) ∙ ap (λ z. limited (weights_behind 0 weight l) (l ++ rest_of z) z) is
+
+pub suffix_behind : {A : Type 0} (t : Token) (l : List Token) (o : Outcome A) → Suffix l o → Suffix (t ∷ l) o
+suffix_behind t l (Ok p) (f, e) = (t ∷ f, ap (λ z. t ∷ z) e)
+suffix_behind t l (Err (At r)) (f, e) = (t ∷ f, ap (λ z. t ∷ z) e)
+suffix_behind t l (Err (Over r)) (f, e) = (t ∷ f, ap (λ z. t ∷ z) e)
+suffix_behind t l (Err Spent) h = tt
+
+-- a first token that doesn't weigh too much
+pub held_behind : {A : Type 0} (weight v : ℕ) (t : Token) (l : List Token) (o : Outcome A) → (if counts t.kind then 1 else 0) + weight ≡ v → arity_behind t.kind ≡ 0 → v ≤ most_weight → Suffix l o → held weight (t ∷ l) o ≡ held v l o
+held_behind weight v t l o weighs plain small s =
+    let (f, all) = front_taken l o s in
+    let r : List Token = rest_of o in
+    held_is weight (t ∷ l) (t ∷ f) o (ap (λ z. t ∷ z) all) ∙ ap (λ z. limited (Weight z ∷ weights_behind (arity_behind t.kind) z f) (t ∷ (f ++ r)) o) weighs
+    ∙ ap (λ n. limited (Weight v ∷ weights_behind n v f) (t ∷ (f ++ r)) o) plain ∙ below v (weights_behind 0 v f) (t ∷ (f ++ r)) o small ∙ sym (held_is v l f o all)
+
+module _ {A : Type 0} (weight : ℕ) (small : weight ≤ most_weight) where
+  suffix_by : (l f : List Token) (o : Outcome A) → l ≡ f ++ rest_of o → Suffix l o → Loaded 0 weight f → Suffix l (held weight l o)
+  suffix_by l f o all s (all_light light) = subst (Suffix {A = A} l) (sym (held_light weight l f o all light)) s
+  suffix_by l f o all s (heavy g t h is light above) =
+      let at : Suffix {A = A} l (Err (Over (t ∷ (h ++ rest_of o)))) = (g, all ∙ ap (λ z. z ++ rest_of o) is ∙ append_assoc g (t ∷ h) (rest_of o)) in
+      subst (Suffix {A = A} l) (sym (held_heavy weight l f o all g t h is light above)) at
+
+  held_suffix : (l : List Token) (o : Outcome A) → Suffix l o → Suffix l (held weight l o)
+  held_suffix l o s = let (f, all) = front_taken l o s in suffix_by l f o all s (loaded 0 weight f small)
+
+  -- ---- soundness
+
+  module _ (S : List Token → A → Type 0) (n m : ℕ) (l : List Token) (enough : length l < m) where
+    -- what was taken begins a phrase
+    begun : (o : Outcome A) → Says m S Any l o → (f : List Token) × (l ≡ f ++ rest_of o) × BeginsIn S f
+    begun (Ok p) (f, e, s, q) = (f, e, ([], p.0, subst (λ z. S z p.0) (sym (append_nil f)) s))
+    begun (Err (At r)) (f, e, b) = (f, e, b)
+    begun (Err (Over r)) (f, t, u, e, is, (w, x, s)) = (f, e ∙ ap (λ z. f ++ z) (sym is), (t ∷ w, x, subst (λ z. S z x) (append_assoc f (t ∷ []) w) s))
+    begun (Err Spent) few = absurd (omega (arith, few, enough))
+
+    says_again : (o : Outcome A) → Says m S Any l o → Says n S Any l o
+    says_again (Ok p) says = says
+    says_again (Err (At r)) says = says
+    says_again (Err (Over r)) says = says
+    says_again (Err Spent) few = absurd (omega (arith, few, enough))
+
+    says_by : (o : Outcome A) → Says m S Any l o → (f : List Token) → l ≡ f ++ rest_of o → BeginsIn S f → Loaded 0 weight f → Says n S Any l (held weight l o)
+    says_by o says f all begins (all_light light) = subst (Says n S Any l) (sym (held_light weight l f o all light)) (says_again o says)
+    says_by o says f all (w, x, s) (heavy g t h is light above) =
+        let there : f ++ w ≡ (g ++ t ∷ []) ++ (h ++ w) = ap (λ z. z ++ w) is ∙ append_assoc g (t ∷ h) w ∙ sym (append_assoc g (t ∷ []) (h ++ w)) in
+        let over : Says n S Any l (Err (Over (t ∷ (h ++ rest_of o)))) =
+        (g, t, h ++ rest_of o, all ∙ ap (λ z. z ++ rest_of o) is ∙ append_assoc g (t ∷ h) (rest_of o), refl, (h ++ w, x, subst (λ z. S z x) there s)) in
+        subst (Says n S Any l) (sym (held_heavy weight l f o all g t h is light above)) over
+
+    held_says : (o : Outcome A) → Said m S Any l o → Said n S Any l (held weight l o)
+    held_says o said = let (f, all, begins) = begun o said.says in record { says = says_by o said.says f all begins (loaded 0 weight f small) }
+
+  -- ---- nearness
+
+  module _ (t : Token) (w v b : List Token) (o1 o2 : Outcome A) (ends1 : Ended o1) (ends2 : Ended o2) (near : Same t w v o1 o2) (back : Same t v w o2 o1) where
+    abbrev first : List Token
+    first = b ++ t ∷ w
+
+    abbrev second : List Token
+    second = b ++ t ∷ v
+
+    abbrev HeldSame : Type 0
+    HeldSame = Same t w v (held weight first o1) (held weight second o2)
+
+    same_by : (x y : Outcome A) → held weight first o1 ≡ x → held weight second o2 ≡ y → Same t w v x y → HeldSame
+    same_by x y e1 e2 same = subst (λ z. Same t w v z (held weight second o2)) (sym e1) (subst (λ z. Same t w v x z) (sym e2) same)
+
+    -- the token too deep is this one of the first list, and of the second
+    over_by : (u : Token) (x y c : List Token) → held weight first o1 ≡ Err (Over (u ∷ x)) → held weight second o2 ≡ Err (Over (u ∷ y)) → u ∷ x ≡ c ++ t ∷ w → u ∷ y ≡ c ++ t ∷ v → HeldSame
+    over_by u x y c e1 e2 at1 at2 =
+        let over : Outcome A = Err (Over (u ∷ x)) in
+        same_by over (Err (Over (c ++ t ∷ v))) e1 (e2 ∙ ap (λ z. Err (Over z)) at2) (put_same t w v over c at1)
+
+    stays_near : (f c : List Token) → first ≡ f ++ rest_of o1 → b ≡ f ++ c → rest_of o1 ≡ c ++ t ∷ w → rest_of o2 ≡ c ++ t ∷ v → second ≡ f ++ rest_of o2 → Loaded 0 weight f → HeldSame
+    stays_near f c all1 is rest1 rest2 all2 (all_light light) = same_by o1 o2 (held_light weight first f o1 all1 light) (held_light weight second f o2 all2 light) near
+    stays_near f c all1 is rest1 rest2 all2 (heavy g u h is2 light above) =
+        over_by u (h ++ rest_of o1) (h ++ rest_of o2) (u ∷ (h ++ c)) (held_heavy weight first f o1 all1 g u h is2 light above) (held_heavy weight second f o2 all2 g u h is2 light above)
+        (ap (λ z. u ∷ (h ++ z)) rest1 ∙ ap (λ z. u ∷ z) (sym (append_assoc h c (t ∷ w)))) (ap (λ z. u ∷ (h ++ z)) rest2 ∙ ap (λ z. u ∷ z) (sym (append_assoc h c (t ∷ v))))
+
+    -- behind a front that ends with the token
+    over_at : (u : Token) (h c g r l : List Token) → u ∷ h ≡ c ++ t ∷ [] → l ≡ g ++ r → u ∷ ((h ++ g) ++ r) ≡ c ++ t ∷ l
+    over_at u h c g r l is rest = ap (λ z. u ∷ z) (append_assoc h g r) ∙ ap (λ z. z ++ (g ++ r)) is ∙ append_assoc c (t ∷ []) (g ++ r) ∙ ap (λ z. c ++ t ∷ z) (sym rest)
+
+    longer : (f g h g2 : List Token) (u : Token) → f ≡ b ++ t ∷ g → b ++ t ∷ [] ≡ g2 ++ u ∷ h → f ≡ g2 ++ u ∷ (h ++ g)
+    longer f g h g2 u is is2 = is ∙ sym (append_assoc b (t ∷ []) g) ∙ ap (λ z. z ++ g) is2 ∙ append_assoc g2 (u ∷ h) g
+
+    deep_near : (f1 g1 f2 g2 : List Token) → first ≡ f1 ++ rest_of o1 → f1 ≡ b ++ t ∷ g1 → w ≡ g1 ++ rest_of o1 → second ≡ f2 ++ rest_of o2 → f2 ≡ b ++ t ∷ g2 → v ≡ g2 ++ rest_of o2
+        → (g h : List Token) (u : Token) → b ++ t ∷ [] ≡ g ++ u ∷ h → weight + weigh g ≤ most_weight → most_weight < weight + weigh (g ++ u ∷ []) → Split g (u ∷ h) b t [] → HeldSame
+    deep_near f1 g1 f2 g2 all1 is1 rest1 all2 is2 rest2 g h u is light above (stays c in_front ends) =
+        over_by u ((h ++ g1) ++ rest_of o1) ((h ++ g2) ++ rest_of o2) c (held_heavy weight first f1 o1 all1 g u (h ++ g1) (longer f1 g1 h g u is1 is) light above) (held_heavy weight second f2 o2 all2 g u (h ++ g2) (longer f2 g2 h g u is2 is) light above)
+        (over_at u h c g1 (rest_of o1) w ends rest1) (over_at u h c g2 (rest_of o2) v ends rest2)
+    deep_near f1 g1 f2 g2 all1 is1 rest1 all2 is2 rest2 g h u is light above (passes k in_front none) = absurd (omega (arith, ap length none, length-append k (u ∷ h)))
+
+    passes_near : (f1 g1 f2 g2 : List Token) → first ≡ f1 ++ rest_of o1 → f1 ≡ b ++ t ∷ g1 → w ≡ g1 ++ rest_of o1 → second ≡ f2 ++ rest_of o2 → f2 ≡ b ++ t ∷ g2 → v ≡ g2 ++ rest_of o2
+        → Loaded 0 weight (b ++ t ∷ []) → HeldSame
+    passes_near f1 g1 f2 g2 all1 is1 rest1 all2 is2 rest2 (all_light light) =
+        let short = held_short weight first f1 o1 all1 (b ++ t ∷ []) g1 (is1 ∙ sym (append_assoc b (t ∷ []) g1)) light in
+        far_same t w v (held weight first o1) (held weight second o2) (omega (arith, short, ap length rest1))
+    passes_near f1 g1 f2 g2 all1 is1 rest1 all2 is2 rest2 (heavy g u h is light above) = deep_near f1 g1 f2 g2 all1 is1 rest1 all2 is2 rest2 g h u is light above (split g (u ∷ h) b t [] (sym is))
+
+    second_near : (f1 g1 f2 : List Token) → first ≡ f1 ++ rest_of o1 → f1 ≡ b ++ t ∷ g1 → w ≡ g1 ++ rest_of o1 → second ≡ f2 ++ rest_of o2 → Split f2 (rest_of o2) b t v → HeldSame
+    second_near f1 g1 f2 all1 is1 rest1 all2 (stays c is rest) =
+        let e : rest_of o1 ≡ c ++ t ∷ w = ap rest_of (same_put t v w o2 o1 ends2 back c rest) ∙ rest_put (c ++ t ∷ w) o2 ends2 in
+        absurd (omega (arith, ap length e, length-append c (t ∷ w), ap length rest1, length-append g1 (rest_of o1)))
+    second_near f1 g1 f2 all1 is1 rest1 all2 (passes g2 is rest) = passes_near f1 g1 f2 g2 all1 is1 rest1 all2 is rest (loaded 0 weight (b ++ t ∷ []) small)
+
+    near_by : (f1 f2 : List Token) → first ≡ f1 ++ rest_of o1 → second ≡ f2 ++ rest_of o2 → Split f1 (rest_of o1) b t w → HeldSame
+    near_by f1 f2 all1 all2 (stays c is rest) =
+        let rest2 : rest_of o2 ≡ c ++ t ∷ v = ap rest_of (same_put t w v o1 o2 ends1 near c rest) ∙ rest_put (c ++ t ∷ v) o1 ends1 in
+        stays_near f1 c all1 is rest rest2 (ap (λ z. z ++ t ∷ v) is ∙ append_assoc f1 c (t ∷ v) ∙ ap (λ z. f1 ++ z) (sym rest2)) (loaded 0 weight f1 small)
+    near_by f1 f2 all1 all2 (passes g is rest) = second_near f1 g f2 all1 is rest all2 (split f2 (rest_of o2) b t v (sym all2))
+
+    held_near : Suffix first o1 → Suffix second o2 → HeldSame
+    held_near s1 s2 =
+        let (f1, all1) = front_taken first o1 s1 in
+        let (f2, all2) = front_taken second o2 s2 in
+        near_by f1 f2 all1 all2 (split f1 (rest_of o1) b t w (sym all1))
+
+-- ---- readers
+
+-- a reader that is given its number of turns, the reader of fronts whose last token stays, and what they read
+pub record Reader {A : Type 0} (S : List Token → A → Type 0) (raw cut : ℕ → Parser A) : Type 0 where
+  pub says : (n : ℕ) (l : List Token) → Said n S Any l (raw n l)
+  pub near : (t : Token) (w v : List Token) (n m : ℕ) → n ≤ m → Near t w v (raw n) (raw m)
+  pub enough : (n m : ℕ) → n ≤ m → Enough (raw n) (raw m)
+  pub cuts : (n : ℕ) → Cut (raw n) (cut n)
+  pub goes_on : (l : List Token) (x : A) → S l x → ends l ≡ 0
+
+ended_by : {A : Type 0} (S : List Token → A → Type 0) (n : ℕ) (l : List Token) (o : Outcome A) → length l < n → Says n S Any l o → Ended o
+ended_by S n l (Ok p) lt says = tt
+ended_by S n l (Err (At r)) lt says = tt
+ended_by S n l (Err (Over r)) lt says = tt
+ended_by S n l (Err Spent) lt few = absurd (omega (arith, few, lt))
+
+suffix_shrinks : {A : Type 0} (l : List Token) (o : Outcome A) → Suffix l o → Shrinks l o
+suffix_shrinks l (Ok p) (f, e) = omega (arith, ap length e, length-append f p.1)
+suffix_shrinks l (Err (At r)) (f, e) = omega (arith, ap length e, length-append f r)
+suffix_shrinks l (Err (Over r)) (f, e) = omega (arith, ap length e, length-append f r)
+suffix_shrinks l (Err Spent) h = tt
+
+passed_rest : {A : Type 0} (o : Outcome A) → Ended o → Passed o → length (rest_of o) ≡ 0
+passed_rest (Ok p) ended passed = passed
+passed_rest (Err (At r)) ended passed = passed
+passed_rest (Err (Over r)) ended passed = passed
+passed_rest (Err Spent) ended passed = absurd ended
+
+nothing : (r : List Token) → length r ≡ 0 → r ≡ []
+nothing [] h = refl
+nothing (t ∷ r) h = absurd (omega (arith, h))
+
+alike_put : {A : Type 0} (x o : Outcome A) (r : List Token) → Ended o → 0 < length r → x ≡ put r o → Alike x (put r o)
+alike_put x (Ok p) r ended some e = (e, some)
+alike_put x (Err (At q)) r ended some e = (e, some)
+alike_put x (Err (Over q)) r ended some e = (e, some)
+alike_put x (Err Spent) r ended some e = absurd ended
+
+widened_put : {A : Type 0} (weight : ℕ) (l front : List Token) (o : Outcome A) → Ended o → widened weight l front o ≡ put (drop (length front - length (rest_of o)) l) o
+widened_put weight l front (Ok p) ended = refl
+widened_put weight l front (Err (At r)) ended = refl
+widened_put weight l front (Err (Over r)) ended = refl
+widened_put weight l front (Err Spent) ended = absurd ended
+
+-- what holds of a reader within the limit, and of the same for the front of a list
+pub record Laws {A : Type 0} (S : List Token → A → Type 0) (p q : Parser A) : Type 0 where
+  pub says : (n : ℕ) (l : List Token) → Said n S Any l (p l)
+  pub near : (t : Token) (w v : List Token) → Near t w v p p
+  pub cut : Cut p q
+
+module _ {A : Type 0} (S : List Token → A → Type 0) (raw cut : ℕ → Parser A) (reader : Reader S raw cut) (weight : ℕ) (small : weight ≤ most_weight) (turns : List Token → ℕ) (many : (l : List Token) → length l < turns l) where
+  -- the reader within the limit
+  abbrev reads : Parser A
+  reads l = held weight l (raw (turns l) l)
+
+  ended : (n : ℕ) (l : List Token) → length l < n → Ended (raw n l)
+  ended n l lt = ended_by S n l (raw n l) lt (reader.says n l).says
+
+  same_turns : (n m : ℕ) (l : List Token) → length l < n → length l < m → raw n l ≡ raw m l
+  same_turns n m l lt lt2 = sym ((reader.enough n (n + m) (omega arith)).same l (ended n l lt)) ∙ (reader.enough m (n + m) (omega arith)).same l (ended m l lt2)
+
+  same_at : (t : Token) (w v b l1 l2 : List Token) (n m : ℕ) → l1 ≡ b ++ t ∷ w → l2 ≡ b ++ t ∷ v → length l1 < n → length l2 < m → Same t w v (raw n l1) (raw m l2)
+  same_at t w v b l1 l2 n m is1 is2 lt1 lt2 =
+      let at : Same t w v (raw n (b ++ t ∷ w)) (raw (n + m) (b ++ t ∷ v)) = (reader.near t w v n (n + m) (omega arith)).same b in
+      let there : Same t w v (raw n l1) (raw (n + m) l2) = subst (λ z. Same t w v (raw n l1) (raw (n + m) z)) (sym is2) (subst (λ z. Same t w v (raw n z) (raw (n + m) (b ++ t ∷ v))) (sym is1) at) in
+      subst (Same t w v (raw n l1)) ((reader.enough m (n + m) (omega arith)).same l2 (ended m l2 lt2)) there
+
+  rest_part : (l : List Token) → Suffix l (raw (turns l) l)
+  rest_part l = (reader.near (token k.End) [] [] (turns l) (turns l) (omega arith)).suffix l
+
+  whole_says : (n : ℕ) (l : List Token) → Said n S Any l (reads l)
+  whole_says n l = held_says weight small S n (turns l) l (many l) (raw (turns l) l) (reader.says (turns l) l)
+
+  whole_near : (t : Token) (w v : List Token) → Near t w v reads reads
+  whole_near t w v = record {
+    suffix = λ l. held_suffix weight small l (raw (turns l) l) (rest_part l);
+    same = λ b. let l1 : List Token = b ++ t ∷ w in
+        let l2 : List Token = b ++ t ∷ v in
+        held_near weight small t w v b (raw (turns l1) l1) (raw (turns l2) l2) (ended (turns l1) l1 (many l1)) (ended (turns l2) l2 (many l2))
+        (same_at t w v b l1 l2 (turns l1) (turns l2) refl refl (many l1) (many l2)) (same_at t v w b l2 l1 (turns l2) (turns l1) refl refl (many l2) (many l1)) (rest_part l1) (rest_part l2);
+  }
+
+  -- ---- the front is enough
+
+  module _ (l front : List Token) (at : IsFront weight l front) where
+    abbrev of_front : Outcome A
+    of_front = raw (suc (length front)) front
+
+    abbrev of_list : Outcome A
+    of_list = raw (turns l) l
+
+    front_ended : Ended of_front
+    front_ended = ended (suc (length front)) front (omega arith)
+
+    list_ended : Ended of_list
+    list_ended = ended (turns l) l (many l)
+
+    to_list : Same at.last [] at.rest of_front of_list
+    to_list = same_at at.last [] at.rest at.before front l (suc (length front)) (turns l) at.made at.is (omega arith) (many l)
+
+    to_front : Same at.last at.rest [] of_list of_front
+    to_front = same_at at.last at.rest [] at.before l front (turns l) (suc (length front)) at.is at.made (many l) (omega arith)
+
+    -- a token of the front stays
+    stays_alike : (g c : List Token) → front ≡ g ++ rest_of of_front → at.before ≡ g ++ c → rest_of of_front ≡ c ++ at.last ∷ [] → Alike (reads l) (widened weight l front of_front)
+    stays_alike g c all is rest =
+        let r : List Token = c ++ at.last ∷ at.rest in
+        let moved : of_list ≡ put r of_front = same_put at.last [] at.rest of_front of_list front_ended to_list c rest in
+        let left : rest_of of_list ≡ r = ap rest_of moved ∙ rest_put r of_front front_ended in
+        let whole_list : l ≡ g ++ r = at.is ∙ ap (λ z. z ++ at.last ∷ at.rest) is ∙ append_assoc g c (at.last ∷ at.rest) in
+        let light : weight + weigh g ≤ most_weight = omega (arith, at.light, ap weigh is, weigh_front 0 g c) in
+        let e : reads l ≡ put r of_front = held_light weight l g of_list (whole_list ∙ ap (λ z. g ++ z) (sym left)) light ∙ moved in
+        let few : length front - length (rest_of of_front) ≡ length g = omega (arith, ap length all, length-append g (rest_of of_front)) in
+        let there : drop (length front - length (rest_of of_front)) l ≡ r = ap (drop (length front - length (rest_of of_front))) whole_list ∙ drop_seam g r (length front - length (rest_of of_front)) few in
+        let wide : widened weight l front of_front ≡ put r of_front = widened_put weight l front of_front front_ended ∙ ap (λ z. put z of_front) there in
+        subst (Alike (reads l)) (sym wide) (alike_put (reads l) of_front r front_ended (omega (arith, length-append c (at.last ∷ at.rest))) e)
+
+    front_by : (g : List Token) → front ≡ g ++ rest_of of_front → 0 < length (rest_of of_front) → Split g (rest_of of_front) at.before at.last [] → Alike (reads l) (widened weight l front of_front)
+    front_by g all some (stays c is rest) = stays_alike g c all is rest
+    front_by g all some (passes h is none) = absurd (omega (arith, some, ap length none, length-append h (rest_of of_front)))
+
+    front_alike : 0 < length (rest_of of_front) → Alike (reads l) (widened weight l front of_front)
+    front_alike some =
+        let (g, all) = front_taken front of_front ((reader.near at.last [] [] (suc (length front)) (suc (length front)) (omega arith)).suffix front) in
+        front_by g all some (split g (rest_of of_front) at.before at.last [] (sym all ∙ at.made))
+
+    -- the last token of the front would have been taken, and weighs too much
+    heavy_by : Passed of_front → most_weight < weight + weigh front → (g : List Token) → l ≡ g ++ rest_of of_list → Split g (rest_of of_list) at.before at.last at.rest → reads l ≡ Err (Over (at.last ∷ at.rest))
+    heavy_by passed above g all (stays c is rest) =
+        let e : rest_of of_front ≡ c ++ at.last ∷ [] = ap rest_of (same_put at.last at.rest [] of_list of_front list_ended to_front c rest) ∙ rest_put (c ++ at.last ∷ []) of_list list_ended in
+        absurd (omega (arith, passed_rest of_front front_ended passed, ap length e, length-append c (at.last ∷ [])))
+    heavy_by passed above g all (passes h is rest) =
+        held_heavy weight l g of_list all at.before at.last h is at.light (omega (arith, above, ap weigh at.made)) ∙ ap (λ z. Err (Over (at.last ∷ z))) (sym rest)
+
+    heavy_alike : Passed of_front → most_weight < weight + weigh front → Alike (reads l) (Err (Over (drop (length front - 1) l)))
+    heavy_alike passed above =
+        let (g, all) = front_taken l of_list (rest_part l) in
+        let one : length front - 1 ≡ length at.before = omega (arith, ap length at.made, length-append at.before (at.last ∷ [])) in
+        let there : drop (length front - 1) l ≡ at.last ∷ at.rest = ap (drop (length front - 1)) at.is ∙ drop_seam at.before (at.last ∷ at.rest) (length front - 1) one in
+        (heavy_by passed above g all (split g (rest_of of_list) at.before at.last at.rest (sym all ∙ at.is)) ∙ ap (λ z. Err (Over z)) (sym there), omega (arith, ap length there))
+
+    -- or doesn't
+    begins_front : Passed of_front → BeginsIn S front
+    begins_front passed =
+        let n = suc (length front) in
+        let (f, all, begins) = begun weight small S n n front (omega arith) of_front (reader.says n front).says in
+        let e : front ≡ f = all ∙ ap (λ z. f ++ z) (nothing (rest_of of_front) (passed_rest of_front front_ended passed)) ∙ append_nil f in
+        subst (BeginsIn S) (sym e) begins
+
+    no_end : BeginsIn S front → ends_expression at.last.kind ≡ true → ⊥
+    no_end (w, x, s) ends_it =
+        let one : end_of at.last.kind ≡ 1 = ap (λ z. if z then 1 else 0) ends_it in
+        omega (arith, reader.goes_on (front ++ w) x s, ends-append front w, ap ends at.made, ends-append at.before (at.last ∷ []), one)
+
+    all_light_passed : Passed of_front → weight + weigh front ≤ most_weight → at.rest ≡ [] → Passed (reads l)
+    all_light_passed passed light none =
+        let same : l ≡ front = at.is ∙ ap (λ z. at.before ++ at.last ∷ z) none ∙ sym at.made in
+        let (g, all) = front_taken l of_list (rest_part l) in
+        let few : weight + weigh g ≤ most_weight = omega (arith, light, ap weigh (sym same ∙ all), weigh_front 0 g (rest_of of_list)) in
+        let read : of_list ≡ of_front = ap (raw (turns l)) same ∙ same_turns (turns l) (suc (length front)) front (omega (arith, many l, ap length same)) (omega arith) in
+        subst Passed (sym (held_light weight l g of_list all few ∙ read)) passed
+
+    light_passed : Passed of_front → weight + weigh front ≤ most_weight → (at.rest ≡ []) ⊎ ((ends_expression at.last.kind ≡ true) ⊎ (most_weight < weight + weigh (at.before ++ at.last ∷ []))) → Passed (reads l)
+    light_passed passed light (inl none) = all_light_passed passed light none
+    light_passed passed light (inr (inl ends_it)) = absurd (no_end (begins_front passed) ends_it)
+    light_passed passed light (inr (inr above)) = absurd (omega (arith, light, above, ap weigh at.made))
+
+    spent_if : Passed of_front → (c : Bool) → nat_lt 256 (weight + weigh front) ≡ c → Alike (reads l) (if c then Err (Over (drop (length front - 1) l)) else Err Spent)
+    spent_if passed true h = heavy_alike passed (ltb-true 256 (weight + weigh front) h)
+    spent_if passed false h = light_passed passed (ltb-false 256 (weight + weigh front) h) at.stops
+
+    alike_by : (o : Outcome A) → Alike of_front o → Alike (reads l) (widened weight l front o)
+    alike_by (Ok p) (is, some) = subst (λ z. Alike (reads l) (widened weight l front z)) is (front_alike (subst (λ z. 0 < length (rest_of z)) (sym is) some))
+    alike_by (Err (At r)) (is, some) = subst (λ z. Alike (reads l) (widened weight l front z)) is (front_alike (subst (λ z. 0 < length (rest_of z)) (sym is) some))
+    alike_by (Err (Over r)) (is, some) = subst (λ z. Alike (reads l) (widened weight l front z)) is (front_alike (subst (λ z. 0 < length (rest_of z)) (sym is) some))
+    alike_by (Err Spent) passed = spent_if passed (nat_lt 256 (weight + weigh front)) refl
+
+  whole_alike : (l : List Token) → 0 < length l → Alike (reads l) (spec.within weight cut l)
+  whole_alike l some =
+      let front : List Token = front_of weight l in
+      let at : IsFront weight l front = front_is weight l small some in
+      alike_by l front at (cut (suc (length front)) front) ((reader.cuts (suc (length front))).alike front (front_some weight l front at))
+
+  pub laws : Laws S reads (spec.within weight cut)
+  laws = record {
+    says = whole_says;
+    near = whole_near;
+    cut = record { shrinks = λ l. suffix_shrinks l (reads l) (held_suffix weight small l (raw (turns l) l) (rest_part l)); alike = whole_alike };
+  }
