@@ -12,7 +12,7 @@ use Rattle.ti_lang.specs.Spelling.Statements as s
 use Rattle.ti_lang.specs.Spelling.Classes.{Returned, Method, Member, Members, Class, AllClasses}
 use Rattle.ti_lang.specs.Spelling.Classes as c
 use Rattle.ti_lang.specs.Spelling.Loads.{Load, Free, free, weights, region_loads, range_loads, ranges_loads, dims_loads, initial_loads, declared_loads, changed_loads, printed_loads, condition_loads, first_loads, test_loads, update_loads, stated_loads, items_loads, returned_loads, method_loads, member_loads, members_loads, class_loads, classes_loads}
-use Rattle.ti_parse.proofs.FullStub.{weights_long}
+use Rattle.ti_parse_expr.proofs.FullLaws.{weights_long}
 
 -- as many loads as tokens
 pub record Loaded (loads : List Load) (l : List Token) : Type 0 where

@@ -1,6 +1,6 @@
 pub mod Answered
+pub mod Decided
 pub mod Ends
-pub mod FullStub
 pub mod Laws
 pub mod Lengths
 pub mod Limited

@@ -15,7 +15,7 @@ use Rattle.ti_parse_expr.specs.Input.{At, Over, Outcome, Parser, and_then, kind,
 use Rattle.ti_parse_expr.specs.Full.{is_above, limited, full}
 use Rattle.ti_parse_expr.proofs.Law.{append_nil}
 use Rattle.ti_parse_expr.proofs.Follows.{IsCloser}
-use Rattle.ti_parse.proofs.FullStub.{full_reads, limited_fits, limited_then}
+use Rattle.ti_parse_expr.proofs.FullLaws.{full_reads, limited_fits, limited_then}
 use Rattle.ti_parse.proofs.Lengths.{Loaded, none_loaded, one_loaded, both_loaded, free_loaded, weights_loaded}
 
 -- ---- what is read

@@ -20,7 +20,7 @@ use Rattle.ti_parse_expr.proofs.Follows.{then_ok, test_reads}
 use Rattle.ti_parse_expr.proofs.CompleteTypes.{base_reads, EndsType, field_type_reads, grid_reads, grids_read, qualifiers_read, gridded_front}
 use Rattle.ti_parse.specs.Way.{plain}
 use Rattle.ti_parse.specs.Parts.{Declares, is_wide, wide, wide_by, field, typed, begun, begun_by, begun_bracket}
-use Rattle.ti_parse.proofs.FullStub.{arity_reads}
+use Rattle.ti_parse_expr.proofs.CompleteTypes.{arity_reads}
 
 -- ---- what types begin with
 

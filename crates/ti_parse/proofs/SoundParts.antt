@@ -36,7 +36,7 @@ use Rattle.ti_parse.specs.Parts as spec
 use Rattle.ti_parse.specs.Parts.{is_wide, begins_declaration, Begun, Declares, Starts, wide, field, typed, range_from, more_ranges, dims, region, new_grid, new_named, made, new_thing, broadcast, initial, declared, changed, simple, change, begun_bracket, begun, printer, printed_text, printed, print, barrier, condition, first, test, update}
 use Rattle.ti_parse.proofs.Laws.{Free, Tells, told, as_tells, done_tells, refused_tells, if_tells, if_sees, after_tells, then_tells, map_tells, want_here, want_tells, last_tells, word_here, word_tells, name_here}
 use Rattle.ti_parse.proofs.SoundKinds.{assign_is, plus_is, semicolon_is, println_is}
-use Rattle.ti_parse.proofs.FullStub.{full_says, operand_says, behind_name_is, behind_bracket_is}
+use Rattle.ti_parse_expr.proofs.FullLaws.{full_says, operand_says, behind_name_is, behind_bracket_is}
 
 -- ---- some phrases
 

@@ -11,5 +11,5 @@ mod text;
 mod types;
 mod words;
 
-pub use text::parse;
+pub use text::{one_text, parse};
 pub use ti_parse_expr::ParseErr;

@@ -1,9 +1,13 @@
 // The tree of a text.
 
-ghost use Rattle.std.specs.Prelude.{◌≡◌, ◌+◌, length};
+ghost use Rattle.std.specs.Prelude.{◌≡◌, List, Option};
+ghost use Rattle.ti_base.specs.declared.place.Place.{Place as PlaceSeen};
+ghost use Rattle.ti_lang.specs.declared.token.Token.{Token as TokenSeen};
+ghost use Rattle.ti_lang.specs.Trees.Classes.{TextTree};
 ghost use Rattle.ti_lang.specs.Trees.Views.{tree_of};
+ghost use Rattle.ti_lang.specs.Spelling.{Spells, IsShallow, Misfit, IsGrammarRefusal};
+ghost use Rattle.ti_parse.specs.Answer.{Parsed};
 ghost use Rattle.ti_parse.specs.Classes as spec;
-ghost use Rattle.ti_parse.specs.Seen.{AnswersAs};
 ghost use Rattle.ti_parse.specs.Way.{careful};
 ghost use Rattle.ti_parse_expr.specs.Answers.{EndsAtEnd};
 ghost use Rattle.ti_parse_expr.specs.Input.{ReadsAs};
@@ -35,10 +39,13 @@ fn refused(rule: Rule, place: Place) -> ParseErr
     ParseErr::Refused(Refusal { rule, place })
 }
 
-/// The tree of a list of tokens.
+/// The tree that a list of tokens spells.
+///
+/// Refused with G1 at the first token such that the tokens up to and including it begin no text, or with G2 at the first
+/// token before that whose level is above 64 or whose weight is above 256. Otherwise only memory may be wanting.
 pub fn parse(alloc: Global, toks: &[Token]) -> Result<Tree, ParseErr>
     requires { EndsAtEnd toks.now }
-    ensures { AnswersAs (spec.text careful (length toks.now + 1) toks.now) result }
+    ensures { Parsed toks.now result }
 {
     let mut tokens = Tokens::new(toks);
     match read_text(alloc, &mut tokens, toks.len() + 1) {
@@ -46,6 +53,14 @@ pub fn parse(alloc: Global, toks: &[Token]) -> Result<Tree, ParseErr>
         Err(Stop::Memory) => Err(ParseErr::Memory),
         Err(Stop::Refused) => Err(refused(Rule::G1, tokens.place())),
         Err(Stop::TooDeep) => Err(refused(Rule::G2, tokens.place())),
-        Err(Stop::Spent) => Err(ParseErr::Memory),
+        Err(Stop::Spent) => unreachable!(),
     }
 }
+
+/// That a list of tokens is at most one tree where none of them is too deep, and that each list that ends with the end
+/// token has one answer on what is wrong with it.
+pub fn one_text()
+    ensures one_tree { (list : List TokenSeen) (a b : TextTree) → IsShallow list → Spells list a → Spells list b → a ≡ b }
+    ensures some { (list : List TokenSeen) → EndsAtEnd list → (a : Option (Misfit × PlaceSeen)) × IsGrammarRefusal list a }
+    ensures only { (list : List TokenSeen) (a b : Option (Misfit × PlaceSeen)) → IsGrammarRefusal list a → IsGrammarRefusal list b → a ≡ b }
+{}

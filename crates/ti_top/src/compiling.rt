@@ -11,7 +11,7 @@ use std::alloc::Global;
 use ti_base::Memory;
 use ti_lang::Listing;
 use ti_lex::{LexErr, lex, one_reading};
-use ti_parse::{ParseErr, parse};
+use ti_parse::{ParseErr, one_text, parse};
 use ti_rules::Refusal;
 
 /// Why a text has no program.
@@ -69,6 +69,7 @@ pub fn one_answer()
     ensures never_both { (text : List ℕ) (program : Program) (refusal : RefusalSeen) → HasProgram text program → IsRefusal text refusal → ⊥ }
 {
     one_reading();
+    one_text();
 }
 
 /// The program of a text: it becomes tokens, these become a tree, and a tree that breaks no rule becomes a list of

@@ -1,5 +1,4 @@
 use Rattle.ti_rules.proofs.OneAnswer.{OneReading, one_program, one_refusal, never_both}
-use Rattle.ti_top.proofs.OneTree.{one_tree, one_misfit}
 use Rattle.ti_top.proofs.compiling.one_answer.Goals as goal
 
 pub returns : goal.returns
@@ -8,7 +7,7 @@ returns c =
       one_list = c.one_reading.ensures.one_list;
       one_flaw = c.one_reading.ensures.one_refusal;
       not_both = c.one_reading.ensures.never_both;
-      one_tree = one_tree;
-      one_misfit = one_misfit;
+      one_tree = c.one_text.ensures.one_tree;
+      one_misfit = c.one_text.ensures.only;
     } in
     record { one_program = one_program known; one_refusal = one_refusal known; never_both = never_both known }

@@ -1,0 +1,56 @@
+-- What reading a text answers decides what the list of tokens is.
+use Rattle.std.proofs.Common.{◌≡◌, ℕ, ◌+◌, ◌<◌, ◌≤◌, List, [], ◌++◌, length, Option, Some, Ok, Err, arith}
+use Rattle.ti_base.specs.declared.place.Place.{Place}
+use Rattle.ti_lang.specs.declared.token.Token.{Token}
+use Rattle.ti_lang.specs.declared.token.TokenKind.TheVariants as k
+use Rattle.ti_lang.specs.Trees.Classes.{ClassTree, TextTree}
+use Rattle.ti_lang.specs.Spelling.{Spells, IsShallow, Misfit, Unexpected, TooDeep, IsGrammarRefusal}
+use Rattle.ti_lang.specs.Spelling.Classes.{AllClasses}
+use Rattle.ti_lang.specs.Spelling.Loads.{classes_loads}
+use Rattle.ti_parse_expr.specs.Answers.{EndsAtEnd}
+use Rattle.ti_parse_expr.specs.Input.{At, Over, Spent, kind, place}
+use Rattle.ti_parse_expr.specs.Full.{limited}
+use Rattle.ti_parse_expr.proofs.Local.{Near}
+use Rattle.ti_parse_expr.proofs.Cut.{Cut}
+use Rattle.ti_parse_expr.proofs.FullLaws.{full_near, operand_near_full, behind_name_near, behind_bracket_near, full_cut, operand_cut_full, behind_name_cut, behind_bracket_cut}
+use Rattle.ti_parse.specs.Way.{plain, careful}
+use Rattle.ti_parse.specs.Classes.{classes, text}
+use Rattle.ti_parse.proofs.SoundClasses.{classes_say}
+use Rattle.ti_parse.proofs.ReadsClasses.{classes_long, classes_read}
+use Rattle.ti_parse.proofs.Near.{classes_near, text_cut}
+use Rattle.ti_parse.proofs.Answered as answered
+
+reads : (l : List Token) (xs : List ClassTree) (s : AllClasses l xs) (turns : ℕ) (r : List Token) → kind r ≡ k.End → length (l ++ r) < turns
+    → classes plain turns turns [] (l ++ r) ≡ limited (classes_loads s) (l ++ r) (Ok (xs, r))
+reads l xs s turns r ends lt = classes_read s turns r ends lt
+
+long : (l : List Token) (xs : List ClassTree) (s : AllClasses l xs) → length (classes_loads s) ≡ length l
+long l xs s = classes_long s
+
+near : (t : Token) (w v : List Token) (turns more : ℕ) → turns ≤ more → Near t w v (classes plain turns turns []) (classes plain more more [])
+near t w v turns more le = classes_near t w v (full_near t w v) (operand_near_full t w v) (behind_name_near t w v) (behind_bracket_near t w v) turns more le
+
+cut : (turns : ℕ) → Cut (text plain turns) (text careful turns)
+cut turns = text_cut full_cut operand_cut_full behind_name_cut behind_bracket_cut turns
+
+-- ---- the outcomes of reading a list that ends at its end
+
+pub spelled : (list : List Token) → EndsAtEnd list → (tree : TextTree) (r : List Token) → text careful (length list + 1) list ≡ Ok (tree, r) → Spells list tree × IsShallow list
+spelled list closed tree r is = answered.ok_answer classes_say reads near cut (length list + 1) list closed (omega arith) tree r is
+
+pub is_unexpected : (list : List Token) → EndsAtEnd list → (r : List Token) → text careful (length list + 1) list ≡ Err (At r) → IsGrammarRefusal list (Some (Unexpected, place r))
+is_unexpected list closed r is = (answered.refused_answer classes_say reads near cut (length list + 1) list closed (omega arith) r is).1
+
+pub is_too_deep : (list : List Token) → EndsAtEnd list → (r : List Token) → text careful (length list + 1) list ≡ Err (Over r) → IsGrammarRefusal list (Some (TooDeep, place r))
+is_too_deep list closed r is = (answered.deep_answer classes_say reads near cut (length list + 1) list closed (omega arith) r is).1
+
+pub never_spent : (list : List Token) → EndsAtEnd list → text careful (length list + 1) list ≡ Err Spent → ⊥
+never_spent list closed is = answered.never_spent classes_say reads near cut (length list + 1) list closed (omega arith) is
+
+-- each list that ends at its end has an answer
+pub decided : (list : List Token) → EndsAtEnd list → (a : Option (Misfit × Place)) × IsGrammarRefusal list a
+decided list closed = answered.has_refusal classes_say reads near cut (length list + 1) list closed (omega arith)
+
+-- a list without a token that is too deep is at most one tree
+pub one_tree : (list : List Token) (a b : TextTree) → IsShallow list → Spells list a → Spells list b → b ≡ a
+one_tree list a b shallow s q = answered.one_tree classes_say reads near cut long list a b shallow s q

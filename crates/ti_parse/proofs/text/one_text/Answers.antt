@@ -1,0 +1,12 @@
+use Rattle.ti_parse.proofs.Decided.{one_tree, decided}
+use Rattle.ti_parse.proofs.Unique.{one_refusal}
+use Rattle.ti_parse.proofs.text.one_text.Goals as goal
+
+pub returns-clause-one_tree : goal.returns-clause-one_tree
+returns-clause-one_tree c = λ list a b shallow s q. one_tree list b a shallow q s
+
+pub returns-clause-some : goal.returns-clause-some
+returns-clause-some c = λ list closed. decided list closed
+
+pub returns-clause-only : goal.returns-clause-only
+returns-clause-only c = λ list a b s q. one_refusal {list} {a} {b} s q
