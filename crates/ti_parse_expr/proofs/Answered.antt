@@ -1,6 +1,5 @@
 -- What reading the front of a list, whose last token stays, says of the whole list.
 use Rattle.std.proofs.Common.{◌≡◌, ◌⊎◌, inl, inr, ℕ, suc, ◌+◌, ◌-◌, ◌<◌, ◌≤◌, List, [], ◌∷◌, ◌++◌, length, Ok, Err, refl, sym, ap, ◌∙◌, subst, append_assoc, arith, length-append, true, if◌then◌else◌, take}
-use Rattle.std.proofs.Math.Seq.{take-append_seam}
 use Rattle.ti_lang.specs.declared.token.Token.{Token}
 use Rattle.ti_lang.specs.declared.token.TokenKind.TheVariants as k
 use Rattle.ti_lang.specs.Trees.Expressions.{Exp}
@@ -17,7 +16,7 @@ use Rattle.ti_parse_expr.proofs.Follows.{Stops, closer_stops, end_closes}
 use Rattle.ti_parse_expr.proofs.Local.{Same}
 use Rattle.ti_parse_expr.proofs.Cut.{Alike, Passed}
 use Rattle.ti_parse_expr.proofs.Shallow.{IsShallow, phrase_shallow}
-use Rattle.ti_parse_expr.proofs.Weights.{light_front, light_whole}
+use Rattle.ti_parse_expr.proofs.Weights.{nothing, take_seam, light_front, light_whole}
 use Rattle.ti_parse_expr.proofs.Ends.{ends, ends-append, end_of, phrase_ends}
 use Rattle.ti_parse_expr.proofs.Forms.{level_of, phrase_says, phrase_reads, phrase_near, phrase_cut, phrase_stops}
 
@@ -32,13 +31,6 @@ inside (x ∷ a) b (y ∷ front) u last h =
     let tails : a ++ u ∷ b ≡ front ++ last ∷ [] = cc in
     let (c, e) = inside a b front u last tails in
     (c, ap (λ z. y ∷ z) e ∙ ap (λ z. z ∷ (a ++ c)) (sym heads))
-
-nothing : (r : List Token) → length r ≡ 0 → r ≡ []
-nothing [] h = refl
-nothing (t ∷ r) h = absurd (omega (arith, h))
-
-take_seam : (a b : List Token) (n : ℕ) → n ≡ length a → take n (a ++ b) ≡ a
-take_seam a b n e = ap (λ m. take m (a ++ b)) e ∙ take-append_seam a b
 
 level_some : (f : Form) → 1 ≤ level_of f
 level_some form.Whole = omega arith

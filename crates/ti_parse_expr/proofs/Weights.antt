@@ -8,6 +8,22 @@ use Rattle.ti_parse_expr.specs.Answers.{EndsAtEnd, IsLight, most_weight}
 use Rattle.ti_parse_expr.proofs.Follows.{last_kind, last_append}
 use Rattle.ti_parse_expr.specs.Reach.{ends_expression, weighed, onward, reach, reach_by, IsCut}
 
+-- ---- lists
+
+pub nothing : (r : List Token) → length r ≡ 0 → r ≡ []
+nothing [] h = refl
+nothing (t ∷ r) h = absurd (omega (arith, h))
+
+pub take_seam : (a b : List Token) (n : ℕ) → n ≡ length a → take n (a ++ b) ≡ a
+take_seam a b n e = ap (λ m. take m (a ++ b)) e ∙ take-append_seam a b
+
+pub last_of : (l : List Token) → 0 < length l → (f : List Token) × (t : Token) × (l ≡ f ++ t ∷ [])
+last_of [] some = absurd (omega (arith, some))
+last_of (t ∷ []) some = ([], t, refl)
+last_of (t ∷ u ∷ l) some = let (f, v, is) = last_of (u ∷ l) (omega arith) in (t ∷ f, v, ap (λ z. t ∷ z) is)
+
+-- ---- weights
+
 -- more tokens weigh no less
 pub weigh_front : (n : ℕ) (a b : List Token) → weigh_behind n a ≤ weigh_behind n (a ++ b)
 weigh_front n [] b = omega arith
@@ -21,11 +37,6 @@ light_of weight w l small most front t rest is =
 
 pub light_front : (weight : ℕ) (a b : List Token) → IsLight weight (a ++ b) → IsLight weight a
 light_front weight a b light front t rest is = light front t (rest ++ b) (ap (λ z. z ++ b) is ∙ append_assoc front (t ∷ rest) b)
-
-pub last_of : (l : List Token) → 0 < length l → (f : List Token) × (t : Token) × (l ≡ f ++ t ∷ [])
-last_of [] some = absurd (omega (arith, some))
-last_of (t ∷ []) some = ([], t, refl)
-last_of (t ∷ u ∷ l) some = let (f, v, is) = last_of (u ∷ l) (omega arith) in (t ∷ f, v, ap (λ z. t ∷ z) is)
 
 -- the whole of a light list weighs no more than the most, if it has a token
 pub light_whole : (weight : ℕ) (l : List Token) → 0 < length l → IsLight weight l → weight + weigh l ≤ most_weight
@@ -70,8 +81,7 @@ reaches n w (t ∷ l) = test_reaches n w t l (λ n v. reaches n v l) (ends_expre
 
 take_front : (f : List Token) (t : Token) (r : List Token) → take (suc (length f)) (f ++ t ∷ r) ≡ f ++ t ∷ []
 take_front f t r =
-    let long : suc (length f) ≡ length (f ++ t ∷ []) = omega (arith, length-append f (t ∷ [])) in
-    ap (take (suc (length f))) (sym (append_assoc f (t ∷ []) r)) ∙ ap (λ m. take m ((f ++ t ∷ []) ++ r)) long ∙ take-append_seam (f ++ t ∷ []) r
+    ap (take (suc (length f))) (sym (append_assoc f (t ∷ []) r)) ∙ take_seam (f ++ t ∷ []) r (suc (length f)) (omega (arith, length-append f (t ∷ [])))
 
 cut_made : (l f r : List Token) (t : Token) (m : ℕ) → l ≡ f ++ t ∷ r → m ≡ suc (length f) → take m l ≡ f ++ t ∷ []
 cut_made l f r t m is long = ap (λ z. take z l) long ∙ ap (take (suc (length f))) is ∙ take_front f t r

@@ -1,6 +1,6 @@
 -- Readers within the limit on weights: what they say, how far they look, and that the front of a list is enough for them.
 use Rattle.std.proofs.Common.{◌≡◌, ◌⊎◌, inl, inr, ℕ, suc, ◌+◌, ◌-◌, ◌<◌, ◌≤◌, List, [], ◌∷◌, ◌++◌, length, take, drop, Ok, Err, refl, sym, ap, ◌∙◌, subst, append_assoc, arith, length-append, true, false, Bool, nat_lt, if◌then◌else◌}
-use Rattle.std.proofs.Math.Seq.{take-append_seam, drop-append_seam}
+use Rattle.std.proofs.Math.Seq.{drop-append_seam}
 use borrow.Author.Tests.{ltb-true, ltb-false}
 use Rattle.ti_lang.specs.declared.token.Token.{Token}
 use Rattle.ti_lang.specs.declared.token.TokenKind.TheVariants as k
@@ -16,7 +16,7 @@ use Rattle.ti_parse_expr.proofs.Local.{Suffix, Same, Near, cancel}
 use Rattle.ti_parse_expr.proofs.Cut.{Shrinks, Passed, Alike, Cut}
 use Rattle.ti_parse_expr.proofs.Enough.{Ended, Enough}
 use Rattle.ti_parse_expr.proofs.Ends.{ends, ends-append, end_of}
-use Rattle.ti_parse_expr.proofs.Weights.{IsFront, front_is, front_some, weigh_front}
+use Rattle.ti_parse_expr.proofs.Weights.{nothing, take_seam, IsFront, front_is, front_some, weigh_front}
 use Rattle.ti_parse_expr.proofs.Limits.{weights_behind_long, weights_front, limited_fits, below, limited_light, limited_heavy, limited_short, Loaded, all_light, heavy, loaded}
 
 -- ---- lists
@@ -68,9 +68,6 @@ front_taken l (Ok p) (f, e) = (f, e)
 front_taken l (Err (At r)) (f, e) = (f, e)
 front_taken l (Err (Over r)) (f, e) = (f, e)
 front_taken l (Err Spent) h = (l, sym (append_nil l))
-
-take_seam : (a b : List Token) (n : ℕ) → n ≡ length a → take n (a ++ b) ≡ a
-take_seam a b n e = ap (λ m. take m (a ++ b)) e ∙ take-append_seam a b
 
 drop_seam : (a b : List Token) (n : ℕ) → n ≡ length a → drop n (a ++ b) ≡ b
 drop_seam a b n e = ap (λ m. drop m (a ++ b)) e ∙ drop-append_seam a b
@@ -274,10 +271,6 @@ passed_rest (Ok p) ended passed = passed
 passed_rest (Err (At r)) ended passed = passed
 passed_rest (Err (Over r)) ended passed = passed
 passed_rest (Err Spent) ended passed = absurd ended
-
-nothing : (r : List Token) → length r ≡ 0 → r ≡ []
-nothing [] h = refl
-nothing (t ∷ r) h = absurd (omega (arith, h))
 
 alike_put : {A : Type 0} (x o : Outcome A) (r : List Token) → Ended o → 0 < length r → x ≡ put r o → Alike x (put r o)
 alike_put x (Ok p) r ended some e = (e, some)

@@ -7,12 +7,13 @@
 ghost use Rattle.std.specs.Prelude.{IfOk};
 ghost use Rattle.ti_parse_expr.specs.Answers.{EndsAtEnd};
 
-use crate::{Form, ParseErr, parse_expr};
+use crate::full::{full, full_behind_bracket, full_behind_name, full_operand};
+use crate::{Form, Operand, ParseErr, Stop, Tokens, parse_expr};
 use std::alloc::{AllocError, Global};
 use std::test::Fail;
 use ti_base::Place;
-use ti_lang::Token;
 use ti_lang::tree::{Base, Expr, Qualifier, QualifierWord, Range, TypeName};
+use ti_lang::{Token, TokenKind};
 use ti_lex::lex;
 
 /// Literals, names and calls.
@@ -27,6 +28,14 @@ f(a, 1) => (Call@1:1 f a@1:3 1@1:6) 6 1
 f(g(), h(1)) => (Call@1:1 f (Call@1:3 g) (Call@1:8 h 1@1:10)) 11 3
 Ti.thisProc() => ThisProc@1:1 5 2
 Ti.numProcs() - 1 => (Subtract@1:15 NumProcs@1:1 1@1:17) 7 3";
+
+/// Full Postfixes that begin with a name and a `[`, with what they end with and the number of tokens behind them, or why and
+/// where reading stops.
+const FULL: &str = "a[1].b = 3 => (Select@1:6 (Index@1:2 a@1:1 1@1:3) b) Target 3
+a[f()].g(b); => (Member@1:8 (Index@1:2 a@1:1 (Call@1:3 f)) g b@1:10) Call 2
+a[i, j]++ => (Index@1:2 a@1:1 i@1:3 j@1:6) Target 2
+a[] => Refused@1:3
+a[1 => Refused@1:4";
 
 /// Groups.
 const GROUPS: &str = "(a) => a@1:2 3 1
@@ -526,5 +535,84 @@ fn an_expression_stands_anywhere_in_a_list(rt: HostRuntime) -> Result<(), Fail> 
         Err(_) => None,
     };
     assert_eq!(rt; found, Some((Place { line: 1, col: 9 }, 7, 9)));
+    Ok(())
+}
+
+/// A full Postfix, read behind so many of its first tokens, a name and a `[`.
+fn operand_behind(alloc: Global, tokens: &mut Tokens<'_>, taken: usize) -> Result<Operand, Stop> {
+    if taken == 0 {
+        return full_operand(alloc, tokens);
+    }
+    let place = tokens.place();
+    let name = tokens.name(alloc)?;
+    if taken == 1 {
+        return full_behind_name(alloc, tokens, place, name);
+    }
+    let bracket = tokens.place();
+    tokens.expect(TokenKind::LeftBracket)?;
+    full_behind_bracket(alloc, tokens, bracket, place, name)
+}
+
+/// What is read of a text, behind so many of its first tokens.
+fn read_behind(alloc: Global, text: &[u8], taken: usize) -> Result<Vec<u8>, Fail> {
+    let list = tokens(alloc, text)?;
+    let mut shown = Vec::new(alloc);
+    if list.is_empty() {
+        return Ok(shown);
+    }
+    let mut left = Tokens::new(&list);
+    match operand_behind(alloc, &mut left, taken) {
+        Ok(operand) => {
+            show(&operand.expr, alloc, &mut shown)?;
+            let count = left.left();
+            let rest = format!(in alloc; " {:?} {count}", operand.ending)?;
+            shown.extend_from_slice(rest.as_bytes())?;
+        }
+        Err(stop) => {
+            let word = format!(in alloc; "{stop:?}")?;
+            show_node(alloc, word.as_bytes(), left.place(), &mut shown)?;
+        }
+    }
+    Ok(shown)
+}
+
+#[test]
+fn a_full_postfix_is_read_from_each_of_its_first_tokens_on(rt: HostRuntime) -> Result<(), Fail> {
+    for case in FULL.split('\n') {
+        let (text, expected) = case.split_once(" => ").ok_or("a case without an arrow")?;
+        for taken in 0..3usize {
+            let found = read_behind(rt.alloc(), text.as_bytes(), taken)?;
+            assert_eq!(rt; found.as_slice(), expected.as_bytes(), "{text}");
+        }
+    }
+    Ok(())
+}
+
+#[test]
+fn a_full_postfix_weighs_256_at_most(rt: HostRuntime) -> Result<(), Fail> {
+    let alloc = rt.alloc();
+    for taken in 0..3usize {
+        for (count, expected) in [(255, b" Target 1".as_slice()), (256, b"eep@1:258")] {
+            let mut text = Vec::new(alloc);
+            text.extend_from_slice(b"a[")?;
+            text.extend_from_slice(&many(alloc, b'!', count, b"b]")?)?;
+            let mut found = read_behind(alloc, &text, taken)?;
+            let last = found.split_off(found.len().saturating_sub(9))?;
+            assert_eq!(rt; last.as_slice(), expected);
+        }
+    }
+    Ok(())
+}
+
+#[test]
+fn a_full_expression_stops_at_the_token_that_is_too_deep(rt: HostRuntime) -> Result<(), Fail> {
+    let list = tokens(rt.alloc(), &many(rt.alloc(), b'(', 257, b"a")?)?;
+    if list.is_empty() {
+        return Err("no tokens".into());
+    }
+    let mut left = Tokens::new(&list);
+    let is_deep = matches!(full(rt.alloc(), &mut left, Form::Whole), Err(Stop::TooDeep));
+    assert!(rt; is_deep);
+    assert_eq!(rt; left.place(), Place { line: 1, col: 257 });
     Ok(())
 }
