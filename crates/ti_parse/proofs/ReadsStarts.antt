@@ -24,10 +24,10 @@ use Rattle.ti_parse_expr.specs.Full.{full_operand}
 use Rattle.ti_parse_expr.proofs.Phrases.{binds_small}
 use Rattle.ti_parse_expr.proofs.Follows.{test_reads as same_test, then_ok, and_then_assoc, goes, is_name}
 use Rattle.ti_parse_expr.proofs.Fronts.{begins, front_whole, not_dim}
+use Rattle.ti_parse_expr.proofs.FullLaws.{operand_reads, behind_name_is, behind_bracket_is}
 use Rattle.ti_parse.specs.Way.{plain}
 use Rattle.ti_parse.specs.Parts as spec
 use Rattle.ti_parse.specs.Parts.{Begun, Declares, Starts, begins_declaration, typed, begun, begun_bracket, declared, changed, change, first, update}
-use Rattle.ti_parse_expr.proofs.FullLaws.{operand_reads, behind_name_is, behind_bracket_is}
 use Rattle.ti_parse.proofs.Limits.{IsRead, same_reads, then_reads, done_reads, last_reads, made_reads, regroup_reads, took, by_kind, test_reads, sees_reads, free_then, whole}
 use Rattle.ti_parse.proofs.Lengths.{weights_loaded}
 use Rattle.ti_parse.proofs.ReadsTypes.{name_ends, typed_reads, begun_declares}

@@ -17,10 +17,9 @@ use Rattle.ti_parse_expr.specs.Input.{and_then, kind, take_token}
 use Rattle.ti_parse_expr.specs.Types.{arity, base, qualifiers, grid, grids, field_type}
 use Rattle.ti_parse_expr.specs.Expr.{is_dim}
 use Rattle.ti_parse_expr.proofs.Follows.{then_ok, test_reads}
-use Rattle.ti_parse_expr.proofs.CompleteTypes.{base_reads, EndsType, field_type_reads, grid_reads, grids_read, qualifiers_read, gridded_front}
+use Rattle.ti_parse_expr.proofs.CompleteTypes.{arity_reads, base_reads, EndsType, field_type_reads, grid_reads, grids_read, qualifiers_read, gridded_front}
 use Rattle.ti_parse.specs.Way.{plain}
 use Rattle.ti_parse.specs.Parts.{Declares, is_wide, wide, wide_by, field, typed, begun, begun_by, begun_bracket}
-use Rattle.ti_parse_expr.proofs.CompleteTypes.{arity_reads}
 
 -- ---- what types begin with
 
