@@ -1,9 +1,8 @@
 -- What clauses see of the values that are read.
-use Rattle.std.specs.Prelude.{◌≡◌, ℕ, List, [], ◌∷◌, map, Option, Some, None, Result, Ok, Err}
+use Rattle.std.specs.Prelude.{◌≡◌, ℕ, List, map, Option, Some, None, Result, Ok, Err}
 use Rattle.std.specs.declared.boxed.Box.{Box}
 use Rattle.std.specs.declared.vec.Vec.{Vec}
 use Rattle.std.specs.declared.alloc.Global.{Global}
-use Rattle.ti_base.specs.declared.place.Place.{Place}
 use Rattle.ti_lang.specs.declared.token.Token.{Token}
 use Rattle.ti_lang.specs.declared.token.TokenKind.{TokenKind}
 use Rattle.ti_lang.specs.declared.token.TokenKind.TheVariants as k
@@ -13,17 +12,12 @@ use Rattle.ti_lang.specs.declared.tree.classes.Modifier.{Modifier}
 use Rattle.ti_lang.specs.declared.tree.classes.Param.{Param}
 use Rattle.ti_lang.specs.declared.tree.classes.Member.{Member}
 use Rattle.ti_lang.specs.declared.tree.classes.Class.{Class}
-use Rattle.ti_lang.specs.declared.tree.classes.Tree.{Tree}
 use Rattle.ti_lang.specs.Trees.Statements.{Stm, MaybeStm, NoStm, SomeStm}
 use Rattle.ti_lang.specs.Trees.Classes.{ParamTree, MemberTree, ClassTree, TextTree}
-use Rattle.ti_lang.specs.Trees.Views.{stm_of, type_of, param_of, member_of, class_of, tree_of}
+use Rattle.ti_lang.specs.Trees.Views.{stm_of, type_of, param_of, member_of, class_of}
 use Rattle.ti_lang.specs.Spelling.Operators.{modifier_of, class_modifier_of}
-use Rattle.ti_rules.specs.declared.rule.Rule.{Rule}
-use Rattle.ti_rules.specs.declared.rule.Rule.TheVariants.{G1, G2}
-use Rattle.ti_parse_expr.specs.declared.error.ParseErr.{ParseErr}
-use Rattle.ti_parse_expr.specs.declared.error.ParseErr.TheVariants.{Refused, Memory}
 use Rattle.ti_parse_expr.specs.declared.stop.Stop.{Stop}
-use Rattle.ti_parse_expr.specs.Input.{Outcome, Parser, At, Over, Fails, ◌>>=◌, ◌>>◌, pure, place, expect_by, take_within}
+use Rattle.ti_parse_expr.specs.Input.{Outcome, Parser, Fails, ◌>>=◌, ◌>>◌, pure, expect_by, take_within}
 use Rattle.ti_parse_expr.specs.Seen.{operand_of}
 use Rattle.ti_parse.specs.declared.simple.Begun.{Begun}
 use Rattle.ti_parse.specs.declared.simple.Begun.TheVariants as begun
@@ -72,17 +66,3 @@ members_of v = map member_of v.items
 
 abbrev pub classes_of : Vec Class Global → TextTree
 classes_of v = map class_of v.items
-
--- ---- answers
-
--- the rule and the token of a refusal are those of the outcome
-abbrev pub RefusesAs : Outcome TextTree → Rule → Place → Type 0
-RefusesAs out G1 at = (rest : List Token) × (out ≡ Err (At rest)) × (at ≡ place rest)
-RefusesAs out G2 at = (rest : List Token) × (out ≡ Err (Over rest)) × (at ≡ place rest)
-RefusesAs out _ at = ⊥
-
--- the answer is as the outcome of reading the text, unless memory fails
-abbrev pub AnswersAs : Outcome TextTree → Result Tree ParseErr → Type 0
-AnswersAs out (Ok t) = (rest : List Token) × (out ≡ Ok (tree_of t, rest))
-AnswersAs out (Err (Refused r)) = RefusesAs out r.rule r.place
-AnswersAs out (Err Memory) = Unit {0}

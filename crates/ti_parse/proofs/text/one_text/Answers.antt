@@ -9,4 +9,4 @@ pub returns-clause-some : goal.returns-clause-some
 returns-clause-some c = λ list closed. decided list closed
 
 pub returns-clause-only : goal.returns-clause-only
-returns-clause-only c = λ list a b s q. one_refusal {list} {a} {b} s q
+returns-clause-only c = λ list a b s q. one_refusal {list = list} {a = a} {b = b} s q
