@@ -25,6 +25,4 @@ pub use command::{Outcome, titan_top};
 pub use compiling::one_answer;
 
 #[cfg(test)]
-mod grammar_tests;
-#[cfg(test)]
 mod tests;
