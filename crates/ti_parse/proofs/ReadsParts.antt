@@ -31,7 +31,7 @@ use Rattle.ti_parse_expr.proofs.Fronts.{begins, front_whole}
 use Rattle.ti_parse_expr.proofs.CompleteTypes.{base_reads, grids_read, qualifiers_read}
 use Rattle.ti_parse.specs.Way.{plain}
 use Rattle.ti_parse.specs.Parts as spec
-use Rattle.ti_parse.specs.Parts.{region, range_from, more_ranges, dims, new_grid, new_named, made, new_thing, broadcast, initial, declared, printer, printed_text, printed, condition, test}
+use Rattle.ti_parse.specs.Parts.{region, range_from, more_ranges, dims, new_grid, new_named, made, new_thing, broadcast, initial, declared, printer, printed_text, printed, condition, optional}
 use Rattle.ti_parse.proofs.Limits.{IsRead, same_reads, result_reads, then_reads, done_reads, last_reads, made_reads, regroup_reads, took, want, want_word, name_took, by_kind, test_reads, sees_reads, free_reads, ends, whole, mul}
 
 -- ---- what can follow
@@ -247,7 +247,7 @@ module _ (turns : ℕ) where
   unfolding condition
   condition_reads (grammar.condition o c ho e hc) r = want k.LeftParen _ ho (then_reads _ (whole (ends paren_closes hc) e) (want k.RightParen _ hc done_reads))
 
-  pub test_part : {l : List Token} {x : Option Exp} (s : Test l x) (r : List Token) → kind r ≡ k.Semicolon → IsRead turns (test plain turns) (test_loads s) l r x
-  unfolding test
+  pub test_part : {l : List Token} {x : Option Exp} (s : Test l x) (r : List Token) → kind r ≡ k.Semicolon → IsRead turns (optional plain turns) (test_loads s) l r x
+  unfolding optional
   test_part grammar.none r h = sees_reads k.Semicolon _ _ h done_reads
   test_part (grammar.some {l = l} e) r h = test_reads (sees k.Semicolon) _ _ false (not_semicolon (kind (l ++ r)) (front_whole e r)) (made_reads _ (whole (ends semicolon_closes h) e) refl)

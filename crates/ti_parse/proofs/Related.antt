@@ -31,7 +31,7 @@ use Rattle.ti_parse_expr.specs.Full.{full, full_operand, full_behind_name, full_
 use Rattle.ti_parse_expr.proofs.Related as expr
 use Rattle.ti_parse.specs.Way.{Way, plain}
 use Rattle.ti_parse.specs.Parts as parts
-use Rattle.ti_parse.specs.Parts.{is_wide, begins_declaration, is_call, Begun, Declares, Starts, class_type, wide, field, typed, range_from, more_ranges, dims, region, new_grid, new_named, made, new_thing, broadcast, initial, declared, changed, simple, change, begun_bracket, begun, printer, printed_text, printed, print, barrier, condition, first, test, update}
+use Rattle.ti_parse.specs.Parts.{is_wide, begins_declaration, is_call, Begun, Declares, Starts, class_type, wide, field, typed, range_from, more_ranges, dims, region, new_grid, new_named, made, new_thing, broadcast, initial, declared, changed, simple, change, begun_bracket, begun, printer, printed_text, printed, print, barrier, condition, first, optional, update}
 use Rattle.ti_parse.specs.Statements as statements
 use Rattle.ti_parse.specs.Statements.{is_compound, ends_items, item, items, block, conditional, while_loop, for_loop, foreach_loop, compound, small, stmt, body}
 use Rattle.ti_parse.specs.Classes as texts
@@ -129,7 +129,7 @@ abbrev words_at : Way → Place → Parser ParamsTree
 words_at w at = (do name ← name_with w.take; pure (c.Words at name))
 
 abbrev returned_at : Way → ℕ → Place → Parser (Option ReturnTree)
-returned_at w turns at = (do w.take; x ← test w turns; expect_by w.take k.Semicolon; pure (Some (record { place = at; value = x })))
+returned_at w turns at = (do w.take; x ← optional w turns; expect_by w.take k.Semicolon; pure (Some (record { place = at; value = x })))
 
 abbrev method_at : Way → List Modifier → ResultTree → Place → List ℕ → ParamsTree → List Stm → Option ReturnTree → Place → Parser MemberTree
 method_at w ms result at name ps xs last end_at = do
@@ -467,8 +467,8 @@ module _ (Q : (A : Type 0) → Parser A → Parser A → Type 0) (T : ℕ → �
     unfolding first
     r_first = r_kind (parts.first_by plain turns) (parts.first_by v more) r_first_by
 
-    r_tested : R (test plain turns) (test v more)
-    unfolding test
+    r_tested : R (optional plain turns) (optional v more)
+    unfolding optional
     r_tested = r_sees k.Semicolon (r_pure None) (r_then r_whole (λ x. r_pure (Some x)))
 
     r_update : R (update plain turns) (update v more)

@@ -33,7 +33,7 @@ use Rattle.ti_parse_expr.proofs.Phrases.{Post, ranges_snoc, postfixed_some}
 use Rattle.ti_parse_expr.proofs.Sound.{whole_int}
 use Rattle.ti_parse.specs.Way.{plain}
 use Rattle.ti_parse.specs.Parts as spec
-use Rattle.ti_parse.specs.Parts.{is_wide, begins_declaration, Begun, Declares, Starts, wide, field, typed, range_from, more_ranges, dims, region, new_grid, new_named, made, new_thing, broadcast, initial, declared, changed, simple, change, begun_bracket, begun, printer, printed_text, printed, print, barrier, condition, first, test, update}
+use Rattle.ti_parse.specs.Parts.{is_wide, begins_declaration, Begun, Declares, Starts, wide, field, typed, range_from, more_ranges, dims, region, new_grid, new_named, made, new_thing, broadcast, initial, declared, changed, simple, change, begun_bracket, begun, printer, printed_text, printed, print, barrier, condition, first, optional, update}
 use Rattle.ti_parse.proofs.Laws.{Free, Tells, told, as_tells, done_tells, refused_tells, if_tells, if_sees, after_tells, then_tells, map_tells, want_here, want_tells, last_tells, word_here, word_tells, name_here}
 use Rattle.ti_parse.proofs.SoundKinds.{assign_is, plus_is, semicolon_is, println_is}
 use Rattle.ti_parse_expr.proofs.FullLaws.{full_says, operand_says, behind_name_is, behind_bracket_is}
@@ -457,8 +457,8 @@ module _ (turns : ℕ) where
   first_tells [] = first_unnamed [] false
   first_tells (t ∷ ts) = first_by_tells t ts t.kind refl
 
-  pub test_tells : (l : List Token) → Tells turns Test Free l (test plain turns l)
-  unfolding test
+  pub test_tells : (l : List Token) → Tells turns Test Free l (optional plain turns l)
+  unfolding optional
   test_tells l = if_tells (sees k.Semicolon l) _ _ (λ _. done_tells grammar.none) (λ _. map_tells _ (λ f x s. grammar.some s) (whole_tells turns l))
 
   pub update_tells : (l : List Token) → Tells turns Update Free l (update plain turns l)

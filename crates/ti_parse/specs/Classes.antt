@@ -11,7 +11,7 @@ use Rattle.ti_lang.specs.Trees.Classes as c
 use Rattle.ti_lang.specs.Spelling.Operators.{modifier_of, class_modifier_of}
 use Rattle.ti_parse_expr.specs.Input.{Parser, At, Spent, ◌>>=◌, ◌>>◌, ◌<$>◌, pure, refuse, peek, here, kind, sees, expect_by, name_with}
 use Rattle.ti_parse.specs.Way.{Way}
-use Rattle.ti_parse.specs.Parts.{is_wide, wide, field, typed, test}
+use Rattle.ti_parse.specs.Parts.{is_wide, wide, field, typed, optional}
 use Rattle.ti_parse.specs.Statements.{body}
 
 module _ (w : Way) (turns : ℕ) where
@@ -49,7 +49,7 @@ module _ (w : Way) (turns : ℕ) where
   unfoldable pub returned : Parser (Option ReturnTree)
   returned = do
     is_there ← (λ i. Ok (sees k.KeywordReturn i, i))
-    if is_there then (do at ← here; w.take; x ← test w turns; expect_by w.take k.Semicolon; pure (Some (record { place = at; value = x }))) else pure None
+    if is_there then (do at ← here; w.take; x ← optional w turns; expect_by w.take k.Semicolon; pure (Some (record { place = at; value = x }))) else pure None
 
   -- a method, after its name
   unfoldable pub method : List Modifier → ResultTree → Place → List ℕ → Parser MemberTree

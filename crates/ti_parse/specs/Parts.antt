@@ -283,8 +283,8 @@ module _ (w : Way) (turns : ℕ) where
   first = peek >>= first_by
 
   -- an expression, or none before a semicolon
-  unfoldable pub test : Parser (Option Exp)
-  test = do
+  unfoldable pub optional : Parser (Option Exp)
+  optional = do
     is_none ← (λ i. Ok (sees k.Semicolon i, i))
     if is_none then pure None else Some <$> w.full form.Whole
 

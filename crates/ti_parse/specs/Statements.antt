@@ -9,7 +9,7 @@ use Rattle.ti_lang.specs.Spelling.Statements.{starts}
 use Rattle.ti_parse_expr.specs.declared.parse.Form.TheVariants as form
 use Rattle.ti_parse_expr.specs.Input.{Parser, Over, Spent, ◌>>=◌, ◌>>◌, ◌<$>◌, pure, refuse, peek, here, kind, sees, expect_by, expect_word_by, name_with}
 use Rattle.ti_parse.specs.Way.{Way}
-use Rattle.ti_parse.specs.Parts.{Begun, Declares, Starts, begins_declaration, typed, declared, simple, begun, print, barrier, condition, first, test, update}
+use Rattle.ti_parse.specs.Parts.{Begun, Declares, Starts, begins_declaration, typed, declared, simple, begun, print, barrier, condition, first, optional, update}
 
 -- the tokens that compound statements begin with
 abbrev pub is_compound : TokenKind → Bool
@@ -82,7 +82,7 @@ module _ (w : Way) (turns : ℕ) where
       expect_by w.take k.LeftParen
       begin ← first w turns
       expect_by w.take k.Semicolon
-      c ← test w turns
+      c ← optional w turns
       expect_by w.take k.Semicolon
       change ← update w turns
       expect_by w.take k.RightParen

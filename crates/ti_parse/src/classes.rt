@@ -75,7 +75,7 @@ impl Reader {
         }
         let place = tokens.place();
         tokens.take()?;
-        let value = self.test(tokens)?;
+        let value = self.optional(tokens)?;
         tokens.expect(TokenKind::Semicolon)?;
         Ok(Some(Return { place, value }))
     }

@@ -63,9 +63,9 @@ impl Reader {
     }
 
     /// An expression, or none in front of a semicolon.
-    #[tactic(auto, unfolding(crate::specs::Parts::test))]
-    pub fn test(self, tokens: &mut Tokens<'_>) -> Result<Option<Expr>, Stop>
-        ensures { ReadsAs (maybe_of exp_of) (spec.test careful self.turns tokens.old) result tokens.new }
+    #[tactic(auto, unfolding(crate::specs::Parts::optional))]
+    pub fn optional(self, tokens: &mut Tokens<'_>) -> Result<Option<Expr>, Stop>
+        ensures { ReadsAs (maybe_of exp_of) (spec.optional careful self.turns tokens.old) result tokens.new }
     {
         if tokens.sees(TokenKind::Semicolon) {
             return Ok(None);

@@ -147,7 +147,7 @@ impl<F: Fn(Reader, &mut Tokens<'_>, u32) -> Result<Stmt, Stop>> Statements<F> {
         tokens.expect(TokenKind::LeftParen)?;
         let first = self.reader.first(tokens)?;
         tokens.expect(TokenKind::Semicolon)?;
-        let condition = self.reader.test(tokens)?;
+        let condition = self.reader.optional(tokens)?;
         tokens.expect(TokenKind::Semicolon)?;
         let update = self.reader.update(tokens)?;
         tokens.expect(TokenKind::RightParen)?;
