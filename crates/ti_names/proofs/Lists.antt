@@ -1,0 +1,49 @@
+-- Lists inside nodes, and what counts of several lists of nodes.
+use Rattle.std.proofs.Common.{◌≡◌, ℕ, Bool, true, false, cond, List, [], ◌∷◌, map, Option, Some, None, Bor, refl, ap, ◌∙◌}
+use Rattle.std.specs.Map.{lookup}
+use Rattle.std.specs.Option.{option_map, option_copied}
+use Rattle.ti_lang.specs.declared.program.types.Variable.{Variable}
+use Rattle.ti_lang.specs.Program.Views.{variable_of}
+use Rattle.ti_lang.specs.Trees.Expressions.{Exp, exps, RangeTree, ranges_tree}
+use Rattle.ti_lang.specs.Program.Expressions.{numbered_exps, numbered_ranges}
+use Rattle.ti_lang.specs.Program.Expressions as n
+use Rattle.ti_lang.specs.Trees.Statements.{Stm, stms}
+use Rattle.ti_lang.specs.Program.Statements.{numbered_stms}
+use Rattle.ti_lang.specs.Program.Statements as m
+use Rattle.ti_lang.specs.Scopes.{Site, behind}
+use Rattle.ti_names.specs.Numbered.{number_exp, number_exps, number_range, number_ranges, number_stm, number_stms, number_list}
+use Rattle.ti_names.specs.Seen.{scope_of}
+use Rattle.ti_names.proofs.Noting.{noted_none, noted_more, noted_append}
+
+pub number_exps_list : (site : Site) (xs : List Exp) → number_exps site (exps xs) ≡ numbered_exps (map (number_exp site) xs)
+number_exps_list site [] = refl
+number_exps_list site (x ∷ xs) = ap (n.MoreExp (number_exp site x)) (number_exps_list site xs)
+
+pub number_ranges_list : (site : Site) (rs : List RangeTree) → number_ranges site (ranges_tree rs) ≡ numbered_ranges (map (number_range site) rs)
+number_ranges_list site [] = refl
+number_ranges_list site (r ∷ rs) = ap (n.MoreRange (number_range site r)) (number_ranges_list site rs)
+
+pub number_stms_list : (site : Site) (xs : List Stm) → number_stms site (stms xs) ≡ numbered_stms (number_list site xs)
+number_stms_list site [] = refl
+number_stms_list site (x ∷ xs) = ap (m.Cons (number_stm site x)) (number_stms_list (behind site x) xs)
+
+pub ruleset lists = (number_exps_list, number_ranges_list, number_stms_list, noted_none, noted_more, noted_append)
+
+-- ---- scopes
+
+lookup_scope : (test : List ℕ → Bool) (names : List (List ℕ × Variable)) → option_map variable_of (lookup test names) ≡ lookup test (scope_of names)
+lookup_scope test [] = refl
+lookup_scope test (e ∷ es) = by (test e.0) (lookup_scope test es)
+  where
+    by : (b : Bool) → option_map variable_of (lookup test es) ≡ lookup test (scope_of es)
+        → option_map variable_of (cond b (Some e.1) (lookup test es)) ≡ cond b (Some (variable_of e.1)) (lookup test (scope_of es))
+    by true rest = refl
+    by false rest = rest
+
+pub variable_seen : (found : Option (Bor Variable)) (names : List (List ℕ × Variable)) (test : List ℕ → Bool) → option_copied found ≡ lookup test names
+    → option_map (λ (v : Bor Variable). variable_of v.now) found ≡ lookup test (scope_of names)
+variable_seen found names test is = copied found ∙ ap (option_map variable_of) is ∙ lookup_scope test names
+  where
+    copied : (o : Option (Bor Variable)) → option_map (λ (v : Bor Variable). variable_of v.now) o ≡ option_map variable_of (option_copied o)
+    copied None = refl
+    copied (Some v) = refl

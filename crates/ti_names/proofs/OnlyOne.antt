@@ -1,0 +1,192 @@
+-- A text is no other program than that of the function.
+use Rattle.std.proofs.Common.{◌≡◌, ℕ, ◌+◌, List, [], ◌∷◌, map, length, Option, Some, None, codes, refl, ap, sym, ◌∙◌}
+use Rattle.std.specs.Option.{unwrap_or, option_and_then}
+use Rattle.ti_lang.specs.Trees.Types.{TypeTree}
+use Rattle.ti_lang.specs.Trees.Expressions.{Exp, Exps, RangeTree, RangeTrees, ranges_tree}
+use Rattle.ti_lang.specs.Trees.Statements.{DimsTree, InitTree, PrintTree, Stm, MaybeStm, Stms, stms}
+use Rattle.ti_lang.specs.Trees.Classes.{FieldTree, ParamTree, ParamsTree, ReturnTree, ResultTree, ClassTree, TextTree}
+use Rattle.ti_lang.specs.Program.Types.{NumberedType}
+use Rattle.ti_lang.specs.Program.Expressions.{NumberedExp, NumberedExps, NumberedRange, NumberedRanges, numbered_ranges}
+use Rattle.ti_lang.specs.Program.Expressions as n
+use Rattle.ti_lang.specs.Program.Statements.{NumberedDims, NumberedInit, NumberedPrint, NumberedStm, MaybeNumbered, NumberedStms, numbered_stms}
+use Rattle.ti_lang.specs.Program.Statements as m
+use Rattle.ti_lang.specs.Program.Classes.{NumberedField, NumberedClass, NumberedParams, NumberedReturn, NumberedResult, NumberedMethod, NumberedProgram}
+use Rattle.ti_lang.specs.Program.Classes as p
+use Rattle.ti_lang.specs.Members.{class_named, OwnMethod, method_named, name_number}
+use Rattle.ti_lang.specs.Scopes.{numbered_type, Site, behind, body_site}
+use Rattle.ti_lang.specs.Numbering.{NumbersType, NumbersExp, NumbersExps, NumbersRange, NumbersRanges, NumbersMaybe, NumbersDims, NumbersInit, NumbersPrint, NumbersStm, NumbersMaybeStm, NumbersStms, NumbersFields, NumbersClasses, NumbersResult, NumbersParamList, NumbersParams, NumbersReturn, NumbersMethod, NumbersMethods, HasMain, Numbers}
+use Rattle.ti_names.specs.Faults.{main_number}
+use Rattle.ti_names.specs.Numbered.{number_exp, number_exps, number_range, number_ranges, number_maybe, number_dims, number_init, number_print, number_stm, number_maybe_stm, number_stms, number_list, number_fields, number_classes, number_result, number_param_list, number_params, number_return, number_method, number_methods, number_program}
+use Rattle.ti_names.proofs.Lists.{number_ranges_list, number_stms_list}
+
+only_type : {text : TextTree} {t : TypeTree} {u : NumberedType} → NumbersType text t u → u ≡ numbered_type text t
+only_type (NumbersType.known k) = refl
+
+-- ---- expressions
+
+mutual
+  pub only_exp : {site : Site} {x : Exp} {y : NumberedExp} → NumbersExp site x y → y ≡ number_exp site x
+  only_exp NumbersExp.int = refl
+  only_exp NumbersExp.truth = refl
+  only_exp NumbersExp.null = refl
+  only_exp (NumbersExp.this e) = refl
+  only_exp (NumbersExp.variable e) = rw e
+  only_exp (NumbersExp.own_field e f) = rw (e, f)
+  only_exp (NumbersExp.call e static args) = rw (e, static) (ap (n.Call _ _) (only_exps args))
+  only_exp (NumbersExp.own_call e static args) = rw (e, static) (ap (n.OwnCall _ _) (only_exps args))
+  only_exp NumbersExp.this_proc = refl
+  only_exp NumbersExp.num_procs = refl
+  only_exp (NumbersExp.point parts) = ap (n.Point _) (only_exps parts)
+  only_exp (NumbersExp.rect ranges) = ap (n.Rect _) (only_ranges ranges)
+  only_exp (NumbersExp.unary x) = ap (n.Unary _ _) (only_exp x)
+  only_exp (NumbersExp.binary x y) = let a = only_exp x in let b = only_exp y in λ i. n.Binary _ _ (a i) (b i)
+  only_exp (NumbersExp.cast to x) = let a = only_type to in let b = only_exp x in λ i. n.Cast _ (a i) (b i)
+  only_exp (NumbersExp.select e x) = rw e (ap (λ z. n.Select _ z _) (only_exp x))
+  only_exp (NumbersExp.member e x args) = let a = only_exp x in let b = only_exps args in rw e (λ i. n.Member _ (a i) _ (b i))
+  only_exp (NumbersExp.class_call e f args) = rw (e, f) (ap (n.Call _ _) (only_exps args))
+  only_exp (NumbersExp.index x parts) = let a = only_exp x in let b = only_exps parts in λ i. n.Index _ (a i) (b i)
+
+  pub only_exps : {site : Site} {xs : Exps} {ys : NumberedExps} → NumbersExps site xs ys → ys ≡ number_exps site xs
+  only_exps NumbersExps.no_exps = refl
+  only_exps (NumbersExps.more_exps x rest) = let a = only_exp x in let b = only_exps rest in λ i. n.MoreExp (a i) (b i)
+
+  pub only_range : {site : Site} {r : RangeTree} {q : NumberedRange} → NumbersRange site r q → q ≡ number_range site r
+  only_range (NumbersRange.plain x y) = let a = only_exp x in let b = only_exp y in λ i. n.Plain (a i) (b i)
+  only_range (NumbersRange.stepped x y z) = let a = only_exp x in let b = only_exp y in let c = only_exp z in λ i. n.Stepped (a i) (b i) (c i)
+
+  pub only_ranges : {site : Site} {rs : RangeTrees} {qs : NumberedRanges} → NumbersRanges site rs qs → qs ≡ number_ranges site rs
+  only_ranges NumbersRanges.no_ranges = refl
+  only_ranges (NumbersRanges.more_ranges r rest) = let a = only_range r in let b = only_ranges rest in λ i. n.MoreRange (a i) (b i)
+
+only_maybe : {site : Site} {x : Option Exp} {y : Option NumberedExp} → NumbersMaybe site x y → y ≡ number_maybe site x
+only_maybe NumbersMaybe.none = refl
+only_maybe (NumbersMaybe.some x) = ap Some (only_exp x)
+
+-- ---- statements
+
+-- lists of ranges are told apart by the rows that they make
+abbrev range_list : NumberedRanges → List NumberedRange
+range_list n.NoRange = []
+range_list (n.MoreRange r rest) = r ∷ range_list rest
+
+listed_ranges : (rs : List NumberedRange) → range_list (numbered_ranges rs) ≡ rs
+listed_ranges [] = refl
+listed_ranges (r ∷ rs) = ap (λ xs. r ∷ xs) (listed_ranges rs)
+
+only_dims : {site : Site} {d : DimsTree} {e : NumberedDims} → NumbersDims site d e → e ≡ number_dims site d
+only_dims (NumbersDims.domain x) = ap m.Domain (only_exp x)
+only_dims {site} (NumbersDims.ranges {rs = rs} {qs = qs} ranges) =
+    let rows : numbered_ranges qs ≡ numbered_ranges (map (number_range site) rs) = only_ranges ranges ∙ number_ranges_list site rs in
+    ap m.Ranges (sym (listed_ranges qs) ∙ ap range_list rows ∙ listed_ranges (map (number_range site) rs))
+
+only_init : {site : Site} {value : InitTree} {v : NumberedInit} → NumbersInit site value v → v ≡ number_init site value
+only_init (NumbersInit.value x) = ap m.Value (only_exp x)
+only_init NumbersInit.new_region = refl
+only_init (NumbersInit.new_object region class) = rw class (ap (λ z. m.NewObject _ z _) (only_maybe region))
+only_init (NumbersInit.new_grid region element dims) =
+    let a = only_maybe region in let b = only_type element in let c = only_dims dims in λ i. m.NewGrid _ (a i) (b i) _ (c i)
+only_init (NumbersInit.broadcast x y) = let a = only_exp x in let b = only_exp y in λ i. m.Broadcast _ (a i) (b i)
+
+only_print : {site : Site} {what : PrintTree} {w : NumberedPrint} → NumbersPrint site what w → w ≡ number_print site what
+only_print NumbersPrint.nothing = refl
+only_print NumbersPrint.text = refl
+only_print (NumbersPrint.expression x) = ap m.Expression (only_exp x)
+only_print (NumbersPrint.text_and_expression x) = ap (m.TextAndExpression _) (only_exp x)
+
+mutual
+  pub only_stm : {site : Site} {x : Stm} {y : NumberedStm} → NumbersStm site x y → y ≡ number_stm site x
+  only_stm NumbersStm.empty = refl
+  only_stm (NumbersStm.declare ty fresh room value) = let a = only_type ty in let b = only_init value in λ i. m.Declare _ (a i) _ (b i)
+  only_stm (NumbersStm.assign target value) = let a = only_exp target in let b = only_init value in λ i. m.Assign _ (a i) (b i)
+  only_stm (NumbersStm.update target x) = let a = only_exp target in let b = only_exp x in λ i. m.Update _ _ (a i) (b i)
+  only_stm (NumbersStm.step target) = ap (m.Step _ _) (only_exp target)
+  only_stm (NumbersStm.call x) = ap m.Call (only_exp x)
+  only_stm (NumbersStm.print what) = ap (m.Print _) (only_print what)
+  only_stm NumbersStm.barrier = refl
+  only_stm (NumbersStm.block body) = ap m.Block (only_stms body)
+  only_stm (NumbersStm.if_alone d x) = let a = only_exp d in let b = only_stm x in λ i. m.If _ (a i) (b i)
+  only_stm (NumbersStm.if_else d x y) = let a = only_exp d in let b = only_stm x in let c = only_stm y in λ i. m.IfElse _ (a i) (b i) (c i)
+  only_stm (NumbersStm.while d x) = let a = only_exp d in let b = only_stm x in λ i. m.While _ (a i) (b i)
+  only_stm (NumbersStm.for first d update body) =
+      let a = only_maybe_stm first in let b = only_maybe d in let c = only_maybe_stm update in let e = only_stm body in λ i. m.For _ (a i) (b i) (c i) (e i)
+  only_stm (NumbersStm.foreach fresh room d x) = let a = only_exp d in let b = only_stm x in λ i. m.Foreach _ _ (a i) (b i)
+
+  pub only_maybe_stm : {site : Site} {x : MaybeStm} {y : MaybeNumbered} → NumbersMaybeStm site x y → y ≡ number_maybe_stm site x
+  only_maybe_stm NumbersMaybeStm.no_stm = refl
+  only_maybe_stm (NumbersMaybeStm.some_stm x) = ap m.SomeStm (only_stm x)
+
+  pub only_stms : {site : Site} {xs : Stms} {ys : NumberedStms} → NumbersStms site xs ys → ys ≡ number_stms site xs
+  only_stms NumbersStms.nil = refl
+  only_stms (NumbersStms.cons x rest) = let a = only_stm x in let b = only_stms rest in λ i. m.Cons (a i) (b i)
+
+-- ---- classes
+
+abbrev stm_list : NumberedStms → List NumberedStm
+stm_list m.Nil = []
+stm_list (m.Cons x rest) = x ∷ stm_list rest
+
+listed_stms : (xs : List NumberedStm) → stm_list (numbered_stms xs) ≡ xs
+listed_stms [] = refl
+listed_stms (x ∷ xs) = ap (λ ys. x ∷ ys) (listed_stms xs)
+
+only_fields : {text : TextTree} {class number : ℕ} {fs : List FieldTree} {gs : List NumberedField} → NumbersFields text class number fs gs → gs ≡ number_fields text fs
+only_fields NumbersFields.none = refl
+only_fields (NumbersFields.more {f = f} once ty rest) =
+    let a = only_type ty in let b = only_fields rest in λ i. record { modifiers = f.modifiers; ty = a i; name = name_number _ f.name } ∷ b i
+
+only_classes : {text : TextTree} {number : ℕ} {cs : List ClassTree} {ds : List NumberedClass} → NumbersClasses text number cs ds → ds ≡ number_classes text cs
+only_classes NumbersClasses.none = refl
+only_classes (NumbersClasses.more {c = c} once fields rest) = let a = only_fields fields in let b = only_classes rest in λ i. record { modifiers = c.modifiers; fields = a i } ∷ b i
+
+only_result : {text : TextTree} {r : ResultTree} {s : NumberedResult} → NumbersResult text r s → s ≡ number_result text r
+only_result NumbersResult.void = refl
+only_result (NumbersResult.typed ty) = ap p.Typed (only_type ty)
+
+-- the sites of parameters are of one text
+only_param_list : (text : TextTree) {site : Site} {params : List ParamTree} {types : List NumberedType} → site.text ≡ text → NumbersParamList site params types → types ≡ number_param_list text params
+only_param_list text is NumbersParamList.none = refl
+only_param_list text is (NumbersParamList.more {param = param} ty fresh room rest) =
+    let a = only_type ty ∙ ap (λ t. numbered_type t param.ty) is in let b = only_param_list text is rest in λ i. a i ∷ b i
+
+only_params : {site : Site} {params : ParamsTree} {q : NumberedParams} → NumbersParams site params q → q ≡ number_params site.text params
+only_params NumbersParams.words = refl
+only_params {site} (NumbersParams.params params) = ap p.Params (only_param_list site.text refl params)
+
+only_return : {site : Site} {r : Option ReturnTree} {q : Option NumberedReturn} → NumbersReturn site r q → q ≡ number_return site r
+only_return NumbersReturn.none = refl
+only_return (NumbersReturn.some {r = r} value) = ap (λ v. Some (record { place = r.place; value = v })) (only_maybe value)
+
+only_method : {site : Site} {own : OwnMethod} {method : NumberedMethod} → NumbersMethod site own method → method ≡ number_method site own
+only_method {site} {own} (NumbersMethod.method {body = body} result params statements last) =
+    let a = only_result result in
+    let b = only_params params in
+    let rows : numbered_stms body ≡ numbered_stms (number_list (body_site site own.method.params) own.method.body) = only_stms statements ∙ number_stms_list (body_site site own.method.params) own.method.body in
+    let c : body ≡ number_list (body_site site own.method.params) own.method.body = sym (listed_stms body) ∙ ap stm_list rows ∙ listed_stms _ in
+    let d = only_return last in
+    λ i. record {
+      class = own.class;
+      modifiers = own.method.modifiers;
+      result = a i;
+      place = own.method.place;
+      name = name_number site.text own.method.name;
+      params = b i;
+      body = c i;
+      last = d i;
+      end = own.method.end;
+    }
+
+only_methods : {text : TextTree} {number before : ℕ} {ms : List OwnMethod} {ns : List NumberedMethod} → NumbersMethods text number before ms ns → ns ≡ number_methods text before ms
+only_methods NumbersMethods.none = refl
+only_methods (NumbersMethods.more once method rest) = let a = only_method method in let b = only_methods rest in λ i. a i ∷ b i
+
+pub main_is : {text : TextTree} {number : ℕ} → HasMain text number → main_number text ≡ Some number
+main_is {text} main = ap (λ c. option_and_then (λ (class : ℕ). method_named text class (codes "main")) c) main.is_class ∙ main.is_method
+
+pub only_program : {text : TextTree} {program : NumberedProgram} → Numbers text program → program ≡ number_program text
+only_program {text} numbers =
+    let a = only_classes numbers.classes in
+    let b = only_methods numbers.methods in
+    let c = sym (ap (λ o. unwrap_or o 0) (main_is numbers.main)) in
+    let d = numbers.names in
+    let e = numbers.literals in
+    λ i. record { classes = a i; methods = b i; main = c i; names = d i; literals = e i }

@@ -1,0 +1,7 @@
+use Rattle.std.proofs.Common.{◌≡◌, ◌++◌, ◌+◌, [], map, fold, flat_map, drop, take, length, ◌≤◌}
+use Rattle.ti_lang.specs.Trees.Views.{class_of, member_of}
+use Rattle.ti_names.specs.Tables.{with_numbered, class_names, field_names, field_tables, method_names, method_tables, static_table}
+use Rattle.ti_names.proofs.build.class_table.Given as goal
+
+abbrev pub invariant-loop-class : goal.invariant-loop-class
+invariant-loop-class l = with_numbered l.found l.number (class_names (map class_of (drop l.class-index l.class-items))) ≡ with_numbered [] 0 (class_names (map class_of l.class-items))

@@ -1,0 +1,7 @@
+use Rattle.std.proofs.Common.{◌≡◌, ◌++◌, ◌+◌, [], map, fold, flat_map, drop, take, length, ◌≤◌}
+use Rattle.ti_lang.specs.Trees.Views.{class_of, member_of}
+use Rattle.ti_names.specs.Tables.{with_numbered, class_names, field_names, field_tables, method_names, method_tables, static_table}
+use Rattle.ti_names.proofs.build.method_table.Given as goal
+
+abbrev pub invariant-loop-member : goal.invariant-loop-member
+invariant-loop-member l = (with_numbered l.names l.behind (method_names (map member_of (drop l.member-index l.members))) ≡ with_numbered [] l.fn.first (method_names (map member_of l.members))) × (l.behind + length (method_names (map member_of (drop l.member-index l.members))) ≡ l.fn.first + length (method_names (map member_of l.members)))

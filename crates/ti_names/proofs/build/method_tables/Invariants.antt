@@ -1,0 +1,7 @@
+use Rattle.std.proofs.Common.{◌≡◌, ◌++◌, ◌+◌, [], map, fold, flat_map, drop, take, length, ◌≤◌}
+use Rattle.ti_lang.specs.Trees.Views.{class_of, member_of}
+use Rattle.ti_names.specs.Tables.{with_numbered, class_names, field_names, field_tables, method_names, method_tables, static_table}
+use Rattle.ti_names.proofs.build.method_tables.Given as goal
+
+abbrev pub invariant-loop-class : goal.invariant-loop-class
+invariant-loop-class l = l.found.items ++ method_tables l.number (map class_of (drop l.class-index l.class-items)) ≡ method_tables 0 (map class_of l.class-items)

@@ -1,0 +1,50 @@
+-- What clauses see of the tables of a text and of where its parts are walked.
+use Rattle.std.specs.Prelude.{ℕ, List, map, length, Option, Some, None}
+use Rattle.std.specs.declared.alloc.Global.{Global}
+use Rattle.std.specs.declared.boxed.Box.{Box}
+use Rattle.ti_base.specs.declared.place.Place.{Place}
+use Rattle.ti_lang.specs.declared.tree.stmts.Stmt.{Stmt}
+use Rattle.ti_lang.specs.declared.program.types.Variable.{Variable}
+use Rattle.ti_lang.specs.declared.program.stmts.Stmt as numbered
+use Rattle.ti_lang.specs.Trees.Expressions.{Exp}
+use Rattle.ti_lang.specs.Trees.Statements.{Stm, MaybeStm}
+use Rattle.ti_lang.specs.Trees.Statements as s
+use Rattle.ti_lang.specs.Trees.Classes.{TextTree}
+use Rattle.ti_lang.specs.Trees.Views.{tree_of, stm_of}
+use Rattle.ti_lang.specs.Program.Statements.{MaybeNumbered}
+use Rattle.ti_lang.specs.Program.Statements as m
+use Rattle.ti_lang.specs.Program.Views.{variable_of, statement_of}
+use Rattle.ti_lang.specs.Scopes.{Known, Site}
+use Rattle.ti_names.specs.declared.tables.Tables.{Tables}
+use Rattle.ti_names.specs.declared.around.Around.{Around}
+use Rattle.ti_names.specs.declared.body.Body.{Body}
+
+-- the text that the tables are of
+abbrev pub text_of : Tables → TextTree
+text_of tables = tree_of tables.tree.now
+
+abbrev pub scope_of : List (List ℕ × Variable) → List Known
+scope_of names = map (λ e. (e.0, variable_of e.1)) names
+
+-- where expressions are walked
+abbrev pub site_of : Around → Site
+site_of a = record { text = text_of a.tables.now; class = a.class; static = a.is_static; scope = scope_of a.scope.now; variables = a.variables; literals = a.literals }
+
+-- where statements are walked
+abbrev pub site_at : Body → Site
+site_at b = record { text = text_of b.tables.now; class = b.class; static = b.is_static; scope = scope_of b.scope; variables = b.variables; literals = length b.literals.items }
+
+-- ---- statements that may be left out
+
+abbrev pub tree_maybe : Option (Box Stmt Global) → MaybeStm
+tree_maybe None = s.NoStm
+tree_maybe (Some x) = s.SomeStm (stm_of x.value)
+
+abbrev pub seen_maybe : Option (Box numbered.Stmt Global) → MaybeNumbered
+seen_maybe None = m.NoStm
+seen_maybe (Some x) = m.SomeStm (statement_of x.value)
+
+-- an `if` with or without an `else`
+abbrev pub branches : Place → Exp → Stm → MaybeStm → Stm
+branches at c x s.NoStm = s.If at c x
+branches at c x (s.SomeStm y) = s.IfElse at c x y

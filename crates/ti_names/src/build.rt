@@ -1,0 +1,128 @@
+// The tables of a text, filled.
+ghost use Rattle.std.specs.Prelude.{◌≡◌, ◌+◌, [], map, fold, length, IfOk};
+ghost use Rattle.ti_lang.specs.Trees.Views.{tree_of, member_of};
+ghost use Rattle.ti_lang.specs.Members.{fields_in, names_of, name_of_member, with_name};
+ghost use Rattle.ti_names.specs.Tables.{with_numbered, class_table, field_tables, field_names, method_tables, method_names};
+
+use crate::names::Names;
+use crate::number::next;
+use crate::spelling::NameTable;
+use std::alloc::Global;
+use ti_base::Memory;
+use ti_lang::tree::{Member, Tree};
+
+/// The classes.
+pub fn class_table<'a>(alloc: Global, tree: &'a Tree) -> Result<Names<'a, u32>, Memory>
+    ensures { IfOk result (λ t. t ≡ class_table (tree_of tree.now)) }
+{
+    let mut found = Names::new(alloc);
+    let mut number = 0;
+    for class in &tree.classes {
+        found.add(class.name.as_bytes(), number)?;
+        number = next(number)?;
+    }
+    Ok(found)
+}
+
+/// The fields among members.
+fn field_table<'a>(alloc: Global, members: &'a [Member]) -> Result<Names<'a, u32>, Memory>
+    ensures { IfOk result (λ t. t ≡ with_numbered [] 0 (field_names (fields_in (map member_of members.now)))) }
+{
+    let mut found = Names::new(alloc);
+    let mut number = 0;
+    for member in members {
+        match member {
+            Member::Field(field) => {
+                found.add(field.name.as_bytes(), number)?;
+                number = next(number)?;
+            }
+            Member::Method(_) => {}
+        }
+    }
+    Ok(found)
+}
+
+/// The fields of each class.
+pub fn field_tables<'a>(alloc: Global, tree: &'a Tree) -> Result<Vec<Names<'a, u32>>, Memory>
+    ensures { IfOk result (λ v. v.items ≡ field_tables (tree_of tree.now)) }
+{
+    let mut found = Vec::new(alloc);
+    for class in &tree.classes {
+        found.push(field_table(alloc, &class.members)?)?;
+    }
+    Ok(found)
+}
+
+/// Methods by name, and the number behind the last.
+#[derive(Drop)]
+struct MethodTable<'a> {
+    names: Names<'a, u32>,
+    behind: u32,
+}
+
+/// The methods among members, from a number on.
+fn method_table<'a>(
+    alloc: Global,
+    first: u32,
+    members: &'a [Member],
+) -> Result<MethodTable<'a>, Memory>
+    ensures names { IfOk result (λ t. t.names ≡ with_numbered [] first (method_names (map member_of members.now))) }
+    ensures behind { IfOk result (λ t. t.behind ≡ first + length (method_names (map member_of members.now))) }
+{
+    let mut names = Names::new(alloc);
+    let mut behind = first;
+    for member in members {
+        match member {
+            Member::Field(_) => {}
+            Member::Method(method) => {
+                names.add(method.name.as_bytes(), behind)?;
+                behind = next(behind)?;
+            }
+        }
+    }
+    Ok(MethodTable { names, behind })
+}
+
+/// The methods of each class.
+pub fn method_tables<'a>(alloc: Global, tree: &'a Tree) -> Result<Vec<Names<'a, u32>>, Memory>
+    ensures { IfOk result (λ v. v.items ≡ method_tables 0 (tree_of tree.now)) }
+{
+    let mut found = Vec::new(alloc);
+    let mut number = 0;
+    for class in &tree.classes {
+        let table = method_table(alloc, number, &class.members)?;
+        number = table.behind;
+        found.push(table.names)?;
+    }
+    Ok(found)
+}
+
+/// The names with those of members.
+fn with_members<'a>(
+    alloc: Global,
+    names: NameTable<'a>,
+    members: &'a [Member],
+) -> Result<NameTable<'a>, Memory>
+    ensures { IfOk result (λ t. t.spelled.items ≡ fold with_name names.entry.spelled.items (map name_of_member (map member_of members.now))) }
+{
+    let mut names = names;
+    for member in members {
+        let name = match member {
+            Member::Field(field) => field.name.as_bytes(),
+            Member::Method(method) => method.name.as_bytes(),
+        };
+        names = names.with(alloc, name)?;
+    }
+    Ok(names)
+}
+
+/// The names of members.
+pub fn name_table<'a>(alloc: Global, tree: &'a Tree) -> Result<NameTable<'a>, Memory>
+    ensures { IfOk result (λ t. t.spelled.items ≡ names_of (tree_of tree.now)) }
+{
+    let mut names = NameTable::built_in(alloc)?;
+    for class in &tree.classes {
+        names = with_members(alloc, names, &class.members)?;
+    }
+    Ok(names)
+}

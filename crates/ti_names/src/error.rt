@@ -1,0 +1,28 @@
+// Why a tree has no program.
+ghost use Rattle.std.specs.Prelude.{◌≡◌};
+
+use thiserror::Error;
+use ti_base::Memory;
+use ti_rules::Refusal;
+
+/// Why a tree was not turned into a program.
+#[derive(Debug, Drop, Error)]
+pub enum NameErr {
+    /// The tree breaks a rule of names, and where.
+    #[error("the text is refused")]
+    Refused(Refusal),
+    /// Memory was wanting.
+    #[error("memory was wanting")]
+    Memory,
+}
+
+impl From<Memory> for NameErr {
+    ghost use Rattle.std.specs.Prelude.{◌≡◌};
+    ghost use Rattle.ti_names.specs.declared.error.NameErr.TheVariants.{Memory};
+
+    ghost from_gives = { λ _ e. e ≡ Memory };
+
+    fn from(_: Memory) -> NameErr {
+        NameErr::Memory
+    }
+}

@@ -1,0 +1,70 @@
+// Tables of names.
+ghost use Rattle.std.specs.Prelude.{◌≡◌, ◌≤◌, [], length, take, OnOk, OnErr};
+ghost use Rattle.std.specs.Map.{lookup};
+ghost use Rattle.std.specs.Option.{option_map, option_copied};
+ghost use Rattle.std.specs.Str.{bytes_eq};
+ghost use Rattle.ti_names.specs.Tables.{with_first};
+
+use indexmap::IndexMap;
+use std::alloc::Global;
+use std::marker::Model;
+use ti_base::Memory;
+
+/// Names with what each means, in the order in which they were added.
+#[derive(Drop)]
+pub struct Names<'a, V: Drop> {
+    map: IndexMap<&'a [u8], V>,
+}
+
+impl<'a, V: Drop> Model for Names<'a, V> {
+    ghost use Rattle.std.specs.Prelude.{List, ℕ, map as list_map};
+
+    ghost Value = { List (List ℕ × V) };
+
+    ghost view = { λ s. list_map (λ e. (e.0.now, e.1)) s.map.entries };
+}
+
+impl<'a, V: Drop> Names<'a, V> {
+    /// No names.
+    pub fn new(alloc: Global) -> Self
+        ensures { result ≡ [] }
+    {
+        Names {
+            map: IndexMap::new(alloc),
+        }
+    }
+
+    /// How many names there are.
+    pub fn len(&self) -> usize
+        ensures { result ≡ length self.now }
+    {
+        self.map.len()
+    }
+
+    /// What a name means.
+    pub fn get(&self, name: &[u8]) -> Option<&V>
+        ensures { option_copied result ≡ lookup (bytes_eq name.now) self.now }
+    {
+        self.map.get(name)
+    }
+
+    /// Adds a name, if it isn't there.
+    pub fn add(&mut self, name: &'a [u8], value: V) -> Result<(), Memory>
+        ensures { OnOk result (self.new ≡ with_first self.old name.now value) }
+    {
+        if self.map.contains_key(name) {
+            return Ok(());
+        }
+        match self.map.insert(name, value) {
+            Ok(_) => Ok(()),
+            Err(_) => Err(Memory),
+        }
+    }
+
+    /// Keeps the first names.
+    pub fn truncate(&mut self, len: usize)
+        ensures { self.new ≡ take len self.old }
+    {
+        self.map.truncate(len);
+    }
+}

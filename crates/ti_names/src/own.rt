@@ -1,0 +1,61 @@
+// The methods of a text.
+ghost use Rattle.std.specs.Prelude.{◌≡◌, ◌++◌, map, IfOk};
+ghost use Rattle.ti_lang.specs.Trees.Views.{tree_of, member_of};
+ghost use Rattle.ti_lang.specs.Members.{methods_of, methods_in};
+ghost use Rattle.ti_names.specs.Own.{own_of};
+ghost use Rattle.ti_names.specs.Tables.{static_table};
+
+use crate::number::next;
+use std::alloc::Global;
+use ti_base::Memory;
+use ti_lang::program::has_static;
+use ti_lang::tree::{Member, Method, Tree};
+
+/// A method with the number of its class.
+#[derive(Clone, Copy)]
+pub struct Own<'a> {
+    pub class: u32,
+    pub method: &'a Method,
+}
+
+/// These methods, and behind them those among the members of a class.
+fn with_methods<'a>(
+    found: Vec<Own<'a>>,
+    class: u32,
+    members: &'a [Member],
+) -> Result<Vec<Own<'a>>, Memory>
+    ensures { IfOk result (λ v. map own_of v.items ≡ map own_of found.entry.items ++ methods_in class (map member_of members.now)) }
+{
+    let mut found = found;
+    for member in members {
+        match member {
+            Member::Field(_) => {}
+            Member::Method(method) => found.push(Own { class, method })?,
+        }
+    }
+    Ok(found)
+}
+
+/// The methods of a text.
+pub fn own_methods<'a>(alloc: Global, tree: &'a Tree) -> Result<Vec<Own<'a>>, Memory>
+    ensures { IfOk result (λ v. map own_of v.items ≡ methods_of (tree_of tree.now)) }
+{
+    let mut found = Vec::new(alloc);
+    let mut number = 0;
+    for class in &tree.classes {
+        found = with_methods(found, number, &class.members)?;
+        number = next(number)?;
+    }
+    Ok(found)
+}
+
+/// Whether each method is static.
+pub fn statics(alloc: Global, methods: &[Own<'_>]) -> Result<Vec<bool>, Memory>
+    ensures { IfOk result (λ v. v.items ≡ static_table (map own_of methods.now)) }
+{
+    let mut found = Vec::new(alloc);
+    for own in methods {
+        found.push(has_static(&own.method.modifiers))?;
+    }
+    Ok(found)
+}

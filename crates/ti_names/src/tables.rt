@@ -1,0 +1,118 @@
+// The classes, fields and methods of a text by name.
+ghost use Rattle.std.specs.Prelude.{◌≡◌, ℕ, List, false, slice_get};
+ghost use Rattle.std.specs.Map.{lookup};
+ghost use Rattle.std.specs.Option.{unwrap_or};
+ghost use Rattle.std.specs.Str.{bytes_eq};
+ghost use Rattle.ti_lang.specs.Trees.Views.{tree_of};
+ghost use Rattle.ti_lang.specs.Members.{class_named, field_named, method_named, is_static_method, name_number};
+ghost use Rattle.ti_names.specs.Tables.{found_in, numbered};
+
+use crate::build::{class_table, field_tables, method_tables};
+use crate::names::Names;
+use crate::number::narrow;
+use crate::own::{Own, statics};
+use crate::spelling::NameTable;
+use std::alloc::Global;
+use ti_base::Memory;
+use ti_lang::Spelled;
+use ti_lang::tree::Tree;
+
+/// What the names of a text mean.
+#[derive(Drop)]
+pub struct Tables<'a> {
+    pub tree: &'a Tree,
+    classes: Names<'a, u32>,
+    fields: Vec<Names<'a, u32>>,
+    methods: Vec<Names<'a, u32>>,
+    statics: Vec<bool>,
+    names: Names<'a, u32>,
+    /// The number of a name of no member.
+    unknown: u32,
+    ghost classes_told: { (name : List ℕ) → lookup (bytes_eq name) classes ≡ class_named (tree_of tree.now) name },
+    ghost fields_told: { (class : ℕ) (name : List ℕ) → found_in fields.items class name ≡ field_named (tree_of tree.now) class name },
+    ghost methods_told: { (class : ℕ) (name : List ℕ) → found_in methods.items class name ≡ method_named (tree_of tree.now) class name },
+    ghost statics_told: { (number : ℕ) → unwrap_or (slice_get statics.items number) false ≡ is_static_method (tree_of tree.now) number },
+    ghost names_told: { (name : List ℕ) → unwrap_or (lookup (bytes_eq name) names) unknown ≡ name_number (tree_of tree.now) name },
+}
+
+impl<'a> Tables<'a> {
+    ghost use Rattle.std.specs.Prelude.{map, IfOk};
+    ghost use Rattle.ti_lang.specs.Members.{methods_of, names_of};
+    ghost use Rattle.ti_names.specs.Own.{own_of};
+    ghost use Rattle.ti_names.specs.Seen.{text_of};
+
+    /// The tables of a text, from its methods and the names of its members.
+    pub fn of(
+        alloc: Global,
+        tree: &'a Tree,
+        methods: &[Own<'a>],
+        spelled: &[Spelled],
+        names: Names<'a, u32>,
+    ) -> Result<Tables<'a>, Memory>
+        requires methods { map own_of methods.now ≡ methods_of (tree_of tree.now) }
+        requires spelled { spelled.now ≡ names_of (tree_of tree.now) }
+        requires names { names ≡ numbered 0 spelled.now }
+        ensures { IfOk result (λ t. text_of t ≡ tree_of tree.now) }
+    {
+        Ok(Tables {
+            tree,
+            classes: class_table(alloc, tree)?,
+            fields: field_tables(alloc, tree)?,
+            methods: method_tables(alloc, tree)?,
+            statics: statics(alloc, methods)?,
+            names,
+            unknown: narrow(spelled.len())?,
+        })
+    }
+
+    /// The class of a name.
+    pub fn class(&self, name: &[u8]) -> Option<u32>
+        ensures { result ≡ class_named (text_of self.now) name.now }
+    {
+        self.classes.get(name).copied()
+    }
+
+    /// The field of a class with a name.
+    pub fn field(&self, class: u32, name: &[u8]) -> Option<u32>
+        ensures { result ≡ field_named (text_of self.now) class name.now }
+    {
+        found(&self.fields, class, name)
+    }
+
+    /// The method of a class with a name.
+    pub fn method(&self, class: u32, name: &[u8]) -> Option<u32>
+        ensures { result ≡ method_named (text_of self.now) class name.now }
+    {
+        found(&self.methods, class, name)
+    }
+
+    /// Whether the method of a number is static.
+    pub fn is_static(&self, number: u32) -> bool
+        ensures { result ≡ is_static_method (text_of self.now) number }
+    {
+        match self.statics.get(number as usize) {
+            Some(is_static) => *is_static,
+            None => false,
+        }
+    }
+
+    /// The number of the name of a member.
+    pub fn name(&self, name: &[u8]) -> u32
+        ensures { result ≡ name_number (text_of self.now) name.now }
+    {
+        match self.names.get(name) {
+            Some(number) => *number,
+            None => self.unknown,
+        }
+    }
+}
+
+/// What a name means in the table of a class.
+fn found(tables: &[Names<'_, u32>], class: u32, name: &[u8]) -> Option<u32>
+    ensures { result ≡ found_in tables.now class name.now }
+{
+    match tables.get(class as usize) {
+        Some(table) => table.get(name).copied(),
+        None => None,
+    }
+}
