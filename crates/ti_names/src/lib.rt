@@ -12,9 +12,9 @@ mod names;
 mod note;
 mod number;
 mod own;
-mod resolve;
+mod resolving;
 mod spelling;
 mod tables;
 
 pub use error::NameErr;
-pub use resolve::{one_program, resolve};
+pub use resolving::{one_program, resolve};

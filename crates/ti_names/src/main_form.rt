@@ -122,6 +122,7 @@ fn check_words(
 }
 
 /// The number of `main`, and the refusal that counts behind the rule on its form.
+#[derive(Drop)]
 pub struct Main {
     pub number: Option<u32>,
     pub found: Option<Refusal>,

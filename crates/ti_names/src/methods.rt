@@ -29,7 +29,7 @@ use ti_rules::{Refusal, Rule};
 
 /// Methods, with the string literals so far and the refusal that counts so far.
 #[derive(Drop)]
-pub struct Methods {
+pub struct AllMethods {
     pub methods: Vec<Method>,
     pub literals: Vec<Spelled>,
     pub found: Option<Refusal>,
@@ -184,7 +184,7 @@ pub fn methods<'a>(
     tables: &Tables<'a>,
     methods: &[Own<'a>],
     found: Option<Refusal>,
-) -> Result<Methods, Memory>
+) -> Result<AllMethods, Memory>
     ensures value { IfOk result (λ m. map numbered_method_of m.methods.items ≡ number_methods (text_of tables.now) 0 (map own_of methods.now)) }
     ensures literals { IfOk result (λ m. m.literals.items ≡ flat_map (λ (own : OwnMethod). literals_in (stms own.method.body)) (map own_of methods.now)) }
     ensures found { IfOk result (λ m. m.found ≡ noted found (methods_nodes (text_of tables.now) 0 0 (map own_of methods.now))) }
@@ -200,7 +200,7 @@ pub fn methods<'a>(
         found = walked.found;
         number = next(number)?;
     }
-    Ok(Methods {
+    Ok(AllMethods {
         methods: done,
         literals,
         found,

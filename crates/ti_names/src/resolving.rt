@@ -33,7 +33,7 @@ struct Resolved {
 }
 
 /// The program of a text, if nothing is broken, and what counts of all that is broken.
-fn resolved(alloc: Global, tree: &Tree) -> Result<Resolved, Memory>
+fn walk(alloc: Global, tree: &Tree) -> Result<Resolved, Memory>
     ensures parts { IfOk result (λ r. program_of r.parts ≡ number_program (tree_of tree.now)) }
     ensures found { IfOk result (λ r. r.found ≡ first_fault (tree_of tree.now)) }
 {
@@ -69,7 +69,7 @@ pub fn resolve(alloc: Global, tree: &Tree) -> Result<Program, NameErr>
     ensures accepted { (program : NumberedProgram) → Numbers (tree_of tree.now) program → GivesOnly result program }
     ensures refused { (refusal : RefusalSeen) → IsFirstRefusal (BreaksNames (tree_of tree.now)) refusal → RefusesOnly result refusal }
 {
-    let resolved = resolved(alloc, tree)?;
+    let resolved = walk(alloc, tree)?;
     match resolved.found {
         Some(refusal) => Err(NameErr::Refused(refusal)),
         None => Ok(Program::of(resolved.parts)),
