@@ -2,8 +2,8 @@ pub mod Bridges
 pub mod Counting
 pub mod Entries
 pub mod Moves
+pub mod OneListing
 pub mod OneMain
-pub mod OneProgram
 pub mod ProgramBridges
 pub mod Standing
 pub mod Steps

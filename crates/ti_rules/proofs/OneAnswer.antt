@@ -7,20 +7,24 @@ use Rattle.ti_lang.specs.Tokenizing.{IsTokenized}
 use Rattle.ti_lang.specs.Trees.Classes.{TextTree}
 use Rattle.ti_lang.specs.Spelling.{Spells, IsShallow, Misfit, IsGrammarRefusal, fits}
 use Rattle.ti_lang.specs.Programs.{Program}
-use Rattle.ti_lang.specs.Listings.{IsProgramOf}
-use Rattle.ti_lang.proofs.OneProgram.{one_program as one_program_of}
+use Rattle.ti_lang.specs.Program.Classes.{NumberedProgram}
+use Rattle.ti_lang.specs.Numbering.{Numbers}
+use Rattle.ti_lang.specs.Listings.{IsListing}
+use Rattle.ti_lang.proofs.OneListing.{one_listing as one_listing_of}
 use Rattle.ti_rules.specs.declared.refusal.Refusal.{Refusal}
 use Rattle.ti_rules.specs.LexicalRefusals.{most_bytes, IsLexicalRefusal}
-use Rattle.ti_rules.specs.RefusalOf.{BreaksNames, BreaksTypes, IsTreeRefusal, of_names, of_types, IsAccepted, HasTokens, HasTree, rule_of_misfit, IsRefusal, of_bytes, of_tokens, of_tree, HasProgram}
+use Rattle.ti_rules.specs.BrokenNames.{BreaksNames}
+use Rattle.ti_rules.specs.RefusalOf.{BreaksTypes, IsTreeRefusal, of_names, of_types, IsAccepted, HasTokens, HasTree, rule_of_misfit, IsRefusal, of_bytes, of_tokens, of_tree, HasProgram, HasListing}
 use Rattle.ti_rules.proofs.FirstRefusal.{first_only}
 
--- that texts and lists of tokens are read in one way
+-- that texts, lists of tokens and trees are read in one way
 pub record OneReading : Type 0 where
   pub one_list : (text : List ℕ) (a b : List Token) → IsTokenized text a → IsTokenized text b → a ≡ b
   pub one_flaw : (text : List ℕ) (a b : Refusal) → IsLexicalRefusal text a → IsLexicalRefusal text b → a ≡ b
   pub not_both : (text : List ℕ) (tokens : List Token) (refusal : Refusal) → length text ≤ most_bytes → IsTokenized text tokens → IsLexicalRefusal text refusal → ⊥
   pub one_tree : (list : List Token) (a b : TextTree) → IsShallow list → Spells list a → Spells list b → a ≡ b
   pub one_misfit : (list : List Token) (a b : Option (Misfit × Place)) → IsGrammarRefusal list a → IsGrammarRefusal list b → a ≡ b
+  pub one_numbered : (tree : TextTree) (p q : NumberedProgram) → Numbers tree p → Numbers tree q → p ≡ q
 
 tokens_or_bytes : OneReading → (text : List ℕ) (tokens : List Token) (refusal : Refusal) → HasTokens text tokens → IsLexicalRefusal text refusal → ⊥
 tokens_or_bytes known text tokens refusal has is = known.not_both text tokens refusal has.short has.tokenized is
@@ -63,13 +67,18 @@ accepted_or_refused : (tree : TextTree) (r : Refusal) → IsAccepted tree → Is
 accepted_or_refused tree r accepted (of_names first) = accepted.names r first.is_broken
 accepted_or_refused tree r accepted (of_types none first) = accepted.types r first.is_broken
 
-pub never_both : OneReading → (text : List ℕ) (program : Program) (r : Refusal) → HasProgram text program → IsRefusal text r → ⊥
+pub never_both : OneReading → (text : List ℕ) (program : NumberedProgram) (r : Refusal) → HasProgram text program → IsRefusal text r → ⊥
 never_both known text program r has (of_bytes is) = tokens_or_bytes known text has.has_tree.tokens r has.has_tree.has_tokens is
 never_both known text program r has (of_tokens {tokens = tokens} {misfit = misfit} {place = place} others is) = tree_or_misfit known text has.tree tokens (misfit, place) has.has_tree others is
 never_both known text program r has (of_tree {tree = tree} other is) =
     accepted_or_refused tree r (subst IsAccepted (one_tree_of known text has.tree tree has.has_tree other) has.accepted) is
 
-pub one_program : OneReading → (text : List ℕ) (p q : Program) → HasProgram text p → HasProgram text q → p ≡ q
+pub one_program : OneReading → (text : List ℕ) (p q : NumberedProgram) → HasProgram text p → HasProgram text q → p ≡ q
 one_program known text p q has other =
     let same = one_tree_of known text has.tree other.tree has.has_tree other.has_tree in
-    one_program_of other.tree p q (subst (λ (t : TextTree). IsProgramOf t p) same has.is_program) other.is_program
+    known.one_numbered other.tree p q (subst (λ (t : TextTree). Numbers t p) same has.numbers) other.numbers
+
+pub one_listing : OneReading → (text : List ℕ) (p q : Program) → HasListing text p → HasListing text q → p ≡ q
+one_listing known text p q has other =
+    let same = one_program known text has.program other.program has.has_program other.has_program in
+    one_listing_of other.program p q (subst (λ (x : NumberedProgram). IsListing x p) same has.is_listing) other.is_listing

@@ -7,20 +7,18 @@ use Rattle.ti_lang.specs.Tokenizing.{IsTokenized}
 use Rattle.ti_lang.specs.Trees.Classes.{TextTree}
 use Rattle.ti_lang.specs.Spelling.{Spells, IsShallow, Misfit, Unexpected, TooDeep, IsGrammarRefusal}
 use Rattle.ti_lang.specs.Programs.{Program}
-use Rattle.ti_lang.specs.Listings.{IsProgramOf}
+use Rattle.ti_lang.specs.Listings.{IsListing}
+use Rattle.ti_lang.specs.Program.Classes.{NumberedProgram}
+use Rattle.ti_lang.specs.Numbering.{Numbers}
 use Rattle.ti_rules.specs.declared.rule.Rule.{Rule}
-use Rattle.ti_rules.specs.declared.rule.Rule.TheVariants.{G1, G2, N3, Y1}
+use Rattle.ti_rules.specs.declared.rule.Rule.TheVariants.{G1, G2, Y1}
 use Rattle.ti_rules.specs.declared.refusal.Refusal.{Refusal}
 use Rattle.ti_rules.specs.Refusals.{IsFirstRefusal}
 use Rattle.ti_rules.specs.LexicalRefusals.{most_bytes, IsLexicalRefusal}
-use Rattle.ti_rules.specs.MainForm.{BreaksMainForm}
+use Rattle.ti_rules.specs.BrokenNames.{BreaksNames}
 use Rattle.ti_rules.specs.Unbuilt.{IsUnbuilt}
 
 -- ---- the phases over trees
-
--- the tree breaks a rule of names
-pub data BreaksNames (tree : TextTree) : Refusal → Type 0 where
-  main_form : {place : Place} → BreaksMainForm tree place → BreaksNames tree (record { rule = N3; place = place })
 
 -- the tree breaks a rule of types and qualifiers
 pub data BreaksTypes (tree : TextTree) : Refusal → Type 0 where
@@ -67,8 +65,14 @@ pub data IsRefusal (text : List ℕ) : Refusal → Type 0 where
   of_tree : {tree : TextTree} {refusal : Refusal} → HasTree text tree → IsTreeRefusal tree refusal → IsRefusal text refusal
 
 -- the program of a text that has no refusal
-pub record HasProgram (text : List ℕ) (program : Program) : Type 0 where
+pub record HasProgram (text : List ℕ) (program : NumberedProgram) : Type 0 where
   pub tree : TextTree
   pub has_tree : HasTree text tree
   pub accepted : IsAccepted tree
-  pub is_program : IsProgramOf tree program
+  pub numbers : Numbers tree program
+
+-- what the `main` of the program of a text does
+pub record HasListing (text : List ℕ) (listing : Program) : Type 0 where
+  pub program : NumberedProgram
+  pub has_program : HasProgram text program
+  pub is_listing : IsListing program listing

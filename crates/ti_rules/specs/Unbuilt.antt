@@ -1,17 +1,16 @@
 -- The forms of the language that aren't built yet. Where one stands, the text is refused at its first token that has a place in the
 -- tree; the parentheses of a group have none.
-use Rattle.std.specs.Prelude.{◌≡◌, ℕ, List, [], ◌∷◌, Contains, Option, Some, None, slice_get}
+use Rattle.std.specs.Prelude.{◌≡◌, ℕ, List, [], ◌∷◌, ◌++◌, Contains, Option, Some, None, slice_get}
+use Rattle.std.specs.List.{flat_map}
 use Rattle.ti_base.specs.declared.place.Place.{Place}
 use Rattle.ti_lang.specs.declared.tree.classes.Modifier.{Modifier}
-use Rattle.ti_lang.specs.declared.listing.Operand.{Operand}
 use Rattle.ti_lang.specs.Trees.Types.{TypeTree, place_of_base}
 use Rattle.ti_lang.specs.Trees.Expressions.{Exp, place_of_exp}
 use Rattle.ti_lang.specs.Trees.Expressions as e
-use Rattle.ti_lang.specs.Trees.Statements.{PrintTree, Stm}
+use Rattle.ti_lang.specs.Trees.Statements.{PrintTree, Stm, Stms}
 use Rattle.ti_lang.specs.Trees.Statements as s
 use Rattle.ti_lang.specs.Trees.Classes.{ReturnTree, ResultTree, Void, Typed, MethodTree, MemberTree, FieldMember, MethodMember, ClassTree, TextTree}
 use Rattle.ti_lang.specs.MainMethod.{IsFirst, IsMainClass, IsNamedMain, IsMainOf}
-use Rattle.ti_lang.specs.Listings.{body_opened, operand_of}
 
 -- ---- first tokens
 
@@ -44,16 +43,33 @@ class_place c = modified_place c.modifiers c.word
 
 -- ---- unbuilt forms
 
+abbrev mutual
+  -- the statements that a statement comes to: those of a block, none for `;`, or itself
+  pub opened : Stm → List Stm
+  opened s.Empty = []
+  opened (s.Block body) = all_opened body
+  opened other = other ∷ []
+
+  pub all_opened : Stms → List Stm
+  all_opened s.Nil = []
+  all_opened (s.Cons first rest) = opened first ++ all_opened rest
+
+-- the statements of a body in order, with blocks opened and `;` dropped
+abbrev pub body_opened : List Stm → List Stm
+body_opened body = flat_map opened body
+
 -- where a printed expression is refused: it is built only where it is a number, `Ti.thisProc()` or `Ti.numProcs()`
-abbrev pub refused_operand : Option Operand → Exp → Option Place
-refused_operand None x = Some (place_of_first x)
-refused_operand (Some value) x = None
+abbrev pub refused_value : Exp → Option Place
+refused_value (e.Int at n) = None
+refused_value (e.ThisProc at) = None
+refused_value (e.NumProcs at) = None
+refused_value x = Some (place_of_first x)
 
 abbrev pub refused_print : PrintTree → Option Place
 refused_print s.Nothing = None
 refused_print (s.Text text) = None
-refused_print (s.Expression x) = refused_operand (operand_of x) x
-refused_print (s.TextAndExpression text x) = refused_operand (operand_of x) x
+refused_print (s.Expression x) = refused_value x
+refused_print (s.TextAndExpression text x) = refused_value x
 
 -- where a statement is refused, apart from the statements of a block: barriers, prints, blocks and `;` are built
 abbrev pub refused_statement : Stm → Option Place
