@@ -1,4 +1,4 @@
--- From the answers of the lexer, the parser and the judge to that of the compiler.
+-- From the answers of the lexer, the parser, the resolver of names and the judge to that of the compiler.
 use Rattle.std.proofs.Common.{◌≡◌, ℕ, List, Ok, Err, refl, sym, ◌∙◌, ap, subst}
 use Rattle.std.specs.declared.vec.Vec.{Vec}
 use Rattle.std.specs.declared.alloc.Global.{Global}
@@ -7,29 +7,34 @@ use Rattle.ti_lang.specs.declared.token.Token.{Token}
 use Rattle.ti_lang.specs.declared.tree.classes.Tree.{Tree}
 use Rattle.ti_lang.specs.declared.listing.Listing.{Listing}
 use Rattle.ti_lang.specs.Programs.{Program, listed_program}
-use Rattle.ti_lang.specs.Listings.{IsProgramOf}
+use Rattle.ti_lang.specs.Program.Classes.{NumberedProgram}
+use Rattle.ti_lang.specs.Numbering.{Numbers}
+use Rattle.ti_lang.specs.Listings.{IsListing}
 use Rattle.ti_lang.specs.Trees.Views.{tree_of}
 use Rattle.ti_lang.specs.Spelling.{Misfit}
 use Rattle.ti_rules.specs.declared.rule.Rule.{Rule}
 use Rattle.ti_rules.specs.declared.refusal.Refusal.{Refusal}
-use Rattle.ti_rules.specs.RefusalOf.{IsTreeRefusal, IsAccepted, HasTokens, HasTree, rule_of_misfit, IsRefusal, of_bytes, of_tokens, of_tree, HasProgram}
+use Rattle.ti_rules.specs.RefusalOf.{IsTreeRefusal, of_names as of_names_first, IsAccepted, HasTokens, HasTree, rule_of_misfit, IsRefusal, of_bytes, of_tokens, of_tree, HasProgram, HasListing}
 use Rattle.ti_lex.specs.declared.error.LexErr.{LexErr}
 use Rattle.ti_lex.specs.declared.error.LexErr.TheVariants as lexer
 use Rattle.ti_lex.specs.Answer.{Lexes}
 use Rattle.ti_parse_expr.specs.declared.error.ParseErr.{ParseErr}
 use Rattle.ti_parse_expr.specs.declared.error.ParseErr.TheVariants as parser
 use Rattle.ti_parse.specs.Answer.{Parsed}
+use Rattle.ti_names.specs.declared.error.NameErr.{NameErr}
+use Rattle.ti_names.specs.declared.error.NameErr.TheVariants as names
+use Rattle.ti_names.specs.Answer.{Resolves}
 use Rattle.ti_top.specs.declared.compiling.CompileErr.TheVariants.{Refused}
-use Rattle.ti_top.specs.Compiling.{IsRefusedAs, Compiles, of_lexer, of_parser}
+use Rattle.ti_top.specs.Compiling.{IsRefusedAs, Compiles, of_lexer, of_parser, of_names}
 
 -- that a text has one answer
 pub record OneAnswer : Type 0 where
-  pub one_program : (text : List ℕ) (p q : Program) → HasProgram text p → HasProgram text q → p ≡ q
-  pub never_both : (text : List ℕ) (program : Program) (refusal : Refusal) → HasProgram text program → IsRefusal text refusal → ⊥
+  pub one_listing : (text : List ℕ) (p q : Program) → HasListing text p → HasListing text q → p ≡ q
+  pub never_both : (text : List ℕ) (program : NumberedProgram) (refusal : Refusal) → HasProgram text program → IsRefusal text refusal → ⊥
 
--- a refused text has no program
+-- a refused text has no listing
 refused_as : OneAnswer → (text : List ℕ) (refusal : Refusal) → IsRefusal text refusal → IsRefusedAs text refusal
-refused_as known text refusal is = record { is = is; no_program = λ program has. known.never_both text program refusal has is }
+refused_as known text refusal is = record { is = is; no_program = λ listing has. known.never_both text has.program refusal has.has_program is }
 
 has_tokens : (text : List ℕ) (tokens : Vec Token Global) → Lexes text (Ok tokens) → HasTokens text tokens.items
 has_tokens text tokens lexed = record { short = lexed.0; tokenized = lexed.1 }
@@ -52,16 +57,23 @@ not_parsed known text tokens (parser.Refused refusal) lexed (misfit, rule, is) =
     refusal_at rule place = record { rule = rule; place = place }
 not_parsed known text tokens parser.Memory lexed parsed = tt
 
--- its tree breaks a rule
+-- its tree breaks a rule of names
+pub not_named : OneAnswer → (text : List ℕ) (tokens : Vec Token Global) (tree : Tree) (e : NameErr) → Lexes text (Ok tokens) → Parsed tokens.items (Ok tree) → Resolves (tree_of tree) (Err e) → Compiles text (Err (of_names e))
+not_named known text tokens tree (names.Refused refusal) lexed parsed first = refused_as known text refusal (of_tree (has_tree text tokens tree lexed parsed) (of_names_first first))
+not_named known text tokens tree names.Memory lexed parsed first = tt
+
+-- its tree breaks another rule
 pub judged : OneAnswer → (text : List ℕ) (tokens : Vec Token Global) (tree : Tree) (refusal : Refusal) → Lexes text (Ok tokens) → Parsed tokens.items (Ok tree) → IsTreeRefusal (tree_of tree) refusal → Compiles text (Err (Refused refusal))
 judged known text tokens tree refusal lexed parsed broken = refused_as known text refusal (of_tree (has_tree text tokens tree lexed parsed) broken)
 
 -- its tree breaks none
-pub compiled : OneAnswer → (text : List ℕ) (tokens : Vec Token Global) (tree : Tree) (listing : Listing) → Lexes text (Ok tokens) → Parsed tokens.items (Ok tree) → IsAccepted (tree_of tree) → IsProgramOf (tree_of tree) (listed_program listing) → Compiles text (Ok listing)
-compiled known text tokens tree listing lexed parsed accepted is =
-    let has : HasProgram text (listed_program listing) = record { tree = tree_of tree; has_tree = has_tree text tokens tree lexed parsed; accepted = accepted; is_program = is } in
+pub compiled : OneAnswer → (text : List ℕ) (tokens : Vec Token Global) (tree : Tree) (program : NumberedProgram) (listing : Listing) → Lexes text (Ok tokens) → Parsed tokens.items (Ok tree) → IsAccepted (tree_of tree)
+    → Numbers (tree_of tree) program → IsListing program (listed_program listing) → Compiles text (Ok listing)
+compiled known text tokens tree program listing lexed parsed accepted numbers is =
+    let has_program : HasProgram text program = record { tree = tree_of tree; has_tree = has_tree text tokens tree lexed parsed; accepted = accepted; numbers = numbers } in
+    let has : HasListing text (listed_program listing) = record { program = program; has_program = has_program; is_listing = is } in
     record {
       has = has;
-      only = λ other others. known.one_program text other (listed_program listing) others has;
-      unrefused = λ refusal refused. known.never_both text (listed_program listing) refusal has refused;
+      only = λ other others. known.one_listing text other (listed_program listing) others has;
+      unrefused = λ refusal refused. known.never_both text program refusal has_program refused;
     }

@@ -3,7 +3,7 @@ use Rattle.std.proofs.Common.{◌≡◌, inl, ℕ, zero, suc, ◌<◌, List, [],
 use Rattle.std.specs.List.{flat_map}
 use Rattle.std.proofs.lemmas.Grind.{flat_map-append}
 use Rattle.ti_lang.specs.Trees.Statements.{Stm, stms, block}
-use Rattle.ti_lang.specs.Listings.{opened, all_opened, body_opened}
+use Rattle.ti_rules.specs.Unbuilt.{opened, all_opened, body_opened}
 use Rattle.ti_top.specs.Judging.{refused_places, refused_in}
 use Rattle.ti_top.proofs.Among.{Among}
 
@@ -24,11 +24,11 @@ refused_block body = flat_map_block refused_places body
 
 -- ---- bodies that aren't refused
 
-no_front : {A : Type 0} (xs ys : List A) → xs ++ ys ≡ [] → xs ≡ []
+pub no_front : {A : Type 0} (xs ys : List A) → xs ++ ys ≡ [] → xs ≡ []
 no_front [] ys none = refl
 no_front (x ∷ xs) ys none = cc
 
-no_back : {A : Type 0} (xs ys : List A) → xs ++ ys ≡ [] → ys ≡ []
+pub no_back : {A : Type 0} (xs ys : List A) → xs ++ ys ≡ [] → ys ≡ []
 no_back [] ys none = none
 no_back (x ∷ xs) ys none = cc
 

@@ -6,9 +6,8 @@ use Rattle.ti_base.specs.declared.place.Place.{Place}
 use Rattle.ti_lang.specs.Trees.Statements.{Stm}
 use Rattle.ti_lang.specs.Trees.Classes.{ReturnTree, MethodTree, MethodMember, ClassTree, TextTree}
 use Rattle.ti_lang.specs.MainMethod.{IsFirst, IsMainClass, IsMainMethod, IsNamedMain, IsMainOf}
-use Rattle.ti_lang.specs.Listings.{body_opened}
 use Rattle.ti_lang.proofs.OneMain.{same_element, first_unique, one_class, one_main}
-use Rattle.ti_rules.specs.Unbuilt.{class_place, member_place, refused_statement, IsUnbuilt, another_class, another_member, statement, last_return}
+use Rattle.ti_rules.specs.Unbuilt.{body_opened, class_place, member_place, refused_statement, IsUnbuilt, another_class, another_member, statement, last_return}
 use Rattle.ti_top.specs.Judging.{earlier_of, earliest, IsFirstPlace, OfAnother, class_places, member_places, refused_places, refused_in, return_places}
 use Rattle.ti_top.proofs.Among.{Among, contains_among, among_contains, among_stands, among_flat, flat_among}
 use Rattle.ti_top.proofs.FirstOfList.{contains_from_stands}

@@ -1,23 +1,17 @@
--- What is added to the program of a tree while its statements are listed.
-use Rattle.std.specs.Prelude.{◌≡◌, ℕ, List, [], ◌∷◌, ◌++◌, length}
-use Rattle.std.specs.List.{flat_map}
+-- What is added to a listing while the statements of a program are listed.
+use Rattle.std.specs.Prelude.{◌≡◌, List, Option, Some, map, is_some, true}
 use Rattle.ti_lang.specs.declared.listing.Statement.{Statement}
-use Rattle.ti_lang.specs.Programs.{Program}
-use Rattle.ti_lang.specs.Trees.Statements.{Stm}
-use Rattle.ti_lang.specs.Listings.{literal_of, Lists}
+use Rattle.ti_lang.specs.Program.Statements.{NumberedStm, numbered_stms}
+use Rattle.ti_lang.specs.Listings.{in_turn, all_listed}
 
--- one statement
-abbrev pub with_statement : Statement → Program → Program
-with_statement x program = record program { statements = program.statements ++ x ∷ [] }
+-- what the statements of a body do
+abbrev pub body_listed : List NumberedStm → Option (List Statement)
+body_listed body = all_listed (numbered_stms body)
 
--- one literal
-abbrev pub with_literal : List ℕ → Program → Program
-with_literal text program = record program { literals = program.literals ++ text ∷ [] }
+-- all of it is built
+abbrev pub IsBuilt : Option (List Statement) → Type 0
+IsBuilt listed = is_some listed ≡ true
 
--- what these statements do, and their literals
-pub record Adds (xs : List Stm) (old new : Program) : Type 0 where
-  pub added : List Statement
-  pub lists : Lists (length old.literals) xs added
-  pub statements : new.statements ≡ old.statements ++ added
-  pub literals : new.literals ≡ old.literals ++ flat_map literal_of xs
-  pub end : new.end ≡ old.end
+-- the new list is the old one with these behind it
+abbrev pub Adds : Option (List Statement) → List Statement → List Statement → Type 0
+Adds listed old new = in_turn (Some old) listed ≡ Some new

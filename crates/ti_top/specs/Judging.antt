@@ -5,9 +5,7 @@ use Rattle.ti_base.specs.declared.place.Place.{Place}
 use Rattle.ti_base.specs.Places.{place_lt}
 use Rattle.ti_lang.specs.Trees.Statements.{Stm}
 use Rattle.ti_lang.specs.Trees.Classes.{ParamsTree, Words, Params, ReturnTree, MethodTree, MemberTree, FieldMember, MethodMember, ClassTree}
-use Rattle.ti_lang.specs.Listings.{opened}
-use Rattle.ti_rules.specs.MainForm.{IsMainForm}
-use Rattle.ti_rules.specs.Unbuilt.{member_place, class_place, refused_statement}
+use Rattle.ti_rules.specs.Unbuilt.{opened, member_place, class_place, refused_statement}
 
 -- whether the first place stands before the second
 abbrev pub is_before : Place → Place → Bool
@@ -28,18 +26,6 @@ earliest (p ∷ ps) = earlier_of (Some p) (earliest ps)
 abbrev pub IsFirstPlace : (Place → Type 0) → Option Place → Type 0
 IsFirstPlace broken None = (p : Place) → broken p → ⊥
 IsFirstPlace broken (Some p) = broken p × ((q : Place) → broken q → place_lt q p → ⊥)
-
--- where methods have a parameter `String[] x`
-abbrev pub words_of_params : ParamsTree → Place → List Place
-words_of_params (Words at name) place = place ∷ []
-words_of_params (Params params) place = []
-
-abbrev pub words_of_member : MemberTree → List Place
-words_of_member (FieldMember f) = []
-words_of_member (MethodMember m) = words_of_params m.params m.place
-
-abbrev pub words_of_class : ClassTree → List Place
-words_of_class c = flat_map words_of_member c.members
 
 -- where members and classes of forms that aren't built are refused
 abbrev pub member_places : MemberTree → List Place
@@ -68,7 +54,3 @@ pub record OfAnother {A : Type 0} (f : A → List Place) (list : List A) (k : �
   pub apart : at ≢ k
   pub stands : slice_get list at ≡ Some element
   pub has : Contains (f element) p
-
--- where main is refused for its form
-abbrev pub IsFormPlace : MethodTree → Place → Type 0
-IsFormPlace m p = (p ≡ m.place) × (IsMainForm m → ⊥)

@@ -14,7 +14,7 @@ use Rattle.ti_top.specs.declared.reading.ReadEnd.TheVariants as Read
 use Rattle.ti_top.specs.declared.runner.How.{How}
 use Rattle.ti_top.specs.declared.ending.Ending.{Ending}
 use Rattle.ti_top.specs.declared.ending.Ending.TheVariants.{Done, Refused, Faulted, NoCommand, CantRead, CantWrite, NoMemory}
-use Rattle.ti_top.specs.Compiling.{HasProgramAlone, IsRefusedAs}
+use Rattle.ti_top.specs.Compiling.{HasListingAlone, IsRefusedAs}
 use Rattle.ti_top.specs.Job.{Job, job_of}
 use Rattle.ti_top.specs.Reading.{ReadsWhole}
 use Rattle.ti_top.specs.RunEnds.{EndsWithFault}
@@ -61,7 +61,7 @@ pub record RunSays (program : Program) (procs : ℕ) (out out_after : SinkState)
 -- so was the program of the text
 pub record Ran (procs : ℕ) (text : List ℕ) (out out_after : SinkState) (history : List Entry) (ending : Ending) : Type 0 where
   pub program : Program
-  pub compiled : HasProgramAlone text program
+  pub compiled : HasListingAlone text program
   pub says : RunSays program procs out out_after history ending
 
 -- what became of a text that was read whole

@@ -1,18 +1,23 @@
 // From a text to its program.
-ghost use Rattle.std.specs.Prelude.{◌≡◌, ℕ, List};
-ghost use Rattle.ti_lang.specs.Programs.{Program};
+ghost use Rattle.std.specs.Prelude.{◌≡◌, ℕ, List, IfSome, IfNone};
+ghost use Rattle.ti_lang.specs.Trees.Views.{tree_of};
+ghost use Rattle.ti_lang.specs.Programs.{Program as ListingSeen};
+ghost use Rattle.ti_lang.specs.Program.Classes.{NumberedProgram};
 ghost use Rattle.ti_rules.specs.declared.refusal.Refusal.{Refusal as RefusalSeen};
-ghost use Rattle.ti_rules.specs.RefusalOf.{HasProgram, IsRefusal};
+ghost use Rattle.ti_rules.specs.BrokenNames.{BreaksNames};
+ghost use Rattle.ti_rules.specs.RefusalOf.{HasNone, HasProgram, HasListing, IsAccepted, IsRefusal, IsTreeRefusal};
 ghost use Rattle.ti_top.specs.Compiling.{Compiles};
 
 use crate::flatten::flatten;
-use crate::judge::judge;
+use crate::unbuilt::unbuilt_form;
 use std::alloc::Global;
 use ti_base::Memory;
 use ti_lang::Listing;
+use ti_lang::tree::Tree;
 use ti_lex::{LexErr, lex, one_reading};
+use ti_names::{NameErr, one_program, resolve};
 use ti_parse::{ParseErr, one_text, parse};
-use ti_rules::Refusal;
+use ti_rules::{Refusal, Rule};
 
 /// Why a text has no program.
 #[derive(Clone, Copy, Debug, PartialEq, Eq)]
@@ -51,6 +56,20 @@ impl From<ParseErr> for CompileErr {
     }
 }
 
+impl From<NameErr> for CompileErr {
+    ghost use Rattle.std.specs.Prelude.{◌≡◌};
+    ghost use Rattle.ti_top.specs.Compiling.{of_names};
+
+    ghost from_gives = { λ e found. found ≡ of_names e };
+
+    fn from(e: NameErr) -> CompileErr {
+        match e {
+            NameErr::Refused(refusal) => CompileErr::Refused(refusal),
+            NameErr::Memory => CompileErr::Memory,
+        }
+    }
+}
+
 impl From<Memory> for CompileErr {
     ghost use Rattle.std.specs.Prelude.{◌≡◌};
     ghost use Rattle.ti_top.specs.declared.compiling.CompileErr.TheVariants as compiled;
@@ -62,27 +81,46 @@ impl From<Memory> for CompileErr {
     }
 }
 
-/// That a text has at most one program or one refusal, and never both.
+/// That a text has at most one program, with one listing, or one refusal, and never both.
 pub fn one_answer()
-    ensures one_program { (text : List ℕ) (p q : Program) → HasProgram text p → HasProgram text q → p ≡ q }
+    ensures one_program { (text : List ℕ) (p q : NumberedProgram) → HasProgram text p → HasProgram text q → p ≡ q }
+    ensures one_listing { (text : List ℕ) (p q : ListingSeen) → HasListing text p → HasListing text q → p ≡ q }
     ensures one_refusal { (text : List ℕ) (a b : RefusalSeen) → IsRefusal text a → IsRefusal text b → a ≡ b }
-    ensures never_both { (text : List ℕ) (program : Program) (refusal : RefusalSeen) → HasProgram text program → IsRefusal text refusal → ⊥ }
+    ensures never_both { (text : List ℕ) (program : NumberedProgram) (refusal : RefusalSeen) → HasProgram text program → IsRefusal text refusal → ⊥ }
 {
     one_reading();
     one_text();
+    one_program();
 }
 
-/// The program of a text: it becomes tokens, these become a tree, and a tree that breaks no rule becomes a list of
-/// statements.
+/// The refusal of a form that isn't built, in a tree that breaks no rule of names.
+fn unbuilt(tree: &Tree) -> Option<Refusal>
+    requires { HasNone (BreaksNames (tree_of tree.now)) }
+    ensures refused { IfSome result (λ refusal. IsTreeRefusal (tree_of tree.now) refusal) }
+    ensures accepted { IfNone result (IsAccepted (tree_of tree.now)) }
+{
+    match unbuilt_form(&tree.classes) {
+        Some(place) => Some(Refusal {
+            rule: Rule::Y1,
+            place,
+        }),
+        None => None,
+    }
+}
+
+/// What the program of a text does: the text becomes tokens, these become a tree, the tree becomes a program with a number
+/// in place of each name, and a program whose forms are all built becomes a list of statements.
 pub fn compile(alloc: Global, text: &[u8]) -> Result<Listing, CompileErr>
     ensures { Compiles text.now result }
 {
     one_answer();
+    one_program();
     let tokens = lex(alloc, text)?;
     let tree = parse(alloc, &tokens)?;
-    if let Some(refusal) = judge(&tree) {
+    let program = resolve(alloc, &tree)?;
+    if let Some(refusal) = unbuilt(&tree) {
         return Err(CompileErr::Refused(refusal));
     }
-    let listing = flatten(alloc, &tree)?;
+    let listing = flatten(alloc, program)?;
     Ok(listing)
 }

@@ -1,25 +1,19 @@
-// The program of a tree that is accepted.
-ghost use Rattle.std.specs.Prelude.{◌≡◌, ◌∷◌, [], length, map, Some, IfOk, OnOk, IsSome};
-ghost use Rattle.std.specs.List.{flat_map};
-ghost use Rattle.ti_lang.specs.Programs.{listed_program};
-ghost use Rattle.ti_lang.specs.Trees.Statements.{Print as print_tree};
-ghost use Rattle.ti_lang.specs.Trees.Views.{exp_of, print_of, stm_of, tree_of};
-ghost use Rattle.ti_lang.specs.Listings.{opened, operand_of, IsProgramOf};
-ghost use Rattle.ti_rules.specs.Unbuilt.{refused_print};
-ghost use Rattle.ti_rules.specs.RefusalOf.{IsAccepted};
-ghost use Rattle.ti_top.specs.Judging.{refused_in};
-ghost use Rattle.ti_top.specs.Flattening.{with_statement, with_literal, Adds};
+// The listing of a program: what its `main` does.
+ghost use Rattle.std.specs.Prelude.{◌≡◌, ◌∷◌, [], ◌++◌, map, is_some, true, Some, IfOk, OnOk};
+ghost use Rattle.ti_lang.specs.Programs.{Program as ListingSeen, listed_program};
+ghost use Rattle.ti_lang.specs.Program.Views.{expression_of, printed_of, statement_of, program_of};
+ghost use Rattle.ti_lang.specs.Listings.{operand_of, listed_print as print_spec, listed, IsListing};
+ghost use Rattle.ti_top.specs.Flattening.{body_listed, IsBuilt, Adds};
 
-use crate::main_method::{main_class, main_method};
 use std::alloc::Global;
 use ti_base::{Memory, Place};
-use ti_lang::tree::{Expr, Printed, Stmt, Tree};
-use ti_lang::{Listing, Operand, Spelled, Statement};
+use ti_lang::program::{Expr, Printed, Program, Stmt};
+use ti_lang::{Listing, Operand, Statement};
 
 // What a printed expression shows.
 fn operand(x: &Expr) -> Operand
-    requires { IsSome (operand_of (exp_of x.now)) }
-    ensures { operand_of (exp_of x.now) ≡ Some result }
+    requires { is_some (operand_of (expression_of x.now)) ≡ true }
+    ensures { operand_of (expression_of x.now) ≡ Some result }
 {
     match x {
         Expr::Int(_, n) => Operand::Number(*n),
@@ -29,95 +23,71 @@ fn operand(x: &Expr) -> Operand
     }
 }
 
-// Adds a statement.
-fn add(listing: &mut Listing, statement: Statement) -> Result<(), Memory>
-    ensures { OnOk result (listed_program listing.new ≡ with_statement statement (listed_program listing.old)) }
-{
-    listing.statements.push(statement)?;
-    Ok(())
-}
-
-// Adds a literal, and answers its number. Want of memory stands for more of them than there are numbers.
-fn add_literal(alloc: Global, listing: &mut Listing, text: &Spelled) -> Result<u32, Memory>
-    ensures number { IfOk result (λ n. n ≡ length listing.old.literals.items) }
-    ensures added { OnOk result (listed_program listing.new ≡ with_literal text.now (listed_program listing.old)) }
-{
-    let Ok(number) = u32::try_from(listing.literals.len()) else {
-        return Err(Memory);
-    };
-    let literal = text.copy(alloc)?;
-    listing.literals.push(literal)?;
-    Ok(number)
-}
-
-// Adds a print.
-fn add_print(
-    alloc: Global,
-    listing: &mut Listing,
-    place: Place,
-    what: &Printed,
-) -> Result<(), Memory>
-    requires { refused_print (print_of what.now) ≡ None }
-    ensures { OnOk result (Adds (print_tree place (print_of what.now) ∷ []) (listed_program listing.old) (listed_program listing.new)) }
+// What a print does.
+fn listed_print(place: Place, what: &Printed) -> Statement
+    requires { is_some (print_spec place (printed_of what.now)) ≡ true }
+    ensures { print_spec place (printed_of what.now) ≡ Some result }
 {
     match what {
-        Printed::Nothing => add(listing, Statement::Print(place, None, None)),
-        Printed::Text(text) => {
-            let number = add_literal(alloc, listing, text)?;
-            add(listing, Statement::Print(place, Some(number), None))
-        }
-        Printed::Value(x) => add(listing, Statement::Print(place, None, Some(operand(x)))),
-        Printed::TextAndValue(text, x) => {
-            let value = operand(x);
-            let number = add_literal(alloc, listing, text)?;
-            add(listing, Statement::Print(place, Some(number), Some(value)))
+        Printed::Nothing => Statement::Print(place, None, None),
+        Printed::Text(literal) => Statement::Print(place, Some(*literal), None),
+        Printed::Value(x) => Statement::Print(place, None, Some(operand(x))),
+        Printed::TextAndValue(literal, x) => {
+            Statement::Print(place, Some(*literal), Some(operand(x)))
         }
     }
 }
 
-// Adds what a statement comes to.
+// Adds a statement.
+fn add(statements: &mut Vec<Statement>, statement: Statement) -> Result<(), Memory>
+    ensures { OnOk result (statements.new.items ≡ statements.old.items ++ statement ∷ []) }
+{
+    statements.push(statement)?;
+    Ok(())
+}
+
+// Adds what a statement does.
 #[cycle(flatten)]
-fn add_statement(alloc: Global, listing: &mut Listing, statement: &Stmt) -> Result<(), Memory>
-    requires { refused_in (stm_of statement.now) ≡ [] }
-    ensures { OnOk result (Adds (opened (stm_of statement.now)) (listed_program listing.old) (listed_program listing.new)) }
+fn add_statement(statements: &mut Vec<Statement>, statement: &Stmt) -> Result<(), Memory>
+    requires { IsBuilt (listed (statement_of statement.now)) }
+    ensures { OnOk result (Adds (listed (statement_of statement.now)) statements.old.items statements.new.items) }
 {
     match statement {
         Stmt::Empty => Ok(()),
-        Stmt::Barrier(place) => add(listing, Statement::Barrier(*place)),
-        Stmt::Print(place, what) => add_print(alloc, listing, *place, what),
-        Stmt::Block(body) => add_body(alloc, listing, body),
+        Stmt::Barrier(place) => add(statements, Statement::Barrier(*place)),
+        Stmt::Print(place, what) => add(statements, listed_print(*place, what)),
+        Stmt::Block(body) => add_body(statements, body),
         _ => unreachable!(),
     }
 }
 
-// Adds what the statements of a body come to.
+// Adds what the statements of a body do.
 #[cycle(flatten)]
-fn add_body(alloc: Global, listing: &mut Listing, body: &[Stmt]) -> Result<(), Memory>
-    requires { flat_map refused_in (map stm_of body.now) ≡ [] }
-    ensures { OnOk result (Adds (flat_map opened (map stm_of body.now)) (listed_program listing.old) (listed_program listing.new)) }
+fn add_body(statements: &mut Vec<Statement>, body: &[Stmt]) -> Result<(), Memory>
+    requires { IsBuilt (body_listed (map statement_of body.now)) }
+    ensures { OnOk result (Adds (body_listed (map statement_of body.now)) statements.old.items statements.new.items) }
 {
     'statements: for statement in body {
-        add_statement(alloc, listing, statement)?;
+        add_statement(statements, statement)?;
     }
     Ok(())
 }
 
-/// The program of a tree.
-pub fn flatten(alloc: Global, tree: &Tree) -> Result<Listing, Memory>
-    requires { IsAccepted (tree_of tree.now) }
-    ensures { IfOk result (λ listing. IsProgramOf (tree_of tree.now) (listed_program listing)) }
+/// The listing of a program that has one.
+pub fn flatten(alloc: Global, program: Program) -> Result<Listing, Memory>
+    requires { (listing : ListingSeen) × IsListing (program_of program.parts) listing }
+    ensures { IfOk result (λ listing. IsListing (program_of program.parts) (listed_program listing)) }
 {
-    let Some((_, class)) = main_class(&tree.classes) else {
+    let parts = program.parts;
+    let Some(method) = parts.methods.get(parts.main as usize) else {
         unreachable!()
     };
-    let Some((_, method)) = main_method(class) else {
-        unreachable!()
-    };
-    let mut listing = Listing {
-        statements: Vec::new(alloc),
-        literals: Vec::new(alloc),
-        end: method.end,
-    };
-    add_body(alloc, &mut listing, &method.body)?;
-    Ok(listing)
+    let mut statements = Vec::new(alloc);
+    add_body(&mut statements, &method.body)?;
+    let end = method.end;
+    Ok(Listing {
+        statements,
+        literals: parts.literals,
+        end,
+    })
 }

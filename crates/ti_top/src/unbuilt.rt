@@ -5,9 +5,8 @@ ghost use Rattle.std.specs.Prelude.{◌≡◌, ◌<◌, length, map};
 ghost use Rattle.std.specs.List.{flat_map};
 ghost use Rattle.ti_base.specs.declared.place.Place.{Place as PlaceSeen};
 ghost use Rattle.ti_lang.specs.Trees.Views.{class_of, member_of, method_of, stm_of, exp_of, result_of, print_of, return_of, maybe_of};
-ghost use Rattle.ti_lang.specs.Listings.{operand_of};
 ghost use Rattle.ti_rules.specs.MainForm.{BreaksMainForm};
-ghost use Rattle.ti_rules.specs.Unbuilt.{place_of_first, modified_place, class_place, member_place, result_place, refused_operand, refused_print, IsUnbuilt};
+ghost use Rattle.ti_rules.specs.Unbuilt.{place_of_first, modified_place, class_place, member_place, result_place, refused_value as value_spec, refused_print, IsUnbuilt};
 ghost use Rattle.ti_top.specs.Judging.{earlier_of, earliest, IsFirstPlace, class_places, member_places, refused_in, return_places, OfAnother};
 
 use crate::earliest::earlier;
@@ -104,7 +103,7 @@ fn other_classes_start(classes: &[Class], at: usize) -> Option<Place>
 
 // Where a printed expression is refused.
 fn refused_value(x: &Expr) -> Option<Place>
-    ensures { result ≡ refused_operand (operand_of (exp_of x.now)) (exp_of x.now) }
+    ensures { result ≡ value_spec (exp_of x.now) }
 {
     match x {
         Expr::Int(_, _) | Expr::ThisProc(_) | Expr::NumProcs(_) => None,

@@ -1,31 +1,49 @@
 use Rattle.std.proofs.Common.{List, Ok, Err, subst}
 use Rattle.std.proofs.lemmas.Result.{err_from_is_err_and}
 use Rattle.ti_lang.specs.declared.token.Token.{Token}
+use Rattle.ti_lang.specs.Trees.Views.{tree_of}
+use Rattle.ti_lang.specs.Program.Views.{program_of}
 use Rattle.ti_parse.specs.Answer.{Parsed}
-use Rattle.ti_top.proofs.Compiled.{OneAnswer, not_lexed, not_parsed, judged, compiled}
+use Rattle.ti_rules.specs.BrokenNames.{BreaksNames}
+use Rattle.ti_rules.specs.RefusalOf.{HasNone}
+use Rattle.ti_top.proofs.BuiltPrograms.{has_listing}
+use Rattle.ti_top.proofs.Compiled.{OneAnswer, not_lexed, not_parsed, not_named, judged, compiled}
 use Rattle.ti_top.proofs.compiling.compile.Goals as goal
+
+pub unbuilt-requires : goal.unbuilt-requires
+unbuilt-requires c = c.one_program.ensures.unbroken (tree_of c.in_ok-tree.tree) (program_of c.in_ok-program.program.parts) c.in_ok-program.ensures.resolves
+
+pub flatten-requires : goal.flatten-requires
+flatten-requires c = has_listing (tree_of c.in_ok-tree.tree) (program_of c.in_ok-program.program.parts) c.in_default.ensures.accepted c.in_ok-program.ensures.resolves
 
 pub returns-in_err-tokens : goal.returns-in_err-tokens
 returns-in_err-tokens c =
-    let known : OneAnswer = record { one_program = c.one_answer.ensures.one_program; never_both = c.one_answer.ensures.never_both } in
+    let known : OneAnswer = record { one_listing = c.one_answer.ensures.one_listing; never_both = c.one_answer.ensures.never_both } in
     let p = err_from_is_err_and c.from_residual.result c.from_residual.ensures.1 in
     rw p.1 (rw p.2 (not_lexed known c.args.text.now c.in_err-tokens.field-0.0 c.in_err-tokens.ensures.answer))
 
 pub returns-in_err-tree : goal.returns-in_err-tree
 returns-in_err-tree c =
-    let known : OneAnswer = record { one_program = c.one_answer.ensures.one_program; never_both = c.one_answer.ensures.never_both } in
+    let known : OneAnswer = record { one_listing = c.one_answer.ensures.one_listing; never_both = c.one_answer.ensures.never_both } in
     let p = err_from_is_err_and c.from_residual-in_err-tree.result c.from_residual-in_err-tree.ensures.1 in
     let parsed = subst (λ (toks : List Token). Parsed toks (Err c.in_err-tree.field-0.0)) c.deref.ensures.value c.in_err-tree.ensures in
     rw p.1 (rw p.2 (not_parsed known c.args.text.now c.in_ok-tokens.tokens c.in_err-tree.field-0.0 c.in_ok-tokens.ensures.answer parsed))
 
+pub returns-in_err-program : goal.returns-in_err-program
+returns-in_err-program c =
+    let known : OneAnswer = record { one_listing = c.one_answer.ensures.one_listing; never_both = c.one_answer.ensures.never_both } in
+    let p = err_from_is_err_and c.from_residual-in_err-program.result c.from_residual-in_err-program.ensures.1 in
+    let parsed = subst (λ (toks : List Token). Parsed toks (Ok c.in_ok-tree.tree)) c.deref.ensures.value c.in_ok-tree.ensures in
+    rw p.1 (rw p.2 (not_named known c.args.text.now c.in_ok-tokens.tokens c.in_ok-tree.tree c.in_err-program.field-0.0 c.in_ok-tokens.ensures.answer parsed c.in_err-program.ensures.resolves))
+
 pub returns-in-Some : goal.returns-in-Some
 returns-in-Some c =
-    let known : OneAnswer = record { one_program = c.one_answer.ensures.one_program; never_both = c.one_answer.ensures.never_both } in
+    let known : OneAnswer = record { one_listing = c.one_answer.ensures.one_listing; never_both = c.one_answer.ensures.never_both } in
     let parsed = subst (λ (toks : List Token). Parsed toks (Ok c.in_ok-tree.tree)) c.deref.ensures.value c.in_ok-tree.ensures in
     judged known c.args.text.now c.in_ok-tokens.tokens c.in_ok-tree.tree c.in-Some.refusal c.in_ok-tokens.ensures.answer parsed c.in-Some.ensures.refused
 
 pub returns : goal.returns
 returns c =
-    let known : OneAnswer = record { one_program = c.one_answer.ensures.one_program; never_both = c.one_answer.ensures.never_both } in
+    let known : OneAnswer = record { one_listing = c.one_answer.ensures.one_listing; never_both = c.one_answer.ensures.never_both } in
     let parsed = subst (λ (toks : List Token). Parsed toks (Ok c.in_ok-tree.tree)) c.deref.ensures.value c.in_ok-tree.ensures in
-    compiled known c.args.text.now c.in_ok-tokens.tokens c.in_ok-tree.tree c.in_ok-listing.listing c.in_ok-tokens.ensures.answer parsed c.in_default.ensures.accepted c.in_ok-listing.ensures
+    compiled known c.args.text.now c.in_ok-tokens.tokens c.in_ok-tree.tree (program_of c.in_ok-program.program.parts) c.in_ok-listing.listing c.in_ok-tokens.ensures.answer parsed c.in_default.ensures.accepted c.in_ok-program.ensures.resolves c.in_ok-listing.ensures

@@ -1,4 +1,4 @@
-use Rattle.ti_rules.proofs.OneAnswer.{OneReading, one_program, one_refusal, never_both}
+use Rattle.ti_rules.proofs.OneAnswer.{OneReading, one_program, one_listing, one_refusal, never_both}
 use Rattle.ti_top.proofs.compiling.one_answer.Goals as goal
 
 pub returns : goal.returns
@@ -9,5 +9,6 @@ returns c =
       not_both = c.one_reading.ensures.never_both;
       one_tree = c.one_text.ensures.one_tree;
       one_misfit = c.one_text.ensures.only;
+      one_numbered = c.one_program.ensures.only;
     } in
-    record { one_program = one_program known; one_refusal = one_refusal known; never_both = never_both known }
+    record { one_program = one_program known; one_listing = one_listing known; one_refusal = one_refusal known; never_both = never_both known }

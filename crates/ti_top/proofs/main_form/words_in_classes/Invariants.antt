@@ -1,8 +1,0 @@
-use Rattle.std.proofs.Common.{◌≡◌, take, map}
-use Rattle.std.specs.List.{flat_map}
-use Rattle.ti_lang.specs.Trees.Views.{class_of}
-use Rattle.ti_top.specs.Judging.{earliest, words_of_class}
-use Rattle.ti_top.proofs.main_form.words_in_classes.Given as goal
-
-abbrev pub invariant-classes : goal.invariant-classes
-invariant-classes l = l.first ≡ earliest (flat_map words_of_class (map class_of (take l.class-index l.classes)))
