@@ -24,3 +24,6 @@ pub use compiling::one_answer;
 
 #[cfg(test)]
 mod tests;
+
+#[cfg(test)]
+mod name_tests;
