@@ -134,4 +134,4 @@ module _ (w : Way) (turns : ℕ) where
 
   -- the items of a method
   abbrev pub body : Parser (List Stm)
-  body = items (stmt 64) turns []
+  body = items (stmt w.levels) turns []
