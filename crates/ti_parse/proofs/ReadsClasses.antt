@@ -1,5 +1,5 @@
 -- Classes that are spelled are read, up to the first token whose load is above its limit.
-use Rattle.std.proofs.Common.{◌≡◌, ℕ, zero, suc, ◌+◌, ◌<◌, List, [], ◌∷◌, ◌++◌, length, Option, Some, None, Ok, refl, sym, ap, ◌∙◌, append_assoc, arith, length-append, true, false, Bool}
+use Rattle.std.proofs.Common.{◌≡◌, ℕ, zero, suc, ◌<◌, List, [], ◌∷◌, ◌++◌, length, Option, Some, None, Ok, refl, sym, ap, ◌∙◌, append_assoc, arith, length-append, true, false, Bool}
 use Rattle.ti_base.specs.declared.place.Place.{Place}
 use Rattle.ti_lang.specs.declared.token.Token.{Token}
 use Rattle.ti_lang.specs.declared.token.TokenKind.{TokenKind}
@@ -23,7 +23,7 @@ use Rattle.ti_parse_expr.specs.Full.{Limits, limited_to}
 use Rattle.ti_parse_expr.proofs.Law.{append_nil}
 use Rattle.ti_parse.specs.Way.{up_to}
 use Rattle.ti_parse.specs.Parts.{is_wide, wide, field, typed}
-use Rattle.ti_parse.specs.Statements.{ends_items, body}
+use Rattle.ti_parse.specs.Statements.{ends_items}
 use Rattle.ti_parse.specs.Classes as spec
 use Rattle.ti_parse.specs.Classes.{more_params, words, params, returned, method, method_named, field_or_method, member_from, modifiers, member, members, class_from, class, classes}
 use Rattle.ti_parse.proofs.Lengths.{free_loaded, items_loaded, members_loaded}

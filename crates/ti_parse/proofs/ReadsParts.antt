@@ -5,7 +5,6 @@ use Rattle.ti_lang.specs.declared.token.Token.{Token}
 use Rattle.ti_lang.specs.declared.token.TokenKind.{TokenKind}
 use Rattle.ti_lang.specs.declared.token.TokenKind.TheVariants as k
 use Rattle.ti_lang.specs.declared.tree.types.Base.{Base}
-use Rattle.ti_lang.specs.declared.tree.types.Base.TheVariants as b
 use Rattle.ti_lang.specs.declared.tree.types.Qualifier.{Qualifier}
 use Rattle.ti_lang.specs.declared.tree.types.QualifierWord.{QualifierWord}
 use Rattle.ti_lang.specs.Tokens.{same_kind}

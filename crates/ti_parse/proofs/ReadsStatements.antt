@@ -1,5 +1,5 @@
 -- Statements that are spelled are read, up to the first token whose load is above its limit.
-use Rattle.std.proofs.Common.{◌≡◌, ℕ, zero, suc, ◌+◌, ◌<◌, List, [], ◌∷◌, ◌++◌, length, Option, Ok, refl, sym, ap, ◌∙◌, append_assoc, arith, length-append, true, false, Bool, ◌&&◌, if◌then◌else◌, codes}
+use Rattle.std.proofs.Common.{◌≡◌, ℕ, zero, suc, ◌+◌, ◌<◌, List, [], ◌∷◌, ◌++◌, length, Option, Ok, refl, sym, ap, ◌∙◌, append_assoc, arith, length-append, true, false, Bool, ◌&&◌, codes}
 use Rattle.std.proofs.lemmas.Bool.{le-ltb, lt-ltb}
 use Rattle.ti_base.specs.declared.place.Place.{Place}
 use Rattle.ti_lang.specs.declared.token.Token.{Token}
