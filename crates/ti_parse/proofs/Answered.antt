@@ -1,5 +1,5 @@
 -- What reading a text answers is what the grammar says of the list.
-use Rattle.std.proofs.Common.{◌≡◌, ◌⊎◌, inl, inr, ℕ, suc, ◌+◌, ◌<◌, ◌≤◌, true, List, [], ◌∷◌, ◌++◌, length, Option, Some, None, Ok, Err, refl, sym, ap, ◌∙◌, subst, append_assoc, arith, length-append}
+use Rattle.std.proofs.Common.{◌≡◌, ℕ, suc, ◌+◌, ◌<◌, ◌≤◌, true, List, [], ◌∷◌, ◌++◌, length, Option, Some, None, Ok, Err, refl, sym, ap, ◌∙◌, subst, append_assoc, arith, length-append}
 use Rattle.ti_base.specs.declared.place.Place.{Place}
 use Rattle.ti_lang.specs.declared.token.Token.{Token}
 use Rattle.ti_lang.specs.declared.token.TokenKind.{TokenKind}
@@ -19,7 +19,7 @@ use Rattle.ti_parse_expr.proofs.Answered.{inside}
 use Rattle.ti_parse.specs.Way.{plain, careful}
 use Rattle.ti_parse.specs.Classes.{classes, ended, text}
 use Rattle.ti_parse.proofs.Ends.{classes_no_end}
-use Rattle.ti_parse.proofs.Limited.{StopsIn, stops_in, above_there, never_refused, StopsAt, stops_or_goes}
+use Rattle.ti_parse.proofs.Limited.{StopsIn, stops_in, above_there, never_refused}
 
 abbrev reading : ℕ → Parser TextTree
 reading n = classes plain n n []
@@ -223,25 +223,3 @@ module _ (says : (turns : ℕ) (l : List Token) → Said turns AllClasses (λ r.
     -- the grammar says of each list that it fits, or what is wrong with it
     pub has_refusal : (a : Option (Misfit × Place)) × IsGrammarRefusal list a
     has_refusal = refusal_by (text plain n list) plain_answers
-
-  -- ---- one tree
-
-  module _ (long : (l : List Token) (xs : List ClassTree) (s : AllClasses l xs) → length (classes_loads s) ≡ length l) where
-    abbrev tree_or : TextTree → Outcome TextTree → TextTree
-    tree_or d (Ok p) = p.0
-    tree_or d (Err h) = d
-
-    reads_or : (list : List Token) (tree : TextTree) (s : Spells list tree) (n : ℕ) (o : Outcome TextTree) → IsShallow list → reading n list ≡ o → StopsAt list o ⊎ (o ≡ Ok (tree, s.last ∷ [])) → reading n list ≡ Ok (tree, s.last ∷ [])
-    reads_or list tree s n o shallow is (inl stop) = absurd (shallow stop.front stop.heavy stop.rest stop.is (deep_by n stop.front stop.rest stop.heavy (ap (reading n) (sym stop.is) ∙ is ∙ stop.over)))
-    reads_or list tree s n o shallow is (inr all) = is ∙ all
-
-    reads_all : (list : List Token) (tree : TextTree) (s : Spells list tree) (n : ℕ) → IsShallow list → length list < n → reading n list ≡ Ok (tree, s.last ∷ [])
-    reads_all list tree s n shallow lt =
-        reads_or list tree s n (limited (classes_loads s.classes) list (Ok (tree, s.last ∷ []))) shallow (text_reads list tree s n lt)
-        (stops_or_goes (classes_loads s.classes) list (Ok (tree, s.last ∷ [])) (omega (arith, long s.front tree s.classes, ap length s.is, length-append s.front (s.last ∷ []))))
-
-    -- a list of which no token is too deep spells at most one tree
-    pub one_tree : (list : List Token) (a b : TextTree) → IsShallow list → Spells list a → Spells list b → b ≡ a
-    one_tree list a b shallow s q =
-        let n : ℕ = suc (length list) in
-        ap (tree_or a) (sym (reads_all list b q n shallow (omega arith)) ∙ reads_all list a s n shallow (omega arith))

@@ -9,23 +9,20 @@ use Rattle.ti_lang.specs.Spelling.Classes.{AllClasses}
 use Rattle.ti_lang.specs.Spelling.Loads.{classes_loads}
 use Rattle.ti_parse_expr.specs.Answers.{EndsAtEnd}
 use Rattle.ti_parse_expr.specs.Input.{At, Over, Spent, kind, place}
-use Rattle.ti_parse_expr.specs.Full.{limited}
+use Rattle.ti_parse_expr.specs.Full.{usual, limited}
 use Rattle.ti_parse_expr.proofs.Local.{Near}
 use Rattle.ti_parse_expr.proofs.Cut.{Cut}
 use Rattle.ti_parse_expr.proofs.FullLaws.{full_near, operand_near_full, behind_name_near, behind_bracket_near, full_cut, operand_cut_full, behind_name_cut, behind_bracket_cut}
 use Rattle.ti_parse.specs.Way.{plain, careful}
 use Rattle.ti_parse.specs.Classes.{classes, text}
 use Rattle.ti_parse.proofs.SoundClasses.{classes_say}
-use Rattle.ti_parse.proofs.ReadsClasses.{classes_long, classes_read}
+use Rattle.ti_parse.proofs.ReadsClasses.{classes_read}
 use Rattle.ti_parse.proofs.Near.{classes_near, text_cut}
 use Rattle.ti_parse.proofs.Answered as answered
 
 reads : (l : List Token) (xs : List ClassTree) (s : AllClasses l xs) (turns : ℕ) (r : List Token) → kind r ≡ k.End → length (l ++ r) < turns
     → classes plain turns turns [] (l ++ r) ≡ limited (classes_loads s) (l ++ r) (Ok (xs, r))
-reads l xs s turns r ends lt = classes_read s turns r ends lt
-
-long : (l : List Token) (xs : List ClassTree) (s : AllClasses l xs) → length (classes_loads s) ≡ length l
-long l xs s = classes_long s
+reads l xs s turns r ends lt = classes_read usual (omega arith) s turns r ends lt
 
 near : (t : Token) (w v : List Token) (turns more : ℕ) → turns ≤ more → Near t w v (classes plain turns turns []) (classes plain more more [])
 near t w v turns more le = classes_near t w v (full_near t w v) (operand_near_full t w v) (behind_name_near t w v) (behind_bracket_near t w v) turns more le
@@ -50,7 +47,3 @@ never_spent list closed is = answered.never_spent classes_say reads near cut (le
 -- each list that ends at its end has an answer
 pub decided : (list : List Token) → EndsAtEnd list → (a : Option (Misfit × Place)) × IsGrammarRefusal list a
 decided list closed = answered.has_refusal classes_say reads near cut (length list + 1) list closed (omega arith)
-
--- a list without a token that is too deep is at most one tree
-pub one_tree : (list : List Token) (a b : TextTree) → IsShallow list → Spells list a → Spells list b → b ≡ a
-one_tree list a b shallow s q = answered.one_tree classes_say reads near cut long list a b shallow s q

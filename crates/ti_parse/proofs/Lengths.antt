@@ -4,14 +4,14 @@ use Rattle.std.proofs.lemmas.List.{length-map}
 use Rattle.ti_lang.specs.declared.token.Token.{Token}
 use Rattle.ti_lang.specs.Trees.Expressions.{Exp, RangeTree}
 use Rattle.ti_lang.specs.Trees.Statements.{DimsTree, InitTree, PrintTree, Stm, MaybeStm}
-use Rattle.ti_lang.specs.Trees.Classes.{ParamsTree, ReturnTree, MemberTree, ClassTree}
+use Rattle.ti_lang.specs.Trees.Classes.{ParamsTree, ReturnTree, MemberTree}
 use Rattle.ti_lang.specs.Spelling.Expressions.{Ranges, Range}
 use Rattle.ti_lang.specs.Spelling.Expressions as e
 use Rattle.ti_lang.specs.Spelling.Statements.{Region, Dims, Initial, Declared, Changed, Printed, Condition, First, Test, Update, Stated, Items}
 use Rattle.ti_lang.specs.Spelling.Statements as s
-use Rattle.ti_lang.specs.Spelling.Classes.{Returned, Method, Member, Members, Class, AllClasses}
+use Rattle.ti_lang.specs.Spelling.Classes.{Returned, Method, Member, Members}
 use Rattle.ti_lang.specs.Spelling.Classes as c
-use Rattle.ti_lang.specs.Spelling.Loads.{Load, Free, free, weights, region_loads, range_loads, ranges_loads, dims_loads, initial_loads, declared_loads, changed_loads, printed_loads, condition_loads, first_loads, test_loads, update_loads, stated_loads, items_loads, returned_loads, method_loads, member_loads, members_loads, class_loads, classes_loads}
+use Rattle.ti_lang.specs.Spelling.Loads.{Load, Free, free, weights, region_loads, range_loads, ranges_loads, dims_loads, initial_loads, declared_loads, changed_loads, printed_loads, condition_loads, first_loads, test_loads, update_loads, stated_loads, items_loads, returned_loads, method_loads, member_loads, members_loads}
 use Rattle.ti_parse_expr.proofs.FullLaws.{weights_long}
 
 -- as many loads as tokens
@@ -135,10 +135,3 @@ member_loaded (c.method {l = l} {m = m} t e ms ty h rest) = both_loaded (free_lo
 pub members_loaded : {l : List Token} {xs : List MemberTree} (q : Members l xs) → Loaded (members_loads q) l
 members_loaded c.none = none_loaded
 members_loaded (c.more x xs) = both_loaded (member_loaded x) (members_loaded xs)
-
-pub class_loaded : {l : List Token} {x : ClassTree} (q : Class l x) → Loaded (class_loads q) l
-class_loaded (c.class {l = l} c t o e ms h h2 h3 xs h4) = both_loaded (free_loaded l) (one_loaded (one_loaded (one_loaded (both_loaded (members_loaded xs) last_loaded))))
-
-pub classes_loaded : {l : List Token} {xs : List ClassTree} (q : AllClasses l xs) → Loaded (classes_loads q) l
-classes_loaded c.none = none_loaded
-classes_loaded (c.more x xs) = both_loaded (class_loaded x) (classes_loaded xs)

@@ -6,6 +6,7 @@ pub mod Lengths
 pub mod Limited
 pub mod Limits
 pub mod Near
+pub mod OneTree
 pub mod ReadsClasses
 pub mod ReadsParts
 pub mod ReadsStarts

@@ -1,5 +1,5 @@
 -- Reading within the limits stops at the first token whose load is above its limit.
-use Rattle.std.proofs.Common.{◌≡◌, ◌⊎◌, inl, inr, ℕ, zero, suc, ◌<◌, ◌≤◌, Bool, true, false, if◌then◌else◌, List, [], ◌∷◌, ◌++◌, length, Some, Ok, Err, refl, ap, arith, length-append, slice_get}
+use Rattle.std.proofs.Common.{◌≡◌, ℕ, zero, suc, ◌<◌, ◌≤◌, Bool, true, false, if◌then◌else◌, List, [], ◌∷◌, ◌++◌, length, Some, Ok, Err, refl, ap, arith, length-append, slice_get}
 use borrow.Author.Tests.{ltb-true, ltb-false}
 use Rattle.ti_lang.specs.declared.token.Token.{Token}
 use Rattle.ti_lang.specs.Spelling.Loads.{Load, Free, Level, Weight}
@@ -84,23 +84,3 @@ never_if loads l r p more false h = more h
 pub never_refused : {A : Type 0} (loads : List Load) (l r : List Token) (p : A × List Token) → limited loads l (Ok p) ≡ Err (At r) → ⊥
 never_refused [] l r p h = cc
 never_refused (x ∷ loads) l r p h = never_if loads l r p (never_refused loads (next l) r p) (is_above x) h
-
--- ---- either a load is above, or none
-
-pub record StopsAt {A : Type 0} (l : List Token) (out : Outcome A) : Type 0 where
-  pub front : List Token
-  pub heavy : Token
-  pub rest : List Token
-  pub is : l ≡ front ++ heavy ∷ rest
-  pub over : out ≡ Err (Over (heavy ∷ rest))
-
-either_if : {A : Type 0} (loads : List Load) (t : Token) (l : List Token) (out : Outcome A) → StopsAt l (limited loads l out) ⊎ (limited loads l out ≡ out) → (b : Bool)
-    → StopsAt (t ∷ l) (if b then Err (Over (t ∷ l)) else limited loads l out) ⊎ ((if b then Err (Over (t ∷ l)) else limited loads l out) ≡ out)
-either_if loads t l out more true = inl (record { front = []; heavy = t; rest = l; is = refl; over = refl })
-either_if loads t l out (inl s) false = inl (record { front = t ∷ s.front; heavy = s.heavy; rest = s.rest; is = ap (λ z. t ∷ z) s.is; over = s.over })
-either_if loads t l out (inr is) false = inr is
-
-pub stops_or_goes : {A : Type 0} (loads : List Load) (l : List Token) (out : Outcome A) → length loads ≤ length l → StopsAt l (limited loads l out) ⊎ (limited loads l out ≡ out)
-stops_or_goes [] l out le = inr refl
-stops_or_goes (x ∷ loads) [] out le = absurd (omega (arith, le))
-stops_or_goes (x ∷ loads) (t ∷ l) out le = either_if loads t l out (stops_or_goes loads l out (omega (arith, le))) (is_above x)

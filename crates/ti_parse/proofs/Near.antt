@@ -30,7 +30,7 @@ module _ (t : Token) (w v : List Token) (full_near : (form : Form) → Near t w 
     (bracket_near : (bracket at : Place) (name : List ℕ) → Near t w v (full_behind_bracket bracket at name) (full_behind_bracket bracket at name)) where
   pub classes_near : (turns more : ℕ) → turns ≤ more → Near t w v (classes plain turns turns []) (classes plain more more [])
   classes_near turns more le =
-      classes_related (λ A p q. Near t w v {A = A} p q) (λ n m. n ≤ m) plain (λ A x. near_pure t w v x) (λ A. near_refuse t w v) (λ A. near_over t w v) (near_take t w v) full_near operand_near name_near bracket_near
+      classes_related (λ A p q. Near t w v {A = A} p q) (λ n m. n ≤ m) plain refl (λ A x. near_pure t w v x) (λ A. near_refuse t w v) (λ A. near_over t w v) (near_take t w v) full_near operand_near name_near bracket_near
       (λ A B p q f g begin next. near_then t w v begin next) (λ A f g each. near_by t w v kind {f = f} {g = g} (kind_alike t w v) each) (λ A f g each. near_by t w v place {f = f} {g = g} (place_alike t w v) each)
       (λ A q m h is. near_spent t w v) no_fewer one_less turns more le
 
@@ -54,7 +54,7 @@ module _ (full_cut : (form : Form) → Cut (full form) (full_within form)) (oper
     (bracket_cut : (bracket at : Place) (name : List ℕ) → Cut (full_behind_bracket bracket at name) (behind_bracket_within bracket at name)) where
   classes_cut : (turns : ℕ) → Cut (classes plain turns turns []) (classes careful turns turns [])
   classes_cut turns =
-      classes_related (λ A p q. Cut {A = A} p q) (λ n m. n ≡ m) careful (λ A x. cut_pure x) (λ A. cut_refuse) (λ A. cut_over) cut_take full_cut operand_cut name_cut bracket_cut (λ A B p q f g begin next. cut_then begin next)
+      classes_related (λ A p q. Cut {A = A} p q) (λ n m. n ≡ m) careful refl (λ A x. cut_pure x) (λ A. cut_refuse) (λ A. cut_over) cut_take full_cut operand_cut name_cut bracket_cut (λ A B p q f g begin next. cut_then begin next)
       (λ A f g each. cut_by kind {f = f} {g = g} each) (λ A f g each. cut_by place {f = f} {g = g} each) (λ A q m h is. cut_none q m h is) none_same one_same turns turns refl
 
   pub text_cut : (turns : ℕ) → Cut (text plain turns) (text careful turns)

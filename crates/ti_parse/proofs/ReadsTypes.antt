@@ -14,11 +14,12 @@ use Rattle.ti_lang.specs.Spelling.Operators.{qualifier_of}
 use Rattle.ti_lang.specs.Spelling.Types.{Based, Qualified, Gridded, FieldType, WideType, Typed}
 use Rattle.ti_lang.specs.Spelling.Types as types
 use Rattle.ti_parse_expr.specs.Input.{and_then, kind, take_token}
+use Rattle.ti_parse_expr.specs.Full.{Limits}
 use Rattle.ti_parse_expr.specs.Types.{arity, base, qualifiers, grid, grids, field_type}
 use Rattle.ti_parse_expr.specs.Expr.{is_dim}
 use Rattle.ti_parse_expr.proofs.Follows.{then_ok, test_reads}
 use Rattle.ti_parse_expr.proofs.CompleteTypes.{arity_reads, base_reads, EndsType, field_type_reads, grid_reads, grids_read, qualifiers_read, gridded_front}
-use Rattle.ti_parse.specs.Way.{plain}
+use Rattle.ti_parse.specs.Way.{up_to}
 use Rattle.ti_parse.specs.Parts.{Declares, is_wide, wide, wide_by, field, typed, begun, begun_by, begun_bracket}
 
 -- ---- what types begin with
@@ -50,29 +51,29 @@ base_not_wide _ h = refl
 pub name_ends : {r : List Token} {name : List ℕ} → kind r ≡ k.Name name → EndsType r
 name_ends h = record { qualifier = ap qualifier_of h; bracket = ap (λ q. same_kind q k.LeftBracket) h }
 
-module _ (turns : ℕ) where
-  pub field_reads : {l : List Token} {ty : TypeTree} → FieldType l ty → (r : List Token) → EndsType r → length l < turns → field plain turns (l ++ r) ≡ Ok (ty, r)
+pub wide_is_wide : {l : List Token} {ty : TypeTree} → WideType l ty → (r : List Token) → is_wide (kind (l ++ r)) ≡ true
+wide_is_wide (types.domain t h s q) r = ap is_wide h
+wide_is_wide (types.shared_region t h q) r = ap is_wide h
+
+module _ (limits : Limits) (turns : ℕ) where
+  pub field_reads : {l : List Token} {ty : TypeTree} → FieldType l ty → (r : List Token) → EndsType r → length l < turns → field (up_to limits) turns (l ++ r) ≡ Ok (ty, r)
   unfolding field
   field_reads (types.field_type {a = a} {l = l} {m = m} {b = begin} s q g few) r ends lt =
       ap (λ z. and_then (base take_token z) (field_type take_token turns)) (append_assoc a (l ++ m) r)
       ∙ then_ok (field_type take_token turns) (base_reads s ((l ++ m) ++ r))
       ∙ field_type_reads q g few turns begin r ends (omega (arith, length-append a (l ++ m)))
 
-  pub wide_reads : {l : List Token} {ty : TypeTree} → WideType l ty → (r : List Token) → qualifier_of (kind r) ≡ None → length l < turns → wide plain turns (l ++ r) ≡ Ok (ty, r)
+  pub wide_reads : {l : List Token} {ty : TypeTree} → WideType l ty → (r : List Token) → qualifier_of (kind r) ≡ None → length l < turns → wide (up_to limits) turns (l ++ r) ≡ Ok (ty, r)
   unfolding wide
   wide_reads (types.domain {l = l} {m = m} t h s q) r free lt =
-      ap (λ z. wide_by plain turns z (t ∷ ((l ++ m) ++ r))) h
+      ap (λ z. wide_by (up_to limits) turns z (t ∷ ((l ++ m) ++ r))) h
       ∙ ap (λ z. and_then (arity take_token z) (λ n i. and_then (qualifiers take_token turns [] i) (λ qs i. Ok (record { base = b.Domain t.place n; qualifiers = qs; grids = [] }, i)))) (append_assoc l m r)
       ∙ then_ok _ (arity_reads s (m ++ r))
       ∙ then_ok (λ qs i. Ok (record { base = b.Domain t.place _; qualifiers = qs; grids = [] }, i)) (qualifiers_read q turns [] r free (omega (arith, length-append l m)))
   wide_reads (types.shared_region {l = l} t h q) r free lt =
-      ap (λ z. wide_by plain turns z (t ∷ (l ++ r))) h ∙ then_ok (λ qs i. Ok (record { base = b.SharedRegion t.place; qualifiers = qs; grids = [] }, i)) (qualifiers_read q turns [] r free (omega arith))
+      ap (λ z. wide_by (up_to limits) turns z (t ∷ (l ++ r))) h ∙ then_ok (λ qs i. Ok (record { base = b.SharedRegion t.place; qualifiers = qs; grids = [] }, i)) (qualifiers_read q turns [] r free (omega arith))
 
-  pub wide_is_wide : {l : List Token} {ty : TypeTree} → WideType l ty → (r : List Token) → is_wide (kind (l ++ r)) ≡ true
-  wide_is_wide (types.domain t h s q) r = ap is_wide h
-  wide_is_wide (types.shared_region t h q) r = ap is_wide h
-
-  pub typed_reads : {l : List Token} {ty : TypeTree} → Typed l ty → (r : List Token) → EndsType r → length l < turns → typed plain turns (l ++ r) ≡ Ok (ty, r)
+  pub typed_reads : {l : List Token} {ty : TypeTree} → Typed l ty → (r : List Token) → EndsType r → length l < turns → typed (up_to limits) turns (l ++ r) ≡ Ok (ty, r)
   unfolding typed
   typed_reads (types.field {l = l} s) r ends lt = test_reads (is_wide (kind (l ++ r))) false _ _ (l ++ r) (base_not_wide (kind (l ++ r)) (front_field s r)) ∙ field_reads s r ends lt
   typed_reads (types.wide {l = l} s) r ends lt = test_reads (is_wide (kind (l ++ r))) true _ _ (l ++ r) (wide_is_wide s r) ∙ wide_reads s r ends.qualifier lt
@@ -80,14 +81,14 @@ module _ (turns : ℕ) where
   -- ---- a type behind the name that it begins with
 
   begun_qualified : (at : Place) (name : List ℕ) (i : List Token) (q : TokenKind) (word : QualifierWord) → qualifier_of q ≡ Some word
-      → begun_by plain turns at name q i ≡ and_then (field_type take_token turns (b.Named at name) i) (λ ty i. Ok (Declares ty, i))
+      → begun_by (up_to limits) turns at name q i ≡ and_then (field_type take_token turns (b.Named at name) i) (λ ty i. Ok (Declares ty, i))
   begun_qualified at name i k.KeywordSingle word h = refl
   begun_qualified at name i k.KeywordLocal word h = refl
   begun_qualified at name i _ word h = cc
 
   begun_grids : {l m : List Token} {qs : List Qualifier} {gs : List GridTree} → Qualified l qs → Gridded m gs → length gs ≤ 2 → (at : Place) (name : List ℕ) (o t c : Token) (n : ℕ) (r : List Token) → t.kind ≡ k.Dim n → c.kind ≡ k.RightBracket → EndsType r
       → length (l ++ m) < turns
-      → begun_bracket plain turns at name o.place (t ∷ c ∷ ((l ++ m) ++ r)) ≡ Ok (Declares (record { base = b.Named at name; qualifiers = []; grids = record { dim = n; qualifiers = qs } ∷ gs }), r)
+      → begun_bracket (up_to limits) turns at name o.place (t ∷ c ∷ ((l ++ m) ++ r)) ≡ Ok (Declares (record { base = b.Named at name; qualifiers = []; grids = record { dim = n; qualifiers = qs } ∷ gs }), r)
   unfolding begun_bracket
   begun_grids {l = l} {m = m} {qs = qs} {gs = gs} s g few at name o t c n r ht hc ends lt =
       let one : GridTree = record { dim = n; qualifiers = qs } in
@@ -98,10 +99,10 @@ module _ (turns : ℕ) where
       ∙ then_ok (λ gs i. Ok (Declares (record { base = b.Named at name; qualifiers = []; grids = gs }), i)) (grids_read g turns 2 (one ∷ []) r ends few (omega arith))
 
   pub begun_declares : {l m : List Token} {qs : List Qualifier} {gs : List GridTree} {next : List ℕ} → Qualified l qs → Gridded m gs → length gs ≤ 3 → (at : Place) (name : List ℕ) (r : List Token) → kind r ≡ k.Name next → length (l ++ m) < turns
-      → begun plain turns at name ((l ++ m) ++ r) ≡ Ok (Declares (record { base = b.Named at name; qualifiers = qs; grids = gs }), r)
+      → begun (up_to limits) turns at name ((l ++ m) ++ r) ≡ Ok (Declares (record { base = b.Named at name; qualifiers = qs; grids = gs }), r)
   unfolding begun
-  begun_declares types.none types.none few at name r is lt = ap (λ q. begun_by plain turns at name q r) is
+  begun_declares types.none types.none few at name r is lt = ap (λ q. begun_by (up_to limits) turns at name q r) is
   begun_declares types.none (types.more {l = l} {m = m} o t c {n = n} ho ht hc s g) few at name r is lt =
-      ap (λ q. begun_by plain turns at name q (o ∷ t ∷ c ∷ ((l ++ m) ++ r))) ho ∙ begun_grids s g (omega (arith, few)) at name o t c n r ht hc (name_ends is) (omega arith)
+      ap (λ q. begun_by (up_to limits) turns at name q (o ∷ t ∷ c ∷ ((l ++ m) ++ r))) ho ∙ begun_grids s g (omega (arith, few)) at name o t c n r ht hc (name_ends is) (omega arith)
   begun_declares {m = m} (types.more {l = l} t {word = word} h s) g few at name r is lt =
       begun_qualified at name (t ∷ ((l ++ m) ++ r)) t.kind word h ∙ then_ok (λ ty i. Ok (Declares ty, i)) (field_type_reads (types.more t h s) g few turns (b.Named at name) r (name_ends is) lt)

@@ -1,5 +1,5 @@
 -- A relation between parsers that the steps keep holds between reading in the plain way and in another one.
-use Rattle.std.proofs.Common.{◌≡◌, ℕ, zero, suc, List, [], ◌∷◌, ◌++◌, Option, Some, None, Ok, Err, refl, true, false, Bool, ◌&&◌, if◌then◌else◌, codes}
+use Rattle.std.proofs.Common.{◌≡◌, ℕ, zero, suc, List, [], ◌∷◌, ◌++◌, Option, Some, None, Ok, Err, refl, sym, subst, true, false, Bool, ◌&&◌, if◌then◌else◌, codes}
 use Rattle.ti_base.specs.declared.place.Place.{Place}
 use Rattle.ti_lang.specs.declared.token.TokenKind.{TokenKind}
 use Rattle.ti_lang.specs.declared.token.TokenKind.TheVariants as k
@@ -163,7 +163,7 @@ abbrev class_at : Way → ℕ → List Modifier → Place → Parser ClassTree
 class_at w turns ms word = (do expect_by w.take k.KeywordClass; at ← here; class_named_at w turns ms word at)
 
 -- Q is the relation, T relates the turns that are left, and v is the second way
-module _ (Q : (A : Type 0) → Parser A → Parser A → Type 0) (T : ℕ → ℕ → Type 0) (v : Way) (q_pure : (A : Type 0) (x : A) → Q A (λ i. Ok (x, i)) (λ i. Ok (x, i)))
+module _ (Q : (A : Type 0) → Parser A → Parser A → Type 0) (T : ℕ → ℕ → Type 0) (v : Way) (same_levels : v.levels ≡ 64) (q_pure : (A : Type 0) (x : A) → Q A (λ i. Ok (x, i)) (λ i. Ok (x, i)))
     (q_refuse : (A : Type 0) → Q A (λ i. Err (At i)) (λ i. Err (At i))) (q_over : (A : Type 0) → Q A (λ i. Err (Over i)) (λ i. Err (Over i))) (q_take : Q (Unit {0}) take_token v.take)
     (q_full : (form : Form) → Q Exp (full form) (v.full form)) (q_operand : Q Operand full_operand v.operand)
     (q_behind_name : (at : Place) (name : List ℕ) → Q Operand (full_behind_name at name) (v.behind_name at name))
@@ -556,7 +556,7 @@ module _ (Q : (A : Type 0) → Parser A → Parser A → Type 0) (T : ℕ → �
     r_body_of level = r_items (stmt plain turns level) (stmt v more level) (r_stmt level) turns more most []
 
     r_body : R (body plain turns) (body v more)
-    r_body = r_body_of 64
+    r_body = subst (λ n. R (body plain turns) (items v more (stmt v more n) more [])) (sym same_levels) (r_body_of 64)
 
     -- ---- methods
 

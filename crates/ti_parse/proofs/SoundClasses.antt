@@ -19,7 +19,7 @@ use Rattle.ti_lang.specs.Spelling.Statements.{Test}
 use Rattle.ti_lang.specs.Spelling.Statements as statements
 use Rattle.ti_lang.specs.Spelling.Classes.{ParamList, Parameters, Returned, Method, Modified, Member, Members, ClassModified, Class, AllClasses}
 use Rattle.ti_lang.specs.Spelling.Classes as grammar
-use Rattle.ti_parse_expr.specs.Input.{Outcome, Parser, ◌>>=◌, ◌>>◌, pure, here, and_then, kind, sees, expect_by, name_with, take_token}
+use Rattle.ti_parse_expr.specs.Input.{Outcome, Parser, ◌>>=◌, ◌>>◌, pure, here, and_then, sees, expect_by, name_with, take_token}
 use Rattle.ti_parse_expr.proofs.TokenKinds.{paren_is, close_is, bracket_is, shut_is, comma_is}
 use Rattle.ti_parse_expr.proofs.Law.{BeginsIn, Said, token, append_nil}
 use Rattle.ti_parse.specs.Way.{plain}

@@ -25,7 +25,7 @@ use Rattle.ti_parse_expr.specs.declared.parse.Form.TheVariants as form
 use Rattle.ti_parse_expr.specs.Input.{At, Over, Spent, Outcome, Parser, ◌>>=◌, ◌>>◌, pure, and_then, kind, sees, expect_by, take_token}
 use Rattle.ti_parse_expr.specs.Types.{arity, base, qualifiers, grid, grids, field_type}
 use Rattle.ti_parse_expr.specs.Expr.{Operand, is_dim}
-use Rattle.ti_parse_expr.specs.Full.{full, full_operand, full_behind_name, full_behind_bracket}
+use Rattle.ti_parse_expr.specs.Full.{usual, full, full_operand, full_behind_name, full_behind_bracket}
 use Rattle.ti_parse_expr.proofs.TokenKinds.{paren_is, close_is, bracket_is, shut_is, comma_is, dot_is, colon_is}
 use Rattle.ti_parse_expr.proofs.Law.{BeginsIn, Said, Any, as_said, token, ended}
 use Rattle.ti_parse_expr.proofs.SoundTypes.{arity_says, base_says, some_base, all_qualifiers_say, any_qualifiers, field_type_says, grid_says, grids_say, gridded_append, GridRest, MoreGrids}
@@ -373,11 +373,11 @@ module _ (turns : ℕ) where
     where
       by : (is_grid : Bool) → Tells turns BegunIs Free (t ∷ o ∷ l) ((if◌then◌else◌ {A = Parser Begun} is_grid (λ i. and_then (grid take_token turns i) (λ g i. and_then (grids take_token turns 2 (g ∷ []) i) (λ gs j. Ok (Declares (grid_of_name t name gs), j)))) (λ i. and_then (full_behind_bracket o.place t.place name i) (λ x j. Ok (Starts x, j)))) l)
       by true = after_tells (after_tells (begun_grid t o name ht ho l))
-      by false = start_behind t name ht (o ∷ l) (full_behind_bracket o.place t.place name l) (behind_bracket_is t o l name ht ho)
+      by false = start_behind t name ht (o ∷ l) (full_behind_bracket o.place t.place name l) (behind_bracket_is usual (omega arith) t o l name ht ho)
 
   begun_if_tells : (t : Token) (name : List ℕ) → t.kind ≡ k.Name name → (l : List Token) (q : Option QualifierWord) → Tells turns BegunIs Free (t ∷ l) (spec.begun_if plain turns t.place name q l)
   begun_if_tells t name ht l (Some word) = after_tells (map_tells Declares (λ f ty s. types.field s) (field_behind turns (t ∷ []) (b.Named t.place name) (types.named t ht) l))
-  begun_if_tells t name ht l None = start_behind t name ht l (full_behind_name t.place name l) (behind_name_is t l name ht)
+  begun_if_tells t name ht l None = start_behind t name ht l (full_behind_name t.place name l) (behind_name_is usual t l name ht)
 
   begun_by_tells : (t : Token) (name : List ℕ) → t.kind ≡ k.Name name → (u : Token) (us : List Token) (q : TokenKind) → u.kind ≡ q → Tells turns BegunIs Free (t ∷ u ∷ us) (spec.begun_by plain turns t.place name q (u ∷ us))
   begun_by_tells t name ht u us (k.Name next) h = after_tells (done_tells (types.field (base_alone (types.named t ht))))

@@ -9,7 +9,7 @@ use Rattle.ti_lang.specs.Trees.Types.{TypeTree}
 use Rattle.ti_lang.specs.Trees.Classes.{ParamTree, ParamsTree, ReturnTree, ResultTree, MemberTree, ClassTree, TextTree}
 use Rattle.ti_lang.specs.Trees.Classes as c
 use Rattle.ti_lang.specs.Spelling.Operators.{modifier_of, class_modifier_of}
-use Rattle.ti_parse_expr.specs.Input.{Parser, At, Spent, ◌>>=◌, ◌>>◌, ◌<$>◌, pure, refuse, peek, here, kind, sees, expect_by, name_with}
+use Rattle.ti_parse_expr.specs.Input.{Parser, At, Spent, ◌>>=◌, ◌>>◌, ◌<$>◌, pure, peek, here, kind, sees, expect_by, name_with}
 use Rattle.ti_parse.specs.Way.{Way}
 use Rattle.ti_parse.specs.Parts.{is_wide, wide, field, typed, optional}
 use Rattle.ti_parse.specs.Statements.{body}

@@ -14,7 +14,7 @@ use Rattle.ti_lang.specs.Trees.Expressions as e
 use Rattle.ti_lang.specs.Trees.Statements.{DimsTree, InitTree, PrintTree, Stm, MaybeStm}
 use Rattle.ti_lang.specs.Trees.Statements as s
 use Rattle.ti_lang.specs.Spelling.Operators.{update_of, step_of, qualifier_of}
-use Rattle.ti_lang.specs.Spelling.Expressions.{Ending, Target, Call, Other}
+use Rattle.ti_lang.specs.Spelling.Expressions.{Ending, Target, Call}
 use Rattle.ti_lang.specs.Spelling.Statements.{starts}
 use Rattle.ti_parse_expr.specs.declared.parse.Form.TheVariants as form
 use Rattle.ti_parse_expr.specs.Input.{Parser, ◌>>=◌, ◌>>◌, ◌<$>◌, pure, refuse, peek, here, kind, sees, expect_by, expect_word_by, name_with}

@@ -1,5 +1,5 @@
 -- What clauses see of the values that are read.
-use Rattle.std.specs.Prelude.{◌≡◌, ℕ, List, map, Option, Some, None, Result, Ok, Err}
+use Rattle.std.specs.Prelude.{◌≡◌, List, map, Option, Some, None, Result, Ok, Err}
 use Rattle.std.specs.declared.boxed.Box.{Box}
 use Rattle.std.specs.declared.vec.Vec.{Vec}
 use Rattle.std.specs.declared.alloc.Global.{Global}
@@ -13,7 +13,7 @@ use Rattle.ti_lang.specs.declared.tree.classes.Param.{Param}
 use Rattle.ti_lang.specs.declared.tree.classes.Member.{Member}
 use Rattle.ti_lang.specs.declared.tree.classes.Class.{Class}
 use Rattle.ti_lang.specs.Trees.Statements.{Stm, MaybeStm, NoStm, SomeStm}
-use Rattle.ti_lang.specs.Trees.Classes.{ParamTree, MemberTree, ClassTree, TextTree}
+use Rattle.ti_lang.specs.Trees.Classes.{ParamTree, MemberTree, TextTree}
 use Rattle.ti_lang.specs.Trees.Views.{stm_of, type_of, param_of, member_of, class_of}
 use Rattle.ti_lang.specs.Spelling.Operators.{modifier_of, class_modifier_of}
 use Rattle.ti_parse_expr.specs.declared.stop.Stop.{Stop}

@@ -7,7 +7,7 @@ use Rattle.ti_lang.specs.Trees.Statements.{Stm}
 use Rattle.ti_lang.specs.Trees.Statements as s
 use Rattle.ti_lang.specs.Spelling.Statements.{starts}
 use Rattle.ti_parse_expr.specs.declared.parse.Form.TheVariants as form
-use Rattle.ti_parse_expr.specs.Input.{Parser, Over, Spent, ◌>>=◌, ◌>>◌, ◌<$>◌, pure, refuse, peek, here, kind, sees, expect_by, expect_word_by, name_with}
+use Rattle.ti_parse_expr.specs.Input.{Parser, Over, Spent, ◌>>=◌, ◌>>◌, pure, refuse, peek, here, kind, sees, expect_by, expect_word_by, name_with}
 use Rattle.ti_parse.specs.Way.{Way}
 use Rattle.ti_parse.specs.Parts.{Begun, Declares, Starts, begins_declaration, typed, declared, simple, begun, print, barrier, condition, first, optional, update}
 
@@ -134,4 +134,4 @@ module _ (w : Way) (turns : ℕ) where
 
   -- the items of a method
   abbrev pub body : Parser (List Stm)
-  body = items (stmt 64) turns []
+  body = items (stmt w.levels) turns []

@@ -5,7 +5,7 @@ ghost use Rattle.ti_base.specs.declared.place.Place.{Place as PlaceSeen};
 ghost use Rattle.ti_lang.specs.declared.token.Token.{Token as TokenSeen};
 ghost use Rattle.ti_lang.specs.Trees.Classes.{TextTree};
 ghost use Rattle.ti_lang.specs.Trees.Views.{tree_of};
-ghost use Rattle.ti_lang.specs.Spelling.{Spells, IsShallow, Misfit, IsGrammarRefusal};
+ghost use Rattle.ti_lang.specs.Spelling.{Spells, Misfit, IsGrammarRefusal};
 ghost use Rattle.ti_parse.specs.Answer.{Parsed};
 ghost use Rattle.ti_parse.specs.Classes as spec;
 ghost use Rattle.ti_parse.specs.Way.{careful};
@@ -57,10 +57,10 @@ pub fn parse(alloc: Global, toks: &[Token]) -> Result<Tree, ParseErr>
     }
 }
 
-/// That a list of tokens is at most one tree where none of them is too deep, and that each list that ends with the end
-/// token has one answer on what is wrong with it.
+/// That a list of tokens is at most one tree, and that each list that ends with the end token has one answer on what is
+/// wrong with it.
 pub fn one_text()
-    ensures one_tree { (list : List TokenSeen) (a b : TextTree) → IsShallow list → Spells list a → Spells list b → a ≡ b }
+    ensures one_tree { (list : List TokenSeen) (a b : TextTree) → Spells list a → Spells list b → a ≡ b }
     ensures some { (list : List TokenSeen) → EndsAtEnd list → (a : Option (Misfit × PlaceSeen)) × IsGrammarRefusal list a }
     ensures only { (list : List TokenSeen) (a b : Option (Misfit × PlaceSeen)) → IsGrammarRefusal list a → IsGrammarRefusal list b → a ≡ b }
 {}

@@ -1,5 +1,5 @@
 -- The laws of reading full expressions.
-use Rattle.std.proofs.Common.{◌≡◌, ℕ, suc, ◌+◌, List, [], ◌∷◌, ◌++◌, length, Ok, refl, ap, ◌∙◌, arith, if◌then◌else◌}
+use Rattle.std.proofs.Common.{◌≡◌, ℕ, suc, ◌+◌, ◌<◌, List, [], ◌∷◌, ◌++◌, length, Ok, refl, ap, ◌∙◌, arith, if◌then◌else◌}
 use Rattle.ti_base.specs.declared.place.Place.{Place}
 use Rattle.ti_lang.specs.declared.token.Token.{Token}
 use Rattle.ti_lang.specs.declared.token.TokenKind.TheVariants as k
@@ -15,7 +15,7 @@ use Rattle.ti_parse_expr.specs.Answers.{Phrase}
 use Rattle.ti_parse_expr.specs.Input.{Parser, take_token, take_within}
 use Rattle.ti_parse_expr.specs.Expr as spec
 use Rattle.ti_parse_expr.specs.Expr.{Operand, phrase, operand, expr, postfix, behind_name, behind_bracket}
-use Rattle.ti_parse_expr.specs.Full.{limited, full, full_operand, full_behind_name, full_behind_bracket, full_within, operand_within, behind_name_within, behind_bracket_within}
+use Rattle.ti_parse_expr.specs.Full.{Limits, limited_to, full_to, operand_to, behind_name_to, behind_bracket_to, full, full_operand, full_behind_name, full_behind_bracket, full_within, operand_within, behind_name_within, behind_bracket_within}
 use Rattle.ti_parse_expr.proofs.Law.{Said, Any, then_said, as_said, ended}
 use Rattle.ti_parse_expr.proofs.Phrases.{Post}
 use Rattle.ti_parse_expr.proofs.Sound as sound
@@ -27,7 +27,7 @@ use Rattle.ti_parse_expr.proofs.Cut.{Cut, readers_cut}
 use Rattle.ti_parse_expr.proofs.Enough.{readers_enough}
 use Rattle.ti_parse_expr.proofs.Ends.{phrase_ends, postfixed_ends}
 use Rattle.ti_parse_expr.proofs.Forms.{level_of, phrase_says, phrase_reads, postfix_reads, phrase_near, phrase_enough, phrase_cut}
-use Rattle.ti_parse_expr.proofs.Within.{Reader, Laws, laws, held, held_reads, held_behind, suffix_behind}
+use Rattle.ti_parse_expr.proofs.Within.{Reader, Laws, laws, held_to, held_reads, held_behind, suffix_behind}
 pub use Rattle.ti_parse_expr.proofs.Limits.{weights_long, limited_fits, limited_then}
 
 -- ---- the four readers
@@ -119,15 +119,15 @@ operand_says {n = n} l = operand_laws.says n l
 
 -- ---- completeness
 
-pub full_reads : (form : Form) (l r : List Token) (x : Exp) → Phrase form l x → Stops (level_of form) l r → full form (l ++ r) ≡ limited (weights l) (l ++ r) (Ok (x, r))
-full_reads form l r x s stops =
+pub full_reads : (limits : Limits) (form : Form) (l r : List Token) (x : Exp) → Phrase form l x → Stops (level_of form) l r → full_to limits form (l ++ r) ≡ limited_to limits (weights l) (l ++ r) (Ok (x, r))
+full_reads limits form l r x s stops =
     let n = suc (length (l ++ r)) in
-    held_reads 0 l r x (phrase take_token n form (l ++ r)) (phrase_reads form n l r x s stops (omega arith))
+    held_reads limits 0 l r x (phrase take_token n form (l ++ r)) (phrase_reads form n l r x s stops (omega arith))
 
-pub operand_reads : (ending : Ending) (l r : List Token) (x : Exp) → Postfixed ending l x → Stops 11 l r → full_operand (l ++ r) ≡ limited (weights l) (l ++ r) (Ok ((x, ending), r))
-operand_reads ending l r x s stops =
+pub operand_reads : (limits : Limits) (ending : Ending) (l r : List Token) (x : Exp) → Postfixed ending l x → Stops 11 l r → operand_to limits (l ++ r) ≡ limited_to limits (weights l) (l ++ r) (Ok ((x, ending), r))
+operand_reads limits ending l r x s stops =
     let n = suc (length (l ++ r)) in
-    held_reads 0 l r (x, ending) (operand take_token n (expr take_token n) (l ++ r)) (postfix_reads n ending l r x s stops (omega arith))
+    held_reads limits 0 l r (x, ending) (operand take_token n (expr take_token n) (l ++ r)) (postfix_reads n ending l r x s stops (omega arith))
 
 -- ---- a Postfix from its first token on
 
@@ -142,19 +142,20 @@ bracket_first n o ts at name h =
     then_ok (postfix take_token (suc n) inner (suc n)) (named_alone (suc n) inner (expr_reads (suc n)) at name (o ∷ ts) (ap (λ q. same_kind q k.LeftParen) h))
     ∙ ap (λ q. spec.postfix_by take_token (suc n) inner (postfix take_token (suc n) inner n) (e.Name at name, Target) q (o ∷ ts)) h
 
-pub behind_name_is : (t : Token) (ts : List Token) (name : List ℕ) → t.kind ≡ k.Name name → full_operand (t ∷ ts) ≡ full_behind_name t.place name ts
-behind_name_is t ts name h =
+pub behind_name_is : (limits : Limits) (t : Token) (ts : List Token) (name : List ℕ) → t.kind ≡ k.Name name → operand_to limits (t ∷ ts) ≡ behind_name_to limits t.place name ts
+behind_name_is limits t ts name h =
     let n = suc (suc (length ts)) in
-    ap (held 0 (t ∷ ts)) (name_first n t ts name h)
-    ∙ held_behind 0 0 t ts (behind_name take_token n t.place name ts) (ap (λ q. (if counts q then 1 else 0) + 0) h) (ap arity_behind h) (omega arith) (((readers_near t [] [] n n (omega arith)).behind_name t.place name).suffix ts)
+    ap (held_to limits 0 (t ∷ ts)) (name_first n t ts name h)
+    ∙ held_behind limits 0 0 t ts (behind_name take_token n t.place name ts) (ap (λ q. (if counts q then 1 else 0) + 0) h) (ap arity_behind h) (omega arith) (((readers_near t [] [] n n (omega arith)).behind_name t.place name).suffix ts)
 
-pub behind_bracket_is : (t o : Token) (ts : List Token) (name : List ℕ) → t.kind ≡ k.Name name → o.kind ≡ k.LeftBracket → full_operand (t ∷ o ∷ ts) ≡ full_behind_bracket o.place t.place name ts
-behind_bracket_is t o ts name h h2 =
+pub behind_bracket_is : (limits : Limits) → 0 < limits.weight → (t o : Token) (ts : List Token) (name : List ℕ) → t.kind ≡ k.Name name → o.kind ≡ k.LeftBracket
+    → operand_to limits (t ∷ o ∷ ts) ≡ behind_bracket_to limits o.place t.place name ts
+behind_bracket_is limits some t o ts name h h2 =
     let n = suc (suc (length ts)) in
     let part : Suffix ts (behind_bracket take_token n o.place t.place name ts) = ((readers_near t [] [] n n (omega arith)).behind_bracket o.place t.place name).suffix ts in
-    ap (held 0 (t ∷ o ∷ ts)) (name_first (suc n) t (o ∷ ts) name h ∙ bracket_first n o ts t.place name h2)
-    ∙ held_behind 0 0 t (o ∷ ts) (behind_bracket take_token n o.place t.place name ts) (ap (λ q. (if counts q then 1 else 0) + 0) h) (ap arity_behind h) (omega arith) (suffix_behind o ts (behind_bracket take_token n o.place t.place name ts) part)
-    ∙ held_behind 0 1 o ts (behind_bracket take_token n o.place t.place name ts) (ap (λ q. (if counts q then 1 else 0) + 0) h2) (ap arity_behind h2) (omega arith) part
+    ap (held_to limits 0 (t ∷ o ∷ ts)) (name_first (suc n) t (o ∷ ts) name h ∙ bracket_first n o ts t.place name h2)
+    ∙ held_behind limits 0 0 t (o ∷ ts) (behind_bracket take_token n o.place t.place name ts) (ap (λ q. (if counts q then 1 else 0) + 0) h) (ap arity_behind h) (omega arith) (suffix_behind o ts (behind_bracket take_token n o.place t.place name ts) part)
+    ∙ held_behind limits 0 1 o ts (behind_bracket take_token n o.place t.place name ts) (ap (λ q. (if counts q then 1 else 0) + 0) h2) (ap arity_behind h2) (omega (arith, some)) part
 
 -- ---- reading looks no further than the token that it refuses
 

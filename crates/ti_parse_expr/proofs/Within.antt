@@ -10,7 +10,7 @@ use Rattle.ti_parse_expr.specs.Answers.{most_weight}
 use Rattle.ti_parse_expr.specs.Input.{At, Over, Spent, Outcome, Parser}
 use Rattle.ti_parse_expr.specs.Reach.{ends_expression}
 use Rattle.ti_parse_expr.specs.Full as spec
-use Rattle.ti_parse_expr.specs.Full.{limited, rest_of, taken, front_of, widened}
+use Rattle.ti_parse_expr.specs.Full.{Limits, usual, limited_to, limited, rest_of, taken, front_of, widened}
 use Rattle.ti_parse_expr.proofs.Law.{BeginsIn, Says, Said, Any, append_nil, token}
 use Rattle.ti_parse_expr.proofs.Local.{Suffix, Same, Near, cancel}
 use Rattle.ti_parse_expr.proofs.Cut.{Shrinks, Passed, Alike, Cut}
@@ -96,21 +96,24 @@ module _ (t : Token) (w v : List Token) where
 -- ---- the limit on what was taken
 
 -- what the limit makes of an outcome
-abbrev pub held : {A : Type 0} → ℕ → List Token → Outcome A → Outcome A
-held weight l o = limited (weights_behind 0 weight (taken l o)) l o
+abbrev pub held_to : {A : Type 0} → Limits → ℕ → List Token → Outcome A → Outcome A
+held_to limits weight l o = limited_to limits (weights_behind 0 weight (taken l o)) l o
+
+abbrev held : {A : Type 0} → ℕ → List Token → Outcome A → Outcome A
+held weight l o = held_to usual weight l o
 
 module _ {A : Type 0} (weight : ℕ) (l f : List Token) (o : Outcome A) (all : l ≡ f ++ rest_of o) where
-  held_is : held weight l o ≡ limited (weights_behind 0 weight f) (f ++ rest_of o) o
-  held_is =
+  held_is : (limits : Limits) → held_to limits weight l o ≡ limited_to limits (weights_behind 0 weight f) (f ++ rest_of o) o
+  held_is limits =
       let few : length l - length (rest_of o) ≡ length f = omega (arith, ap length all, length-append f (rest_of o)) in
       let front : taken l o ≡ f = ap (take (length l - length (rest_of o))) all ∙ take_seam f (rest_of o) (length l - length (rest_of o)) few in
-      ap (λ z. limited (weights_behind 0 weight z) l o) front ∙ ap (λ z. limited (weights_behind 0 weight f) z o) all
+      ap (λ z. limited_to limits (weights_behind 0 weight z) l o) front ∙ ap (λ z. limited_to limits (weights_behind 0 weight f) z o) all
 
   held_light : weight + weigh f ≤ most_weight → held weight l o ≡ o
-  held_light small = held_is ∙ limited_light 0 weight f (rest_of o) o small
+  held_light small = held_is usual ∙ limited_light 0 weight f (rest_of o) o small
 
   held_heavy : (g : List Token) (t : Token) (h : List Token) → f ≡ g ++ t ∷ h → weight + weigh g ≤ most_weight → most_weight < weight + weigh (g ++ t ∷ []) → held weight l o ≡ Err (Over (t ∷ (h ++ rest_of o)))
-  held_heavy g t h is small above = held_is ∙ ap (λ z. limited (weights_behind 0 weight z) (z ++ rest_of o) o) is ∙ limited_heavy 0 weight g t h (rest_of o) o small above
+  held_heavy g t h is small above = held_is usual ∙ ap (λ z. limited (weights_behind 0 weight z) (z ++ rest_of o) o) is ∙ limited_heavy 0 weight g t h (rest_of o) o small above
 
   -- where a front of what was taken is light, the limit comes behind it or not at all
   held_short : (a g : List Token) → f ≡ a ++ g → weight + weigh a ≤ most_weight → length (rest_of (held weight l o)) ≤ length (g ++ rest_of o)
@@ -119,13 +122,14 @@ module _ {A : Type 0} (weight : ℕ) (l f : List Token) (o : Outcome A) (all : l
       let r : List Token = rest_of o in
       let front : List Load = weights_behind 0 weight a in
       let e : held weight l o ≡ limited more (g ++ r) o =
-      held_is ∙ ap (λ z. limited (weights_behind 0 weight z) (z ++ r) o) is ∙ ap (λ z. limited z ((a ++ g) ++ r) o) weighs ∙ ap (λ z. limited (front ++ more) z o) (append_assoc a g r)
-      ∙ limited_fits front more a (g ++ r) o (weights_behind_long 0 weight a) ∙ limited_light 0 weight a (g ++ r) (limited more (g ++ r) o) small in
+      held_is usual ∙ ap (λ z. limited (weights_behind 0 weight z) (z ++ r) o) is ∙ ap (λ z. limited z ((a ++ g) ++ r) o) weighs ∙ ap (λ z. limited (front ++ more) z o) (append_assoc a g r)
+      ∙ limited_fits usual front more a (g ++ r) o (weights_behind_long 0 weight a) ∙ limited_light 0 weight a (g ++ r) (limited more (g ++ r) o) small in
       subst (λ z. length (rest_of z) ≤ length (g ++ r)) (sym e) (limited_short more (g ++ r) o (length (g ++ r)) (omega arith) (omega (arith, length-append g r)))
 
 -- a whole that is read
-pub held_reads : {A : Type 0} (weight : ℕ) (l r : List Token) (x : A) (o : Outcome A) → o ≡ Ok (x, r) → held weight (l ++ r) o ≡ limited (weights_behind 0 weight l) (l ++ r) (Ok (x, r))
-held_reads weight l r x o is = held_is weight (l ++ r) l o (ap (λ z. l ++ rest_of z) (sym is)) ∙ ap (λ z. limited (weights_behind 0 weight l) (l ++ rest_of z) z) is
+pub held_reads : {A : Type 0} (limits : Limits) (weight : ℕ) (l r : List Token) (x : A) (o : Outcome A) → o ≡ Ok (x, r) → held_to limits weight (l ++ r) o ≡ limited_to limits (weights_behind 0 weight l) (l ++ r) (Ok (x, r))
+held_reads limits weight l r x o is =
+    held_is weight (l ++ r) l o (ap (λ z. l ++ rest_of z) (sym is)) limits ∙ ap (λ z. limited_to limits (weights_behind 0 weight l) (l ++ rest_of z) z) is
 
 pub suffix_behind : {A : Type 0} (t : Token) (l : List Token) (o : Outcome A) → Suffix l o → Suffix (t ∷ l) o
 suffix_behind t l (Ok p) (f, e) = (t ∷ f, ap (λ z. t ∷ z) e)
@@ -134,12 +138,13 @@ suffix_behind t l (Err (Over r)) (f, e) = (t ∷ f, ap (λ z. t ∷ z) e)
 suffix_behind t l (Err Spent) h = tt
 
 -- a first token that doesn't weigh too much
-pub held_behind : {A : Type 0} (weight v : ℕ) (t : Token) (l : List Token) (o : Outcome A) → (if counts t.kind then 1 else 0) + weight ≡ v → arity_behind t.kind ≡ 0 → v ≤ most_weight → Suffix l o → held weight (t ∷ l) o ≡ held v l o
-held_behind weight v t l o weighs plain small s =
+pub held_behind : {A : Type 0} (limits : Limits) (weight v : ℕ) (t : Token) (l : List Token) (o : Outcome A) → (if counts t.kind then 1 else 0) + weight ≡ v → arity_behind t.kind ≡ 0 → v ≤ limits.weight → Suffix l o
+    → held_to limits weight (t ∷ l) o ≡ held_to limits v l o
+held_behind limits weight v t l o weighs plain small s =
     let (f, all) = front_taken l o s in
     let r : List Token = rest_of o in
-    held_is weight (t ∷ l) (t ∷ f) o (ap (λ z. t ∷ z) all) ∙ ap (λ z. limited (Weight z ∷ weights_behind (arity_behind t.kind) z f) (t ∷ (f ++ r)) o) weighs
-    ∙ ap (λ n. limited (Weight v ∷ weights_behind n v f) (t ∷ (f ++ r)) o) plain ∙ below v (weights_behind 0 v f) (t ∷ (f ++ r)) o small ∙ sym (held_is v l f o all)
+    held_is weight (t ∷ l) (t ∷ f) o (ap (λ z. t ∷ z) all) limits ∙ ap (λ z. limited_to limits (Weight z ∷ weights_behind (arity_behind t.kind) z f) (t ∷ (f ++ r)) o) weighs
+    ∙ ap (λ n. limited_to limits (Weight v ∷ weights_behind n v f) (t ∷ (f ++ r)) o) plain ∙ below limits v (weights_behind 0 v f) (t ∷ (f ++ r)) o small ∙ sym (held_is v l f o all limits)
 
 module _ {A : Type 0} (weight : ℕ) (small : weight ≤ most_weight) where
   suffix_by : (l f : List Token) (o : Outcome A) → l ≡ f ++ rest_of o → Suffix l o → Loaded 0 weight f → Suffix l (held weight l o)

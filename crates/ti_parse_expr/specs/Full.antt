@@ -1,5 +1,5 @@
--- Reading a full expression within the limit on weights: as without a limit, but that the first token that weighs too much
--- is too deep.
+-- Reading a full expression within a limit on weights: as without a limit, but that the first token that weighs too much is
+-- too deep.
 use Rattle.std.specs.Prelude.{ℕ, suc, ◌+◌, ◌-◌, Bool, false, nat_lt, if◌then◌else◌, List, [], ◌∷◌, length, take, drop, Ok, Err}
 use Rattle.ti_base.specs.declared.place.Place.{Place}
 use Rattle.ti_lang.specs.declared.token.Token.{Token}
@@ -11,16 +11,31 @@ use Rattle.ti_parse_expr.specs.Input.{At, Over, Spent, Outcome, Parser, next, ta
 use Rattle.ti_parse_expr.specs.Reach.{reach}
 use Rattle.ti_parse_expr.specs.Expr.{Operand, operand, expr, phrase, behind_name, behind_bracket}
 
+-- the highest level and the greatest weight of a token that is read
+pub record Limits : Type 0 where
+  pub level : ℕ
+  pub weight : ℕ
+
+-- those of the language
+abbrev pub usual : Limits
+usual = record { level = 64; weight = 256 }
+
 -- whether a load is above its limit
+abbrev pub above : Limits → Load → Bool
+above limits Free = false
+above limits (Level n) = nat_lt limits.level n
+above limits (Weight n) = nat_lt limits.weight n
+
 abbrev pub is_above : Load → Bool
-is_above Free = false
-is_above (Level n) = nat_lt 64 n
-is_above (Weight n) = nat_lt 256 n
+is_above = above usual
 
 -- the outcome of reading a list that begins with tokens of these loads: at the first of them that is above its limit, or else this one
+abbrev pub limited_to : {A : Type 0} → Limits → List Load → List Token → Outcome A → Outcome A
+limited_to limits [] l out = out
+limited_to limits (x ∷ loads) l out = if above limits x then Err (Over l) else limited_to limits loads (next l) out
+
 abbrev pub limited : {A : Type 0} → List Load → List Token → Outcome A → Outcome A
-limited [] l out = out
-limited (x ∷ loads) l out = if is_above x then Err (Over l) else limited loads (next l) out
+limited loads l out = limited_to usual loads l out
 
 -- what an outcome leaves
 abbrev pub rest_of : {A : Type 0} → Outcome A → List Token
@@ -34,22 +49,36 @@ abbrev pub taken : {A : Type 0} → List Token → Outcome A → List Token
 taken l out = take (length l - length (rest_of out)) l
 
 -- a reader within the limit, where the weight is counted on from a number
-abbrev pub light : {A : Type 0} → ℕ → Parser A → Parser A
-light weight p l = limited (weights_behind 0 weight (taken l (p l))) l (p l)
+abbrev pub light : {A : Type 0} → Limits → ℕ → Parser A → Parser A
+light limits weight p l = limited_to limits (weights_behind 0 weight (taken l (p l))) l (p l)
 
 -- ---- full expressions: an expression of a form; a Postfix; a Postfix behind its first name, and behind its first name and a `[`
 
+abbrev pub full_to : Limits → Form → Parser Exp
+full_to limits form l = light limits 0 (phrase take_token (suc (length l)) form) l
+
+abbrev pub operand_to : Limits → Parser Operand
+operand_to limits l = light limits 0 (operand take_token (suc (length l)) (expr take_token (suc (length l)))) l
+
+abbrev pub behind_name_to : Limits → Place → List ℕ → Parser Operand
+behind_name_to limits at name l = light limits 0 (behind_name take_token (suc (suc (length l))) at name) l
+
+abbrev pub behind_bracket_to : Limits → Place → Place → List ℕ → Parser Operand
+behind_bracket_to limits bracket_at at name l = light limits 1 (behind_bracket take_token (suc (suc (length l))) bracket_at at name) l
+
+-- the same within the usual limits
+
 abbrev pub full : Form → Parser Exp
-full form l = light 0 (phrase take_token (suc (length l)) form) l
+full = full_to usual
 
 abbrev pub full_operand : Parser Operand
-full_operand l = light 0 (operand take_token (suc (length l)) (expr take_token (suc (length l)))) l
+full_operand = operand_to usual
 
 abbrev pub full_behind_name : Place → List ℕ → Parser Operand
-full_behind_name at name l = light 0 (behind_name take_token (suc (suc (length l))) at name) l
+full_behind_name = behind_name_to usual
 
 abbrev pub full_behind_bracket : Place → Place → List ℕ → Parser Operand
-full_behind_bracket bracket_at at name l = light 1 (behind_bracket take_token (suc (suc (length l))) bracket_at at name) l
+full_behind_bracket = behind_bracket_to usual
 
 -- ---- as the code reads: a front of the list, whose last token stays
 

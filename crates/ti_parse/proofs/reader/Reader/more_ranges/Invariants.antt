@@ -1,4 +1,4 @@
-use Rattle.std.proofs.Common.{◌≡◌, ◌-◌, []}
+use Rattle.std.proofs.Common.{◌≡◌, ◌-◌}
 use Rattle.ti_lang.specs.Trees.Views.{ranges_of}
 use Rattle.ti_parse.specs.Way.{careful}
 use Rattle.ti_parse.specs.Parts.{more_ranges}
