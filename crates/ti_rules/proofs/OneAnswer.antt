@@ -5,7 +5,7 @@ use Rattle.ti_base.specs.declared.place.Place.{Place}
 use Rattle.ti_lang.specs.declared.token.Token.{Token}
 use Rattle.ti_lang.specs.Tokenizing.{IsTokenized}
 use Rattle.ti_lang.specs.Trees.Classes.{TextTree}
-use Rattle.ti_lang.specs.Spelling.{Spells, IsShallow, Misfit, IsGrammarRefusal, fits}
+use Rattle.ti_lang.specs.Spelling.{Spells, Misfit, IsGrammarRefusal, fits}
 use Rattle.ti_lang.specs.Programs.{Program}
 use Rattle.ti_lang.specs.Program.Classes.{NumberedProgram}
 use Rattle.ti_lang.specs.Numbering.{Numbers}
@@ -22,7 +22,7 @@ pub record OneReading : Type 0 where
   pub one_list : (text : List ℕ) (a b : List Token) → IsTokenized text a → IsTokenized text b → a ≡ b
   pub one_flaw : (text : List ℕ) (a b : Refusal) → IsLexicalRefusal text a → IsLexicalRefusal text b → a ≡ b
   pub not_both : (text : List ℕ) (tokens : List Token) (refusal : Refusal) → length text ≤ most_bytes → IsTokenized text tokens → IsLexicalRefusal text refusal → ⊥
-  pub one_tree : (list : List Token) (a b : TextTree) → IsShallow list → Spells list a → Spells list b → a ≡ b
+  pub one_tree : (list : List Token) (a b : TextTree) → Spells list a → Spells list b → a ≡ b
   pub one_misfit : (list : List Token) (a b : Option (Misfit × Place)) → IsGrammarRefusal list a → IsGrammarRefusal list b → a ≡ b
   pub one_numbered : (tree : TextTree) (p q : NumberedProgram) → Numbers tree p → Numbers tree q → p ≡ q
 
@@ -37,7 +37,7 @@ tree_or_misfit known text tree tokens misfit has others is =
 one_tree_of : OneReading → (text : List ℕ) (a b : TextTree) → HasTree text a → HasTree text b → a ≡ b
 one_tree_of known text a b has other =
     let same = known.one_list text has.tokens other.tokens has.has_tokens.tokenized other.has_tokens.tokenized in
-    known.one_tree other.tokens a b other.shallow (subst (λ (list : List Token). Spells list a) same has.spells) other.spells
+    known.one_tree other.tokens a b (subst (λ (list : List Token). Spells list a) same has.spells) other.spells
 
 abbrev refusal_at : Misfit × Place → Refusal
 refusal_at found = record { rule = rule_of_misfit found.0; place = found.1 }

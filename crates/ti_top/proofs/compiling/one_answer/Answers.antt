@@ -7,7 +7,7 @@ returns c =
       one_list = c.one_reading.ensures.one_list;
       one_flaw = c.one_reading.ensures.one_refusal;
       not_both = c.one_reading.ensures.never_both;
-      one_tree = λ list a b _ s q. c.one_text.ensures.one_tree list a b s q;
+      one_tree = c.one_text.ensures.one_tree;
       one_misfit = c.one_text.ensures.only;
       one_numbered = c.one_program.ensures.only;
     } in
