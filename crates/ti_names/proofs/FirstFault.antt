@@ -9,7 +9,7 @@ use Rattle.ti_rules.specs.Rules.{number_of}
 use Rattle.ti_rules.specs.Refusals.{refusal_lt}
 use Rattle.ti_rules.proofs.FirstRefusal.{first_of_two}
 use Rattle.ti_names.specs.Faults.{place_before, counts_before, earlier, least}
-use Rattle.ti_names.proofs.Memberships.{In}
+use Rattle.ti_names.proofs.Memberships.{In, here_or_there, nowhere}
 
 -- ---- the order
 
@@ -54,7 +54,8 @@ pub record FirstOf (faults : List Refusal) (r : Refusal) : Type 0 where
   pub none_before : (s : Refusal) → In faults s → refusal_lt s r → ⊥
 
 least_of : (first : Refusal) (fs : List Refusal) → (r : Refusal) × (least (Some first) fs ≡ Some r) × FirstOf (first ∷ fs) r
-least_of first [] = (first, refl, record { is_in = inl refl; none_before = λ s i. elim i [ inl same ↦ alone s same | inr i ↦ absurd i ] })
+unfolding earlier
+least_of first [] = (first, refl, record { is_in = In.here refl; none_before = λ s i. elim (here_or_there i) [ inl same ↦ alone s same | inr i ↦ absurd (nowhere i) ] })
   where
     alone : (s : Refusal) → first ≡ s → refusal_lt s first → ⊥
     alone s same before = irreflexive s (subst (refusal_lt s) same before)
@@ -67,13 +68,12 @@ least_of first (f ∷ fs) = by (counts_before f first) refl (least_of f fs) (lea
   where
     by : (b : Bool) → counts_before f first ≡ b → (r : Refusal) × (least (Some f) fs ≡ Some r) × FirstOf (f ∷ fs) r → (r : Refusal) × (least (Some first) fs ≡ Some r) × FirstOf (first ∷ fs) r
         → (r : Refusal) × (least (Some first) (f ∷ fs) ≡ Some r) × FirstOf (first ∷ f ∷ fs) r
-    unfolding earlier
     by true e new old =
         let r = new.0 in
-        let kept : (refusal_lt first r → ⊥) = not_before first f r (λ a. not_both f first ((before_decides f first).0 e) a) (new.2.none_before f (inl refl)) in
+        let kept : (refusal_lt first r → ⊥) = not_before first f r (λ a. not_both f first ((before_decides f first).0 e) a) (new.2.none_before f (In.here refl)) in
         (r, ap (λ b. least (if b then Some f else Some first) fs) e ∙ new.1, record {
-            is_in = inr new.2.is_in;
-            none_before = λ s i. elim i [ inl same ↦ subst (λ z. refusal_lt z r → ⊥) same kept | inr j ↦ new.2.none_before s j ];
+            is_in = In.there new.2.is_in;
+            none_before = λ s i. elim (here_or_there i) [ inl same ↦ subst (λ z. refusal_lt z r → ⊥) same kept | inr j ↦ new.2.none_before s j ];
           })
       where
         not_both : (a b : Refusal) → refusal_lt a b → refusal_lt b a → ⊥
@@ -86,10 +86,10 @@ least_of first (f ∷ fs) = by (counts_before f first) refl (least_of f fs) (lea
     by false e new old =
         let r = old.0 in
         let later : (refusal_lt f first → ⊥) = λ a. true≢false (sym ((before_decides f first).1 a) ∙ e) in
-        let kept : (refusal_lt f r → ⊥) = not_before f first r later (old.2.none_before first (inl refl)) in
+        let kept : (refusal_lt f r → ⊥) = not_before f first r later (old.2.none_before first (In.here refl)) in
         (r, ap (λ b. least (if b then Some f else Some first) fs) e ∙ old.1, record {
-            is_in = elim old.2.is_in [ inl same ↦ inl same | inr j ↦ inr (inr j) ];
-            none_before = λ s i. elim i [ inl same ↦ old.2.none_before s (inl same) | inr j ↦ elim j [ inl same ↦ subst (λ z. refusal_lt z r → ⊥) same kept | inr k ↦ old.2.none_before s (inr k) ] ];
+            is_in = elim (here_or_there old.2.is_in) [ inl same ↦ In.here same | inr j ↦ In.there (In.there j) ];
+            none_before = λ s i. elim (here_or_there i) [ inl same ↦ old.2.none_before s (In.here same) | inr j ↦ elim (here_or_there j) [ inl same ↦ subst (λ z. refusal_lt z r → ⊥) same kept | inr k ↦ old.2.none_before s (In.there k) ] ];
           })
 
 -- what counts of a list is its first, and nothing counts exactly where the list is empty

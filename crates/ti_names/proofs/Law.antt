@@ -24,7 +24,7 @@ pub accepted : (text : TextTree) → first_fault text ≡ None → Numbers text 
 accepted text e = numbers_of text (none_first text e)
 
 pub unbroken_program : (text : TextTree) (program : NumberedProgram) → Numbers text program → (r : Refusal) → BreaksNames text r → ⊥
-unbroken_program text program numbers = unbroken_of text (no_faults text (clean_program numbers) (clean_main numbers.main))
+unbroken_program text program numbers = unbroken_of text (no_faults text (clean_program numbers) (clean_main text program.main numbers.main))
 
 pub same_program : (text : TextTree) (p q : NumberedProgram) → Numbers text p → Numbers text q → p ≡ q
 same_program text p q a b = only_program a ∙ sym (only_program b)

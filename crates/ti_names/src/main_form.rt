@@ -1,6 +1,6 @@
 // The form of `main`.
 
-ghost use Rattle.std.specs.Prelude.{◌≡◌, ◌++◌, map, length, Some, slice_get, codes};
+ghost use Rattle.std.specs.Prelude.{◌≡◌, ◌++◌, map, length, Some, slice_get, codes, IfOk};
 ghost use Rattle.ti_lang.specs.Trees.Views.{tree_of, class_of, method_of, params_of, result_of};
 ghost use Rattle.ti_lang.specs.Members.{class_named, methods_of};
 ghost use Rattle.ti_names.specs.Faults.{is_word, has_word, is_void, is_words, has_main_form, main_method, main_number, form_faults, words_faults, main_faults, fault_if, least};
