@@ -16,7 +16,7 @@ use Rattle.ti_names.specs.Faults.{fault_if, is_another, lacks_method, exp_faults
 use Rattle.ti_names.proofs.CleanNodes.{Clean, first_clean, rest_clean}
 use Rattle.ti_names.proofs.Memberships.{In, nowhere, in_left, in_right, in_append, in_contains, contains_in, fault_in, no_fault}
 use Rattle.ti_names.proofs.MainFaults.{another_of, same_of, broken_in, in_broken}
-use Rattle.ti_names.proofs.FirstFault.{FirstOf, least_some, least_none}
+use Rattle.ti_names.proofs.FirstFault.{FirstOf, least_append, least_some, least_none}
 
 -- ---- one node
 
@@ -161,10 +161,6 @@ in_breaks text r i = by (in_append (node_faults (nodes_of text)) (main_faults te
     by (inr other) = let b = in_broken text r other in subst (BreaksNames text) (sym b.is) (BreaksNames.main_form b.broken)
 
 -- ---- the first of all
-
-least_append : (found : Option Refusal) (xs ys : List Refusal) → least found (xs ++ ys) ≡ least (least found xs) ys
-least_append found [] ys = refl
-least_append found (x ∷ xs) ys = least_append (earlier found x) xs ys
 
 noted_least : (found : Option Refusal) (nodes : List Node) → noted found nodes ≡ least found (node_faults nodes)
 unfolding noted

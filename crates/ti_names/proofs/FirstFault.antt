@@ -49,6 +49,11 @@ not_before r s t a b c =
 
 -- ---- the first of a list
 
+-- what counts of two lists
+pub least_append : (found : Option Refusal) (xs ys : List Refusal) → least found (xs ++ ys) ≡ least (least found xs) ys
+least_append found [] ys = refl
+least_append found (x ∷ xs) ys = least_append (earlier found x) xs ys
+
 pub record FirstOf (faults : List Refusal) (r : Refusal) : Type 0 where
   pub is_in : In faults r
   pub none_before : (s : Refusal) → In faults s → refusal_lt s r → ⊥

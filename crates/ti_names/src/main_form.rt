@@ -104,6 +104,7 @@ fn check_form(
 }
 
 /// Whether another method than `main` has a parameter `String[] x`.
+#[tactic(auto, using(crate::proofs::FirstFault::least_append))]
 fn check_words(
     found: Option<Refusal>,
     methods: &[Own<'_>],
@@ -129,6 +130,7 @@ pub struct Main {
 }
 
 /// The rule on the form of `main`.
+#[tactic(auto, using(crate::proofs::FirstFault::least_append))]
 pub fn main_form(
     found: Option<Refusal>,
     tree: &Tree,
