@@ -1,5 +1,5 @@
 -- The faults of a text's nodes and of its `main` are the places where it breaks the rules of names.
-use Rattle.std.proofs.Common.{◌≡◌, ℕ, ◌≤◌, Bool, true, false, not, ◌&&◌, nat_le, List, [], ◌∷◌, ◌++◌, length, flat_map, fold, Contains, Option, Some, None, is_some, is_none, refl, ap, sym, ◌∙◌, subst, arith, ◌⊎◌, inl, inr}
+use Rattle.std.proofs.Common.{◌≡◌, ℕ, ◌≤◌, true, ◌&&◌, nat_le, List, [], ◌∷◌, ◌++◌, length, flat_map, Option, Some, None, is_some, is_none, refl, ap, sym, ◌∙◌, subst, arith, ◌⊎◌, inl, inr}
 use Rattle.std.proofs.lemmas.Bool.Decides.{nat_tests}
 use Rattle.ti_base.specs.declared.place.Place.{Place}
 use Rattle.ti_lang.specs.Trees.Expressions.{Exp}
@@ -12,11 +12,11 @@ use Rattle.ti_rules.specs.declared.rule.Rule.TheVariants.{N1, N2, N4}
 use Rattle.ti_rules.specs.declared.refusal.Refusal.{Refusal}
 use Rattle.ti_rules.specs.Refusals.{IsFirstRefusal}
 use Rattle.ti_rules.specs.BrokenNames.{IsUnknown, IsTwice, IsTooMany, BreaksNames}
-use Rattle.ti_names.specs.Faults.{fault_if, is_another, lacks_method, exp_faults, written_faults, earlier, least, noted, main_faults, first_fault}
+use Rattle.ti_names.specs.Faults.{fault_if, is_another, lacks_method, exp_faults, written_faults, least, noted, main_faults, first_fault}
 use Rattle.ti_names.proofs.CleanNodes.{Clean, first_clean, rest_clean}
 use Rattle.ti_names.proofs.Memberships.{In, nowhere, in_left, in_right, in_append, in_contains, contains_in, fault_in, no_fault}
 use Rattle.ti_names.proofs.MainFaults.{another_of, same_of, broken_in, in_broken}
-use Rattle.ti_names.proofs.FirstFault.{FirstOf, least_append, least_some, least_none}
+use Rattle.ti_names.proofs.FirstFault.{least_append, least_some, least_none}
 
 -- ---- one node
 
@@ -156,6 +156,7 @@ in_breaks text r i = by (in_append (node_faults (nodes_of text)) (main_faults te
     node_breaks n i (Fault.unknown u) = BreaksNames.unknown (in_contains i) u
     node_breaks n i (Fault.twice u) = BreaksNames.twice (in_contains i) u
     node_breaks n i (Fault.too_many u) = BreaksNames.too_many (in_contains i) u
+
     by : In (node_faults (nodes_of text)) r ⊎ In (main_faults text) r → BreaksNames text r
     by (inl one) = let f = in_node_faults (nodes_of text) r one in node_breaks f.0 f.1 f.2
     by (inr other) = let b = in_broken text r other in subst (BreaksNames text) (sym b.is) (BreaksNames.main_form b.broken)

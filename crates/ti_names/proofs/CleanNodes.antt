@@ -1,10 +1,7 @@
 -- Nodes at which nothing is broken.
-use Rattle.std.proofs.Common.{◌≡◌, Bool, true, false, List, [], ◌∷◌, ◌++◌, Option, Some, None, refl, ap, sym, ◌∙◌}
-use Rattle.ti_base.specs.declared.place.Place.{Place}
+use Rattle.std.proofs.Common.{◌≡◌, List, [], ◌∷◌, ◌++◌}
 use Rattle.ti_lang.specs.Nodes.{Node}
-use Rattle.ti_rules.specs.declared.rule.Rule.{Rule}
-use Rattle.ti_rules.specs.declared.refusal.Refusal.{Refusal}
-use Rattle.ti_names.specs.Faults.{fault_if, written_faults}
+use Rattle.ti_names.specs.Faults.{written_faults}
 
 -- none of the nodes has a fault
 pub data Clean : List Node → Type 0 where
@@ -28,8 +25,3 @@ clean_left (n ∷ xs) ys c = Clean.more_nodes (first_clean c) (clean_left xs ys 
 pub clean_right : (xs ys : List Node) → Clean (xs ++ ys) → Clean ys
 clean_right [] ys c = c
 clean_right (n ∷ xs) ys c = clean_right xs ys (rest_clean c)
-
--- nothing is broken where the list of faults is empty
-pub unbroken : (b : Bool) (rule : Rule) (at : Place) → fault_if b rule at ≡ [] → b ≡ false
-unbroken true rule at none = cc
-unbroken false rule at none = refl

@@ -1,5 +1,5 @@
 -- At the nodes of a text that is some program nothing is broken.
-use Rattle.std.proofs.Common.{◌≡◌, ℕ, ◌+◌, ◌<◌, ◌==◌, Bool, true, false, not, nat_le, if◌then◌else◌, List, [], ◌∷◌, ◌++◌, length, Option, Some, None, is_some, refl, ap, sym, ◌∙◌, subst, arith}
+use Rattle.std.proofs.Common.{◌≡◌, ℕ, ◌==◌, true, false, not, nat_le, List, [], ◌∷◌, length, Option, Some, ap, ◌∙◌, arith}
 use Rattle.std.proofs.lemmas.Bool.Decides.{nat_tests}
 use Rattle.ti_base.specs.declared.place.Place.{Place}
 use Rattle.ti_lang.specs.declared.tree.types.Base.{Base}
@@ -13,10 +13,10 @@ use Rattle.ti_lang.specs.Program.Expressions.{NumberedExp, NumberedExps, Numbere
 use Rattle.ti_lang.specs.Program.Statements.{NumberedDims, NumberedInit, NumberedPrint, NumberedStm, MaybeNumbered, NumberedStms}
 use Rattle.ti_lang.specs.Program.Classes.{NumberedField, NumberedClass, NumberedParams, NumberedReturn, NumberedResult, NumberedMethod, NumberedProgram}
 use Rattle.ti_lang.specs.Members.{class_named, fields_in, field_named, OwnMethod, method_named}
-use Rattle.ti_lang.specs.Scopes.{Site, class_site, method_site, most_variables, IsFresh, HasRoom}
+use Rattle.ti_lang.specs.Scopes.{Site, class_site, most_variables, IsFresh, HasRoom}
 use Rattle.ti_lang.specs.Nodes.{base_nodes, type_nodes, exp_nodes, exps_nodes, range_nodes, ranges_nodes, maybe_nodes, dims_nodes, init_nodes, print_nodes, stm_nodes, maybe_stm_nodes, stms_nodes, fields_nodes, classes_nodes, result_nodes, param_list_nodes, params_nodes, return_nodes, method_nodes, methods_nodes, nodes_of, node, ClassName, FieldName, MethodName, VariableName, ClassUse}
 use Rattle.ti_lang.specs.Numbering.{IsKnownBase, NumbersType, NumbersExp, NumbersExps, NumbersRange, NumbersRanges, NumbersMaybe, NumbersDims, NumbersInit, NumbersPrint, NumbersStm, NumbersMaybeStm, NumbersStms, NumbersFields, NumbersClasses, NumbersResult, NumbersParamList, NumbersParams, NumbersReturn, NumbersMethod, NumbersMethods, Numbers}
-use Rattle.ti_rules.specs.declared.rule.Rule.TheVariants.{N1, N2, N4}
+use Rattle.ti_rules.specs.declared.rule.Rule.TheVariants.{N2}
 use Rattle.ti_names.specs.Faults.{fault_if, is_another}
 use Rattle.ti_names.proofs.CleanNodes.{Clean, first_clean, clean_append}
 

@@ -1,16 +1,15 @@
 -- The faults of `main` are the places where a text breaks the rule on its form, and there are none exactly where it has its `main`.
-use Rattle.std.proofs.Common.{◌≡◌, ℕ, zero, suc, ◌+◌, ◌<◌, ◌==◌, Bool, true, false, not, ◌&&◌, ◌||◌, List, [], ◌∷◌, ◌++◌, map, length, Option, Some, None, slice_get, Contains, codes, refl, ap, sym, ◌∙◌, subst, true≢false, arith, ◌⊎◌, inl, inr}
-use Rattle.std.specs.List.{list_any}
-use Rattle.std.specs.Option.{option_map_or, option_and_then, unwrap_or}
+use Rattle.std.proofs.Common.{◌≡◌, ℕ, zero, suc, ◌+◌, ◌==◌, Bool, true, false, not, ◌&&◌, ◌||◌, List, [], ◌∷◌, ◌++◌, map, length, Option, Some, None, slice_get, codes, refl, ap, sym, ◌∙◌, subst, true≢false, arith, ◌⊎◌, inl, inr}
+use Rattle.std.specs.Option.{option_map_or, unwrap_or}
 use Rattle.std.proofs.lemmas.Bool.Decides.{nat_tests}
 use Rattle.ti_base.specs.declared.place.Place.{Place}
 use Rattle.ti_base.specs.Places.{place_after}
 use Rattle.ti_lang.specs.declared.tree.classes.Modifier.{Modifier}
 use Rattle.ti_lang.specs.declared.tree.classes.ModifierWord.{ModifierWord}
 use Rattle.ti_lang.specs.declared.tree.classes.ModifierWord.TheVariants as word
-use Rattle.ti_lang.specs.Trees.Classes.{ParamsTree, Words, Params, ResultTree, Void, Typed, MethodTree, MethodMember, ClassTree, TextTree}
+use Rattle.ti_lang.specs.Trees.Classes.{ParamsTree, Words, Params, ResultTree, Void, Typed, MethodTree, ClassTree, TextTree}
 use Rattle.ti_lang.specs.MainForm.{HasMainModifiers, IsVoid, IsWords, IsMainForm}
-use Rattle.ti_lang.specs.MainMethod.{IsFirst, IsMainClass, IsMainMethod}
+use Rattle.ti_lang.specs.MainMethod.{IsMainClass, IsMainMethod}
 use Rattle.ti_lang.specs.Members.{class_named, OwnMethod, methods_of, method_named}
 use Rattle.ti_lang.specs.Numbering.{HasMain}
 use Rattle.ti_rules.specs.declared.rule.Rule.TheVariants.{N3}
@@ -152,6 +151,7 @@ another_of (Some n) k h = by (n == k) refl
   where
     same : (n == k) ≡ true → n ≡ k
     same e = grind (arith, nat_tests, e)
+
     by : (b : Bool) → (n == k) ≡ b → not b ≡ true
     by true e = absurd (h (ap Some (same e)))
     by false e = refl
@@ -228,12 +228,12 @@ broken_in text place (BreaksMainForm.another_form {i = i} {j = j} {c = c} {m = m
     let class = main_class_number text i c is_class in
     let found = main_method_number text i j m is_class.stands is_method in
     formed text class (main_number_of text i class ∙ found.0)
-        (subst (λ (o : Option OwnMethod). In (option_map_or (λ (own : OwnMethod). fault_if (not (has_main_form own.method)) N3 own.method.place) o []) (refused m.place)) (sym found.1) (fault_in _ (no_form m other) refl))
+    (subst (λ (o : Option OwnMethod). In (option_map_or (λ (own : OwnMethod). fault_if (not (has_main_form own.method)) N3 own.method.place) o []) (refused m.place)) (sym found.1) (fault_in _ (no_form m other) refl))
 broken_in text place (BreaksMainForm.words_elsewhere i j {c} {m} at_class at_member elsewhere words) =
     let k = before 0 text i + within c.members j in
     let zero_k : k ≡ 0 + k = omega arith in
     in_right _ (words_in (main_number text) 0 (methods_of text) k (record { class = i; method = m }) (method_stands text i j m at_class at_member)
-        (and_both _ _ (words_test_of m.params words) (ap (is_another (main_number text)) (sym zero_k) ∙ another_of (main_number text) k (λ e. by (class_named text (codes "Main")) refl e))))
+    (and_both _ _ (words_test_of m.params words) (ap (is_another (main_number text)) (sym zero_k) ∙ another_of (main_number text) k (λ e. by (class_named text (codes "Main")) refl e))))
   where
     by : (class : Option ℕ) → class_named text (codes "Main") ≡ class → main_method text class ≡ Some (before 0 text i + within c.members j) → ⊥
     by None e f = cc
@@ -278,14 +278,15 @@ words_broken text r w =
       is = w.is;
       broken = BreaksMainForm.words_elsewhere s.class_at s.member_at s.is_class s.is_member
           (λ main. same_of (main_number text) w.index (ap (is_another (main_number text)) zero_k ∙ and_right _ _ w.broken)
-            (main_number_of text s.class_at (main_class_number text s.class_at s.class main.0) ∙ (main_method_number text s.class_at s.member_at w.own.method s.is_class main.1).0 ∙ ap Some (sym s.place)))
+          (main_number_of text s.class_at (main_class_number text s.class_at s.class main.0) ∙ (main_method_number text s.class_at s.member_at w.own.method s.is_class main.1).0 ∙ ap Some (sym s.place)))
           (words_of_params w.own.method.params (and_left _ _ w.broken));
     }
 
 pub in_broken : (text : TextTree) (r : Refusal) → In (main_faults text) r → Breaks text r
 in_broken text r i = elim (in_append (form_faults text (class_named text (codes "Main")) (main_number text)) (words_faults (main_number text) 0 (methods_of text)) i) [
-    inl one ↦ form_broken text r (class_named text (codes "Main")) refl one
-  | inr other ↦ words_broken text r (words_at (main_number text) 0 (methods_of text) r other) ]
+  | inl one ↦ form_broken text r (class_named text (codes "Main")) refl one
+  | inr other ↦ words_broken text r (words_at (main_number text) 0 (methods_of text) r other)
+]
 
 -- ---- no faults
 
@@ -295,14 +296,14 @@ no_words main n (x ∷ ms) none =
     let number : n ≡ n + 0 = omega arith in
     let first : (is_words x.method.params && is_another main n) ≡ false = ap (λ z. is_words x.method.params && is_another main z) number ∙ none 0 x refl in
     ap (λ b. fault_if b N3 x.method.place ++ words_faults main (n + 1) ms) first
-        ∙ no_words main (n + 1) ms (λ k own at. let more : n + 1 + k ≡ n + suc k = omega arith in ap (λ z. is_words own.method.params && is_another main z) more ∙ none (suc k) own at)
+    ∙ no_words main (n + 1) ms (λ k own at. let more : n + 1 + k ≡ n + suc k = omega arith in ap (λ z. is_words own.method.params && is_another main z) more ∙ none (suc k) own at)
 
 pub clean_main : (text : TextTree) (number : ℕ) → HasMain text number → main_faults text ≡ []
 clean_main text number main =
     let found = main_is main in
     let form : form_faults text (class_named text (codes "Main")) (main_number text) ≡ [] =
-        (λ j. form_faults text (main.is_class j) (found j)) ∙ ap (λ (o : Option OwnMethod). option_map_or (λ (own : OwnMethod). fault_if (not (has_main_form own.method)) N3 own.method.place) o []) main.stands
-            ∙ ap (λ b. fault_if (not b) N3 main.own.method.place) (form_test_of main.own.method main.form) in
+    (λ j. form_faults text (main.is_class j) (found j)) ∙ ap (λ (o : Option OwnMethod). option_map_or (λ (own : OwnMethod). fault_if (not (has_main_form own.method)) N3 own.method.place) o []) main.stands
+    ∙ ap (λ b. fault_if (not b) N3 main.own.method.place) (form_test_of main.own.method main.form) in
     let words : words_faults (main_number text) 0 (methods_of text) ≡ [] = no_words (main_number text) 0 (methods_of text) (λ k own at. alone k own at (is_words own.method.params) refl) in
     λ j. form j ++ words j
   where
@@ -319,6 +320,7 @@ main_of_clean text none = by (class_named text (codes "Main")) refl
   where
     nothing : (r : Refusal) → In (main_faults text) r → ⊥
     nothing r i = nowhere (subst (λ fs. In fs r) none i)
+
     formed_main : (class n : ℕ) → class_named text (codes "Main") ≡ Some class → main_number text ≡ Some n → (m : MainAt text class n) → (b : Bool) → has_main_form m.method ≡ b → HasMain text n
     formed_main class n e f m true g = record {
       class = class;
@@ -336,10 +338,11 @@ main_of_clean text none = by (class_named text (codes "Main")) refl
             let zero_k : 0 + k ≡ k = omega arith in
             let apart : (n == k) ≡ false = grind (arith, nat_tests, is) in
             absurd (nothing (refused other.method.place) (in_right _ (words_in (main_number text) 0 (methods_of text) k other at
-                (and_both _ _ (words_test_of other.method.params words) ((λ j. is_another (f j) (zero_k j)) ∙ ap not apart)))))
+            (and_both _ _ (words_test_of other.method.params words) ((λ j. is_another (f j) (zero_k j)) ∙ ap not apart)))))
     formed_main class n e f m false g =
         absurd (nothing (refused m.method.place) (formed text e f
-            (subst (λ (o : Option OwnMethod). In (option_map_or (λ (own : OwnMethod). fault_if (not (has_main_form own.method)) N3 own.method.place) o []) (refused m.method.place)) (sym m.stands) (fault_in _ (ap not g) refl))))
+        (subst (λ (o : Option OwnMethod). In (option_map_or (λ (own : OwnMethod). fault_if (not (has_main_form own.method)) N3 own.method.place) o []) (refused m.method.place)) (sym m.stands) (fault_in _ (ap not g) refl))))
+
     numbered : (class : ℕ) → class_named text (codes "Main") ≡ Some class → (number : Option ℕ) → main_number text ≡ number → HasMain text (unwrap_or (main_number text) 0)
     numbered class e None f =
         let c = main_class_of text class e in
@@ -347,6 +350,7 @@ main_of_clean text none = by (class_named text (codes "Main")) refl
     numbered class e (Some n) f =
         let m = main_method_of text class n (sym (main_number_of text class e) ∙ f) in
         subst (HasMain text) (sym (ap (λ o. unwrap_or o 0) f)) (formed_main class n e f m (has_main_form m.method) refl)
+
     by : (class : Option ℕ) → class_named text (codes "Main") ≡ class → HasMain text (unwrap_or (main_number text) 0)
     by None e = absurd (nothing (refused (place_after [])) (formed text e refl (In.here refl)))
     by (Some class) e = numbered class e (main_number text) refl

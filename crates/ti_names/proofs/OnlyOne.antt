@@ -1,9 +1,9 @@
 -- A text is no other program than that of the function.
-use Rattle.std.proofs.Common.{◌≡◌, ℕ, ◌+◌, List, [], ◌∷◌, map, length, Option, Some, None, codes, refl, ap, sym, ◌∙◌}
+use Rattle.std.proofs.Common.{◌≡◌, ℕ, List, [], ◌∷◌, map, Option, Some, codes, refl, ap, sym, ◌∙◌}
 use Rattle.std.specs.Option.{unwrap_or, option_and_then}
 use Rattle.ti_lang.specs.Trees.Types.{TypeTree}
-use Rattle.ti_lang.specs.Trees.Expressions.{Exp, Exps, RangeTree, RangeTrees, ranges_tree}
-use Rattle.ti_lang.specs.Trees.Statements.{DimsTree, InitTree, PrintTree, Stm, MaybeStm, Stms, stms}
+use Rattle.ti_lang.specs.Trees.Expressions.{Exp, Exps, RangeTree, RangeTrees}
+use Rattle.ti_lang.specs.Trees.Statements.{DimsTree, InitTree, PrintTree, Stm, MaybeStm, Stms}
 use Rattle.ti_lang.specs.Trees.Classes.{FieldTree, ParamTree, ParamsTree, ReturnTree, ResultTree, ClassTree, TextTree}
 use Rattle.ti_lang.specs.Program.Types.{NumberedType}
 use Rattle.ti_lang.specs.Program.Expressions.{NumberedExp, NumberedExps, NumberedRange, NumberedRanges, numbered_ranges}
@@ -12,8 +12,8 @@ use Rattle.ti_lang.specs.Program.Statements.{NumberedDims, NumberedInit, Numbere
 use Rattle.ti_lang.specs.Program.Statements as m
 use Rattle.ti_lang.specs.Program.Classes.{NumberedField, NumberedClass, NumberedParams, NumberedReturn, NumberedResult, NumberedMethod, NumberedProgram}
 use Rattle.ti_lang.specs.Program.Classes as p
-use Rattle.ti_lang.specs.Members.{class_named, OwnMethod, method_named, name_number}
-use Rattle.ti_lang.specs.Scopes.{numbered_type, Site, behind, body_site}
+use Rattle.ti_lang.specs.Members.{OwnMethod, method_named, name_number}
+use Rattle.ti_lang.specs.Scopes.{numbered_type, Site, body_site}
 use Rattle.ti_lang.specs.Numbering.{NumbersType, NumbersExp, NumbersExps, NumbersRange, NumbersRanges, NumbersMaybe, NumbersDims, NumbersInit, NumbersPrint, NumbersStm, NumbersMaybeStm, NumbersStms, NumbersFields, NumbersClasses, NumbersResult, NumbersParamList, NumbersParams, NumbersReturn, NumbersMethod, NumbersMethods, HasMain, Numbers}
 use Rattle.ti_names.specs.Faults.{main_number}
 use Rattle.ti_names.specs.Numbered.{number_exp, number_exps, number_range, number_ranges, number_maybe, number_dims, number_init, number_print, number_stm, number_maybe_stm, number_stms, number_list, number_fields, number_classes, number_result, number_param_list, number_params, number_return, number_method, number_methods, number_program}

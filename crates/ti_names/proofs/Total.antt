@@ -1,28 +1,22 @@
 -- Where nothing is broken, the function gives a program that the text is.
-use Rattle.std.proofs.Common.{◌≡◌, ℕ, ◌+◌, ◌<◌, ◌≤◌, Bool, true, false, not, ◌&&◌, ◌||◌, nat_le, if◌then◌else◌, List, [], ◌∷◌, ◌++◌, map, length, Option, Some, None, is_some, is_none, refl, ap, sym, ◌∙◌, subst, arith}
-use Rattle.std.specs.Option.{unwrap_or}
+use Rattle.std.proofs.Common.{◌≡◌, ℕ, Bool, true, false, ◌&&◌, if◌then◌else◌, List, [], ◌++◌, Option, Some, None, is_some, is_none, refl}
 use Rattle.ti_base.specs.declared.place.Place.{Place}
 use Rattle.ti_lang.specs.declared.tree.types.Base.{Base}
 use Rattle.ti_lang.specs.declared.tree.types.Base.TheVariants as b
 use Rattle.ti_lang.specs.Trees.Types.{TypeTree}
 use Rattle.ti_lang.specs.Trees.Expressions.{Exp, Exps, RangeTree, RangeTrees, ranges_tree}
 use Rattle.ti_lang.specs.Trees.Expressions as t
-use Rattle.ti_lang.specs.Trees.Statements.{DimsTree, InitTree, PrintTree, Stm, MaybeStm, Stms, stms}
-use Rattle.ti_lang.specs.Trees.Statements as s
-use Rattle.ti_lang.specs.Program.Types.{VariableUse, Foreach}
+use Rattle.ti_lang.specs.Program.Types.{VariableUse}
 use Rattle.ti_lang.specs.Program.Expressions.{NumberedExp, NumberedExps}
 use Rattle.ti_lang.specs.Program.Expressions as n
-use Rattle.ti_lang.specs.Program.Statements.{NumberedStm, NumberedStms, numbered_stms}
-use Rattle.ti_lang.specs.Program.Statements as m
-use Rattle.ti_lang.specs.Members.{class_named, is_static_method, name_number}
-use Rattle.ti_lang.specs.Scopes.{numbered_type, Site, declares, past, past_maybe, behind, behind_maybe, variable_named, own_field_named, own_method_named, static_method_named, class_before_dot, most_variables, IsFresh, HasRoom}
-use Rattle.ti_lang.specs.Nodes.{base_nodes, type_nodes, exp_nodes, exps_nodes, range_nodes, ranges_nodes, maybe_nodes, dims_nodes, init_nodes, print_nodes, stm_nodes, maybe_stm_nodes, stms_nodes, node, VariableName}
+use Rattle.ti_lang.specs.Members.{class_named, is_static_method}
+use Rattle.ti_lang.specs.Scopes.{numbered_type, Site, variable_named, own_field_named, own_method_named, static_method_named, class_before_dot}
+use Rattle.ti_lang.specs.Nodes.{base_nodes, type_nodes, exp_nodes, exps_nodes, range_nodes, ranges_nodes, maybe_nodes}
 use Rattle.ti_lang.specs.Numbering.{IsKnownBase, NumbersType, known, NumbersExp, int, truth, null, this, variable, own_field, call, own_call, this_proc, num_procs, point, rect, unary, binary, cast, select, member, class_call, index, NumbersExps, no_exps, more_exps, NumbersRange, plain, stepped, NumbersRanges, no_ranges, more_ranges, NumbersMaybe}
-use Rattle.ti_rules.specs.declared.rule.Rule.TheVariants.{N1, N2, N4}
-use Rattle.ti_names.specs.Faults.{fault_if, lacks_method, written_faults}
-use Rattle.ti_names.specs.Numbered.{named, called, class_called, selected, member_called, number_exp, number_exps, number_range, number_ranges, number_maybe, number_dims, number_init, number_print, number_stm, number_maybe_stm, number_stms, number_list}
-use Rattle.ti_names.proofs.CleanNodes.{Clean, first_clean, rest_clean, clean_left, clean_right, unbroken}
-use Rattle.ti_names.proofs.Lists.{number_ranges_list}
+use Rattle.ti_rules.specs.declared.rule.Rule.TheVariants.{N1}
+use Rattle.ti_names.specs.Faults.{fault_if, lacks_method}
+use Rattle.ti_names.specs.Numbered.{named, called, class_called, selected, member_called, number_exp, number_exps, number_range, number_ranges, number_maybe}
+use Rattle.ti_names.proofs.CleanNodes.{Clean, first_clean, rest_clean, clean_left, clean_right}
 
 -- ---- types
 
@@ -109,7 +103,7 @@ mutual
   total_range site (t.Stepped low high step) c =
       let both = clean_left (exp_nodes site low ++ exp_nodes site high) _ c in
       stepped (total_exp site low (clean_left (exp_nodes site low) _ both)) (total_exp site high (clean_right (exp_nodes site low) _ both))
-          (total_exp site step (clean_right (exp_nodes site low ++ exp_nodes site high) _ c))
+      (total_exp site step (clean_right (exp_nodes site low ++ exp_nodes site high) _ c))
 
   pub total_ranges : (site : Site) (rs : RangeTrees) → Clean (ranges_nodes site rs) → NumbersRanges site rs (number_ranges site rs)
   total_ranges site t.NoRange c = no_ranges

@@ -1,19 +1,18 @@
 -- Where nothing is broken, the function gives the program that the text is.
-use Rattle.std.proofs.Common.{◌≡◌, ℕ, ◌+◌, ◌==◌, Bool, true, false, not, ◌&&◌, List, [], ◌∷◌, ◌++◌, map, length, Option, Some, None, slice_get, codes, refl, ap, sym, ◌∙◌, subst, arith}
+use Rattle.std.proofs.Common.{◌≡◌, ℕ, ◌+◌, ◌==◌, Bool, true, false, not, List, [], ◌∷◌, ◌++◌, length, Option, Some, None, refl, ap, arith}
 use Rattle.std.proofs.lemmas.Bool.Decides.{nat_tests}
-use Rattle.std.specs.Option.{unwrap_or, option_map_or}
+use Rattle.std.specs.Option.{unwrap_or}
 use Rattle.ti_base.specs.declared.place.Place.{Place}
 use Rattle.ti_lang.specs.Trees.Statements.{stms}
 use Rattle.ti_lang.specs.Trees.Classes.{FieldTree, ParamTree, ParamsTree, ReturnTree, ResultTree, MethodTree, ClassTree, TextTree}
 use Rattle.ti_lang.specs.Trees.Classes as c
-use Rattle.ti_lang.specs.MainForm.{IsWords, IsMainForm}
 use Rattle.ti_lang.specs.Members.{class_named, fields_in, field_named, OwnMethod, methods_of, method_named}
 use Rattle.ti_lang.specs.Scopes.{Site, class_site, declares, typed_as, literals_in, behind_all, method_site, body_site}
 use Rattle.ti_lang.specs.Nodes.{type_nodes, result_nodes, param_list_nodes, params_nodes, return_nodes, stms_nodes, fields_nodes, classes_nodes, method_nodes, methods_nodes, nodes_of, node, VariableName, ClassName, FieldName, MethodName}
 use Rattle.ti_lang.specs.Numbering.{NumbersFields, NumbersClasses, NumbersResult, NumbersParamList, NumbersParams, NumbersReturn, NumbersMethod, NumbersMethods, HasMain, Numbers}
-use Rattle.ti_rules.specs.declared.rule.Rule.TheVariants.{N2, N3}
-use Rattle.ti_names.specs.Faults.{fault_if, is_another, main_number, main_method, form_faults, words_faults, main_faults, is_words, has_main_form}
-use Rattle.ti_names.specs.Numbered.{number_fields, number_classes, number_result, number_param_list, number_params, number_return, number_list, number_method, number_methods, number_program}
+use Rattle.ti_rules.specs.declared.rule.Rule.TheVariants.{N2}
+use Rattle.ti_names.specs.Faults.{fault_if, is_another, main_number}
+use Rattle.ti_names.specs.Numbered.{number_fields, number_classes, number_result, number_param_list, number_params, number_return, number_method, number_methods, number_program}
 use Rattle.ti_names.proofs.CleanNodes.{Clean, first_clean, rest_clean, clean_left, clean_right}
 use Rattle.ti_names.proofs.Total.{total_type, total_maybe}
 use Rattle.ti_names.proofs.Lists.{number_stms_list}
@@ -26,6 +25,7 @@ same_number (Some n) number at none = by (n == number) refl none
   where
     same : (n == number) ≡ true → n ≡ number
     same is = grind (arith, nat_tests, is)
+
     by : (b : Bool) → (n == number) ≡ b → fault_if (not b) N2 at ≡ [] → Some n ≡ Some number
     by true is none = ap Some (same is)
     by false is none = cc
@@ -57,7 +57,7 @@ total_param_list site (p ∷ ps) c =
     let both = clean_left head _ c in
     let variable = clean_right (type_nodes site p.ty) _ both in
     NumbersParamList.more (total_type site p.ty (clean_left (type_nodes site p.ty) _ both)) (fresh_variable site p.place p.name variable) (room_for_variable site p.place p.name variable)
-        (total_param_list (declares site p.name (typed_as site.text p.ty)) ps (clean_right head _ c))
+    (total_param_list (declares site p.name (typed_as site.text p.ty)) ps (clean_right head _ c))
 
 total_params : (site : Site) (params : ParamsTree) → Clean (params_nodes site params) → NumbersParams site params (number_params site.text params)
 total_params site (c.Words at name) clean = NumbersParams.words
@@ -86,7 +86,7 @@ total_method site number own c =
     let clean_two = clean_left two _ clean_three in
     let clean_one = clean_left one _ clean_two in
     NumbersMethod.method (total_result site m.result (rest_clean clean_one)) (total_params site m.params (clean_right one _ clean_two))
-        (rw (← number_stms_list inside m.body) (total_stms inside (stms m.body) (clean_right two _ clean_three))) (total_return (behind_all inside (stms m.body)) m.last (clean_right three _ c))
+    (rw (← number_stms_list inside m.body) (total_stms inside (stms m.body) (clean_right two _ clean_three))) (total_return (behind_all inside (stms m.body)) m.last (clean_right three _ c))
 
 named_once : (site : Site) (number : ℕ) (own : OwnMethod) → Clean (method_nodes site number own) → method_named site.text own.class own.method.name ≡ Some number
 named_once site number own c =
@@ -103,7 +103,7 @@ total_methods text number before (own ∷ rest) c =
     let site = method_site text own before in
     let head = method_nodes site number own in
     NumbersMethods.more (named_once site number own (clean_left head _ c)) (total_method site number own (clean_left head _ c))
-        (total_methods text (number + 1) (before + length (literals_in (stms own.method.body))) rest (clean_right head _ c))
+    (total_methods text (number + 1) (before + length (literals_in (stms own.method.body))) rest (clean_right head _ c))
 
 -- everything but `main`
 pub total_program : (text : TextTree) → Clean (nodes_of text) → HasMain text (unwrap_or (main_number text) 0) → Numbers text (number_program text)

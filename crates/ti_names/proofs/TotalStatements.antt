@@ -1,24 +1,20 @@
 -- Where nothing is broken, the function gives statements that those of the text are.
-use Rattle.std.proofs.Common.{◌≡◌, ℕ, ◌<◌, ◌≤◌, Bool, true, false, nat_le, if◌then◌else◌, List, [], ◌∷◌, ◌++◌, map, length, Option, Some, None, is_some, is_none, refl, ap, sym, ◌∙◌, subst, arith}
+use Rattle.std.proofs.Common.{◌≡◌, ℕ, Bool, true, false, nat_le, List, [], ◌∷◌, ◌++◌, length, Option, Some, None, is_some, refl, ap, sym, ◌∙◌, arith}
 use Rattle.std.proofs.lemmas.Bool.Decides.{nat_tests}
 use Rattle.std.specs.Option.{unwrap_or}
 use Rattle.ti_base.specs.declared.place.Place.{Place}
-use Rattle.ti_lang.specs.Trees.Types.{TypeTree}
-use Rattle.ti_lang.specs.Trees.Expressions.{Exp, RangeTree, ranges_tree}
-use Rattle.ti_lang.specs.Trees.Expressions as t
+use Rattle.ti_lang.specs.Trees.Expressions.{Exp, ranges_tree}
 use Rattle.ti_lang.specs.Trees.Statements.{DimsTree, InitTree, PrintTree, Stm, MaybeStm, Stms, stms}
 use Rattle.ti_lang.specs.Trees.Statements as s
 use Rattle.ti_lang.specs.Program.Types.{VariableUse, Foreach}
-use Rattle.ti_lang.specs.Program.Statements.{numbered_stms}
-use Rattle.ti_lang.specs.Program.Statements as m
 use Rattle.ti_lang.specs.Members.{class_named}
 use Rattle.ti_lang.specs.Scopes.{Site, declares, past, past_maybe, behind, behind_maybe, variable_named, most_variables, IsFresh, HasRoom}
-use Rattle.ti_lang.specs.Nodes.{type_nodes, exp_nodes, ranges_nodes, maybe_nodes, dims_nodes, init_nodes, print_nodes, stm_nodes, maybe_stm_nodes, stms_nodes, node, VariableName, ClassUse}
+use Rattle.ti_lang.specs.Nodes.{type_nodes, exp_nodes, maybe_nodes, dims_nodes, init_nodes, print_nodes, stm_nodes, maybe_stm_nodes, stms_nodes, node, VariableName}
 use Rattle.ti_lang.specs.Numbering.{NumbersDims, NumbersInit, NumbersPrint, NumbersStm, NumbersMaybeStm, NumbersStms}
-use Rattle.ti_rules.specs.declared.rule.Rule.TheVariants.{N1, N2, N4}
+use Rattle.ti_rules.specs.declared.rule.Rule.TheVariants.{N2, N4}
 use Rattle.ti_rules.specs.declared.refusal.Refusal.{Refusal}
 use Rattle.ti_names.specs.Faults.{fault_if}
-use Rattle.ti_names.specs.Numbered.{number_range, number_dims, number_init, number_print, number_stm, number_maybe_stm, number_stms, number_list}
+use Rattle.ti_names.specs.Numbered.{number_dims, number_init, number_print, number_stm, number_maybe_stm, number_stms}
 use Rattle.ti_names.proofs.CleanNodes.{Clean, first_clean, rest_clean, clean_left, clean_right}
 use Rattle.ti_names.proofs.Lists.{number_ranges_list}
 use Rattle.ti_names.proofs.Total.{known_class, total_type, total_exp, total_ranges, total_maybe}
@@ -44,7 +40,7 @@ total_init site (s.NewObject at region name_at name) c =
 total_init site (s.NewGrid at region element dims_at dims) c =
     let both = clean_left (maybe_nodes site region ++ type_nodes site element) _ c in
     NumbersInit.new_grid (total_maybe site region (clean_left (maybe_nodes site region) _ both)) (total_type site element (clean_right (maybe_nodes site region) _ both))
-        (total_dims site dims (clean_right (maybe_nodes site region ++ type_nodes site element) _ c))
+    (total_dims site dims (clean_right (maybe_nodes site region ++ type_nodes site element) _ c))
 total_init site (s.Broadcast at x root) c = NumbersInit.broadcast (total_exp site x (clean_left (exp_nodes site x) _ c)) (total_exp site root (clean_right (exp_nodes site x) _ c))
 
 total_print : (site : Site) (what : PrintTree) → Clean (print_nodes site what) → NumbersPrint site what (number_print site what)
@@ -83,7 +79,7 @@ mutual
       let both = clean_left head _ c in
       let variable = clean_right (type_nodes site ty) _ both in
       NumbersStm.declare (total_type site ty (clean_left (type_nodes site ty) _ both)) (fresh_variable site at name variable) (room_for_variable site at name variable)
-          (total_init site value (clean_right head _ c))
+      (total_init site value (clean_right head _ c))
   total_stm site (s.Assign at target value) c = NumbersStm.assign (total_exp site target (clean_left (exp_nodes site target) _ c)) (total_init site value (clean_right (exp_nodes site target) _ c))
   total_stm site (s.Update at op target x) c = NumbersStm.update (total_exp site target (clean_left (exp_nodes site target) _ c)) (total_exp site x (clean_right (exp_nodes site target) _ c))
   total_stm site (s.Step at op target) c = NumbersStm.step (total_exp site target c)
@@ -103,12 +99,12 @@ mutual
       let three = two ++ maybe_stm_nodes inside update in
       let both = clean_left two _ (clean_left three _ c) in
       NumbersStm.for (total_maybe_stm site first (clean_left (maybe_stm_nodes site first) _ both)) (total_maybe inside d (clean_right (maybe_stm_nodes site first) _ both))
-          (total_maybe_stm inside update (clean_right two _ (clean_left three _ c))) (total_stm (past_maybe inside update) body (clean_right three _ c))
+      (total_maybe_stm inside update (clean_right two _ (clean_left three _ c))) (total_stm (past_maybe inside update) body (clean_right three _ c))
   total_stm site (s.Foreach at name_at name domain body) c =
       let head = node site (VariableName name_at name) ∷ exp_nodes site domain in
       let both = clean_left head _ c in
       NumbersStm.foreach (fresh_variable site name_at name (Clean.more_nodes (first_clean both) Clean.no_nodes)) (room_for_variable site name_at name (Clean.more_nodes (first_clean both) Clean.no_nodes)) (total_exp site domain (rest_clean both))
-          (total_stm (declares site name Foreach) body (clean_right head _ c))
+      (total_stm (declares site name Foreach) body (clean_right head _ c))
 
   pub total_maybe_stm : (site : Site) (x : MaybeStm) → Clean (maybe_stm_nodes site x) → NumbersMaybeStm site x (number_maybe_stm site x)
   total_maybe_stm site s.NoStm c = NumbersMaybeStm.no_stm

@@ -1,10 +1,9 @@
-use Rattle.std.proofs.Common.{◌≡◌, ◌∙◌, ap, sym, subst, inl, None, Some}
+use Rattle.std.proofs.Common.{◌∙◌, ap, sym, subst, inl}
 use Rattle.ti_lang.specs.Trees.Views.{tree_of}
 use Rattle.ti_lang.specs.Numbering.{Numbers}
 use Rattle.ti_rules.specs.BrokenNames.{BreaksNames}
 use Rattle.ti_rules.proofs.FirstRefusal.{first_only}
 use Rattle.ti_names.specs.declared.error.NameErr.TheVariants.{Refused}
-use Rattle.ti_names.specs.Faults.{first_fault}
 use Rattle.ti_names.specs.Numbered.{number_program}
 use Rattle.ti_names.proofs.BrokenPlaces.{first_refusal}
 use Rattle.ti_names.proofs.Law.{accepted, unbroken_program, same_program}

@@ -1,7 +1,6 @@
-use Rattle.std.proofs.Common.{◌≡◌, ◌∙◌, List, map, flat_map, None, Some, ap, sym}
+use Rattle.std.proofs.Common.{◌≡◌, ◌∙◌, map, flat_map, None, ap, sym}
 use Rattle.std.specs.Option.{unwrap_or}
 use Rattle.ti_lang.specs.Trees.Statements.{stms}
-use Rattle.ti_lang.specs.Trees.Classes.{TextTree}
 use Rattle.ti_lang.specs.Trees.Views.{tree_of, class_of}
 use Rattle.ti_lang.specs.Program.Views.{numbered_class_of, numbered_method_of}
 use Rattle.ti_lang.specs.Members.{OwnMethod, methods_of, names_of}
@@ -39,5 +38,5 @@ returns-clause-parts c =
     let names_are : c.in_ok-spelled.field-0.spelled.items ≡ names_of text = c.in_ok-spelled.ensures in
     let number : unwrap_or c.in_ok-number.field-0.number 0 ≡ unwrap_or (main_number text) 0 = ap (λ o. unwrap_or o 0) c.in_ok-number.ensures.number in
     let main_is : c.match-number.main ≡ unwrap_or (main_number text) 0 =
-        elim c.match-number.branch [ in-Some w ↦ w.main-is ∙ sym (ap (λ o. unwrap_or o 0) w.in-Some.is) ∙ number | in-None w ↦ w.main-is ∙ sym (ap (λ o. unwrap_or o 0) w.in-None.is) ∙ number ] in
+    elim c.match-number.branch [ in-Some w ↦ w.main-is ∙ sym (ap (λ o. unwrap_or o 0) w.in-Some.is) ∙ number | in-None w ↦ w.main-is ∙ sym (ap (λ o. unwrap_or o 0) w.in-None.is) ∙ number ] in
     λ j. record { classes = classes_are j; methods = methods_are j; main = main_is j; names = names_are j; literals = literals_are j }

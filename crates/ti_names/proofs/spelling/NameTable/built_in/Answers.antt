@@ -1,5 +1,5 @@
 use Rattle.std.proofs.Common.{◌≡◌, ◌∙◌, ℕ, List, [], ap, codes, Result, Ok, Err, IfOk}
-use Rattle.ti_lang.specs.Members.{with_name, built_in}
+use Rattle.ti_lang.specs.Members.{with_name}
 use Rattle.ti_names.specs.declared.spelling.NameTable.{NameTable}
 use Rattle.ti_names.proofs.spelling.NameTable.built_in.Goals as goal
 

@@ -18,7 +18,7 @@ has_name names table name found b told got is = ap (λ t. is_some (lookup (bytes
 pub returns-then-is_some : goal.returns-then-is_some
 returns-then-is_some c =
     names_kept c.args.self.spelled.items c.args.name.now
-        (has_name c.args.self.spelled.items c.args.self.numbers c.args.name.now c.get.result true c.args.self.told c.get.ensures (sym c.is_some.ensures ∙ c.if-is_some.true))
+    (has_name c.args.self.spelled.items c.args.self.numbers c.args.name.now c.get.result true c.args.self.told c.get.ensures (sym c.is_some.ensures ∙ c.if-is_some.true))
 
 pub returns : goal.returns
 returns c =
