@@ -1,8 +1,8 @@
 -- What a table of names shows of the entries of its map.
-use Rattle.std.proofs.Common.{◌≡◌, ℕ, zero, suc, Bool, true, false, cond, List, [], ◌∷◌, ◌++◌, map, take, Option, Some, None, is_some, if◌then◌else◌, Bor, refl, ap, sym, ◌∙◌, subst, true≢false}
+use Rattle.std.proofs.Common.{◌≡◌, ℕ, zero, suc, Bool, true, false, cond, List, [], ◌∷◌, ◌++◌, map, take, Option, Some, None, is_some, if◌then◌else◌, Bor, refl, ap, sym, ◌∙◌, true≢false}
 use Rattle.std.specs.Map.{lookup}
 use Rattle.std.specs.Str.{bytes_eq}
-use Rattle.indexmap.specs.IndexMap.{IndexMap, get, insert_entry}
+use Rattle.indexmap.specs.IndexMap.{IndexMap, insert_entry}
 use Rattle.indexmap.proofs.CallerLemmas.{insert_entry-new}
 use Rattle.ti_names.specs.Tables.{with_first}
 
@@ -43,4 +43,4 @@ pub added : {V S : Type 0} (table : List (List ℕ × V)) (m : IndexMap (Bor (Li
 added table m k v new is absent inserted =
     let lacks : is_some (lookup (bytes_eq k.now) table) ≡ false = sym (ap (λ t. is_some (lookup (bytes_eq k.now) t)) is) ∙ ap is_some (sym (lookup_seen (bytes_eq k.now) m.entries)) ∙ absent in
     ap seen (inserted ∙ insert_entry-new same_key m k v (nothing _ absent)) ∙ append_seen m.entries k v ∙ ap (λ t. t ++ (k.now, v) ∷ []) is
-        ∙ sym (ap (λ (b : Bool). if b then table else table ++ (k.now, v) ∷ []) lacks)
+    ∙ sym (ap (λ (b : Bool). if b then table else table ++ (k.now, v) ∷ []) lacks)

@@ -1,5 +1,5 @@
 -- Where the methods of a text stand in the list of all, and which of them is `main`.
-use Rattle.std.proofs.Common.{◌≡◌, ℕ, zero, suc, ◌+◌, ◌<◌, ◌≤◌, ◌==◌, Bool, true, false, ◌&&◌, List, [], ◌∷◌, ◌++◌, length, Option, Some, None, slice_get, position, bytes_eq, codes, refl, ap, sym, ◌∙◌, subst, arith, ◌⊎◌, inl, inr}
+use Rattle.std.proofs.Common.{◌≡◌, ℕ, zero, suc, ◌+◌, ◌<◌, ◌≤◌, ◌==◌, ◌&&◌, List, [], ◌∷◌, ◌++◌, length, Some, slice_get, bytes_eq, codes, refl, ap, sym, ◌∙◌, subst, arith, ◌⊎◌, inl, inr}
 use Rattle.std.specs.Bool.{Decides}
 use Rattle.std.proofs.lemmas.Bool.Decides.{Decides-and, Decides-eqb}
 use Rattle.std.proofs.lemmas.Bool.{cases_order}
@@ -72,13 +72,13 @@ method_at n (d ∷ cs) zero j {c} m e f =
     let number : 0 + within c.members j ≡ within c.members j = omega arith in
     let class : n ≡ n + 0 = omega arith in
     ap (slice_get (methods_from n (d ∷ cs))) (number ∙ sym (ap (λ (z : ClassTree). within z.members j) same)) ∙ get_left (methods_in n d.members) (methods_from (n + 1) cs) (within d.members j) at
-        ∙ ap (λ k. Some (record { class = k; method = m })) class
+    ∙ ap (λ k. Some (record { class = k; method = m })) class
 method_at n (d ∷ cs) (suc i) j {c} m e f =
     let k = before (n + 1) cs i + within c.members j in
     let number : before n (d ∷ cs) (suc i) + within c.members j ≡ length (methods_in n d.members) + k = omega arith in
     let class : n + 1 + i ≡ n + suc i = omega arith in
     ap (slice_get (methods_from n (d ∷ cs))) number ∙ get_right (methods_in n d.members) (methods_from (n + 1) cs) k ∙ method_at (n + 1) cs i j m e f
-        ∙ ap (λ z. Some (record { class = z; method = m })) class
+    ∙ ap (λ z. Some (record { class = z; method = m })) class
 
 -- where an element of the list stands in the text
 pub record Stands (n : ℕ) (cs : List ClassTree) (k : ℕ) (own : OwnMethod) : Type 0 where
@@ -132,8 +132,9 @@ within_lt (MethodMember x ∷ ms) (suc i) (suc j) m e lt = omega (arith, within_
 same_member : (ms : List MemberTree) (i j : ℕ) (m n : MethodTree) → slice_get ms i ≡ Some (MethodMember m) → slice_get ms j ≡ Some (MethodMember n) → within ms i ≡ within ms j → i ≡ j
 same_member ms i j m n e f same =
     elim (cases_order i j) [
-        inl is ↦ is
-      | inr order ↦ elim order [ inl less ↦ absurd (omega (arith, same, within_lt ms i j m e less)) | inr more ↦ absurd (omega (arith, same, within_lt ms j i n f more)) ] ]
+      | inl is ↦ is
+      | inr order ↦ elim order [ inl less ↦ absurd (omega (arith, same, within_lt ms i j m e less)) | inr more ↦ absurd (omega (arith, same, within_lt ms j i n f more)) ]
+    ]
 
 -- a method of the text in the list of all
 pub method_stands : (text : TextTree) (i j : ℕ) {c : ClassTree} (m : MethodTree) → slice_get text i ≡ Some c → slice_get c.members j ≡ Some (MethodMember m)
@@ -156,9 +157,11 @@ pub main_method_number : (text : TextTree) (i j : ℕ) {c : ClassTree} (m : Meth
 main_method_number text i j {c} m at f =
     let number : 0 + i ≡ i = omega arith in
     let stands : slice_get (methods_of text) (before 0 text i + within c.members j) ≡ Some (record { class = i; method = m }) =
-        method_at 0 text i j m at f.stands ∙ ap (λ z. Some (record { class = z; method = m })) number in
-    (position_of_first (IsNamed i) (λ (own : OwnMethod). (own.class == i) && bytes_eq (codes "main") own.method.name) (named_test i) (methods_of text) _ (record { class = i; method = m })
-        (record { stands = stands; has = (refl, sym f.has); none_before = λ k other lt e p. nothing k other lt (method_of 0 text k other e) p }), stands)
+    method_at 0 text i j m at f.stands ∙ ap (λ z. Some (record { class = z; method = m })) number in (
+      position_of_first (IsNamed i) (λ (own : OwnMethod). (own.class == i) && bytes_eq (codes "main") own.method.name) (named_test i) (methods_of text) _ (record { class = i; method = m })
+          (record { stands = stands; has = (refl, sym f.has); none_before = λ k other lt e p. nothing k other lt (method_of 0 text k other e) p }),
+      stands,
+    )
   where
     nothing : (k : ℕ) (other : OwnMethod) → k < before 0 text i + within c.members j → Stands 0 text k other → IsNamed i other → ⊥
     nothing k other lt s p =
@@ -167,10 +170,12 @@ main_method_number text i j {c} m at f =
         let there : slice_get c.members s.member_at ≡ Some (MethodMember other.method) = subst (λ (z : ClassTree). slice_get z.members s.member_at ≡ Some (MethodMember other.method)) same s.is_member in
         let place : k ≡ before 0 text i + within c.members s.member_at = s.place ∙ (λ q. before 0 text (class q) + within (same q).members s.member_at) in
         elim (cases_order s.member_at j) [
-            inl e ↦ absurd (omega (arith, place, ap (within c.members) e))
+          | inl e ↦ absurd (omega (arith, place, ap (within c.members) e))
           | inr order ↦ elim order [
-              inl less ↦ f.none_before s.member_at (MethodMember other.method) less there (sym p.1)
-            | inr more ↦ absurd (omega (arith, place, within_le c.members j s.member_at (omega (arith, more)))) ] ]
+            | inl less ↦ f.none_before s.member_at (MethodMember other.method) less there (sym p.1)
+            | inr more ↦ absurd (omega (arith, place, within_le c.members j s.member_at (omega (arith, more))))
+          ]
+        ]
 
 -- what is the number of `main` is the place of it
 pub record MainAt (text : TextTree) (i n : ℕ) : Type 0 where
@@ -209,7 +214,7 @@ main_method_of text i n e = by (first_of_position (IsNamed i) (λ (own : OwnMeth
         nothing own f c j is_class place k (MethodMember m) lt at p =
             let number : 0 + i ≡ i = omega arith in
             let there : slice_get (methods_of text) (before 0 text i + within c.members k) ≡ Some (record { class = i; method = m }) =
-                method_at 0 text i k m is_class at ∙ ap (λ z. Some (record { class = z; method = m })) number in
+            method_at 0 text i k m is_class at ∙ ap (λ z. Some (record { class = z; method = m })) number in
             f.none_before (before 0 text i + within c.members k) (record { class = i; method = m }) (omega (arith, place, within_lt c.members k j m at lt)) there (refl, sym p)
 
 -- where the number of `main` is the place of a method, this is `main`
@@ -225,6 +230,6 @@ main_at_place text i j {c} m class at at_member is_class is_method =
     let found_class : found.class ≡ c = one_element (subst (λ z. slice_get text z ≡ Some found.class) number found.is_class) at in
     let is_main : IsMainMethod c found.member_at m = subst (λ z. IsMainMethod c found.member_at z) method (subst (λ z. IsMainMethod z found.member_at found.method) found_class found.is_main) in
     let place : within c.members found.member_at ≡ within c.members j =
-        omega (arith, found.place ∙ ap (λ z. before 0 text z + within found.class.members found.member_at) number ∙ ap (λ (z : ClassTree). before 0 text i + within z.members found.member_at) found_class) in
+    omega (arith, found.place ∙ ap (λ z. before 0 text z + within found.class.members found.member_at) number ∙ ap (λ (z : ClassTree). before 0 text i + within z.members found.member_at) found_class) in
     let member : found.member_at ≡ j = same_member c.members found.member_at j m m is_main.stands at_member place in
     (subst (λ z. IsMainClass text z c) number (subst (λ z. IsMainClass text class z) same_class main_class.1), subst (λ z. IsMainMethod c z m) member is_main)

@@ -1,9 +1,9 @@
 -- A text is no other program than that of the function.
-use Rattle.std.proofs.Common.{◌≡◌, ℕ, ◌+◌, List, [], ◌∷◌, map, length, Option, Some, None, codes, refl, ap, sym, ◌∙◌}
+use Rattle.std.proofs.Common.{◌≡◌, ℕ, List, [], ◌∷◌, map, Option, Some, codes, refl, ap, sym, ◌∙◌}
 use Rattle.std.specs.Option.{unwrap_or, option_and_then}
 use Rattle.ti_lang.specs.Trees.Types.{TypeTree}
-use Rattle.ti_lang.specs.Trees.Expressions.{Exp, Exps, RangeTree, RangeTrees, ranges_tree}
-use Rattle.ti_lang.specs.Trees.Statements.{DimsTree, InitTree, PrintTree, Stm, MaybeStm, Stms, stms}
+use Rattle.ti_lang.specs.Trees.Expressions.{Exp, Exps, RangeTree, RangeTrees}
+use Rattle.ti_lang.specs.Trees.Statements.{DimsTree, InitTree, PrintTree, Stm, MaybeStm, Stms}
 use Rattle.ti_lang.specs.Trees.Classes.{FieldTree, ParamTree, ParamsTree, ReturnTree, ResultTree, ClassTree, TextTree}
 use Rattle.ti_lang.specs.Program.Types.{NumberedType}
 use Rattle.ti_lang.specs.Program.Expressions.{NumberedExp, NumberedExps, NumberedRange, NumberedRanges, numbered_ranges}
@@ -12,8 +12,8 @@ use Rattle.ti_lang.specs.Program.Statements.{NumberedDims, NumberedInit, Numbere
 use Rattle.ti_lang.specs.Program.Statements as m
 use Rattle.ti_lang.specs.Program.Classes.{NumberedField, NumberedClass, NumberedParams, NumberedReturn, NumberedResult, NumberedMethod, NumberedProgram}
 use Rattle.ti_lang.specs.Program.Classes as p
-use Rattle.ti_lang.specs.Members.{class_named, OwnMethod, method_named, name_number}
-use Rattle.ti_lang.specs.Scopes.{numbered_type, Site, behind, body_site}
+use Rattle.ti_lang.specs.Members.{OwnMethod, method_named, name_number}
+use Rattle.ti_lang.specs.Scopes.{numbered_type, Site, body_site}
 use Rattle.ti_lang.specs.Numbering.{NumbersType, NumbersExp, NumbersExps, NumbersRange, NumbersRanges, NumbersMaybe, NumbersDims, NumbersInit, NumbersPrint, NumbersStm, NumbersMaybeStm, NumbersStms, NumbersFields, NumbersClasses, NumbersResult, NumbersParamList, NumbersParams, NumbersReturn, NumbersMethod, NumbersMethods, HasMain, Numbers}
 use Rattle.ti_names.specs.Faults.{main_number}
 use Rattle.ti_names.specs.Numbered.{number_exp, number_exps, number_range, number_ranges, number_maybe, number_dims, number_init, number_print, number_stm, number_maybe_stm, number_stms, number_list, number_fields, number_classes, number_result, number_param_list, number_params, number_return, number_method, number_methods, number_program}
@@ -32,19 +32,19 @@ mutual
   only_exp (NumbersExp.this e) = refl
   only_exp (NumbersExp.variable e) = rw e
   only_exp (NumbersExp.own_field e f) = rw (e, f)
-  only_exp (NumbersExp.call e static args) = rw (e, static) (ap (n.Call _ _) (only_exps args))
-  only_exp (NumbersExp.own_call e static args) = rw (e, static) (ap (n.OwnCall _ _) (only_exps args))
+  only_exp (NumbersExp.call {at = at} {method = method} e static args) = rw (e, static) (ap (n.Call at method) (only_exps args))
+  only_exp (NumbersExp.own_call {at = at} {method = method} e static args) = rw (e, static) (ap (n.OwnCall at method) (only_exps args))
   only_exp NumbersExp.this_proc = refl
   only_exp NumbersExp.num_procs = refl
-  only_exp (NumbersExp.point parts) = ap (n.Point _) (only_exps parts)
-  only_exp (NumbersExp.rect ranges) = ap (n.Rect _) (only_ranges ranges)
-  only_exp (NumbersExp.unary x) = ap (n.Unary _ _) (only_exp x)
-  only_exp (NumbersExp.binary x y) = let a = only_exp x in let b = only_exp y in λ i. n.Binary _ _ (a i) (b i)
-  only_exp (NumbersExp.cast to x) = let a = only_type to in let b = only_exp x in λ i. n.Cast _ (a i) (b i)
-  only_exp (NumbersExp.select e x) = rw e (ap (λ z. n.Select _ z _) (only_exp x))
-  only_exp (NumbersExp.member e x args) = let a = only_exp x in let b = only_exps args in rw e (λ i. n.Member _ (a i) _ (b i))
-  only_exp (NumbersExp.class_call e f args) = rw (e, f) (ap (n.Call _ _) (only_exps args))
-  only_exp (NumbersExp.index x parts) = let a = only_exp x in let b = only_exps parts in λ i. n.Index _ (a i) (b i)
+  only_exp (NumbersExp.point {at = at} parts) = ap (n.Point at) (only_exps parts)
+  only_exp (NumbersExp.rect {at = at} ranges) = ap (n.Rect at) (only_ranges ranges)
+  only_exp (NumbersExp.unary {at = at} {op = op} x) = ap (n.Unary at op) (only_exp x)
+  only_exp (NumbersExp.binary {at = at} {op = op} x y) = let a = only_exp x in let b = only_exp y in λ i. n.Binary at op (a i) (b i)
+  only_exp (NumbersExp.cast {at = at} to x) = let a = only_type to in let b = only_exp x in λ i. n.Cast at (a i) (b i)
+  only_exp {site} (NumbersExp.select {at = at} {name = name} e x) = rw e (ap (λ z. n.Select at z (name_number site.text name)) (only_exp x))
+  only_exp {site} (NumbersExp.member {at = at} {name = name} e x args) = let a = only_exp x in let b = only_exps args in rw e (λ i. n.Member at (a i) (name_number site.text name) (b i))
+  only_exp (NumbersExp.class_call {at = at} {method = method} e f args) = rw (e, f) (ap (n.Call at method) (only_exps args))
+  only_exp (NumbersExp.index {at = at} x parts) = let a = only_exp x in let b = only_exps parts in λ i. n.Index at (a i) (b i)
 
   pub only_exps : {site : Site} {xs : Exps} {ys : NumberedExps} → NumbersExps site xs ys → ys ≡ number_exps site xs
   only_exps NumbersExps.no_exps = refl
@@ -82,34 +82,34 @@ only_dims {site} (NumbersDims.ranges {rs = rs} {qs = qs} ranges) =
 only_init : {site : Site} {value : InitTree} {v : NumberedInit} → NumbersInit site value v → v ≡ number_init site value
 only_init (NumbersInit.value x) = ap m.Value (only_exp x)
 only_init NumbersInit.new_region = refl
-only_init (NumbersInit.new_object region class) = rw class (ap (λ z. m.NewObject _ z _) (only_maybe region))
-only_init (NumbersInit.new_grid region element dims) =
-    let a = only_maybe region in let b = only_type element in let c = only_dims dims in λ i. m.NewGrid _ (a i) (b i) _ (c i)
-only_init (NumbersInit.broadcast x y) = let a = only_exp x in let b = only_exp y in λ i. m.Broadcast _ (a i) (b i)
+only_init (NumbersInit.new_object {at = at} {class = number} region class) = rw class (ap (λ z. m.NewObject at z number) (only_maybe region))
+only_init (NumbersInit.new_grid {at = at} {dims_at = dims_at} region element dims) =
+    let a = only_maybe region in let b = only_type element in let c = only_dims dims in λ i. m.NewGrid at (a i) (b i) dims_at (c i)
+only_init (NumbersInit.broadcast {at = at} x y) = let a = only_exp x in let b = only_exp y in λ i. m.Broadcast at (a i) (b i)
 
 only_print : {site : Site} {what : PrintTree} {w : NumberedPrint} → NumbersPrint site what w → w ≡ number_print site what
 only_print NumbersPrint.nothing = refl
 only_print NumbersPrint.text = refl
 only_print (NumbersPrint.expression x) = ap m.Expression (only_exp x)
-only_print (NumbersPrint.text_and_expression x) = ap (m.TextAndExpression _) (only_exp x)
+only_print {site} (NumbersPrint.text_and_expression x) = ap (m.TextAndExpression site.literals) (only_exp x)
 
 mutual
   pub only_stm : {site : Site} {x : Stm} {y : NumberedStm} → NumbersStm site x y → y ≡ number_stm site x
   only_stm NumbersStm.empty = refl
-  only_stm (NumbersStm.declare ty fresh room value) = let a = only_type ty in let b = only_init value in λ i. m.Declare _ (a i) _ (b i)
-  only_stm (NumbersStm.assign target value) = let a = only_exp target in let b = only_init value in λ i. m.Assign _ (a i) (b i)
-  only_stm (NumbersStm.update target x) = let a = only_exp target in let b = only_exp x in λ i. m.Update _ _ (a i) (b i)
-  only_stm (NumbersStm.step target) = ap (m.Step _ _) (only_exp target)
+  only_stm (NumbersStm.declare {site = site} {at = at} ty fresh room v) = let a = only_type ty in let b = only_init v in λ i. m.Declare at (a i) site.variables (b i)
+  only_stm (NumbersStm.assign {at = at} target v) = let a = only_exp target in let b = only_init v in λ i. m.Assign at (a i) (b i)
+  only_stm (NumbersStm.update {at = at} {op = op} target x) = let a = only_exp target in let b = only_exp x in λ i. m.Update at op (a i) (b i)
+  only_stm (NumbersStm.step {at = at} {op = op} target) = ap (m.Step at op) (only_exp target)
   only_stm (NumbersStm.call x) = ap m.Call (only_exp x)
-  only_stm (NumbersStm.print what) = ap (m.Print _) (only_print what)
+  only_stm (NumbersStm.print {at = at} what) = ap (m.Print at) (only_print what)
   only_stm NumbersStm.barrier = refl
   only_stm (NumbersStm.block body) = ap m.Block (only_stms body)
-  only_stm (NumbersStm.if_alone d x) = let a = only_exp d in let b = only_stm x in λ i. m.If _ (a i) (b i)
-  only_stm (NumbersStm.if_else d x y) = let a = only_exp d in let b = only_stm x in let c = only_stm y in λ i. m.IfElse _ (a i) (b i) (c i)
-  only_stm (NumbersStm.while d x) = let a = only_exp d in let b = only_stm x in λ i. m.While _ (a i) (b i)
-  only_stm (NumbersStm.for first d update body) =
-      let a = only_maybe_stm first in let b = only_maybe d in let c = only_maybe_stm update in let e = only_stm body in λ i. m.For _ (a i) (b i) (c i) (e i)
-  only_stm (NumbersStm.foreach fresh room d x) = let a = only_exp d in let b = only_stm x in λ i. m.Foreach _ _ (a i) (b i)
+  only_stm (NumbersStm.if_alone {at = at} d x) = let a = only_exp d in let b = only_stm x in λ i. m.If at (a i) (b i)
+  only_stm (NumbersStm.if_else {at = at} d x y) = let a = only_exp d in let b = only_stm x in let c = only_stm y in λ i. m.IfElse at (a i) (b i) (c i)
+  only_stm (NumbersStm.while {at = at} d x) = let a = only_exp d in let b = only_stm x in λ i. m.While at (a i) (b i)
+  only_stm (NumbersStm.for {at = at} first d update body) =
+      let a = only_maybe_stm first in let b = only_maybe d in let c = only_maybe_stm update in let e = only_stm body in λ i. m.For at (a i) (b i) (c i) (e i)
+  only_stm (NumbersStm.foreach {site = site} {at = at} fresh room d x) = let a = only_exp d in let b = only_stm x in λ i. m.Foreach at site.variables (a i) (b i)
 
   pub only_maybe_stm : {site : Site} {x : MaybeStm} {y : MaybeNumbered} → NumbersMaybeStm site x y → y ≡ number_maybe_stm site x
   only_maybe_stm NumbersMaybeStm.no_stm = refl
@@ -131,8 +131,8 @@ listed_stms (x ∷ xs) = ap (λ ys. x ∷ ys) (listed_stms xs)
 
 only_fields : {text : TextTree} {class number : ℕ} {fs : List FieldTree} {gs : List NumberedField} → NumbersFields text class number fs gs → gs ≡ number_fields text fs
 only_fields NumbersFields.none = refl
-only_fields (NumbersFields.more {f = f} once ty rest) =
-    let a = only_type ty in let b = only_fields rest in λ i. record { modifiers = f.modifiers; ty = a i; name = name_number _ f.name } ∷ b i
+only_fields {text} (NumbersFields.more {f = f} once ty rest) =
+    let a = only_type ty in let b = only_fields rest in λ i. record { modifiers = f.modifiers; ty = a i; name = name_number text f.name } ∷ b i
 
 only_classes : {text : TextTree} {number : ℕ} {cs : List ClassTree} {ds : List NumberedClass} → NumbersClasses text number cs ds → ds ≡ number_classes text cs
 only_classes NumbersClasses.none = refl
@@ -157,9 +157,9 @@ only_return NumbersReturn.none = refl
 only_return (NumbersReturn.some {r = r} value) = ap (λ v. Some (record { place = r.place; value = v })) (only_maybe value)
 
 only_method : {site : Site} {own : OwnMethod} {method : NumberedMethod} → NumbersMethod site own method → method ≡ number_method site own
-only_method {site} {own} (NumbersMethod.method {body = body} result params statements last) =
+only_method {site} {own} (NumbersMethod.method {body = body} result ps statements last) =
     let a = only_result result in
-    let b = only_params params in
+    let b = only_params ps in
     let rows : numbered_stms body ≡ numbered_stms (number_list (body_site site own.method.params) own.method.body) = only_stms statements ∙ number_stms_list (body_site site own.method.params) own.method.body in
     let c : body ≡ number_list (body_site site own.method.params) own.method.body = sym (listed_stms body) ∙ ap stm_list rows ∙ listed_stms _ in
     let d = only_return last in
@@ -177,7 +177,7 @@ only_method {site} {own} (NumbersMethod.method {body = body} result params state
 
 only_methods : {text : TextTree} {number before : ℕ} {ms : List OwnMethod} {ns : List NumberedMethod} → NumbersMethods text number before ms ns → ns ≡ number_methods text before ms
 only_methods NumbersMethods.none = refl
-only_methods (NumbersMethods.more once method rest) = let a = only_method method in let b = only_methods rest in λ i. a i ∷ b i
+only_methods (NumbersMethods.more once m rest) = let a = only_method m in let b = only_methods rest in λ i. a i ∷ b i
 
 pub main_is : {text : TextTree} {number : ℕ} → HasMain text number → main_number text ≡ Some number
 main_is {text} main = ap (λ c. option_and_then (λ (class : ℕ). method_named text class (codes "main")) c) main.is_class ∙ main.is_method

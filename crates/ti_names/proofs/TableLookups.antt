@@ -1,13 +1,13 @@
 -- What the tables of a text say of a name is what the text says.
-use Rattle.std.proofs.Common.{◌≡◌, ℕ, zero, suc, ◌+◌, ◌<◌, ◌≤◌, ◌==◌, Bool, true, false, cond, not, ◌&&◌, ◌||◌, if◌then◌else◌, List, [], ◌∷◌, ◌++◌, map, length, Option, Some, None, is_some, slice_get, position, bytes_eq, refl, ap, sym, ◌∙◌, subst, true≢false, arith}
+use Rattle.std.proofs.Common.{◌≡◌, ℕ, zero, suc, ◌+◌, ◌<◌, ◌==◌, Bool, true, false, cond, not, ◌&&◌, ◌||◌, if◌then◌else◌, List, [], ◌∷◌, ◌++◌, map, length, Option, Some, None, is_some, slice_get, position, bytes_eq, refl, ap, sym, ◌∙◌, true≢false, arith}
 use Rattle.std.specs.Map.{lookup}
 use Rattle.std.specs.List.{list_any, position_from, position_or_len}
 use Rattle.std.specs.Option.{option_or, option_map, option_map_or, option_and_then, unwrap_or}
 use Rattle.std.proofs.lemmas.Bool.Decides.{nat_tests}
 use Rattle.std.proofs.lemmas.Iterator.Adapters.{position_from-zero}
 use Rattle.std.proofs.lemmas.Slice.Eq.{bytes_eq-Decides}
-use Rattle.ti_lang.specs.Trees.Classes.{FieldTree, MethodTree, MemberTree, FieldMember, MethodMember, ClassTree, TextTree}
-use Rattle.ti_lang.specs.Members.{class_named, fields_in, fields_of, field_named, OwnMethod, methods_in, methods_from, methods_of, method_named, is_static, is_static_method, names_of, name_number, with_name}
+use Rattle.ti_lang.specs.Trees.Classes.{FieldTree, MemberTree, FieldMember, MethodMember, ClassTree, TextTree}
+use Rattle.ti_lang.specs.Members.{class_named, fields_in, field_named, OwnMethod, methods_in, methods_from, methods_of, method_named, is_static, is_static_method, names_of, name_number, with_name}
 use Rattle.ti_names.specs.Tables.{with_first, with_numbered, numbered, found_in, class_names, field_names, method_names, class_table, field_tables, method_tables, static_table}
 
 -- ---- lists of pairs
@@ -116,7 +116,7 @@ later_position class m name n [] lt = refl
 later_position class m name n (c ∷ cs) lt =
     let apart : (m == class) ≡ false = grind (arith, nat_tests, lt) in
     position_append (test class name) n (methods_in m c.members) (methods_from (m + 1) cs)
-        ∙ (λ j. option_or (other_position class m name n c.members apart j) (later_position class (m + 1) name (n + length (methods_in m c.members)) cs (omega arith) j))
+    ∙ (λ j. option_or (other_position class m name n c.members apart j) (later_position class (m + 1) name (n + length (methods_in m c.members)) cs (omega arith) j))
 
 length_names : (class : ℕ) (ms : List MemberTree) → length (method_names ms) ≡ length (methods_in class ms)
 length_names class [] = refl
@@ -132,15 +132,15 @@ methods_told_from m n i [] name = refl
 methods_told_from m n zero (c ∷ cs) name =
     let here : m + 0 ≡ m = omega arith in
     lookup_numbered name [] n (method_names c.members) ∙ own_position m name n c.members ∙ sym (or_none _)
-        ∙ sym (ap (option_or (position_from (test m name) n (methods_in m c.members))) (later_position m (m + 1) name (n + length (methods_in m c.members)) cs (omega arith)))
-        ∙ sym (position_append (test m name) n (methods_in m c.members) (methods_from (m + 1) cs)) ∙ ap (λ k. position_from (test k name) n (methods_from m (c ∷ cs))) (sym here)
+    ∙ sym (ap (option_or (position_from (test m name) n (methods_in m c.members))) (later_position m (m + 1) name (n + length (methods_in m c.members)) cs (omega arith)))
+    ∙ sym (position_append (test m name) n (methods_in m c.members) (methods_from (m + 1) cs)) ∙ ap (λ k. position_from (test k name) n (methods_from m (c ∷ cs))) (sym here)
 methods_told_from m n (suc i) (c ∷ cs) name =
     let apart : (m == m + suc i) ≡ false = grind (arith, nat_tests) in
     let class : m + 1 + i ≡ m + suc i = omega arith in
     methods_told_from (m + 1) (n + length (method_names c.members)) i cs name
-        ∙ (λ j. position_from (test (class j) name) (n + length_names m c.members j) (methods_from (m + 1) cs))
-        ∙ sym (ap (λ o. option_or o (position_from (test (m + suc i) name) (n + length (methods_in m c.members)) (methods_from (m + 1) cs))) (other_position (m + suc i) m name n c.members apart))
-        ∙ sym (position_append (test (m + suc i) name) n (methods_in m c.members) (methods_from (m + 1) cs))
+    ∙ (λ j. position_from (test (class j) name) (n + length_names m c.members j) (methods_from (m + 1) cs))
+    ∙ sym (ap (λ o. option_or o (position_from (test (m + suc i) name) (n + length (methods_in m c.members)) (methods_from (m + 1) cs))) (other_position (m + suc i) m name n c.members apart))
+    ∙ sym (position_append (test (m + suc i) name) n (methods_in m c.members) (methods_from (m + 1) cs))
 
 pub method_told : (text : TextTree) (class : ℕ) (name : List ℕ) → found_in (method_tables 0 text) class name ≡ method_named text class name
 method_told text class name =

@@ -1,28 +1,22 @@
 -- Where nothing is broken, the function gives a program that the text is.
-use Rattle.std.proofs.Common.{◌≡◌, ℕ, ◌+◌, ◌<◌, ◌≤◌, Bool, true, false, not, ◌&&◌, ◌||◌, nat_le, if◌then◌else◌, List, [], ◌∷◌, ◌++◌, map, length, Option, Some, None, is_some, is_none, refl, ap, sym, ◌∙◌, subst, arith}
-use Rattle.std.specs.Option.{unwrap_or}
+use Rattle.std.proofs.Common.{◌≡◌, ℕ, Bool, true, false, ◌&&◌, if◌then◌else◌, List, [], ◌++◌, Option, Some, None, is_some, is_none, refl}
 use Rattle.ti_base.specs.declared.place.Place.{Place}
 use Rattle.ti_lang.specs.declared.tree.types.Base.{Base}
 use Rattle.ti_lang.specs.declared.tree.types.Base.TheVariants as b
 use Rattle.ti_lang.specs.Trees.Types.{TypeTree}
 use Rattle.ti_lang.specs.Trees.Expressions.{Exp, Exps, RangeTree, RangeTrees, ranges_tree}
 use Rattle.ti_lang.specs.Trees.Expressions as t
-use Rattle.ti_lang.specs.Trees.Statements.{DimsTree, InitTree, PrintTree, Stm, MaybeStm, Stms, stms}
-use Rattle.ti_lang.specs.Trees.Statements as s
-use Rattle.ti_lang.specs.Program.Types.{VariableUse, Foreach}
+use Rattle.ti_lang.specs.Program.Types.{VariableUse}
 use Rattle.ti_lang.specs.Program.Expressions.{NumberedExp, NumberedExps}
 use Rattle.ti_lang.specs.Program.Expressions as n
-use Rattle.ti_lang.specs.Program.Statements.{NumberedStm, NumberedStms, numbered_stms}
-use Rattle.ti_lang.specs.Program.Statements as m
-use Rattle.ti_lang.specs.Members.{class_named, is_static_method, name_number}
-use Rattle.ti_lang.specs.Scopes.{numbered_type, Site, declares, past, past_maybe, behind, behind_maybe, variable_named, own_field_named, own_method_named, static_method_named, class_before_dot, most_variables, IsFresh, HasRoom}
-use Rattle.ti_lang.specs.Nodes.{base_nodes, type_nodes, exp_nodes, exps_nodes, range_nodes, ranges_nodes, maybe_nodes, dims_nodes, init_nodes, print_nodes, stm_nodes, maybe_stm_nodes, stms_nodes, node, VariableName}
+use Rattle.ti_lang.specs.Members.{class_named, is_static_method}
+use Rattle.ti_lang.specs.Scopes.{numbered_type, Site, variable_named, own_field_named, own_method_named, static_method_named, class_before_dot}
+use Rattle.ti_lang.specs.Nodes.{base_nodes, type_nodes, exp_nodes, exps_nodes, range_nodes, ranges_nodes, maybe_nodes}
 use Rattle.ti_lang.specs.Numbering.{IsKnownBase, NumbersType, known, NumbersExp, int, truth, null, this, variable, own_field, call, own_call, this_proc, num_procs, point, rect, unary, binary, cast, select, member, class_call, index, NumbersExps, no_exps, more_exps, NumbersRange, plain, stepped, NumbersRanges, no_ranges, more_ranges, NumbersMaybe}
-use Rattle.ti_rules.specs.declared.rule.Rule.TheVariants.{N1, N2, N4}
-use Rattle.ti_names.specs.Faults.{fault_if, lacks_method, written_faults}
-use Rattle.ti_names.specs.Numbered.{named, called, class_called, selected, member_called, number_exp, number_exps, number_range, number_ranges, number_maybe, number_dims, number_init, number_print, number_stm, number_maybe_stm, number_stms, number_list}
-use Rattle.ti_names.proofs.CleanNodes.{Clean, clean_left, clean_right, unbroken}
-use Rattle.ti_names.proofs.Lists.{number_ranges_list}
+use Rattle.ti_rules.specs.declared.rule.Rule.TheVariants.{N1}
+use Rattle.ti_names.specs.Faults.{fault_if, lacks_method}
+use Rattle.ti_names.specs.Numbered.{named, called, class_called, selected, member_called, number_exp, number_exps, number_range, number_ranges, number_maybe}
+use Rattle.ti_names.proofs.CleanNodes.{Clean, first_clean, rest_clean, clean_left, clean_right}
 
 -- ---- types
 
@@ -37,7 +31,7 @@ known_base site (b.Point at n) c = tt
 known_base site (b.RectDomain at n) c = tt
 known_base site (b.Domain at n) c = tt
 known_base site (b.SharedRegion at) c = tt
-known_base site (b.Named at name) c = known_class site.text at name (class_named site.text name) refl c.0
+known_base site (b.Named at name) c = known_class site.text at name (class_named site.text name) refl (first_clean c)
 
 pub total_type : (site : Site) (type : TypeTree) → Clean (type_nodes site type) → NumbersType site.text type (numbered_type site.text type)
 total_type site type c = known (known_base site type.base c)
@@ -84,36 +78,36 @@ mutual
   total_exp site (t.Int at i) c = int
   total_exp site (t.Truth at b) c = truth
   total_exp site (t.Null at) c = null
-  total_exp site (t.This at) c = total_this site at site.static refl c.0
-  total_exp site (t.Name at name) c = total_name site at name (variable_named site name) (own_field_named site name) refl refl c.0
-  total_exp site (t.Call at name args) c = total_call site at name args (own_method_named site name) refl c.0 (total_exps site args c.1)
+  total_exp site (t.This at) c = total_this site at site.static refl (first_clean c)
+  total_exp site (t.Name at name) c = total_name site at name (variable_named site name) (own_field_named site name) refl refl (first_clean c)
+  total_exp site (t.Call at name args) c = total_call site at name args (own_method_named site name) refl (first_clean c) (total_exps site args (rest_clean c))
   total_exp site (t.ThisProc at) c = this_proc
   total_exp site (t.NumProcs at) c = num_procs
   total_exp site (t.Point at parts) c = point (total_exps site parts c)
   total_exp site (t.Rect at ranges) c = rect (total_ranges site ranges c)
   total_exp site (t.Unary at op x) c = unary (total_exp site x c)
-  total_exp site (t.Binary at op x y) c = binary (total_exp site x (clean_left (exp_nodes site x) c)) (total_exp site y (clean_right (exp_nodes site x) c))
-  total_exp site (t.Cast at to x) c = cast (total_type site to (clean_left (type_nodes site to) c)) (total_exp site x (clean_right (type_nodes site to) c))
-  total_exp site (t.Select at x name) c = total_select site at x name (class_before_dot site x) refl c.0 c.1 (total_exp site x)
+  total_exp site (t.Binary at op x y) c = binary (total_exp site x (clean_left (exp_nodes site x) _ c)) (total_exp site y (clean_right (exp_nodes site x) _ c))
+  total_exp site (t.Cast at to x) c = cast (total_type site to (clean_left (type_nodes site to) _ c)) (total_exp site x (clean_right (type_nodes site to) _ c))
+  total_exp site (t.Select at x name) c = total_select site at x name (class_before_dot site x) refl (first_clean c) (rest_clean c) (total_exp site x)
   total_exp site (t.Member at x name args) c =
       let receiver = if is_some (class_before_dot site x) then [] else exp_nodes site x in
-      total_member site at x name args (class_before_dot site x) refl c.0 (clean_left receiver c.1) (total_exp site x) (total_exps site args (clean_right receiver c.1))
-  total_exp site (t.Index at x parts) c = index (total_exp site x (clean_left (exp_nodes site x) c)) (total_exps site parts (clean_right (exp_nodes site x) c))
+      total_member site at x name args (class_before_dot site x) refl (first_clean c) (clean_left receiver _ (rest_clean c)) (total_exp site x) (total_exps site args (clean_right receiver _ (rest_clean c)))
+  total_exp site (t.Index at x parts) c = index (total_exp site x (clean_left (exp_nodes site x) _ c)) (total_exps site parts (clean_right (exp_nodes site x) _ c))
 
   pub total_exps : (site : Site) (xs : Exps) → Clean (exps_nodes site xs) → NumbersExps site xs (number_exps site xs)
   total_exps site t.NoExp c = no_exps
-  total_exps site (t.MoreExp x rest) c = more_exps (total_exp site x (clean_left (exp_nodes site x) c)) (total_exps site rest (clean_right (exp_nodes site x) c))
+  total_exps site (t.MoreExp x rest) c = more_exps (total_exp site x (clean_left (exp_nodes site x) _ c)) (total_exps site rest (clean_right (exp_nodes site x) _ c))
 
   pub total_range : (site : Site) (r : RangeTree) → Clean (range_nodes site r) → NumbersRange site r (number_range site r)
-  total_range site (t.Plain low high) c = plain (total_exp site low (clean_left (exp_nodes site low) c)) (total_exp site high (clean_right (exp_nodes site low) c))
+  total_range site (t.Plain low high) c = plain (total_exp site low (clean_left (exp_nodes site low) _ c)) (total_exp site high (clean_right (exp_nodes site low) _ c))
   total_range site (t.Stepped low high step) c =
-      let both = clean_left (exp_nodes site low ++ exp_nodes site high) c in
-      stepped (total_exp site low (clean_left (exp_nodes site low) both)) (total_exp site high (clean_right (exp_nodes site low) both))
-          (total_exp site step (clean_right (exp_nodes site low ++ exp_nodes site high) c))
+      let both = clean_left (exp_nodes site low ++ exp_nodes site high) _ c in
+      stepped (total_exp site low (clean_left (exp_nodes site low) _ both)) (total_exp site high (clean_right (exp_nodes site low) _ both))
+      (total_exp site step (clean_right (exp_nodes site low ++ exp_nodes site high) _ c))
 
   pub total_ranges : (site : Site) (rs : RangeTrees) → Clean (ranges_nodes site rs) → NumbersRanges site rs (number_ranges site rs)
   total_ranges site t.NoRange c = no_ranges
-  total_ranges site (t.MoreRange r rest) c = more_ranges (total_range site r (clean_left (range_nodes site r) c)) (total_ranges site rest (clean_right (range_nodes site r) c))
+  total_ranges site (t.MoreRange r rest) c = more_ranges (total_range site r (clean_left (range_nodes site r) _ c)) (total_ranges site rest (clean_right (range_nodes site r) _ c))
 
 pub total_maybe : (site : Site) (x : Option Exp) → Clean (maybe_nodes site x) → NumbersMaybe site x (number_maybe site x)
 total_maybe site None c = NumbersMaybe.none

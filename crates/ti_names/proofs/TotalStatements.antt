@@ -1,24 +1,21 @@
 -- Where nothing is broken, the function gives statements that those of the text are.
-use Rattle.std.proofs.Common.{◌≡◌, ℕ, ◌<◌, ◌≤◌, Bool, true, false, nat_le, if◌then◌else◌, List, [], ◌∷◌, ◌++◌, map, length, Option, Some, None, is_some, is_none, refl, ap, sym, ◌∙◌, subst, arith}
+use Rattle.std.proofs.Common.{◌≡◌, ℕ, Bool, true, false, nat_le, List, [], ◌∷◌, ◌++◌, length, Option, Some, None, is_some, refl, ap, sym, ◌∙◌, arith}
 use Rattle.std.proofs.lemmas.Bool.Decides.{nat_tests}
 use Rattle.std.specs.Option.{unwrap_or}
 use Rattle.ti_base.specs.declared.place.Place.{Place}
-use Rattle.ti_lang.specs.Trees.Types.{TypeTree}
-use Rattle.ti_lang.specs.Trees.Expressions.{Exp, RangeTree, ranges_tree}
-use Rattle.ti_lang.specs.Trees.Expressions as t
+use Rattle.ti_lang.specs.Trees.Expressions.{Exp, ranges_tree}
 use Rattle.ti_lang.specs.Trees.Statements.{DimsTree, InitTree, PrintTree, Stm, MaybeStm, Stms, stms}
 use Rattle.ti_lang.specs.Trees.Statements as s
 use Rattle.ti_lang.specs.Program.Types.{VariableUse, Foreach}
-use Rattle.ti_lang.specs.Program.Statements.{numbered_stms}
-use Rattle.ti_lang.specs.Program.Statements as m
 use Rattle.ti_lang.specs.Members.{class_named}
 use Rattle.ti_lang.specs.Scopes.{Site, declares, past, past_maybe, behind, behind_maybe, variable_named, most_variables, IsFresh, HasRoom}
-use Rattle.ti_lang.specs.Nodes.{type_nodes, exp_nodes, ranges_nodes, maybe_nodes, dims_nodes, init_nodes, print_nodes, stm_nodes, maybe_stm_nodes, stms_nodes, node, VariableName, ClassUse}
+use Rattle.ti_lang.specs.Nodes.{type_nodes, exp_nodes, maybe_nodes, dims_nodes, init_nodes, print_nodes, stm_nodes, maybe_stm_nodes, stms_nodes, node, VariableName}
 use Rattle.ti_lang.specs.Numbering.{NumbersDims, NumbersInit, NumbersPrint, NumbersStm, NumbersMaybeStm, NumbersStms}
-use Rattle.ti_rules.specs.declared.rule.Rule.TheVariants.{N1, N2, N4}
+use Rattle.ti_rules.specs.declared.rule.Rule.TheVariants.{N2, N4}
+use Rattle.ti_rules.specs.declared.refusal.Refusal.{Refusal}
 use Rattle.ti_names.specs.Faults.{fault_if}
-use Rattle.ti_names.specs.Numbered.{number_range, number_dims, number_init, number_print, number_stm, number_maybe_stm, number_stms, number_list}
-use Rattle.ti_names.proofs.CleanNodes.{Clean, clean_left, clean_right}
+use Rattle.ti_names.specs.Numbered.{number_dims, number_init, number_print, number_stm, number_maybe_stm, number_stms}
+use Rattle.ti_names.proofs.CleanNodes.{Clean, first_clean, rest_clean, clean_left, clean_right}
 use Rattle.ti_names.proofs.Lists.{number_ranges_list}
 use Rattle.ti_names.proofs.Total.{known_class, total_type, total_exp, total_ranges, total_maybe}
 
@@ -38,13 +35,13 @@ pub total_init : (site : Site) (value : InitTree) → Clean (init_nodes site val
 total_init site (s.Value x) c = NumbersInit.value (total_exp site x c)
 total_init site (s.NewRegion at) c = NumbersInit.new_region
 total_init site (s.NewObject at region name_at name) c =
-    let class = (clean_right (maybe_nodes site region) c).0 in
-    total_object site at name_at region name (clean_left (maybe_nodes site region) c) (known_class site.text name_at name (class_named site.text name) refl class)
+    let class = first_clean (clean_right (maybe_nodes site region) _ c) in
+    total_object site at name_at region name (clean_left (maybe_nodes site region) _ c) (known_class site.text name_at name (class_named site.text name) refl class)
 total_init site (s.NewGrid at region element dims_at dims) c =
-    let both = clean_left (maybe_nodes site region ++ type_nodes site element) c in
-    NumbersInit.new_grid (total_maybe site region (clean_left (maybe_nodes site region) both)) (total_type site element (clean_right (maybe_nodes site region) both))
-        (total_dims site dims (clean_right (maybe_nodes site region ++ type_nodes site element) c))
-total_init site (s.Broadcast at x root) c = NumbersInit.broadcast (total_exp site x (clean_left (exp_nodes site x) c)) (total_exp site root (clean_right (exp_nodes site x) c))
+    let both = clean_left (maybe_nodes site region ++ type_nodes site element) _ c in
+    NumbersInit.new_grid (total_maybe site region (clean_left (maybe_nodes site region) _ both)) (total_type site element (clean_right (maybe_nodes site region) _ both))
+    (total_dims site dims (clean_right (maybe_nodes site region ++ type_nodes site element) _ c))
+total_init site (s.Broadcast at x root) c = NumbersInit.broadcast (total_exp site x (clean_left (exp_nodes site x) _ c)) (total_exp site root (clean_right (exp_nodes site x) _ c))
 
 total_print : (site : Site) (what : PrintTree) → Clean (print_nodes site what) → NumbersPrint site what (number_print site what)
 total_print site s.Nothing c = NumbersPrint.nothing
@@ -54,11 +51,11 @@ total_print site (s.TextAndExpression text x) c = NumbersPrint.text_and_expressi
 
 -- ---- declarations
 
-fresh : (v : Option VariableUse) {at : Place} (rest : List _) → fault_if (is_some v) N2 at ++ rest ≡ [] → v ≡ None
-fresh None rest none = refl
-fresh (Some v) rest none = cc
+fresh : (v : Option VariableUse) (at : Place) (rest : List Refusal) → fault_if (is_some v) N2 at ++ rest ≡ [] → v ≡ None
+fresh None at rest none = refl
+fresh (Some v) at rest none = cc
 
-room : (site : Site) (at : Place) (first : List _) → first ++ fault_if (nat_le most_variables (length site.scope)) N4 at ≡ [] → HasRoom site
+room : (site : Site) (at : Place) (first : List Refusal) → first ++ fault_if (nat_le most_variables (length site.scope)) N4 at ≡ [] → HasRoom site
 room site at [] none = by (nat_le most_variables (length site.scope)) refl none
   where
     by : (b : Bool) → nat_le most_variables (length site.scope) ≡ b → fault_if b N4 at ≡ [] → HasRoom site
@@ -67,10 +64,10 @@ room site at [] none = by (nat_le most_variables (length site.scope)) refl none
 room site at (f ∷ rest) none = cc
 
 pub fresh_variable : (site : Site) (at : Place) (name : List ℕ) → Clean (node site (VariableName at name) ∷ []) → IsFresh site name
-fresh_variable site at name c = fresh (variable_named site name) (fault_if (nat_le most_variables (length site.scope)) N4 at) c.0
+fresh_variable site at name c = fresh (variable_named site name) at (fault_if (nat_le most_variables (length site.scope)) N4 at) (first_clean c)
 
 pub room_for_variable : (site : Site) (at : Place) (name : List ℕ) → Clean (node site (VariableName at name) ∷ []) → HasRoom site
-room_for_variable site at name c = room site at (fault_if (is_some (variable_named site name)) N2 at) c.0
+room_for_variable site at name c = room site at (fault_if (is_some (variable_named site name)) N2 at) (first_clean c)
 
 -- ---- statements
 
@@ -79,35 +76,35 @@ mutual
   total_stm site s.Empty c = NumbersStm.empty
   total_stm site (s.Declare at ty name value) c =
       let head = type_nodes site ty ++ node site (VariableName at name) ∷ [] in
-      let both = clean_left head c in
-      let variable = clean_right (type_nodes site ty) both in
-      NumbersStm.declare (total_type site ty (clean_left (type_nodes site ty) both)) (fresh_variable site at name variable) (room_for_variable site at name variable)
-          (total_init site value (clean_right head c))
-  total_stm site (s.Assign at target value) c = NumbersStm.assign (total_exp site target (clean_left (exp_nodes site target) c)) (total_init site value (clean_right (exp_nodes site target) c))
-  total_stm site (s.Update at op target x) c = NumbersStm.update (total_exp site target (clean_left (exp_nodes site target) c)) (total_exp site x (clean_right (exp_nodes site target) c))
+      let both = clean_left head _ c in
+      let variable = clean_right (type_nodes site ty) _ both in
+      NumbersStm.declare (total_type site ty (clean_left (type_nodes site ty) _ both)) (fresh_variable site at name variable) (room_for_variable site at name variable)
+      (total_init site value (clean_right head _ c))
+  total_stm site (s.Assign at target value) c = NumbersStm.assign (total_exp site target (clean_left (exp_nodes site target) _ c)) (total_init site value (clean_right (exp_nodes site target) _ c))
+  total_stm site (s.Update at op target x) c = NumbersStm.update (total_exp site target (clean_left (exp_nodes site target) _ c)) (total_exp site x (clean_right (exp_nodes site target) _ c))
   total_stm site (s.Step at op target) c = NumbersStm.step (total_exp site target c)
   total_stm site (s.Call x) c = NumbersStm.call (total_exp site x c)
   total_stm site (s.Print at what) c = NumbersStm.print (total_print site what c)
   total_stm site (s.Barrier at) c = NumbersStm.barrier
   total_stm site (s.Block body) c = NumbersStm.block (total_stms site body c)
-  total_stm site (s.If at d x) c = NumbersStm.if_alone (total_exp site d (clean_left (exp_nodes site d) c)) (total_stm site x (clean_right (exp_nodes site d) c))
+  total_stm site (s.If at d x) c = NumbersStm.if_alone (total_exp site d (clean_left (exp_nodes site d) _ c)) (total_stm site x (clean_right (exp_nodes site d) _ c))
   total_stm site (s.IfElse at d x y) c =
       let head = exp_nodes site d ++ stm_nodes site x in
-      let both = clean_left head c in
-      NumbersStm.if_else (total_exp site d (clean_left (exp_nodes site d) both)) (total_stm site x (clean_right (exp_nodes site d) both)) (total_stm (past site x) y (clean_right head c))
-  total_stm site (s.While at d body) c = NumbersStm.while (total_exp site d (clean_left (exp_nodes site d) c)) (total_stm site body (clean_right (exp_nodes site d) c))
+      let both = clean_left head _ c in
+      NumbersStm.if_else (total_exp site d (clean_left (exp_nodes site d) _ both)) (total_stm site x (clean_right (exp_nodes site d) _ both)) (total_stm (past site x) y (clean_right head _ c))
+  total_stm site (s.While at d body) c = NumbersStm.while (total_exp site d (clean_left (exp_nodes site d) _ c)) (total_stm site body (clean_right (exp_nodes site d) _ c))
   total_stm site (s.For at first d update body) c =
       let inside = behind_maybe site first in
       let two = maybe_stm_nodes site first ++ maybe_nodes inside d in
       let three = two ++ maybe_stm_nodes inside update in
-      let both = clean_left two (clean_left three c) in
-      NumbersStm.for (total_maybe_stm site first (clean_left (maybe_stm_nodes site first) both)) (total_maybe inside d (clean_right (maybe_stm_nodes site first) both))
-          (total_maybe_stm inside update (clean_right two (clean_left three c))) (total_stm (past_maybe inside update) body (clean_right three c))
+      let both = clean_left two _ (clean_left three _ c) in
+      NumbersStm.for (total_maybe_stm site first (clean_left (maybe_stm_nodes site first) _ both)) (total_maybe inside d (clean_right (maybe_stm_nodes site first) _ both))
+      (total_maybe_stm inside update (clean_right two _ (clean_left three _ c))) (total_stm (past_maybe inside update) body (clean_right three _ c))
   total_stm site (s.Foreach at name_at name domain body) c =
       let head = node site (VariableName name_at name) ∷ exp_nodes site domain in
-      let both = clean_left head c in
-      NumbersStm.foreach (fresh_variable site name_at name (both.0, tt)) (room_for_variable site name_at name (both.0, tt)) (total_exp site domain both.1)
-          (total_stm (declares site name Foreach) body (clean_right head c))
+      let both = clean_left head _ c in
+      NumbersStm.foreach (fresh_variable site name_at name (Clean.more_nodes (first_clean both) Clean.no_nodes)) (room_for_variable site name_at name (Clean.more_nodes (first_clean both) Clean.no_nodes)) (total_exp site domain (rest_clean both))
+      (total_stm (declares site name Foreach) body (clean_right head _ c))
 
   pub total_maybe_stm : (site : Site) (x : MaybeStm) → Clean (maybe_stm_nodes site x) → NumbersMaybeStm site x (number_maybe_stm site x)
   total_maybe_stm site s.NoStm c = NumbersMaybeStm.no_stm
@@ -115,4 +112,4 @@ mutual
 
   pub total_stms : (site : Site) (xs : Stms) → Clean (stms_nodes site xs) → NumbersStms site xs (number_stms site xs)
   total_stms site s.Nil c = NumbersStms.nil
-  total_stms site (s.Cons x rest) c = NumbersStms.cons (total_stm site x (clean_left (stm_nodes site x) c)) (total_stms (behind site x) rest (clean_right (stm_nodes site x) c))
+  total_stms site (s.Cons x rest) c = NumbersStms.cons (total_stm site x (clean_left (stm_nodes site x) _ c)) (total_stms (behind site x) rest (clean_right (stm_nodes site x) _ c))

@@ -1,5 +1,5 @@
 -- The program of a text as a function. What names nothing becomes some program all the same.
-use Rattle.std.specs.Prelude.{ℕ, ◌+◌, if◌then◌else◌, List, [], ◌∷◌, ◌++◌, map, length, Option, Some, None, is_some}
+use Rattle.std.specs.Prelude.{ℕ, ◌+◌, if◌then◌else◌, List, [], ◌∷◌, map, length, Option, Some, None}
 use Rattle.std.specs.Option.{unwrap_or}
 use Rattle.ti_base.specs.declared.place.Place.{Place}
 use Rattle.ti_lang.specs.Trees.Views.{maybe_of}
@@ -17,7 +17,7 @@ use Rattle.ti_lang.specs.Program.Statements as m
 use Rattle.ti_lang.specs.Program.Classes.{NumberedField, NumberedClass, NumberedParams, NumberedReturn, NumberedResult, NumberedMethod, NumberedProgram}
 use Rattle.ti_lang.specs.Program.Classes as p
 use Rattle.ti_lang.specs.Members.{class_named, fields_in, OwnMethod, methods_of, is_static_method, names_of, name_number}
-use Rattle.ti_lang.specs.Scopes.{numbered_type, Site, declares, typed_as, literals_in, literals_of_text, past, past_maybe, behind, behind_maybe, behind_all, method_site, body_site, variable_named, own_field_named, own_method_named, static_method_named, class_before_dot}
+use Rattle.ti_lang.specs.Scopes.{numbered_type, Site, declares, literals_in, literals_of_text, past, past_maybe, behind, behind_maybe, behind_all, method_site, body_site, variable_named, own_field_named, own_method_named, static_method_named, class_before_dot}
 use Rattle.ti_names.specs.Faults.{main_number}
 
 -- ---- expressions

@@ -1,5 +1,5 @@
 -- Tables of names as lists of pairs, and those of a text.
-use Rattle.std.specs.Prelude.{ℕ, Bool, ◌+◌, if◌then◌else◌, List, [], ◌∷◌, ◌++◌, map, fold, length, Option, is_some, slice_get, bytes_eq}
+use Rattle.std.specs.Prelude.{ℕ, Bool, ◌+◌, if◌then◌else◌, List, [], ◌∷◌, ◌++◌, map, length, Option, is_some, slice_get, bytes_eq}
 use Rattle.std.specs.Map.{lookup}
 use Rattle.std.specs.Option.{option_and_then}
 use Rattle.ti_lang.specs.Trees.Classes.{FieldTree, MemberTree, FieldMember, MethodMember, ClassTree, TextTree}

@@ -1,6 +1,6 @@
 // The form of `main`.
 
-ghost use Rattle.std.specs.Prelude.{◌≡◌, ◌++◌, map, length, Some, slice_get, codes};
+ghost use Rattle.std.specs.Prelude.{◌≡◌, ◌++◌, map, length, Some, slice_get, codes, IfOk};
 ghost use Rattle.ti_lang.specs.Trees.Views.{tree_of, class_of, method_of, params_of, result_of};
 ghost use Rattle.ti_lang.specs.Members.{class_named, methods_of};
 ghost use Rattle.ti_names.specs.Faults.{is_word, has_word, is_void, is_words, has_main_form, main_method, main_number, form_faults, words_faults, main_faults, fault_if, least};
@@ -104,6 +104,7 @@ fn check_form(
 }
 
 /// Whether another method than `main` has a parameter `String[] x`.
+#[tactic(auto, using(crate::proofs::FirstFault::least_append))]
 fn check_words(
     found: Option<Refusal>,
     methods: &[Own<'_>],
@@ -129,6 +130,7 @@ pub struct Main {
 }
 
 /// The rule on the form of `main`.
+#[tactic(auto, using(crate::proofs::FirstFault::least_append))]
 pub fn main_form(
     found: Option<Refusal>,
     tree: &Tree,

@@ -15,9 +15,10 @@ ghost use Rattle.ti_names.specs.Numbered.{number_program};
 use crate::build::name_table;
 use crate::classes::classes;
 use crate::error::NameErr;
-use crate::main_form::main_form;
-use crate::methods::methods;
+use crate::main_form::{Main, main_form};
+use crate::methods::{AllMethods, methods};
 use crate::own::own_methods;
+use crate::spelling::NameTable;
 use crate::tables::Tables;
 use std::alloc::Global;
 use ti_base::Memory;
@@ -38,26 +39,28 @@ fn walk(alloc: Global, tree: &Tree) -> Result<Resolved, Memory>
     ensures found { IfOk result (λ r. r.found ≡ first_fault (tree_of tree.now)) }
 {
     let own = own_methods(alloc, tree)?;
-    let names = name_table(alloc, tree)?;
-    let tables = Tables::of(alloc, tree, &own, &names.spelled, names.numbers)?;
+    let NameTable { spelled, numbers } = name_table(alloc, tree)?;
+    let tables = Tables::of(alloc, tree, &own, &spelled, numbers)?;
     let mut found = None;
     let classes = classes(alloc, &tables, &mut found, &tree.classes)?;
-    let methods = methods(alloc, &tables, &own, found)?;
-    let main = main_form(methods.found, tree, &tables, &own)?;
-    let number = match main.number {
+    let AllMethods {
+        methods,
+        literals,
+        found,
+    } = methods(alloc, &tables, &own, found)?;
+    let Main { number, found } = main_form(found, tree, &tables, &own)?;
+    let main = match number {
         Some(number) => number,
         None => 0,
     };
-    Ok(Resolved {
-        parts: Parts {
-            classes,
-            methods: methods.methods,
-            main: number,
-            names: names.spelled,
-            literals: methods.literals,
-        },
-        found: main.found,
-    })
+    let parts = Parts {
+        classes,
+        methods,
+        main,
+        names: spelled,
+        literals,
+    };
+    Ok(Resolved { parts, found })
 }
 
 /// The program of a text, with a number in place of each name.

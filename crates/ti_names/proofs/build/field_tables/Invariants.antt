@@ -1,6 +1,6 @@
-use Rattle.std.proofs.Common.{◌≡◌, ◌++◌, ◌+◌, [], map, fold, flat_map, drop, take, length, ◌≤◌}
-use Rattle.ti_lang.specs.Trees.Views.{class_of, member_of}
-use Rattle.ti_names.specs.Tables.{with_numbered, class_names, field_names, field_tables, method_names, method_tables, static_table}
+use Rattle.std.proofs.Common.{◌≡◌, ◌++◌, map, drop}
+use Rattle.ti_lang.specs.Trees.Views.{class_of}
+use Rattle.ti_names.specs.Tables.{field_tables}
 use Rattle.ti_names.proofs.build.field_tables.Given as goal
 
 abbrev pub invariant-loop-class : goal.invariant-loop-class

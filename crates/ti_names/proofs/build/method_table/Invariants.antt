@@ -1,6 +1,6 @@
-use Rattle.std.proofs.Common.{◌≡◌, ◌++◌, ◌+◌, [], map, fold, flat_map, drop, take, length, ◌≤◌}
-use Rattle.ti_lang.specs.Trees.Views.{class_of, member_of}
-use Rattle.ti_names.specs.Tables.{with_numbered, class_names, field_names, field_tables, method_names, method_tables, static_table}
+use Rattle.std.proofs.Common.{◌≡◌, ◌+◌, [], map, drop, length}
+use Rattle.ti_lang.specs.Trees.Views.{member_of}
+use Rattle.ti_names.specs.Tables.{with_numbered, method_names}
 use Rattle.ti_names.proofs.build.method_table.Given as goal
 
 abbrev pub invariant-loop-member : goal.invariant-loop-member

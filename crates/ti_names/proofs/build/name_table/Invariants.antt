@@ -1,6 +1,6 @@
-use Rattle.std.proofs.Common.{◌≡◌, ◌++◌, ◌+◌, [], map, fold, flat_map, drop, take, length, ◌≤◌}
-use Rattle.ti_lang.specs.Trees.Views.{class_of, member_of}
-use Rattle.ti_lang.specs.Members.{methods_in, methods_from, fields_in, name_of_member, with_name, built_in}
+use Rattle.std.proofs.Common.{◌≡◌, map, fold, flat_map, drop}
+use Rattle.ti_lang.specs.Trees.Views.{class_of}
+use Rattle.ti_lang.specs.Members.{name_of_member, with_name, built_in}
 use Rattle.ti_lang.specs.Trees.Classes.{ClassTree}
 use Rattle.ti_names.proofs.build.name_table.Given as goal
 

@@ -1,7 +1,7 @@
-use Rattle.std.proofs.Common.{◌≡◌, ◌++◌, ◌+◌, [], map, fold, flat_map, drop, take, length, ◌≤◌}
-use Rattle.ti_lang.specs.Trees.Views.{class_of, member_of}
+use Rattle.std.proofs.Common.{◌≡◌, ◌++◌, map, drop}
+use Rattle.ti_lang.specs.Trees.Views.{member_of}
 use Rattle.ti_names.specs.Own.{own_of}
-use Rattle.ti_lang.specs.Members.{methods_in, methods_from, fields_in, name_of_member, with_name, built_in}
+use Rattle.ti_lang.specs.Members.{methods_in}
 use Rattle.ti_names.proofs.own.with_methods.Given as goal
 
 abbrev pub invariant-loop-member : goal.invariant-loop-member
