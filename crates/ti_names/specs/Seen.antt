@@ -11,7 +11,8 @@ use Rattle.ti_lang.specs.Trees.Statements.{Stm, MaybeStm}
 use Rattle.ti_lang.specs.Trees.Statements as s
 use Rattle.ti_lang.specs.Trees.Classes.{TextTree}
 use Rattle.ti_lang.specs.Trees.Views.{tree_of, stm_of}
-use Rattle.ti_lang.specs.Program.Statements.{MaybeNumbered}
+use Rattle.ti_lang.specs.Program.Expressions.{NumberedExp}
+use Rattle.ti_lang.specs.Program.Statements.{NumberedStm, MaybeNumbered}
 use Rattle.ti_lang.specs.Program.Statements as m
 use Rattle.ti_lang.specs.Program.Views.{variable_of, statement_of}
 use Rattle.ti_lang.specs.Scopes.{Known, Site}
@@ -44,7 +45,11 @@ abbrev pub seen_maybe : Option (Box numbered.Stmt Global) → MaybeNumbered
 seen_maybe None = m.NoStm
 seen_maybe (Some x) = m.SomeStm (statement_of x.value)
 
--- an `if` with or without an `else`
+-- an `if` with or without an `else`, before and behind
 abbrev pub branches : Place → Exp → Stm → MaybeStm → Stm
 branches at c x s.NoStm = s.If at c x
 branches at c x (s.SomeStm y) = s.IfElse at c x y
+
+abbrev pub numbered_branches : Place → NumberedExp → NumberedStm → MaybeNumbered → NumberedStm
+numbered_branches at c x m.NoStm = m.If at c x
+numbered_branches at c x (m.SomeStm y) = m.IfElse at c x y

@@ -39,7 +39,7 @@ impl<'t, 'a> Body<'t, 'a> {
     /// Whether the method of a number is the first of its name.
     #[tactic(auto, unfolding(crate::specs::Faults::noted))]
     fn check_method(&mut self, own: Own<'a>, number: u32)
-        ensures { self.new ≡ record self.old { found = noted self.old.found (node (site_at self.old) (MethodName number (own_of own)) ∷ []) } }
+        ensures { self.new ≡ record (self.old) { found = noted self.old.found (node (site_at self.old) (MethodName number (own_of own.entry)) ∷ []) } }
     {
         let named = self
             .tables
@@ -71,6 +71,7 @@ impl<'t, 'a> Body<'t, 'a> {
         Ok(ty)
     }
 
+    #[tactic(auto, using(crate::proofs::Lists::lists))]
     fn param_list(&mut self, params: &'a [tree::Param]) -> Result<Vec<TypeUse>, Memory>
         ensures value { IfOk result (λ v. map type_use_of v.items ≡ number_param_list (text_of self.old.tables.now) (map param_of params.now)) }
         ensures site { OnOk result (site_at self.new ≡ behind_params (site_at self.old) (map param_of params.now)) }
@@ -100,7 +101,7 @@ impl<'t, 'a> Body<'t, 'a> {
     #[tactic(auto, using(crate::proofs::Lists::lists))]
     fn result(&mut self, given: &tree::ResultType) -> Result<ResultType, Memory>
         ensures value { IfOk result (λ r. numbered_result_of r ≡ number_result (text_of self.old.tables.now) (result_of given.now)) }
-        ensures body { OnOk result (self.new ≡ record self.old { found = noted self.old.found (result_nodes (site_at self.old) (result_of given.now)) }) }
+        ensures body { OnOk result (self.new ≡ record (self.old) { found = noted self.old.found (result_nodes (site_at self.old) (result_of given.now)) }) }
     {
         match given {
             tree::ResultType::Void(_) => Ok(ResultType::Void),
@@ -111,7 +112,7 @@ impl<'t, 'a> Body<'t, 'a> {
     #[tactic(auto, using(crate::proofs::Lists::lists))]
     fn last(&mut self, last: &Option<tree::Return>) -> Result<Option<Return>, Memory>
         ensures value { IfOk result (λ r. maybe_of numbered_return_of r ≡ number_return (site_at self.old) (maybe_of return_of last.now)) }
-        ensures body { OnOk result (self.new ≡ record self.old { found = noted self.old.found (return_nodes (site_at self.old) (maybe_of return_of last.now)) }) }
+        ensures body { OnOk result (self.new ≡ record (self.old) { found = noted self.old.found (return_nodes (site_at self.old) (maybe_of return_of last.now)) }) }
     {
         match last {
             Some(last) => Ok(Some(Return {
@@ -133,9 +134,9 @@ fn method<'a>(
     literals: Vec<Spelled>,
     found: Option<Refusal>,
 ) -> Result<Walked, Memory>
-    ensures value { IfOk result (λ w. numbered_method_of w.method ≡ number_method (method_site (text_of tables.now) (own_of own) (length literals.items)) (own_of own)) }
-    ensures literals { IfOk result (λ w. w.literals.items ≡ literals.items ++ literals_in (stms (own_of own).method.body)) }
-    ensures found { IfOk result (λ w. w.found ≡ noted found (method_nodes (method_site (text_of tables.now) (own_of own) (length literals.items)) number (own_of own))) }
+    ensures value { IfOk result (λ w. numbered_method_of w.method ≡ number_method (method_site (text_of tables.now) (own_of own.entry) (length literals.items)) (own_of own.entry)) }
+    ensures literals { IfOk result (λ w. w.literals.items ≡ literals.items ++ literals_in (stms (own_of own.entry).method.body)) }
+    ensures found { IfOk result (λ w. w.found ≡ noted found (method_nodes (method_site (text_of tables.now) (own_of own.entry) (length literals.items)) number (own_of own.entry))) }
 {
     let mut body = Body {
         alloc,
