@@ -21,7 +21,7 @@ loop-tree-preserved c =
     let rest = map class_of (drop (c.loop-tree.tree-index + 1) c.args.classes.now) in
     let step = drop_next c.args.classes.now c.loop-tree.tree-index x (omega arith) c.tree-item.is in
     record {
-      value = map_push numbered_class_of c.loop-tree.done.items c.push.new.self.items c.in_ok-class.field-0 _ (number_classes text rest) c.push.ensures.items c.in_ok-class.ensures.value
+      value = map_push numbered_class_of c.loop-tree.done.items c.push.new.self.items c.in_ok-class.field-0 _ (number_classes text rest) c.in_ok-push.ensures.items c.in_ok-class.ensures.value
           ∙ sym (ap (λ l. done ++ number_classes text (map class_of l)) step) ∙ c.loop-tree.invariant.value;
       found = ap (λ n. noted c.class.new.found (classes_nodes text n rest)) c.in_ok-number.ensures ∙ ap (λ f. noted f (classes_nodes text (number + 1) rest)) c.in_ok-class.ensures.found
           ∙ sym (noted_append c.loop-tree.found (node (class_site text number) (ClassName number (class_of x)) ∷ fields_nodes (class_site text number) 0 (fields_in (class_of x).members)) (classes_nodes text (number + 1) rest))

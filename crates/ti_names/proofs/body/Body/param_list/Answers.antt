@@ -24,7 +24,7 @@ loop-param-preserved c =
     let same : text_of behind.tables.now ≡ text_of before.tables.now = ap (λ (z : Site). z.text) moved in
     record {
       text = same ∙ c.loop-param.invariant.text;
-      value = map_push type_use_of c.loop-param.types.items c.push.new.self.items c.in_ok-param.field-0 (numbered_type (text_of before.tables.now) (type_of x.ty)) (number_param_list (text_of behind.tables.now) rest) c.push.ensures.items c.in_ok-param.ensures.value
+      value = map_push type_use_of c.loop-param.types.items c.push.new.self.items c.in_ok-param.field-0 (numbered_type (text_of before.tables.now) (type_of x.ty)) (number_param_list (text_of behind.tables.now) rest) c.in_ok-push.ensures.items c.in_ok-param.ensures.value
           ∙ ap (λ t. types ++ (numbered_type (text_of before.tables.now) (type_of x.ty) ∷ number_param_list t rest)) same
           ∙ sym (ap (λ l. types ++ number_param_list (text_of before.tables.now) (map param_of l)) step) ∙ c.loop-param.invariant.value;
       site = ap (λ z. behind_params z rest) moved ∙ sym (ap (λ l. behind_params (site_at before) (map param_of l)) step) ∙ c.loop-param.invariant.site;
