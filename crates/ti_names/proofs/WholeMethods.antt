@@ -1,5 +1,6 @@
 -- What a method means, from what its parts mean.
 use Rattle.std.proofs.Common.{◌≡◌, ℕ, List, [], ◌∷◌, ◌++◌, Option, refl, ap, sym, ◌∙◌}
+use Rattle.ti_lang.specs.declared.tree.classes.Modifier.{Modifier}
 use Rattle.ti_lang.specs.Trees.Statements.{stms}
 use Rattle.ti_lang.specs.Program.Statements.{NumberedStm}
 use Rattle.ti_lang.specs.Program.Classes.{NumberedParams, NumberedReturn, NumberedResult, NumberedMethod}
@@ -11,10 +12,10 @@ use Rattle.ti_names.specs.Faults.{noted}
 use Rattle.ti_names.specs.Numbered.{number_result, number_params, number_list, number_return, number_method}
 use Rattle.ti_names.proofs.Noting.{noted_append}
 
-abbrev built : OwnMethod → NumberedResult → ℕ → NumberedParams → List NumberedStm → Option NumberedReturn → NumberedMethod
-built own result name params body last = record {
+abbrev built : OwnMethod → List Modifier → NumberedResult → ℕ → NumberedParams → List NumberedStm → Option NumberedReturn → NumberedMethod
+built own modifiers result name params body last = record {
   class = own.class;
-  modifiers = own.method.modifiers;
+  modifiers = modifiers;
   result = result;
   place = own.method.place;
   name = name;
@@ -28,15 +29,16 @@ module _ (own : OwnMethod) (site inside behind : Site) (at_body : inside ≡ bod
   last_site : behind ≡ behind_all (body_site site own.method.params) (stms own.method.body)
   last_site = at_last ∙ ap (λ z. behind_all z (stms own.method.body)) at_body
 
-  pub method_value : (result : NumberedResult) (name : ℕ) (params : NumberedParams) (body : List NumberedStm) (last : Option NumberedReturn)
-      → result ≡ number_result site.text own.method.result → name ≡ name_number site.text own.method.name → params ≡ number_params site.text own.method.params
-      → body ≡ number_list inside own.method.body → last ≡ number_return behind own.method.last → built own result name params body last ≡ number_method site own
-  method_value result name params body last is_result is_name is_params is_body is_last =
-      ap (λ z. built own z name params body last) is_result
-          ∙ ap (λ z. built own (number_result site.text own.method.result) z params body last) is_name
-          ∙ ap (λ z. built own (number_result site.text own.method.result) (name_number site.text own.method.name) z body last) is_params
-          ∙ ap (λ z. built own (number_result site.text own.method.result) (name_number site.text own.method.name) (number_params site.text own.method.params) z last) (is_body ∙ ap (λ z. number_list z own.method.body) at_body)
-          ∙ ap (built own (number_result site.text own.method.result) (name_number site.text own.method.name) (number_params site.text own.method.params) (number_list (body_site site own.method.params) own.method.body))
+  pub method_value : (modifiers : List Modifier) (result : NumberedResult) (name : ℕ) (params : NumberedParams) (body : List NumberedStm) (last : Option NumberedReturn)
+      → modifiers ≡ own.method.modifiers → result ≡ number_result site.text own.method.result → name ≡ name_number site.text own.method.name → params ≡ number_params site.text own.method.params
+      → body ≡ number_list inside own.method.body → last ≡ number_return behind own.method.last → built own modifiers result name params body last ≡ number_method site own
+  method_value modifiers result name params body last are_modifiers is_result is_name is_params is_body is_last =
+      ap (λ z. built own z result name params body last) are_modifiers
+          ∙ ap (λ z. built own own.method.modifiers z name params body last) is_result
+          ∙ ap (λ z. built own own.method.modifiers (number_result site.text own.method.result) z params body last) is_name
+          ∙ ap (λ z. built own own.method.modifiers (number_result site.text own.method.result) (name_number site.text own.method.name) z body last) is_params
+          ∙ ap (λ z. built own own.method.modifiers (number_result site.text own.method.result) (name_number site.text own.method.name) (number_params site.text own.method.params) z last) (is_body ∙ ap (λ z. number_list z own.method.body) at_body)
+          ∙ ap (built own own.method.modifiers (number_result site.text own.method.result) (name_number site.text own.method.name) (number_params site.text own.method.params) (number_list (body_site site own.method.params) own.method.body))
               (is_last ∙ ap (λ z. number_return z own.method.last) last_site)
 
   pub method_found : (number : ℕ) (f0 f1 f2 f3 f4 f5 : Option Refusal) → f1 ≡ noted f0 (node site (MethodName number own) ∷ []) → f2 ≡ noted f1 (result_nodes site own.method.result)

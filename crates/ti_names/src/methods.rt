@@ -122,10 +122,59 @@ impl<'t, 'a> Body<'t, 'a> {
             None => Ok(None),
         }
     }
+
+    /// The method of a number.
+    fn method(&mut self, own: Own<'a>, number: u32) -> Result<Method, Memory>
+        ensures value { IfOk result (λ m. numbered_method_of m ≡ number_method (site_at self.old) (own_of own.entry)) }
+        ensures literals { OnOk result (self.new.literals.items ≡ self.old.literals.items ++ literals_in (stms (own_of own.entry).method.body)) }
+        ensures found { OnOk result (self.new.found ≡ noted self.old.found (method_nodes (site_at self.old) number (own_of own.entry))) }
+    {
+        let name = self.tables.name(own.method.name.as_bytes());
+        self.check_method(own, number);
+        let result = self.result(&own.method.result)?;
+        let params = self.params(&own.method.params)?;
+        let body = self.stms(&own.method.body)?;
+        let last = self.last(&own.method.last)?;
+        let modifiers = copy_modifiers(self.alloc, &own.method.modifiers)?;
+        Ok(Method {
+            class: own.class,
+            modifiers,
+            result,
+            place: own.method.place,
+            name,
+            params,
+            body,
+            last,
+            end: own.method.end,
+        })
+    }
+}
+
+/// At the first parameter of a method.
+fn before_params<'t, 'a>(
+    alloc: Global,
+    tables: &'t Tables<'a>,
+    own: Own<'a>,
+    literals: Vec<Spelled>,
+    found: Option<Refusal>,
+) -> Body<'t, 'a>
+    ensures site { site_at result ≡ method_site (text_of tables.now) (own_of own.entry) (length literals.items) }
+    ensures literals { result.literals.items ≡ literals.items }
+    ensures found { result.found ≡ found }
+{
+    Body {
+        alloc,
+        tables,
+        class: own.class,
+        is_static: has_static(&own.method.modifiers),
+        scope: Names::new(alloc),
+        variables: 0,
+        literals,
+        found,
+    }
 }
 
 /// The method of a number, with the string literals and the refusal behind those before it.
-#[tactic(auto, using(crate::proofs::Lists::lists))]
 fn method<'a>(
     alloc: Global,
     tables: &Tables<'a>,
@@ -138,33 +187,10 @@ fn method<'a>(
     ensures literals { IfOk result (λ w. w.literals.items ≡ literals.items ++ literals_in (stms (own_of own.entry).method.body)) }
     ensures found { IfOk result (λ w. w.found ≡ noted found (method_nodes (method_site (text_of tables.now) (own_of own.entry) (length literals.items)) number (own_of own.entry))) }
 {
-    let mut body = Body {
-        alloc,
-        tables,
-        class: own.class,
-        is_static: has_static(&own.method.modifiers),
-        scope: Names::new(alloc),
-        variables: 0,
-        literals,
-        found,
-    };
-    body.check_method(own, number);
-    let result = body.result(&own.method.result)?;
-    let params = body.params(&own.method.params)?;
-    let statements = body.stms(&own.method.body)?;
-    let last = body.last(&own.method.last)?;
+    let mut body = before_params(alloc, tables, own, literals, found);
+    let method = body.method(own, number)?;
     Ok(Walked {
-        method: Method {
-            class: own.class,
-            modifiers: copy_modifiers(alloc, &own.method.modifiers)?,
-            result,
-            place: own.method.place,
-            name: tables.name(own.method.name.as_bytes()),
-            params,
-            body: statements,
-            last,
-            end: own.method.end,
-        },
+        method,
         literals: body.literals,
         found: body.found,
     })

@@ -51,7 +51,8 @@ pub exp-returns-in-Some-clause-found : goal.exp-returns-in-Some-clause-found
 exp-returns-in-Some-clause-found measure c =
     let e : exp_of c.args.x.now ≡ t.member c.in-Member.place (exp_of c.in-Member.x.value) c.in-Member.name (map exp_of c.in-Member.args.items) = seen_member c.args.x.now c.in-Member.place c.in-Member.x c.in-Member.name c.in-Member.args c.in-Member.is in
     let same : exp_of c.args.x.now ≡ t.member c.in-Member.place (exp_of c.deref-in-Member.result.now) c.as_bytes-in-Some.result.now (map exp_of c.deref-in-Some.result.now) = cc in
-    let dotted : class_before_dot (site_of c.args.self.now) (exp_of c.deref-in-Member.result.now) ≡ Some c.in-Some.class = sym c.class_before_dot.ensures ∙ c.in-Some.is in
+    let means : c.class_before_dot.result ≡ class_before_dot (site_of c.args.self.now) (exp_of c.deref-in-Member.result.now) = c.class_before_dot.ensures in
+    let dotted : class_before_dot (site_of c.args.self.now) (exp_of c.deref-in-Member.result.now) ≡ Some c.in-Some.class = sym means ∙ c.in-Some.is in
     rw (same, noted_class_call c.args.found.now (site_of c.args.self.now) c.in-Member.place (exp_of c.deref-in-Member.result.now) c.as_bytes-in-Some.result.now (map exp_of c.deref-in-Some.result.now) c.in-Some.class dotted) c.class_call.ensures.found
 
 pub exp-returns-in_ok-args-in-None-clause-value : goal.exp-returns-in_ok-args-in-None-clause-value
@@ -61,7 +62,8 @@ exp-returns-in_ok-args-in-None-clause-value measure c =
     let e : exp_of c.args.x.now ≡ t.member c.in-Member.place (exp_of b) c.in-Member.name (map exp_of c.in-Member.args.items) = seen_member c.args.x.now c.in-Member.place c.in-Member.x c.in-Member.name c.in-Member.args c.in-Member.is in
     let here : c.deref-in-Member.result.now ≡ b = c.deref-in-Member.ensures in
     let again : c.deref-in-None.result.now ≡ b = c.deref-in-None.ensures in
-    let dotted : class_before_dot site (exp_of b) ≡ None = ap (λ z. class_before_dot site (exp_of z)) (sym here) ∙ sym c.class_before_dot.ensures ∙ c.in-None.is in
+    let means : c.class_before_dot.result ≡ class_before_dot site (exp_of b) = c.class_before_dot.ensures ∙ ap (λ z. class_before_dot site (exp_of z)) here in
+    let dotted : class_before_dot site (exp_of b) ≡ None = sym means ∙ c.in-None.is in
     let is_x : expression_of c.in_ok-x-in-None.x.value ≡ number_exp site (exp_of b) = c.in_ok-x-in-None.ensures.value ∙ ap (λ z. number_exp site (exp_of z)) again in
     let is_name : c.name-name.result ≡ name_number site.text c.in-Member.name = c.name-name.ensures ∙ ap (name_number site.text) c.as_bytes-in-None.ensures in
     let are_args : map expression_of c.in_ok-args-in-None.args.items ≡ map (number_exp site) (map exp_of c.in-Member.args.items) = c.in_ok-args-in-None.ensures.value ∙ ap (λ z. map (number_exp site) (map exp_of z)) c.deref-in-None-2.ensures.value in
@@ -76,7 +78,8 @@ exp-returns-in_ok-args-in-None-clause-found measure c =
     let e : exp_of c.args.x.now ≡ t.member c.in-Member.place (exp_of b) c.in-Member.name (map exp_of c.in-Member.args.items) = seen_member c.args.x.now c.in-Member.place c.in-Member.x c.in-Member.name c.in-Member.args c.in-Member.is in
     let here : c.deref-in-Member.result.now ≡ b = c.deref-in-Member.ensures in
     let again : c.deref-in-None.result.now ≡ b = c.deref-in-None.ensures in
-    let dotted : class_before_dot site (exp_of b) ≡ None = ap (λ z. class_before_dot site (exp_of z)) (sym here) ∙ sym c.class_before_dot.ensures ∙ c.in-None.is in
+    let means : c.class_before_dot.result ≡ class_before_dot site (exp_of b) = c.class_before_dot.ensures ∙ ap (λ z. class_before_dot site (exp_of z)) here in
+    let dotted : class_before_dot site (exp_of b) ≡ None = sym means ∙ c.in-None.is in
     let first : c.boxed-in-None.new.found ≡ noted c.args.found.now (exp_nodes site (exp_of b)) = c.in_ok-x-in-None.ensures.found ∙ ap (λ z. noted c.args.found.now (exp_nodes site (exp_of z))) again in
     let rest : c.exps-in-None.new.found ≡ noted c.boxed-in-None.new.found (exps_nodes site (exps (map exp_of c.in-Member.args.items))) = c.in_ok-args-in-None.ensures.found ∙ ap (λ z. noted c.boxed-in-None.new.found (exps_nodes site (exps (map exp_of z)))) c.deref-in-None-2.ensures.value in
     rest ∙ ap (λ f. noted f (exps_nodes site (exps (map exp_of c.in-Member.args.items)))) first
