@@ -64,6 +64,7 @@ scope_with_first names name v = by (is_some (lookup (bytes_eq name) names)) ∙ 
     added : (ns : List (List ℕ × Variable)) → scope_of (ns ++ (name, v) ∷ []) ≡ scope_of ns ++ (name, variable_of v) ∷ []
     added [] = refl
     added (n ∷ ns) = ap (λ z. (n.0, variable_of n.1) ∷ z) (added ns)
+
     by : (b : Bool) → scope_of (if b then names else names ++ (name, v) ∷ []) ≡ (if b then scope_of names else scope_of names ++ (name, variable_of v) ∷ [])
     by true = refl
     by false = added names

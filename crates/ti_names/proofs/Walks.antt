@@ -1,5 +1,5 @@
 -- One element more of a list that is walked, and what counts of the nodes behind a call.
-use Rattle.std.proofs.Common.{◌≡◌, ℕ, suc, ◌+◌, ◌<◌, ◌≤◌, if◌then◌else◌, List, [], ◌∷◌, ◌++◌, map, take, drop, length, get_or, Option, Some, None, is_some, refl, ap, sym, ◌∙◌, add-one}
+use Rattle.std.proofs.Common.{◌≡◌, ℕ, suc, ◌+◌, ◌<◌, ◌≤◌, if◌then◌else◌, List, [], ◌∷◌, ◌++◌, map, drop, length, get_or, Option, Some, None, is_some, refl, ap, sym, ◌∙◌, add-one}
 use Rattle.std.proofs.Math.Seq.{drop-cons}
 use Rattle.std.proofs.lemmas.List.{drop_all}
 use Rattle.ti_base.specs.declared.place.Place.{Place}
@@ -68,15 +68,15 @@ pub noted_member : (found : Option Refusal) (site : Site) (at : Place) (x : Exp)
 unfolding noted
 noted_member found site at x name args e =
     ap (λ (o : Option ℕ). noted (least found (fault_if (lacks_method site o name) N1 at)) ((if is_some o then [] else exp_nodes site x) ++ exps_nodes site (exps args))) e
-        ∙ noted_append found (exp_nodes site x) (exps_nodes site (exps args))
+    ∙ noted_append found (exp_nodes site x) (exps_nodes site (exps args))
 
 pub number_member : (site : Site) (at : Place) (x : Exp) (name : List ℕ) (args : List Exp) (x' : NumberedExp) (number : ℕ) (args' : List NumberedExp) → class_before_dot site x ≡ None
     → x' ≡ number_exp site x → number ≡ name_number site.text name → args' ≡ map (number_exp site) args
     → n.Member at x' number (numbered_exps args') ≡ number_exp site (t.member at x name args)
 number_member site at x name args x' number args' e is_x is_name are_args =
     ap (λ z. n.Member at z number (numbered_exps args')) is_x ∙ ap (λ z. n.Member at (number_exp site x) z (numbered_exps args')) is_name
-        ∙ ap (λ z. n.Member at (number_exp site x) (name_number site.text name) z) (ap numbered_exps are_args ∙ sym (number_exps_list site args))
-        ∙ sym (ap (λ (o : Option ℕ). member_called site at o (number_exp site x) name (number_exps site (exps args))) e)
+    ∙ ap (λ z. n.Member at (number_exp site x) (name_number site.text name) z) (ap numbered_exps are_args ∙ sym (number_exps_list site args))
+    ∙ sym (ap (λ (o : Option ℕ). member_called site at o (number_exp site x) name (number_exps site (exps args))) e)
 
 -- ---- members
 

@@ -1,5 +1,5 @@
 -- What a method means, from what its parts mean.
-use Rattle.std.proofs.Common.{◌≡◌, ℕ, List, [], ◌∷◌, ◌++◌, Option, refl, ap, sym, ◌∙◌}
+use Rattle.std.proofs.Common.{◌≡◌, ℕ, List, [], ◌∷◌, ◌++◌, Option, ap, sym, ◌∙◌}
 use Rattle.ti_lang.specs.declared.tree.classes.Modifier.{Modifier}
 use Rattle.ti_lang.specs.Trees.Statements.{stms}
 use Rattle.ti_lang.specs.Program.Statements.{NumberedStm}
@@ -34,12 +34,12 @@ module _ (own : OwnMethod) (site inside behind : Site) (at_body : inside ≡ bod
       → body ≡ number_list inside own.method.body → last ≡ number_return behind own.method.last → built own modifiers result name params body last ≡ number_method site own
   method_value modifiers result name params body last are_modifiers is_result is_name is_params is_body is_last =
       ap (λ z. built own z result name params body last) are_modifiers
-          ∙ ap (λ z. built own own.method.modifiers z name params body last) is_result
-          ∙ ap (λ z. built own own.method.modifiers (number_result site.text own.method.result) z params body last) is_name
-          ∙ ap (λ z. built own own.method.modifiers (number_result site.text own.method.result) (name_number site.text own.method.name) z body last) is_params
-          ∙ ap (λ z. built own own.method.modifiers (number_result site.text own.method.result) (name_number site.text own.method.name) (number_params site.text own.method.params) z last) (is_body ∙ ap (λ z. number_list z own.method.body) at_body)
-          ∙ ap (built own own.method.modifiers (number_result site.text own.method.result) (name_number site.text own.method.name) (number_params site.text own.method.params) (number_list (body_site site own.method.params) own.method.body))
-              (is_last ∙ ap (λ z. number_return z own.method.last) last_site)
+      ∙ ap (λ z. built own own.method.modifiers z name params body last) is_result
+      ∙ ap (λ z. built own own.method.modifiers (number_result site.text own.method.result) z params body last) is_name
+      ∙ ap (λ z. built own own.method.modifiers (number_result site.text own.method.result) (name_number site.text own.method.name) z body last) is_params
+      ∙ ap (λ z. built own own.method.modifiers (number_result site.text own.method.result) (name_number site.text own.method.name) (number_params site.text own.method.params) z last) (is_body ∙ ap (λ z. number_list z own.method.body) at_body)
+      ∙ ap (built own own.method.modifiers (number_result site.text own.method.result) (name_number site.text own.method.name) (number_params site.text own.method.params) (number_list (body_site site own.method.params) own.method.body))
+      (is_last ∙ ap (λ z. number_return z own.method.last) last_site)
 
   pub method_found : (number : ℕ) (f0 f1 f2 f3 f4 f5 : Option Refusal) → f1 ≡ noted f0 (node site (MethodName number own) ∷ []) → f2 ≡ noted f1 (result_nodes site own.method.result)
       → f3 ≡ noted f2 (params_nodes site own.method.params) → f4 ≡ noted f3 (stms_nodes inside (stms own.method.body)) → f5 ≡ noted f4 (return_nodes behind own.method.last)

@@ -20,12 +20,11 @@ use crate::note::note;
 use crate::tables::Tables;
 use std::alloc::Global;
 use ti_base::{Memory, Place};
-use ti_lang::Spelled;
 use ti_lang::program::{
     Dims, Expr, Init, Range, Ty, TypeUse, Variable, copy_brackets, copy_qualifiers, has_local,
 };
 use ti_lang::tree::{Base, Brackets, Qualifier, TypeName};
-use ti_lang::tree;
+use ti_lang::{Spelled, tree};
 use ti_rules::{Refusal, Rule};
 
 /// What stands around an expression.
@@ -124,11 +123,7 @@ impl<'t, 'a> Around<'t, 'a> {
     }
 
     /// A type.
-    pub fn type_use(
-        &self,
-        found: &mut Option<Refusal>,
-        ty: &TypeName,
-    ) -> Result<TypeUse, Memory>
+    pub fn type_use(&self, found: &mut Option<Refusal>, ty: &TypeName) -> Result<TypeUse, Memory>
         ensures value { IfOk result (λ t. type_use_of t ≡ numbered_type (text_of self.now.tables.now) (type_of ty.now)) }
         ensures found { OnOk result (found.new ≡ noted found.old (type_nodes (site_of self.now) (type_of ty.now))) }
     {
@@ -225,12 +220,7 @@ impl<'t, 'a> Around<'t, 'a> {
     }
 
     #[tactic(auto, unfolding(crate::specs::Faults::noted))]
-    fn name(
-        &self,
-        found: &mut Option<Refusal>,
-        place: Place,
-        name: &[u8],
-    ) -> Result<Expr, Memory>
+    fn name(&self, found: &mut Option<Refusal>, place: Place, name: &[u8]) -> Result<Expr, Memory>
         ensures value { IfOk result (λ y. expression_of y ≡ number_exp (site_of self.now) (t.Name place name.now)) }
         ensures found { OnOk result (found.new ≡ noted found.old (exp_nodes (site_of self.now) (t.Name place name.now))) }
     {
@@ -333,11 +323,7 @@ impl<'t, 'a> Around<'t, 'a> {
     }
 
     #[cycle(walk_expr)]
-    fn boxed(
-        &self,
-        found: &mut Option<Refusal>,
-        x: &tree::Expr,
-    ) -> Result<Box<Expr>, Memory>
+    fn boxed(&self, found: &mut Option<Refusal>, x: &tree::Expr) -> Result<Box<Expr>, Memory>
         ensures value { IfOk result (λ y. expression_of y.value ≡ number_exp (site_of self.now) (exp_of x.now)) }
         ensures found { OnOk result (found.new ≡ noted found.old (exp_nodes (site_of self.now) (exp_of x.now))) }
     {
@@ -347,11 +333,7 @@ impl<'t, 'a> Around<'t, 'a> {
 
     #[cycle(walk_expr)]
     #[tactic(auto, using(crate::proofs::Lists::lists))]
-    fn exps(
-        &self,
-        found: &mut Option<Refusal>,
-        xs: &[tree::Expr],
-    ) -> Result<Vec<Expr>, Memory>
+    fn exps(&self, found: &mut Option<Refusal>, xs: &[tree::Expr]) -> Result<Vec<Expr>, Memory>
         ensures value { IfOk result (λ ys. map expression_of ys.items ≡ map (number_exp (site_of self.now)) (map exp_of xs.now)) }
         ensures found { OnOk result (found.new ≡ noted found.old (exps_nodes (site_of self.now) (exps (map exp_of xs.now)))) }
     {
@@ -364,11 +346,7 @@ impl<'t, 'a> Around<'t, 'a> {
 
     #[cycle(walk_expr)]
     #[tactic(auto, using(crate::proofs::Lists::lists))]
-    fn range(
-        &self,
-        found: &mut Option<Refusal>,
-        range: &tree::Range,
-    ) -> Result<Range, Memory>
+    fn range(&self, found: &mut Option<Refusal>, range: &tree::Range) -> Result<Range, Memory>
         ensures value { IfOk result (λ r. bound_of r ≡ number_range (site_of self.now) (range_of range.now)) }
         ensures found { OnOk result (found.new ≡ noted found.old (range_nodes (site_of self.now) (range_of range.now))) }
     {
@@ -472,11 +450,7 @@ impl<'t, 'a> Around<'t, 'a> {
         }
     }
 
-    fn dims(
-        &self,
-        found: &mut Option<Refusal>,
-        dims: &tree::Dims,
-    ) -> Result<Dims, Memory>
+    fn dims(&self, found: &mut Option<Refusal>, dims: &tree::Dims) -> Result<Dims, Memory>
         ensures value { IfOk result (λ d. extent_of d ≡ number_dims (site_of self.now) (dims_of dims.now)) }
         ensures found { OnOk result (found.new ≡ noted found.old (dims_nodes (site_of self.now) (dims_of dims.now))) }
     {
@@ -488,11 +462,7 @@ impl<'t, 'a> Around<'t, 'a> {
 
     /// The right side of a declaration or an assignment.
     #[tactic(auto, using(crate::proofs::Lists::lists))]
-    pub fn init(
-        &self,
-        found: &mut Option<Refusal>,
-        value: &tree::Init,
-    ) -> Result<Init, Memory>
+    pub fn init(&self, found: &mut Option<Refusal>, value: &tree::Init) -> Result<Init, Memory>
         ensures value { IfOk result (λ v. initial_of v ≡ number_init (site_of self.now) (init_of value.now)) }
         ensures found { OnOk result (found.new ≡ noted found.old (init_nodes (site_of self.now) (init_of value.now))) }
     {

@@ -19,9 +19,8 @@ use crate::number::{narrow, next};
 use crate::tables::Tables;
 use std::alloc::Global;
 use ti_base::{Memory, Place};
-use ti_lang::Spelled;
 use ti_lang::program::{Declared, Expr, Init, Printed, Stmt, TypeUse, Variable, has_single};
-use ti_lang::tree;
+use ti_lang::{Spelled, tree};
 use ti_rules::{Refusal, Rule};
 
 /// How many variables may be in scope.
@@ -140,7 +139,12 @@ impl<'t, 'a> Body<'t, 'a> {
         let is_known = self.around().variable(name.as_bytes()).is_some();
         let mut found = self.found;
         note(&mut found, is_known, Rule::N2, place);
-        note(&mut found, MOST_VARIABLES <= self.scope.len(), Rule::N4, place);
+        note(
+            &mut found,
+            MOST_VARIABLES <= self.scope.len(),
+            Rule::N4,
+            place,
+        );
         self.found = found;
     }
 
@@ -227,10 +231,7 @@ impl<'t, 'a> Body<'t, 'a> {
 
     #[cycle(walk_stmt)]
     #[tactic(auto, using(crate::proofs::Lists::lists))]
-    fn maybe_stm(
-        &mut self,
-        x: &'a Option<Box<tree::Stmt>>,
-    ) -> Result<Option<Box<Stmt>>, Memory>
+    fn maybe_stm(&mut self, x: &'a Option<Box<tree::Stmt>>) -> Result<Option<Box<Stmt>>, Memory>
         ensures value { IfOk result (λ y. seen_maybe y ≡ number_maybe_stm (site_at self.old) (tree_maybe x.now)) }
         ensures site { OnOk result (site_at self.new ≡ behind_maybe (site_at self.old) (tree_maybe x.now)) }
         ensures literals { OnOk result (self.new.literals.items ≡ self.old.literals.items ++ literals_of (tree_maybe x.now)) }
@@ -247,10 +248,7 @@ impl<'t, 'a> Body<'t, 'a> {
 
     #[cycle(walk_stmt)]
     #[tactic(auto, using(crate::proofs::Lists::lists))]
-    fn maybe_inner(
-        &mut self,
-        x: &'a Option<Box<tree::Stmt>>,
-    ) -> Result<Option<Box<Stmt>>, Memory>
+    fn maybe_inner(&mut self, x: &'a Option<Box<tree::Stmt>>) -> Result<Option<Box<Stmt>>, Memory>
         ensures value { IfOk result (λ y. seen_maybe y ≡ number_maybe_stm (site_at self.old) (tree_maybe x.now)) }
         ensures site { OnOk result (site_at self.new ≡ past_maybe (site_at self.old) (tree_maybe x.now)) }
         ensures literals { OnOk result (self.new.literals.items ≡ self.old.literals.items ++ literals_of (tree_maybe x.now)) }

@@ -84,11 +84,7 @@ impl<'t, 'a> Around<'t, 'a> {
     }
 
     #[tactic(auto, using(crate::proofs::Lists::lists))]
-    fn whole_class(
-        &self,
-        found: &mut Option<Refusal>,
-        class: &tree::Class,
-    ) -> Result<Class, Memory>
+    fn whole_class(&self, found: &mut Option<Refusal>, class: &tree::Class) -> Result<Class, Memory>
         ensures value { IfOk result (λ c. numbered_class_of c ≡ record { modifiers = class.now.modifiers.items; fields = number_fields (text_of self.now.tables.now) (fields_in (class_of class.now).members) }) }
         ensures found { OnOk result (found.new ≡ noted found.old (node (site_of self.now) (ClassName self.now.class (class_of class.now)) ∷ fields_nodes (site_of self.now) 0 (fields_in (class_of class.now).members))) }
     {

@@ -20,11 +20,10 @@ use crate::own::Own;
 use crate::tables::Tables;
 use std::alloc::Global;
 use ti_base::Memory;
-use ti_lang::Spelled;
 use ti_lang::program::{
     Declared, Method, Params, ResultType, Return, TypeUse, copy_modifiers, has_single, has_static,
 };
-use ti_lang::tree;
+use ti_lang::{Spelled, tree};
 use ti_rules::{Refusal, Rule};
 
 /// Methods, with the string literals so far and the refusal that counts so far.
@@ -41,9 +40,7 @@ impl<'t, 'a> Body<'t, 'a> {
     fn check_method(&mut self, own: Own<'a>, number: u32)
         ensures { self.new ≡ record (self.old) { found = noted self.old.found (node (site_at self.old) (MethodName number (own_of own.entry)) ∷ []) } }
     {
-        let named = self
-            .tables
-            .method(own.class, own.method.name.as_bytes());
+        let named = self.tables.method(own.class, own.method.name.as_bytes());
         let mut found = self.found;
         note(
             &mut found,

@@ -46,4 +46,4 @@ pub returns-clause-found : goal.returns-clause-found
 returns-clause-found c =
     let over = drop_all c.loop-own.own-index c.args.methods.now (omega arith) in
     sym (noted_none c.loop-own.found)
-        ∙ sym (ap (λ l. noted c.loop-own.found (methods_nodes (text_of c.args.tables.now) c.loop-own.number (length c.loop-own.literals.items) (map own_of l))) over) ∙ c.loop-own.invariant.found
+    ∙ sym (ap (λ l. noted c.loop-own.found (methods_nodes (text_of c.args.tables.now) c.loop-own.number (length c.loop-own.literals.items) (map own_of l))) over) ∙ c.loop-own.invariant.found

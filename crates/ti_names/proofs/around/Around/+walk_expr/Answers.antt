@@ -2,8 +2,6 @@ use Rattle.std.proofs.Common.{◌≡◌, ◌+◌, map, take, drop, arith, ap, sy
 use Rattle.std.proofs.lemmas.Grind.{common_steps}
 use Rattle.ti_lang.specs.Trees.Expressions as t
 use Rattle.ti_lang.specs.Trees.Views.{exp_of, range_of}
-use Rattle.ti_lang.specs.Program.Expressions.{numbered_exps}
-use Rattle.ti_lang.specs.Program.Expressions as n
 use Rattle.ti_lang.specs.Program.Views.{expression_of, bound_of}
 use Rattle.ti_lang.specs.declared.program.exprs.Expr.{Member}
 use Rattle.ti_lang.specs.Members.{name_number}
@@ -45,7 +43,7 @@ exp-returns-in_ok-exps-in-Index-clause-found measure c =
     let both = c.in_ok-exps-in-Index.ensures.found in
     let site = site_of c.args.self.now in
     rw same (both ∙ ap (λ f. noted f (exps_nodes site (exps (map exp_of c.deref-in-Index-2.result.now)))) first
-        ∙ sym (noted_append c.args.found.now (exp_nodes site (exp_of c.deref-in-Index.result.now)) (exps_nodes site (exps (map exp_of c.deref-in-Index-2.result.now)))))
+    ∙ sym (noted_append c.args.found.now (exp_nodes site (exp_of c.deref-in-Index.result.now)) (exps_nodes site (exps (map exp_of c.deref-in-Index-2.result.now)))))
 
 pub exp-returns-in-Some-clause-found : goal.exp-returns-in-Some-clause-found
 exp-returns-in-Some-clause-found measure c =
@@ -68,8 +66,8 @@ exp-returns-in_ok-args-in-None-clause-value measure c =
     let is_name : c.name-name.result ≡ name_number site.text c.in-Member.name = c.name-name.ensures ∙ ap (name_number site.text) c.as_bytes-in-None.ensures in
     let are_args : map expression_of c.in_ok-args-in-None.args.items ≡ map (number_exp site) (map exp_of c.in-Member.args.items) = c.in_ok-args-in-None.ensures.value ∙ ap (λ z. map (number_exp site) (map exp_of z)) c.deref-in-None-2.ensures.value in
     seen_numbered_member (Member c.in-Member.place c.in_ok-x-in-None.x c.name-name.result c.in_ok-args-in-None.args) c.in-Member.place c.in_ok-x-in-None.x c.name-name.result c.in_ok-args-in-None.args refl
-        ∙ number_member site c.in-Member.place (exp_of b) c.in-Member.name (map exp_of c.in-Member.args.items) (expression_of c.in_ok-x-in-None.x.value) c.name-name.result (map expression_of c.in_ok-args-in-None.args.items) dotted is_x is_name are_args
-        ∙ ap (number_exp site) (sym e)
+    ∙ number_member site c.in-Member.place (exp_of b) c.in-Member.name (map exp_of c.in-Member.args.items) (expression_of c.in_ok-x-in-None.x.value) c.name-name.result (map expression_of c.in_ok-args-in-None.args.items) dotted is_x is_name are_args
+    ∙ ap (number_exp site) (sym e)
 
 pub exp-returns-in_ok-args-in-None-clause-found : goal.exp-returns-in_ok-args-in-None-clause-found
 exp-returns-in_ok-args-in-None-clause-found measure c =
@@ -83,8 +81,8 @@ exp-returns-in_ok-args-in-None-clause-found measure c =
     let first : c.boxed-in-None.new.found ≡ noted c.args.found.now (exp_nodes site (exp_of b)) = c.in_ok-x-in-None.ensures.found ∙ ap (λ z. noted c.args.found.now (exp_nodes site (exp_of z))) again in
     let rest : c.exps-in-None.new.found ≡ noted c.boxed-in-None.new.found (exps_nodes site (exps (map exp_of c.in-Member.args.items))) = c.in_ok-args-in-None.ensures.found ∙ ap (λ z. noted c.boxed-in-None.new.found (exps_nodes site (exps (map exp_of z)))) c.deref-in-None-2.ensures.value in
     rest ∙ ap (λ f. noted f (exps_nodes site (exps (map exp_of c.in-Member.args.items)))) first
-        ∙ sym (noted_member c.args.found.now site c.in-Member.place (exp_of b) c.in-Member.name (map exp_of c.in-Member.args.items) dotted)
-        ∙ ap (λ z. noted c.args.found.now (exp_nodes site z)) (sym e)
+    ∙ sym (noted_member c.args.found.now site c.in-Member.place (exp_of b) c.in-Member.name (map exp_of c.in-Member.args.items) dotted)
+    ∙ ap (λ z. noted c.args.found.now (exp_nodes site z)) (sym e)
 
 pub exps-loop-x-preserved : goal.exps-loop-x-preserved
 exps-loop-x-preserved measure c =

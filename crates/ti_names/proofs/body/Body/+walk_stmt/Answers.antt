@@ -65,7 +65,7 @@ stm-returns-in_ok-otherwise-in-If-clause-literals measure c =
     let same : l1 ≡ l0 = ap (λ (b : Body). b.literals.items) c.in_ok-condition-in-If.ensures.body in
     let more : c.inner.new.self.literals.items ≡ l1 ++ literals (stm_of c.in-If.then.value) = c.in_ok-then-in-If.ensures.literals ∙ ap (λ z. l1 ++ literals (stm_of z)) then in
     if_literals c.in-If.place (exp_of c.in-If.condition) (stm_of c.in-If.then.value) (tree_maybe c.in-If.otherwise) l0 l1 c.inner.new.self.literals.items c.maybe_inner.new.self.literals.items
-        same more c.in_ok-otherwise-in-If.ensures.literals ∙ ap (λ z. l0 ++ literals z) (sym e)
+    same more c.in_ok-otherwise-in-If.ensures.literals ∙ ap (λ z. l0 ++ literals z) (sym e)
 
 pub stm-returns-in_ok-otherwise-in-If-clause-found : goal.stm-returns-in_ok-otherwise-in-If-clause-found
 stm-returns-in_ok-otherwise-in-If-clause-found measure c =
@@ -80,7 +80,7 @@ stm-returns-in_ok-otherwise-in-If-clause-found measure c =
     let is1 : f1 ≡ noted f0 (exp_nodes s0 (exp_of c.in-If.condition)) = ap (λ (b : Body). b.found) c.in_ok-condition-in-If.ensures.body in
     let is2 : c.inner.new.self.found ≡ noted f1 (stm_nodes s1 (stm_of c.in-If.then.value)) = c.in_ok-then-in-If.ensures.found ∙ ap (λ z. noted f1 (stm_nodes s1 (stm_of z))) then in
     if_found c.in-If.place (exp_of c.in-If.condition) (stm_of c.in-If.then.value) (tree_maybe c.in-If.otherwise) s0 s1 (site_at c.inner.new.self) f0 f1 c.inner.new.self.found c.maybe_inner.new.self.found
-        e1 e2 is1 is2 c.in_ok-otherwise-in-If.ensures.found ∙ ap (λ z. noted f0 (stm_nodes s0 z)) (sym e)
+    e1 e2 is1 is2 c.in_ok-otherwise-in-If.ensures.found ∙ ap (λ z. noted f0 (stm_nodes s0 z)) (sym e)
 
 pub stm-returns-in_ok-body-in-For-clause-value : goal.stm-returns-in_ok-body-in-For-clause-value
 stm-returns-in_ok-body-in-For-clause-value measure c =
@@ -99,9 +99,9 @@ stm-returns-in_ok-body-in-For-clause-value measure c =
     let e3 : s3 ≡ past_maybe s2 update = c.in_ok-update-in-For.ensures.site in
     let is_body : statement_of c.in_ok-body-in-For.body.value ≡ number_stm s3 body = c.in_ok-body-in-For.ensures.value ∙ ap (λ z. number_stm s3 (stm_of z)) inner in
     held_for c.in-For.place c.in_ok-first-in-For.first c.in_ok-condition-in-For.condition c.in_ok-update-in-For.update c.in_ok-body-in-For.body
-        ∙ for_value c.in-For.place first condition update body s0 s1 s2 s3 (seen_maybe c.in_ok-first-in-For.first) (maybe_of expression_of c.in_ok-condition-in-For.condition) (seen_maybe c.in_ok-update-in-For.update) (statement_of c.in_ok-body-in-For.body.value)
-            e1 e2 e3 c.in_ok-first-in-For.ensures.value c.in_ok-condition-in-For.ensures.value c.in_ok-update-in-For.ensures.value is_body
-        ∙ ap (number_stm s0) (sym e)
+    ∙ for_value c.in-For.place first condition update body s0 s1 s2 s3 (seen_maybe c.in_ok-first-in-For.first) (maybe_of expression_of c.in_ok-condition-in-For.condition) (seen_maybe c.in_ok-update-in-For.update) (statement_of c.in_ok-body-in-For.body.value)
+    e1 e2 e3 c.in_ok-first-in-For.ensures.value c.in_ok-condition-in-For.ensures.value c.in_ok-update-in-For.ensures.value is_body
+    ∙ ap (number_stm s0) (sym e)
 
 pub stm-returns-in_ok-body-in-For-clause-site : goal.stm-returns-in_ok-body-in-For-clause-site
 stm-returns-in_ok-body-in-For-clause-site measure c =
@@ -120,7 +120,7 @@ stm-returns-in_ok-body-in-For-clause-site measure c =
     let e3 : s3 ≡ past_maybe s2 update = c.in_ok-update-in-For.ensures.site in
     let behind_body : site_at c.inner-in-For.new.self ≡ past (past_maybe (behind_maybe s0 first) update) body = c.in_ok-body-in-For.ensures.site ∙ ap (λ z. past s3 (stm_of z)) inner ∙ ap (λ z. past z body) (e3 ∙ ap (λ z. past_maybe z update) (e2 ∙ e1)) in
     c.cut.ensures.site ∙ for_site s0 (site_at c.inner-in-For.new.self) c.len-len.result first update body (c.len-len.ensures ∙ sym (scope_length c.args.self.now.scope)) behind_body
-        ∙ ap (λ z. behind s0 z) (sym e)
+    ∙ ap (λ z. behind s0 z) (sym e)
 
 pub stm-returns-in_ok-body-in-For-clause-literals : goal.stm-returns-in_ok-body-in-For-clause-literals
 stm-returns-in_ok-body-in-For-clause-literals measure c =
@@ -142,7 +142,7 @@ stm-returns-in_ok-body-in-For-clause-literals measure c =
     let same : c.maybe.new.self.literals.items ≡ c.maybe_stm.new.self.literals.items = ap (λ (b : Body). b.literals.items) c.in_ok-condition-in-For.ensures.body in
     let more : c.inner-in-For.new.self.literals.items ≡ l3 ++ literals body = c.in_ok-body-in-For.ensures.literals ∙ ap (λ z. l3 ++ literals (stm_of z)) inner in
     c.cut.ensures.literals ∙ for_literals c.in-For.place first condition update body l0 c.maybe_stm.new.self.literals.items c.maybe.new.self.literals.items l3 c.inner-in-For.new.self.literals.items
-        c.in_ok-first-in-For.ensures.literals same c.in_ok-update-in-For.ensures.literals more ∙ ap (λ z. l0 ++ literals z) (sym e)
+    c.in_ok-first-in-For.ensures.literals same c.in_ok-update-in-For.ensures.literals more ∙ ap (λ z. l0 ++ literals z) (sym e)
 
 pub stm-returns-in_ok-body-in-For-clause-found : goal.stm-returns-in_ok-body-in-For-clause-found
 stm-returns-in_ok-body-in-For-clause-found measure c =
@@ -164,7 +164,7 @@ stm-returns-in_ok-body-in-For-clause-found measure c =
     let is2 : c.maybe.new.self.found ≡ noted c.maybe_stm.new.self.found (maybe_nodes s1 condition) = ap (λ (b : Body). b.found) c.in_ok-condition-in-For.ensures.body in
     let is4 : c.inner-in-For.new.self.found ≡ noted f3 (stm_nodes s3 body) = c.in_ok-body-in-For.ensures.found ∙ ap (λ z. noted f3 (stm_nodes s3 (stm_of z))) inner in
     c.cut.ensures.found ∙ for_found c.in-For.place first condition update body s0 s1 s2 s3 f0 c.maybe_stm.new.self.found c.maybe.new.self.found f3 c.inner-in-For.new.self.found
-        e1 e2 e3 c.in_ok-first-in-For.ensures.found is2 c.in_ok-update-in-For.ensures.found is4 ∙ ap (λ z. noted f0 (stm_nodes s0 z)) (sym e)
+    e1 e2 e3 c.in_ok-first-in-For.ensures.found is2 c.in_ok-update-in-For.ensures.found is4 ∙ ap (λ z. noted f0 (stm_nodes s0 z)) (sym e)
 
 pub stm-returns-in_ok-body-in-Foreach-clause-site : goal.stm-returns-in_ok-body-in-Foreach-clause-site
 stm-returns-in_ok-body-in-Foreach-clause-site measure c =
@@ -176,4 +176,4 @@ stm-returns-in_ok-body-in-Foreach-clause-site measure c =
     let declared : site_at c.declare.new.self ≡ declares s0 name Foreach = c.in_ok-number-in-Foreach.ensures.site ∙ ap (λ (b : Body). declares (site_at b) name Foreach) c.in_ok-domain-in-Foreach.ensures.body in
     let behind_body : site_at c.inner-in-Foreach.new.self ≡ past (declares s0 name Foreach) body = c.in_ok-body-in-Foreach.ensures.site ∙ ap (λ z. past (site_at c.declare.new.self) (stm_of z)) inner ∙ ap (λ z. past z body) declared in
     c.cut-in-Foreach.ensures.site ∙ foreach_site s0 (site_at c.inner-in-Foreach.new.self) c.len-len-in-Foreach.result name body (c.len-len-in-Foreach.ensures ∙ sym (scope_length c.args.self.now.scope)) behind_body
-        ∙ ap (λ z. behind s0 z) (sym e)
+    ∙ ap (λ z. behind s0 z) (sym e)

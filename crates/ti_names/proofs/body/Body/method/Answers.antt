@@ -30,14 +30,14 @@ returns-clause-value c =
     let is_body : map statement_of c.in_ok-body.body.items ≡ number_list inside own.method.body = c.in_ok-body.ensures.value ∙ ap (λ z. number_list inside (map stm_of z)) c.deref.ensures.value in
     let is_last : maybe_of numbered_return_of c.in_ok-last.last ≡ number_return behind own.method.last = c.in_ok-last.ensures.value in
     method_value own site inside behind at_body at_last c.in_ok-modifiers.modifiers.items (numbered_result_of c.in_ok-result.result) c.name-name.result (numbered_params_of c.in_ok-params.params)
-        (map statement_of c.in_ok-body.body.items) (maybe_of numbered_return_of c.in_ok-last.last) are_modifiers is_result is_name are_params is_body is_last
+    (map statement_of c.in_ok-body.body.items) (maybe_of numbered_return_of c.in_ok-last.last) are_modifiers is_result is_name are_params is_body is_last
 
 pub returns-clause-literals : goal.returns-clause-literals
 returns-clause-literals c =
     let own = own_of c.args.own in
     let same : c.params.new.self.literals.items ≡ c.args.self.now.literals.items = c.in_ok-params.ensures.literals ∙ ap (λ (b : Body). b.literals.items) c.in_ok-result.ensures.body ∙ ap (λ (b : Body). b.literals.items) c.check_method.ensures in
     ap (λ (b : Body). b.literals.items) c.in_ok-last.ensures.body ∙ c.in_ok-body.ensures.literals
-        ∙ ap (λ z. c.params.new.self.literals.items ++ literals_in (stms (map stm_of z))) c.deref.ensures.value ∙ ap (λ z. z ++ literals_in (stms own.method.body)) same
+    ∙ ap (λ z. c.params.new.self.literals.items ++ literals_in (stms (map stm_of z))) c.deref.ensures.value ∙ ap (λ z. z ++ literals_in (stms own.method.body)) same
 
 pub returns-clause-found : goal.returns-clause-found
 returns-clause-found c =
