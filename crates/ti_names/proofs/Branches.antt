@@ -9,6 +9,8 @@ use Rattle.ti_lang.specs.declared.program.exprs.Expr as numbered_exp
 use Rattle.ti_lang.specs.declared.program.stmts.Stmt as numbered
 use Rattle.ti_lang.specs.Trees.Statements as s
 use Rattle.ti_lang.specs.Trees.Views.{maybe_of, exp_of, stm_of}
+use Rattle.ti_lang.specs.Program.Expressions.{NumberedExp}
+use Rattle.ti_lang.specs.Program.Statements.{NumberedStm, MaybeNumbered}
 use Rattle.ti_lang.specs.Program.Statements as m
 use Rattle.ti_lang.specs.Program.Views.{expression_of, statement_of}
 use Rattle.ti_lang.specs.Trees.Expressions.{Exp}
@@ -18,8 +20,17 @@ use Rattle.ti_lang.specs.Nodes.{exp_nodes, stm_nodes, maybe_stm_nodes}
 use Rattle.ti_rules.specs.declared.refusal.Refusal.{Refusal}
 use Rattle.ti_names.specs.Faults.{noted}
 use Rattle.ti_names.specs.Numbered.{number_exp, number_stm, number_maybe_stm}
-use Rattle.ti_names.specs.Seen.{tree_maybe, seen_maybe, branches, numbered_branches}
+use Rattle.ti_names.specs.Seen.{tree_maybe, seen_maybe}
 use Rattle.ti_names.proofs.Noting.{noted_none, noted_append}
+
+-- an `if` with or without an `else`, before and behind
+abbrev pub branches : Place → Exp → Stm → MaybeStm → Stm
+branches at c x s.NoStm = s.If at c x
+branches at c x (s.SomeStm y) = s.IfElse at c x y
+
+abbrev pub numbered_branches : Place → NumberedExp → NumberedStm → MaybeNumbered → NumberedStm
+numbered_branches at c x m.NoStm = m.If at c x
+numbered_branches at c x (m.SomeStm y) = m.IfElse at c x y
 
 -- behind a match
 pub seen_if : (a : Stmt) (at : Place) (c : Expr) (x : Box Stmt Global) (y : Option (Box Stmt Global)) → a ≡ If at c x y → stm_of a ≡ branches at (exp_of c) (stm_of x.value) (tree_maybe y)

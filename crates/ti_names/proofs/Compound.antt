@@ -13,9 +13,8 @@ use Rattle.ti_lang.specs.Nodes.{exp_nodes, maybe_nodes, stm_nodes, maybe_stm_nod
 use Rattle.ti_rules.specs.declared.refusal.Refusal.{Refusal}
 use Rattle.ti_names.specs.Faults.{noted}
 use Rattle.ti_names.specs.Numbered.{number_exp, number_maybe, number_stm, number_maybe_stm}
-use Rattle.ti_names.specs.Seen.{branches, numbered_branches}
 use Rattle.ti_names.proofs.Noting.{noted_append}
-use Rattle.ti_names.proofs.Branches.{number_branches, behind_branches, literals_branches, noted_branches}
+use Rattle.ti_names.proofs.Branches.{branches, numbered_branches, number_branches, behind_branches, literals_branches, noted_branches}
 
 -- ---- if
 

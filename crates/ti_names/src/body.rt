@@ -1,16 +1,16 @@
 // Statements.
 
 ghost use Rattle.std.specs.Prelude.{◌≡◌, ◌+◌, ◌++◌, [], ◌∷◌, map, take, length, Some, IfOk, OnOk};
-ghost use Rattle.ti_lang.specs.Trees.Views.{exp_of, range_of, type_of, dims_of, init_of, print_of, stm_of, maybe_stm_of, stms_of, maybe_of};
+ghost use Rattle.ti_lang.specs.Trees.Views.{exp_of, type_of, init_of, print_of, stm_of, maybe_of};
 ghost use Rattle.ti_lang.specs.Trees.Statements.{stms};
 ghost use Rattle.ti_lang.specs.Trees.Statements as s;
-ghost use Rattle.ti_lang.specs.Program.Views.{type_use_of, declared_of, expression_of, extent_of, initial_of, printed_of, statement_of, maybe_statement_of};
+ghost use Rattle.ti_lang.specs.Program.Views.{type_use_of, declared_of, expression_of, initial_of, printed_of, statement_of};
 ghost use Rattle.ti_lang.specs.Program.Types.{Foreach};
 ghost use Rattle.ti_lang.specs.Scopes.{numbered_type, typed_as, declares, literals, literals_of, literals_in, printed_text, past, past_maybe, behind, behind_maybe, behind_all};
-ghost use Rattle.ti_lang.specs.Nodes.{node, VariableName, type_nodes, exp_nodes, maybe_nodes, dims_nodes, init_nodes, print_nodes, stm_nodes, maybe_stm_nodes, stms_nodes};
+ghost use Rattle.ti_lang.specs.Nodes.{node, VariableName, type_nodes, exp_nodes, maybe_nodes, init_nodes, print_nodes, stm_nodes, maybe_stm_nodes, stms_nodes};
 ghost use Rattle.ti_names.specs.Faults.{noted};
-ghost use Rattle.ti_names.specs.Numbered.{number_exp, number_maybe, number_dims, number_init, number_print, number_stm, number_maybe_stm, number_list};
-ghost use Rattle.ti_names.specs.Seen.{site_of, site_at, text_of, tree_maybe, seen_maybe, branches};
+ghost use Rattle.ti_names.specs.Numbered.{number_exp, number_maybe, number_init, number_print, number_stm, number_maybe_stm, number_list};
+ghost use Rattle.ti_names.specs.Seen.{site_of, site_at, text_of, tree_maybe, seen_maybe};
 
 use crate::around::Around;
 use crate::names::Names;

@@ -1,8 +1,7 @@
 // Classes and fields.
 
-ghost use Rattle.std.specs.Prelude.{◌≡◌, ◌++◌, ◌∷◌, [], map, IfOk, OnOk};
-ghost use Rattle.ti_lang.specs.Trees.Views.{tree_of, class_of, member_of, field_of, type_of};
-ghost use Rattle.ti_lang.specs.Trees.Classes.{ClassTree};
+ghost use Rattle.std.specs.Prelude.{◌≡◌, ◌∷◌, [], map, IfOk, OnOk};
+ghost use Rattle.ti_lang.specs.Trees.Views.{class_of, member_of, field_of, type_of};
 ghost use Rattle.ti_lang.specs.Program.Views.{numbered_field_of, numbered_class_of};
 ghost use Rattle.ti_lang.specs.Members.{fields_in, name_number};
 ghost use Rattle.ti_lang.specs.Scopes.{numbered_type, class_site};

@@ -10,8 +10,8 @@ use Rattle.ti_lang.specs.Nodes.{exp_nodes, maybe_nodes, stm_nodes, stms_nodes}
 use Rattle.ti_names.specs.declared.body.Body.{Body}
 use Rattle.ti_names.specs.Faults.{noted}
 use Rattle.ti_names.specs.Numbered.{number_stm, number_list}
-use Rattle.ti_names.specs.Seen.{site_at, tree_maybe, seen_maybe, branches}
-use Rattle.ti_names.proofs.Branches.{seen_if, seen_for, held_for}
+use Rattle.ti_names.specs.Seen.{site_at, tree_maybe, seen_maybe}
+use Rattle.ti_names.proofs.Branches.{branches, seen_if, seen_for, held_for}
 use Rattle.ti_names.proofs.Compound.{if_literals, if_found, for_value, for_literals, for_found}
 use Rattle.ti_names.proofs.Lists.{scope_length}
 use Rattle.ti_names.proofs.Noting.{noted_append, noted_none}
