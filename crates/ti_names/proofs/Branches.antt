@@ -1,5 +1,5 @@
 -- Statements with parts that may be left out.
-use Rattle.std.proofs.Common.{◌≡◌, Option, Some, None, refl, ap}
+use Rattle.std.proofs.Common.{◌≡◌, ℕ, List, [], ◌∷◌, ◌++◌, Option, Some, None, refl, ap, sym, ◌∙◌}
 use Rattle.std.specs.declared.alloc.Global.{Global}
 use Rattle.std.specs.declared.boxed.Box.{Box}
 use Rattle.ti_base.specs.declared.place.Place.{Place}
@@ -9,9 +9,28 @@ use Rattle.ti_lang.specs.declared.program.exprs.Expr as numbered_exp
 use Rattle.ti_lang.specs.declared.program.stmts.Stmt as numbered
 use Rattle.ti_lang.specs.Trees.Statements as s
 use Rattle.ti_lang.specs.Trees.Views.{maybe_of, exp_of, stm_of}
+use Rattle.ti_lang.specs.Program.Expressions.{NumberedExp}
+use Rattle.ti_lang.specs.Program.Statements.{NumberedStm, MaybeNumbered}
 use Rattle.ti_lang.specs.Program.Statements as m
 use Rattle.ti_lang.specs.Program.Views.{expression_of, statement_of}
-use Rattle.ti_names.specs.Seen.{tree_maybe, seen_maybe, branches}
+use Rattle.ti_lang.specs.Trees.Expressions.{Exp}
+use Rattle.ti_lang.specs.Trees.Statements.{Stm, MaybeStm}
+use Rattle.ti_lang.specs.Scopes.{Site, literals, literals_of, past, past_maybe, behind}
+use Rattle.ti_lang.specs.Nodes.{exp_nodes, stm_nodes, maybe_stm_nodes}
+use Rattle.ti_rules.specs.declared.refusal.Refusal.{Refusal}
+use Rattle.ti_names.specs.Faults.{noted}
+use Rattle.ti_names.specs.Numbered.{number_exp, number_stm, number_maybe_stm}
+use Rattle.ti_names.specs.Seen.{tree_maybe, seen_maybe}
+use Rattle.ti_names.proofs.Noting.{noted_none, noted_append}
+
+-- an `if` with or without an `else`, before and behind
+abbrev pub branches : Place → Exp → Stm → MaybeStm → Stm
+branches at c x s.NoStm = s.If at c x
+branches at c x (s.SomeStm y) = s.IfElse at c x y
+
+abbrev pub numbered_branches : Place → NumberedExp → NumberedStm → MaybeNumbered → NumberedStm
+numbered_branches at c x m.NoStm = m.If at c x
+numbered_branches at c x (m.SomeStm y) = m.IfElse at c x y
 
 -- behind a match
 pub seen_if : (a : Stmt) (at : Place) (c : Expr) (x : Box Stmt Global) (y : Option (Box Stmt Global)) → a ≡ If at c x y → stm_of a ≡ branches at (exp_of c) (stm_of x.value) (tree_maybe y)
@@ -33,4 +52,33 @@ held_for at None c (Some y) body = refl
 held_for at (Some x) c None body = refl
 held_for at (Some x) c (Some y) body = refl
 
-pub ruleset statement_bridges = (seen_if, seen_for, held_for)
+pub held_if : (at : Place) (c : numbered_exp.Expr) (x : Box numbered.Stmt Global) (y : Option (Box numbered.Stmt Global))
+    → statement_of (numbered.If at c x y) ≡ numbered_branches at (expression_of c) (statement_of x.value) (seen_maybe y)
+held_if at c x None = refl
+held_if at c x (Some y) = refl
+
+-- ---- what an `if` means
+
+pub number_branches : (site : Site) (at : Place) (c : Exp) (x : Stm) (y : MaybeStm) → number_stm site (branches at c x y) ≡ numbered_branches at (number_exp site c) (number_stm site x) (number_maybe_stm (past site x) y)
+number_branches site at c x s.NoStm = refl
+number_branches site at c x (s.SomeStm y) = refl
+
+pub behind_branches : (site : Site) (at : Place) (c : Exp) (x : Stm) (y : MaybeStm) → behind site (branches at c x y) ≡ past_maybe (past site x) y
+behind_branches site at c x s.NoStm = refl
+behind_branches site at c x (s.SomeStm y) = refl
+
+pub literals_branches : (at : Place) (c : Exp) (x : Stm) (y : MaybeStm) → literals (branches at c x y) ≡ literals x ++ literals_of y
+literals_branches at c x s.NoStm = sym (append_none (literals x))
+  where
+    append_none : (xs : List (List ℕ)) → xs ++ [] ≡ xs
+    append_none [] = refl
+    append_none (x ∷ xs) = ap (λ ys. x ∷ ys) (append_none xs)
+literals_branches at c x (s.SomeStm y) = refl
+
+pub noted_branches : (found : Option Refusal) (site : Site) (at : Place) (c : Exp) (x : Stm) (y : MaybeStm)
+    → noted found (stm_nodes site (branches at c x y)) ≡ noted (noted (noted found (exp_nodes site c)) (stm_nodes site x)) (maybe_stm_nodes (past site x) y)
+noted_branches found site at c x s.NoStm = noted_append found (exp_nodes site c) (stm_nodes site x) ∙ sym (noted_none _)
+noted_branches found site at c x (s.SomeStm y) =
+    noted_append found (exp_nodes site c ++ stm_nodes site x) (stm_nodes (past site x) y) ∙ ap (λ f. noted f (stm_nodes (past site x) y)) (noted_append found (exp_nodes site c) (stm_nodes site x))
+
+pub ruleset statement_bridges = (seen_if, seen_for, held_for, held_if, number_branches, behind_branches, literals_branches, noted_branches)

@@ -2,6 +2,7 @@ pub mod Branches
 pub mod BrokenPlaces
 pub mod CleanNodes
 pub mod CleanPrograms
+pub mod Compound
 pub mod Entries
 pub mod FirstFault
 pub mod Firsts
@@ -17,3 +18,5 @@ pub mod TableLookups
 pub mod Total
 pub mod TotalPrograms
 pub mod TotalStatements
+pub mod Walks
+pub mod WholeMethods

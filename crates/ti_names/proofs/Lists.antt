@@ -1,5 +1,6 @@
 -- Lists inside nodes, and what counts of several lists of nodes.
-use Rattle.std.proofs.Common.{◌≡◌, ℕ, Bool, true, false, cond, List, [], ◌∷◌, map, Option, Some, None, Bor, refl, ap, ◌∙◌}
+use Rattle.std.proofs.Common.{◌≡◌, ℕ, Bool, true, false, cond, if◌then◌else◌, List, [], ◌∷◌, ◌++◌, map, take, length, Option, Some, None, is_some, bytes_eq, Bor, refl, ap, sym, ◌∙◌}
+use Rattle.std.proofs.lemmas.List.{take-map, length-map}
 use Rattle.std.specs.Map.{lookup}
 use Rattle.std.specs.Option.{option_map, option_copied}
 use Rattle.ti_lang.specs.declared.program.types.Variable.{Variable}
@@ -10,9 +11,10 @@ use Rattle.ti_lang.specs.Program.Expressions as n
 use Rattle.ti_lang.specs.Trees.Statements.{Stm, stms}
 use Rattle.ti_lang.specs.Program.Statements.{numbered_stms}
 use Rattle.ti_lang.specs.Program.Statements as m
-use Rattle.ti_lang.specs.Scopes.{Site, behind}
+use Rattle.ti_lang.specs.Scopes.{Site, behind, with_variable}
 use Rattle.ti_names.specs.Numbered.{number_exp, number_exps, number_range, number_ranges, number_stm, number_stms, number_list}
 use Rattle.ti_names.specs.Seen.{scope_of}
+use Rattle.ti_names.specs.Tables.{with_first}
 use Rattle.ti_names.proofs.Noting.{noted_none, noted_more, noted_append}
 
 pub number_exps_list : (site : Site) (xs : List Exp) → number_exps site (exps xs) ≡ numbered_exps (map (number_exp site) xs)
@@ -47,3 +49,30 @@ variable_seen found names test is = copied found ∙ ap (option_map variable_of)
     copied : (o : Option (Bor Variable)) → option_map (λ (v : Bor Variable). variable_of v.now) o ≡ option_map variable_of (option_copied o)
     copied None = refl
     copied (Some v) = refl
+
+-- the view of a scope that grows and that is cut
+is_known : (test : List ℕ → Bool) (names : List (List ℕ × Variable)) → is_some (lookup test names) ≡ is_some (lookup test (scope_of names))
+is_known test names = some (lookup test names) ∙ ap is_some (lookup_scope test names)
+  where
+    some : (o : Option Variable) → is_some o ≡ is_some (option_map variable_of o)
+    some None = refl
+    some (Some v) = refl
+
+pub scope_with_first : (names : List (List ℕ × Variable)) (name : List ℕ) (v : Variable) → scope_of (with_first names name v) ≡ with_variable (scope_of names) name (variable_of v)
+scope_with_first names name v = by (is_some (lookup (bytes_eq name) names)) ∙ ap (λ b. if b then scope_of names else scope_of names ++ (name, variable_of v) ∷ []) (is_known (bytes_eq name) names)
+  where
+    added : (ns : List (List ℕ × Variable)) → scope_of (ns ++ (name, v) ∷ []) ≡ scope_of ns ++ (name, variable_of v) ∷ []
+    added [] = refl
+    added (n ∷ ns) = ap (λ z. (n.0, variable_of n.1) ∷ z) (added ns)
+
+    by : (b : Bool) → scope_of (if b then names else names ++ (name, v) ∷ []) ≡ (if b then scope_of names else scope_of names ++ (name, variable_of v) ∷ [])
+    by true = refl
+    by false = added names
+
+pub scope_taken : (n : ℕ) (names : List (List ℕ × Variable)) → scope_of (take n names) ≡ take n (scope_of names)
+scope_taken n names = sym (take-map (λ (e : List ℕ × Variable). (e.0, variable_of e.1)) n names)
+
+pub scope_length : (names : List (List ℕ × Variable)) → length (scope_of names) ≡ length names
+scope_length names = length-map names (λ (e : List ℕ × Variable). (e.0, variable_of e.1))
+
+pub ruleset scopes = (scope_with_first, scope_taken, scope_length)

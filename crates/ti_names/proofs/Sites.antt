@@ -1,13 +1,10 @@
 -- Sites behind statements whose variables have left.
-use Rattle.std.proofs.Common.{◌≡◌, ℕ, zero, suc, ◌+◌, Bool, true, false, if◌then◌else◌, List, [], ◌∷◌, ◌++◌, length, take, is_some, bytes_eq, refl, ap, sym, ◌∙◌, append_assoc}
+use Rattle.std.proofs.Common.{◌≡◌, ℕ, Bool, true, false, if◌then◌else◌, List, [], ◌∷◌, ◌++◌, length, take, is_some, bytes_eq, refl, ap, sym, ◌∙◌, append_assoc}
 use Rattle.std.specs.Map.{lookup}
-use Rattle.ti_base.specs.declared.place.Place.{Place}
-use Rattle.ti_lang.specs.Trees.Expressions.{Exp}
-use Rattle.std.specs.Prelude.{Option}
 use Rattle.ti_lang.specs.Trees.Statements.{Stm, MaybeStm, Stms}
 use Rattle.ti_lang.specs.Trees.Statements as s
 use Rattle.ti_lang.specs.Program.Types.{VariableUse, Foreach}
-use Rattle.ti_lang.specs.Scopes.{Known, Site, with_variable, declares, typed_as, past, past_maybe, past_all, past_variable, behind, behind_maybe, behind_all}
+use Rattle.ti_lang.specs.Scopes.{Known, Site, with_variable, declares, past, past_maybe, past_all, past_variable, behind, behind_maybe, behind_all}
 
 -- the site with another scope
 abbrev pub cut : Site → List Known → Site
@@ -30,7 +27,7 @@ mutual
   past_cut site c (s.While at d body) = past_cut site c body
   past_cut site c (s.For at first d update body) =
       ap (λ z. past (past_maybe z update) body) (past_maybe_cut site c first) ∙ ap (λ z. past z body) (past_maybe_cut (past_maybe site first) c update)
-          ∙ past_cut (past_maybe (past_maybe site first) update) c body
+      ∙ past_cut (past_maybe (past_maybe site first) update) c body
   past_cut site c (s.Foreach at name_at name domain body) = past_cut (past_variable site) c body
 
   past_maybe_cut : (site : Site) (c : List Known) (x : MaybeStm) → past_maybe (cut site c) x ≡ cut (past_maybe site x) c
@@ -150,7 +147,7 @@ for_site site t n first update body is e =
     let scope : last.scope ≡ inside.scope = past_scope (past_maybe inside update) body ∙ past_maybe_scope inside update in
     let kept : take n last.scope ≡ site.scope = ap (take n) scope ∙ take_grown site.scope inside.scope n is (grows_behind_maybe site first) in
     ap (λ (z : Site). cut z (take n z.scope)) e ∙ ap (cut last) kept ∙ sym (past_cut (past_maybe inside update) site.scope body)
-        ∙ ap (λ z. past z body) (sym (past_maybe_cut inside site.scope update)) ∙ ap (λ z. past (past_maybe z update) body) (cut_behind_maybe site site.scope first)
+    ∙ ap (λ z. past z body) (sym (past_maybe_cut inside site.scope update)) ∙ ap (λ z. past (past_maybe z update) body) (cut_behind_maybe site site.scope first)
 
 pub foreach_site : (site t : Site) (n : ℕ) (name : List ℕ) (body : Stm) → n ≡ length site.scope → t ≡ past (declares site name Foreach) body → cut t (take n t.scope) ≡ past (past_variable site) body
 foreach_site site t n name body is e =

@@ -2,12 +2,10 @@
 use Rattle.std.specs.Prelude.{ℕ, List, map, length, Option, Some, None}
 use Rattle.std.specs.declared.alloc.Global.{Global}
 use Rattle.std.specs.declared.boxed.Box.{Box}
-use Rattle.ti_base.specs.declared.place.Place.{Place}
 use Rattle.ti_lang.specs.declared.tree.stmts.Stmt.{Stmt}
 use Rattle.ti_lang.specs.declared.program.types.Variable.{Variable}
 use Rattle.ti_lang.specs.declared.program.stmts.Stmt as numbered
-use Rattle.ti_lang.specs.Trees.Expressions.{Exp}
-use Rattle.ti_lang.specs.Trees.Statements.{Stm, MaybeStm}
+use Rattle.ti_lang.specs.Trees.Statements.{MaybeStm}
 use Rattle.ti_lang.specs.Trees.Statements as s
 use Rattle.ti_lang.specs.Trees.Classes.{TextTree}
 use Rattle.ti_lang.specs.Trees.Views.{tree_of, stm_of}
@@ -43,8 +41,3 @@ tree_maybe (Some x) = s.SomeStm (stm_of x.value)
 abbrev pub seen_maybe : Option (Box numbered.Stmt Global) → MaybeNumbered
 seen_maybe None = m.NoStm
 seen_maybe (Some x) = m.SomeStm (statement_of x.value)
-
--- an `if` with or without an `else`
-abbrev pub branches : Place → Exp → Stm → MaybeStm → Stm
-branches at c x s.NoStm = s.If at c x
-branches at c x (s.SomeStm y) = s.IfElse at c x y

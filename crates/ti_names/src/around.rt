@@ -1,6 +1,6 @@
 // Types and expressions.
 
-ghost use Rattle.std.specs.Prelude.{◌≡◌, [], ◌∷◌, map, IfOk, OnOk};
+ghost use Rattle.std.specs.Prelude.{◌≡◌, [], ◌∷◌, map, Some, IfOk, OnOk};
 ghost use Rattle.std.specs.Option.{option_map};
 ghost use Rattle.ti_lang.specs.Trees.Views.{exp_of, range_of, type_of, grid_of, dims_of, init_of, maybe_of};
 ghost use Rattle.ti_lang.specs.Trees.Expressions.{exps, ranges_tree};
@@ -8,10 +8,11 @@ ghost use Rattle.ti_lang.specs.Trees.Expressions as t;
 ghost use Rattle.ti_lang.specs.Program.Views.{value_type_of, type_use_of, variable_of, expression_of, bound_of, extent_of, initial_of};
 ghost use Rattle.ti_lang.specs.Program.Expressions.{numbered_exps};
 ghost use Rattle.ti_lang.specs.Members.{class_named};
-ghost use Rattle.ti_lang.specs.Scopes.{base_type, grid_type, value_type, numbered_type, class_type, variable_named, own_field_named, own_method_named, static_method_named, class_before_dot};
-ghost use Rattle.ti_lang.specs.Nodes.{node, ClassUse, Expression, base_nodes, type_nodes, exp_nodes, exps_nodes, range_nodes, ranges_nodes, maybe_nodes, dims_nodes, init_nodes};
-ghost use Rattle.ti_names.specs.Faults.{noted};
-ghost use Rattle.ti_names.specs.Numbered.{called, number_exp, number_range, number_maybe, number_dims, number_init};
+ghost use Rattle.ti_lang.specs.Scopes.{base_type, grid_type, numbered_type, variable_named, own_field_named, own_method_named, static_method_named, class_before_dot};
+ghost use Rattle.ti_lang.specs.Nodes.{node, ClassUse, base_nodes, type_nodes, exp_nodes, exps_nodes, range_nodes, ranges_nodes, maybe_nodes, dims_nodes, init_nodes};
+ghost use Rattle.ti_rules.specs.declared.rule.Rule.TheVariants.{N1};
+ghost use Rattle.ti_names.specs.Faults.{fault_if, lacks_method, least, noted};
+ghost use Rattle.ti_names.specs.Numbered.{called, class_called, number_exp, number_exps, number_range, number_maybe, number_dims, number_init};
 ghost use Rattle.ti_names.specs.Seen.{site_of, text_of};
 
 use crate::names::Names;
@@ -19,12 +20,11 @@ use crate::note::note;
 use crate::tables::Tables;
 use std::alloc::Global;
 use ti_base::{Memory, Place};
-use ti_lang::Spelled;
 use ti_lang::program::{
     Dims, Expr, Init, Range, Ty, TypeUse, Variable, copy_brackets, copy_qualifiers, has_local,
 };
 use ti_lang::tree::{Base, Brackets, Qualifier, TypeName};
-use ti_lang::tree;
+use ti_lang::{Spelled, tree};
 use ti_rules::{Refusal, Rule};
 
 /// What stands around an expression.
@@ -123,11 +123,7 @@ impl<'t, 'a> Around<'t, 'a> {
     }
 
     /// A type.
-    pub fn type_use(
-        &self,
-        found: &mut Option<Refusal>,
-        ty: &TypeName,
-    ) -> Result<TypeUse, Memory>
+    pub fn type_use(&self, found: &mut Option<Refusal>, ty: &TypeName) -> Result<TypeUse, Memory>
         ensures value { IfOk result (λ t. type_use_of t ≡ numbered_type (text_of self.now.tables.now) (type_of ty.now)) }
         ensures found { OnOk result (found.new ≡ noted found.old (type_nodes (site_of self.now) (type_of ty.now))) }
     {
@@ -137,7 +133,8 @@ impl<'t, 'a> Around<'t, 'a> {
 
     // ---- what names mean
 
-    fn variable(&self, name: &[u8]) -> Option<&'t Variable>
+    /// The variable of a name.
+    pub fn variable(&self, name: &[u8]) -> Option<&'t Variable>
         ensures { option_map (λ v. variable_of v.now) result ≡ variable_named (site_of self.now) name.now }
     {
         self.scope.get(name)
@@ -223,12 +220,7 @@ impl<'t, 'a> Around<'t, 'a> {
     }
 
     #[tactic(auto, unfolding(crate::specs::Faults::noted))]
-    fn name(
-        &self,
-        found: &mut Option<Refusal>,
-        place: Place,
-        name: &[u8],
-    ) -> Result<Expr, Memory>
+    fn name(&self, found: &mut Option<Refusal>, place: Place, name: &[u8]) -> Result<Expr, Memory>
         ensures value { IfOk result (λ y. expression_of y ≡ number_exp (site_of self.now) (t.Name place name.now)) }
         ensures found { OnOk result (found.new ≡ noted found.old (exp_nodes (site_of self.now) (t.Name place name.now))) }
     {
@@ -300,43 +292,38 @@ impl<'t, 'a> Around<'t, 'a> {
         Ok(Expr::Select(place, x, self.tables.name(name)))
     }
 
-    #[cycle(walk_expr)]
-    #[tactic(auto, using(ti_lang::proofs::ProgramBridges::program_bridges, crate::proofs::Lists::lists))]
-    fn member(
-        &self,
-        found: &mut Option<Refusal>,
-        place: Place,
-        x: &tree::Expr,
-        name: &[u8],
-        args: &[tree::Expr],
-    ) -> Result<Expr, Memory>
-        ensures value { IfOk result (λ y. expression_of y ≡ number_exp (site_of self.now) (t.member place (exp_of x.now) name.now (map exp_of args.now))) }
-        ensures found { OnOk result (found.new ≡ noted found.old (exp_nodes (site_of self.now) (t.member place (exp_of x.now) name.now (map exp_of args.now)))) }
+    /// A call of a method of a class that is named, if there is one.
+    #[tactic(auto, using(ti_lang::proofs::ProgramBridges::program_bridges))]
+    fn class_called(place: Place, method: Option<u32>, args: Vec<Expr>) -> Expr
+        ensures { expression_of result ≡ class_called place method (numbered_exps (map expression_of args.items)) }
     {
-        match self.class_before_dot(x) {
-            Some(class) => {
-                let method = self.static_method(class, name);
-                note(found, method.is_none(), Rule::N1, place);
-                let args = self.exps(found, args)?;
-                match method {
-                    Some(method) => Ok(Expr::Call(place, method, args)),
-                    None => Ok(Expr::Null(place)),
-                }
-            }
-            None => {
-                let x = self.boxed(found, x)?;
-                let args = self.exps(found, args)?;
-                Ok(Expr::Member(place, x, self.tables.name(name), args))
-            }
+        match method {
+            Some(method) => Expr::Call(place, method, args),
+            None => Expr::Null(place),
         }
     }
 
     #[cycle(walk_expr)]
-    fn boxed(
+    #[tactic(auto, using(crate::proofs::Lists::lists))]
+    fn class_call(
         &self,
         found: &mut Option<Refusal>,
-        x: &tree::Expr,
-    ) -> Result<Box<Expr>, Memory>
+        place: Place,
+        class: u32,
+        name: &[u8],
+        args: &[tree::Expr],
+    ) -> Result<Expr, Memory>
+        ensures value { IfOk result (λ y. expression_of y ≡ class_called place (static_method_named (site_of self.now) class name.now) (number_exps (site_of self.now) (exps (map exp_of args.now)))) }
+        ensures found { OnOk result (found.new ≡ noted (least found.old (fault_if (lacks_method (site_of self.now) (Some class) name.now) N1 place)) (exps_nodes (site_of self.now) (exps (map exp_of args.now)))) }
+    {
+        let method = self.static_method(class, name);
+        note(found, method.is_none(), Rule::N1, place);
+        let args = self.exps(found, args)?;
+        Ok(Self::class_called(place, method, args))
+    }
+
+    #[cycle(walk_expr)]
+    fn boxed(&self, found: &mut Option<Refusal>, x: &tree::Expr) -> Result<Box<Expr>, Memory>
         ensures value { IfOk result (λ y. expression_of y.value ≡ number_exp (site_of self.now) (exp_of x.now)) }
         ensures found { OnOk result (found.new ≡ noted found.old (exp_nodes (site_of self.now) (exp_of x.now))) }
     {
@@ -345,11 +332,8 @@ impl<'t, 'a> Around<'t, 'a> {
     }
 
     #[cycle(walk_expr)]
-    fn exps(
-        &self,
-        found: &mut Option<Refusal>,
-        xs: &[tree::Expr],
-    ) -> Result<Vec<Expr>, Memory>
+    #[tactic(auto, using(crate::proofs::Lists::lists))]
+    fn exps(&self, found: &mut Option<Refusal>, xs: &[tree::Expr]) -> Result<Vec<Expr>, Memory>
         ensures value { IfOk result (λ ys. map expression_of ys.items ≡ map (number_exp (site_of self.now)) (map exp_of xs.now)) }
         ensures found { OnOk result (found.new ≡ noted found.old (exps_nodes (site_of self.now) (exps (map exp_of xs.now)))) }
     {
@@ -362,11 +346,7 @@ impl<'t, 'a> Around<'t, 'a> {
 
     #[cycle(walk_expr)]
     #[tactic(auto, using(crate::proofs::Lists::lists))]
-    fn range(
-        &self,
-        found: &mut Option<Refusal>,
-        range: &tree::Range,
-    ) -> Result<Range, Memory>
+    fn range(&self, found: &mut Option<Refusal>, range: &tree::Range) -> Result<Range, Memory>
         ensures value { IfOk result (λ r. bound_of r ≡ number_range (site_of self.now) (range_of range.now)) }
         ensures found { OnOk result (found.new ≡ noted found.old (range_nodes (site_of self.now) (range_of range.now))) }
     {
@@ -385,6 +365,7 @@ impl<'t, 'a> Around<'t, 'a> {
 
     /// Ranges.
     #[cycle(walk_expr)]
+    #[tactic(auto, using(crate::proofs::Lists::lists))]
     pub fn ranges(
         &self,
         found: &mut Option<Refusal>,
@@ -437,9 +418,15 @@ impl<'t, 'a> Around<'t, 'a> {
                 Ok(Expr::Cast(*place, to, self.boxed(found, x)?))
             }
             tree::Expr::Select(place, x, name) => self.select(found, *place, x, name.as_bytes()),
-            tree::Expr::Member(place, x, name, args) => {
-                self.member(found, *place, x, name.as_bytes(), args)
-            }
+            tree::Expr::Member(place, x, name, args) => match self.class_before_dot(x) {
+                Some(class) => self.class_call(found, *place, class, name.as_bytes(), args),
+                None => {
+                    let x = self.boxed(found, x)?;
+                    let args = self.exps(found, args)?;
+                    let name = self.tables.name(name.as_bytes());
+                    Ok(Expr::Member(*place, x, name, args))
+                }
+            },
             tree::Expr::Index(place, x, parts) => {
                 let x = self.boxed(found, x)?;
                 Ok(Expr::Index(*place, x, self.exps(found, parts)?))
@@ -448,6 +435,7 @@ impl<'t, 'a> Around<'t, 'a> {
     }
 
     /// An expression that may be left out.
+    #[tactic(auto, using(crate::proofs::Lists::lists))]
     pub fn maybe(
         &self,
         found: &mut Option<Refusal>,
@@ -462,11 +450,7 @@ impl<'t, 'a> Around<'t, 'a> {
         }
     }
 
-    fn dims(
-        &self,
-        found: &mut Option<Refusal>,
-        dims: &tree::Dims,
-    ) -> Result<Dims, Memory>
+    fn dims(&self, found: &mut Option<Refusal>, dims: &tree::Dims) -> Result<Dims, Memory>
         ensures value { IfOk result (λ d. extent_of d ≡ number_dims (site_of self.now) (dims_of dims.now)) }
         ensures found { OnOk result (found.new ≡ noted found.old (dims_nodes (site_of self.now) (dims_of dims.now))) }
     {
@@ -478,11 +462,7 @@ impl<'t, 'a> Around<'t, 'a> {
 
     /// The right side of a declaration or an assignment.
     #[tactic(auto, using(crate::proofs::Lists::lists))]
-    pub fn init(
-        &self,
-        found: &mut Option<Refusal>,
-        value: &tree::Init,
-    ) -> Result<Init, Memory>
+    pub fn init(&self, found: &mut Option<Refusal>, value: &tree::Init) -> Result<Init, Memory>
         ensures value { IfOk result (λ v. initial_of v ≡ number_init (site_of self.now) (init_of value.now)) }
         ensures found { OnOk result (found.new ≡ noted found.old (init_nodes (site_of self.now) (init_of value.now))) }
     {

@@ -1,16 +1,16 @@
 // Statements.
 
 ghost use Rattle.std.specs.Prelude.{◌≡◌, ◌+◌, ◌++◌, [], ◌∷◌, map, take, length, Some, IfOk, OnOk};
-ghost use Rattle.ti_lang.specs.Trees.Views.{exp_of, range_of, type_of, dims_of, init_of, print_of, stm_of, maybe_stm_of, stms_of, maybe_of};
+ghost use Rattle.ti_lang.specs.Trees.Views.{exp_of, type_of, init_of, print_of, stm_of, maybe_of};
 ghost use Rattle.ti_lang.specs.Trees.Statements.{stms};
 ghost use Rattle.ti_lang.specs.Trees.Statements as s;
-ghost use Rattle.ti_lang.specs.Program.Views.{type_use_of, declared_of, expression_of, extent_of, initial_of, printed_of, statement_of, maybe_statement_of};
+ghost use Rattle.ti_lang.specs.Program.Views.{type_use_of, declared_of, expression_of, initial_of, printed_of, statement_of};
 ghost use Rattle.ti_lang.specs.Program.Types.{Foreach};
 ghost use Rattle.ti_lang.specs.Scopes.{numbered_type, typed_as, declares, literals, literals_of, literals_in, printed_text, past, past_maybe, behind, behind_maybe, behind_all};
-ghost use Rattle.ti_lang.specs.Nodes.{node, VariableName, type_nodes, exp_nodes, maybe_nodes, dims_nodes, init_nodes, print_nodes, stm_nodes, maybe_stm_nodes, stms_nodes};
+ghost use Rattle.ti_lang.specs.Nodes.{node, VariableName, type_nodes, exp_nodes, maybe_nodes, init_nodes, print_nodes, stm_nodes, maybe_stm_nodes, stms_nodes};
 ghost use Rattle.ti_names.specs.Faults.{noted};
-ghost use Rattle.ti_names.specs.Numbered.{number_exp, number_maybe, number_dims, number_init, number_print, number_stm, number_maybe_stm, number_list};
-ghost use Rattle.ti_names.specs.Seen.{site_of, site_at, text_of, tree_maybe, seen_maybe, branches};
+ghost use Rattle.ti_names.specs.Numbered.{number_exp, number_maybe, number_init, number_print, number_stm, number_maybe_stm, number_list};
+ghost use Rattle.ti_names.specs.Seen.{site_of, site_at, text_of, tree_maybe, seen_maybe};
 
 use crate::around::Around;
 use crate::names::Names;
@@ -19,9 +19,8 @@ use crate::number::{narrow, next};
 use crate::tables::Tables;
 use std::alloc::Global;
 use ti_base::{Memory, Place};
-use ti_lang::Spelled;
 use ti_lang::program::{Declared, Expr, Init, Printed, Stmt, TypeUse, Variable, has_single};
-use ti_lang::tree;
+use ti_lang::{Spelled, tree};
 use ti_rules::{Refusal, Rule};
 
 /// How many variables may be in scope.
@@ -59,7 +58,7 @@ impl<'t, 'a> Body<'t, 'a> {
 
     fn exp(&mut self, x: &tree::Expr) -> Result<Expr, Memory>
         ensures value { IfOk result (λ y. expression_of y ≡ number_exp (site_at self.old) (exp_of x.now)) }
-        ensures body { OnOk result (self.new ≡ record self.old { found = noted self.old.found (exp_nodes (site_at self.old) (exp_of x.now)) }) }
+        ensures body { OnOk result (self.new ≡ record (self.old) { found = noted self.old.found (exp_nodes (site_at self.old) (exp_of x.now)) }) }
     {
         let mut found = self.found;
         let x = self.around().exp(&mut found, x)?;
@@ -70,7 +69,7 @@ impl<'t, 'a> Body<'t, 'a> {
     /// An expression that may be left out.
     pub fn maybe(&mut self, x: &Option<tree::Expr>) -> Result<Option<Expr>, Memory>
         ensures value { IfOk result (λ y. maybe_of expression_of y ≡ number_maybe (site_at self.old) (maybe_of exp_of x.now)) }
-        ensures body { OnOk result (self.new ≡ record self.old { found = noted self.old.found (maybe_nodes (site_at self.old) (maybe_of exp_of x.now)) }) }
+        ensures body { OnOk result (self.new ≡ record (self.old) { found = noted self.old.found (maybe_nodes (site_at self.old) (maybe_of exp_of x.now)) }) }
     {
         let mut found = self.found;
         let x = self.around().maybe(&mut found, x)?;
@@ -81,7 +80,7 @@ impl<'t, 'a> Body<'t, 'a> {
     /// A type.
     pub fn type_use(&mut self, ty: &tree::TypeName) -> Result<TypeUse, Memory>
         ensures value { IfOk result (λ t. type_use_of t ≡ numbered_type (text_of self.old.tables.now) (type_of ty.now)) }
-        ensures body { OnOk result (self.new ≡ record self.old { found = noted self.old.found (type_nodes (site_at self.old) (type_of ty.now)) }) }
+        ensures body { OnOk result (self.new ≡ record (self.old) { found = noted self.old.found (type_nodes (site_at self.old) (type_of ty.now)) }) }
     {
         let mut found = self.found;
         let ty = self.around().type_use(&mut found, ty)?;
@@ -91,7 +90,7 @@ impl<'t, 'a> Body<'t, 'a> {
 
     fn init(&mut self, value: &tree::Init) -> Result<Init, Memory>
         ensures value { IfOk result (λ v. initial_of v ≡ number_init (site_at self.old) (init_of value.now)) }
-        ensures body { OnOk result (self.new ≡ record self.old { found = noted self.old.found (init_nodes (site_at self.old) (init_of value.now)) }) }
+        ensures body { OnOk result (self.new ≡ record (self.old) { found = noted self.old.found (init_nodes (site_at self.old) (init_of value.now)) }) }
     {
         let mut found = self.found;
         let value = self.around().init(&mut found, value)?;
@@ -103,7 +102,7 @@ impl<'t, 'a> Body<'t, 'a> {
     fn text(&mut self, text: &Spelled) -> Result<u32, Memory>
         ensures number { IfOk result (λ n. n ≡ length self.old.literals.items) }
         ensures literals { OnOk result (self.new.literals.items ≡ self.old.literals.items ++ text.now ∷ []) }
-        ensures site { OnOk result (site_at self.new ≡ record site_at self.old { literals = length self.old.literals.items + 1 }) }
+        ensures site { OnOk result (site_at self.new ≡ record (site_at self.old) { literals = length self.old.literals.items + 1 }) }
         ensures found { OnOk result (self.new.found ≡ self.old.found) }
     {
         let number = narrow(self.literals.len())?;
@@ -115,7 +114,7 @@ impl<'t, 'a> Body<'t, 'a> {
     #[tactic(auto, using(crate::proofs::Lists::lists))]
     fn print(&mut self, what: &tree::Printed) -> Result<Printed, Memory>
         ensures value { IfOk result (λ w. printed_of w ≡ number_print (site_at self.old) (print_of what.now)) }
-        ensures site { OnOk result (site_at self.new ≡ record site_at self.old { literals = (site_at self.old).literals + length (printed_text (print_of what.now)) }) }
+        ensures site { OnOk result (site_at self.new ≡ record (site_at self.old) { literals = (site_at self.old).literals + length (printed_text (print_of what.now)) }) }
         ensures literals { OnOk result (self.new.literals.items ≡ self.old.literals.items ++ printed_text (print_of what.now)) }
         ensures found { OnOk result (self.new.found ≡ noted self.old.found (print_nodes (site_at self.old) (print_of what.now))) }
     {
@@ -133,18 +132,24 @@ impl<'t, 'a> Body<'t, 'a> {
     // ---- variables
 
     /// What is wrong with the declaration of a variable.
-    #[tactic(auto, unfolding(crate::specs::Faults::noted))]
+    #[tactic(auto, using(crate::proofs::Lists::scopes), unfolding(crate::specs::Faults::noted))]
     pub fn check_variable(&mut self, place: Place, name: &Spelled)
-        ensures { self.new ≡ record self.old { found = noted self.old.found (node (site_at self.old) (VariableName place name.now) ∷ []) } }
+        ensures { self.new ≡ record (self.old) { found = noted self.old.found (node (site_at self.old) (VariableName place name.now) ∷ []) } }
     {
+        let is_known = self.around().variable(name.as_bytes()).is_some();
         let mut found = self.found;
-        let is_known = self.scope.get(name.as_bytes()).is_some();
         note(&mut found, is_known, Rule::N2, place);
-        note(&mut found, MOST_VARIABLES <= self.scope.len(), Rule::N4, place);
+        note(
+            &mut found,
+            MOST_VARIABLES <= self.scope.len(),
+            Rule::N4,
+            place,
+        );
         self.found = found;
     }
 
     /// Puts a variable in scope, and gives its number.
+    #[tactic(auto, using(crate::proofs::Lists::scopes))]
     pub fn declare(&mut self, name: &'a Spelled, declared: Declared) -> Result<u32, Memory>
         ensures number { IfOk result (λ n. n ≡ self.old.variables) }
         ensures site { OnOk result (site_at self.new ≡ declares (site_at self.old) name.now (declared_of declared)) }
@@ -160,8 +165,9 @@ impl<'t, 'a> Body<'t, 'a> {
     }
 
     /// Takes the variables out of scope that were declared since there were so many.
+    #[tactic(auto, using(crate::proofs::Lists::scopes))]
     fn cut(&mut self, len: usize)
-        ensures site { site_at self.new ≡ record site_at self.old { scope = take len (site_at self.old).scope } }
+        ensures site { site_at self.new ≡ record (site_at self.old) { scope = take len (site_at self.old).scope } }
         ensures literals { self.new.literals.items ≡ self.old.literals.items }
         ensures found { self.new.found ≡ self.old.found }
     {
@@ -194,6 +200,21 @@ impl<'t, 'a> Body<'t, 'a> {
         Ok(Stmt::Declare(place, type_use, number, value))
     }
 
+    /// The domain of a `foreach`, behind the name of its variable.
+    #[tactic(auto, using(crate::proofs::Lists::lists))]
+    fn foreach_head(
+        &mut self,
+        place: Place,
+        name: &Spelled,
+        domain: &tree::Expr,
+    ) -> Result<Expr, Memory>
+        ensures value { IfOk result (λ y. expression_of y ≡ number_exp (site_at self.old) (exp_of domain.now)) }
+        ensures body { OnOk result (self.new ≡ record (self.old) { found = noted self.old.found (node (site_at self.old) (VariableName place name.now) ∷ exp_nodes (site_at self.old) (exp_of domain.now)) }) }
+    {
+        self.check_variable(place, name);
+        self.exp(domain)
+    }
+
     /// A statement whose variables leave behind it.
     #[cycle(walk_stmt)]
     fn inner(&mut self, x: &'a tree::Stmt) -> Result<Box<Stmt>, Memory>
@@ -209,10 +230,8 @@ impl<'t, 'a> Body<'t, 'a> {
     }
 
     #[cycle(walk_stmt)]
-    fn maybe_stm(
-        &mut self,
-        x: &'a Option<Box<tree::Stmt>>,
-    ) -> Result<Option<Box<Stmt>>, Memory>
+    #[tactic(auto, using(crate::proofs::Lists::lists))]
+    fn maybe_stm(&mut self, x: &'a Option<Box<tree::Stmt>>) -> Result<Option<Box<Stmt>>, Memory>
         ensures value { IfOk result (λ y. seen_maybe y ≡ number_maybe_stm (site_at self.old) (tree_maybe x.now)) }
         ensures site { OnOk result (site_at self.new ≡ behind_maybe (site_at self.old) (tree_maybe x.now)) }
         ensures literals { OnOk result (self.new.literals.items ≡ self.old.literals.items ++ literals_of (tree_maybe x.now)) }
@@ -228,10 +247,8 @@ impl<'t, 'a> Body<'t, 'a> {
     }
 
     #[cycle(walk_stmt)]
-    fn maybe_inner(
-        &mut self,
-        x: &'a Option<Box<tree::Stmt>>,
-    ) -> Result<Option<Box<Stmt>>, Memory>
+    #[tactic(auto, using(crate::proofs::Lists::lists))]
+    fn maybe_inner(&mut self, x: &'a Option<Box<tree::Stmt>>) -> Result<Option<Box<Stmt>>, Memory>
         ensures value { IfOk result (λ y. seen_maybe y ≡ number_maybe_stm (site_at self.old) (tree_maybe x.now)) }
         ensures site { OnOk result (site_at self.new ≡ past_maybe (site_at self.old) (tree_maybe x.now)) }
         ensures literals { OnOk result (self.new.literals.items ≡ self.old.literals.items ++ literals_of (tree_maybe x.now)) }
@@ -245,6 +262,7 @@ impl<'t, 'a> Body<'t, 'a> {
 
     /// Statements, behind which their variables are still in scope.
     #[cycle(walk_stmt)]
+    #[tactic(auto, using(crate::proofs::Lists::lists))]
     pub fn stms(&mut self, xs: &'a [tree::Stmt]) -> Result<Vec<Stmt>, Memory>
         ensures value { IfOk result (λ ys. map statement_of ys.items ≡ number_list (site_at self.old) (map stm_of xs.now)) }
         ensures site { OnOk result (site_at self.new ≡ behind_all (site_at self.old) (stms (map stm_of xs.now))) }
@@ -259,6 +277,7 @@ impl<'t, 'a> Body<'t, 'a> {
     }
 
     #[cycle(walk_stmt)]
+    #[tactic(auto, using(ti_lang::proofs::ProgramBridges::program_bridges, crate::proofs::Lists::lists))]
     fn block(&mut self, body: &'a [tree::Stmt]) -> Result<Stmt, Memory>
         ensures value { IfOk result (λ y. statement_of y ≡ number_stm (site_at self.old) (s.block (map stm_of body.now))) }
         ensures site { OnOk result (site_at self.new ≡ past (site_at self.old) (s.block (map stm_of body.now))) }
@@ -271,80 +290,9 @@ impl<'t, 'a> Body<'t, 'a> {
         Ok(Stmt::Block(body))
     }
 
-    #[cycle(walk_stmt)]
-    #[tactic(auto, using(ti_lang::proofs::ProgramBridges::program_bridges, crate::proofs::Lists::lists))]
-    fn if_else(
-        &mut self,
-        place: Place,
-        condition: &tree::Expr,
-        then: &'a tree::Stmt,
-        otherwise: &'a Option<Box<tree::Stmt>>,
-    ) -> Result<Stmt, Memory>
-        ensures value { IfOk result (λ y. statement_of y ≡ number_stm (site_at self.old) (branches place (exp_of condition.now) (stm_of then.now) (tree_maybe otherwise.now))) }
-        ensures site { OnOk result (site_at self.new ≡ past (site_at self.old) (branches place (exp_of condition.now) (stm_of then.now) (tree_maybe otherwise.now))) }
-        ensures literals { OnOk result (self.new.literals.items ≡ self.old.literals.items ++ literals (branches place (exp_of condition.now) (stm_of then.now) (tree_maybe otherwise.now))) }
-        ensures found { OnOk result (self.new.found ≡ noted self.old.found (stm_nodes (site_at self.old) (branches place (exp_of condition.now) (stm_of then.now) (tree_maybe otherwise.now)))) }
-    {
-        let condition = self.exp(condition)?;
-        let then = self.inner(then)?;
-        match otherwise {
-            Some(otherwise) => {
-                let otherwise = self.inner(otherwise)?;
-                Ok(Stmt::If(place, condition, then, Some(otherwise)))
-            }
-            None => Ok(Stmt::If(place, condition, then, None)),
-        }
-    }
-
-    #[cycle(walk_stmt)]
-    fn for_loop(
-        &mut self,
-        place: Place,
-        first: &'a Option<Box<tree::Stmt>>,
-        condition: &Option<tree::Expr>,
-        update: &'a Option<Box<tree::Stmt>>,
-        body: &'a tree::Stmt,
-    ) -> Result<Stmt, Memory>
-        ensures value { IfOk result (λ y. statement_of y ≡ number_stm (site_at self.old) (s.For place (tree_maybe first.now) (maybe_of exp_of condition.now) (tree_maybe update.now) (stm_of body.now))) }
-        ensures site { OnOk result (site_at self.new ≡ past (site_at self.old) (s.For place (tree_maybe first.now) (maybe_of exp_of condition.now) (tree_maybe update.now) (stm_of body.now))) }
-        ensures literals { OnOk result (self.new.literals.items ≡ self.old.literals.items ++ literals (s.For place (tree_maybe first.now) (maybe_of exp_of condition.now) (tree_maybe update.now) (stm_of body.now))) }
-        ensures found { OnOk result (self.new.found ≡ noted self.old.found (stm_nodes (site_at self.old) (s.For place (tree_maybe first.now) (maybe_of exp_of condition.now) (tree_maybe update.now) (stm_of body.now)))) }
-    {
-        let len = self.scope.len();
-        let first = self.maybe_stm(first)?;
-        let condition = self.maybe(condition)?;
-        let update = self.maybe_inner(update)?;
-        let body = self.inner(body)?;
-        self.cut(len);
-        Ok(Stmt::For(place, first, condition, update, body))
-    }
-
-    #[cycle(walk_stmt)]
-    fn foreach(
-        &mut self,
-        place: Place,
-        name_at: Place,
-        name: &'a Spelled,
-        domain: &tree::Expr,
-        body: &'a tree::Stmt,
-    ) -> Result<Stmt, Memory>
-        ensures value { IfOk result (λ y. statement_of y ≡ number_stm (site_at self.old) (s.Foreach place name_at name.now (exp_of domain.now) (stm_of body.now))) }
-        ensures site { OnOk result (site_at self.new ≡ past (site_at self.old) (s.Foreach place name_at name.now (exp_of domain.now) (stm_of body.now))) }
-        ensures literals { OnOk result (self.new.literals.items ≡ self.old.literals.items ++ literals (stm_of body.now)) }
-        ensures found { OnOk result (self.new.found ≡ noted self.old.found (stm_nodes (site_at self.old) (s.Foreach place name_at name.now (exp_of domain.now) (stm_of body.now)))) }
-    {
-        let len = self.scope.len();
-        self.check_variable(name_at, name);
-        let domain = self.exp(domain)?;
-        let number = self.declare(name, Declared::Foreach)?;
-        let body = self.inner(body)?;
-        self.cut(len);
-        Ok(Stmt::Foreach(place, number, domain, body))
-    }
-
     /// A statement.
     #[cycle(walk_stmt)]
-    #[tactic(auto, using(ti_lang::proofs::Bridges::bridges, ti_lang::proofs::ProgramBridges::program_bridges, crate::proofs::Lists::lists))]
+    #[tactic(auto, using(ti_lang::proofs::Bridges::bridges, ti_lang::proofs::ProgramBridges::program_bridges, crate::proofs::Lists::lists, crate::proofs::Branches::statement_bridges))]
     pub fn stm(&mut self, x: &'a tree::Stmt) -> Result<Stmt, Memory>
         ensures value { IfOk result (λ y. statement_of y ≡ number_stm (site_at self.old) (stm_of x.now)) }
         ensures site { OnOk result (site_at self.new ≡ behind (site_at self.old) (stm_of x.now)) }
@@ -372,17 +320,31 @@ impl<'t, 'a> Body<'t, 'a> {
             tree::Stmt::Barrier(place) => Ok(Stmt::Barrier(*place)),
             tree::Stmt::Block(body) => self.block(body),
             tree::Stmt::If(place, condition, then, otherwise) => {
-                self.if_else(*place, condition, then, otherwise)
+                let condition = self.exp(condition)?;
+                let then = self.inner(then)?;
+                let otherwise = self.maybe_inner(otherwise)?;
+                Ok(Stmt::If(*place, condition, then, otherwise))
             }
             tree::Stmt::While(place, condition, body) => {
                 let condition = self.exp(condition)?;
                 Ok(Stmt::While(*place, condition, self.inner(body)?))
             }
             tree::Stmt::For(place, first, condition, update, body) => {
-                self.for_loop(*place, first, condition, update, body)
+                let len = self.scope.len();
+                let first = self.maybe_stm(first)?;
+                let condition = self.maybe(condition)?;
+                let update = self.maybe_inner(update)?;
+                let body = self.inner(body)?;
+                self.cut(len);
+                Ok(Stmt::For(*place, first, condition, update, body))
             }
             tree::Stmt::Foreach(place, name_at, name, domain, body) => {
-                self.foreach(*place, *name_at, name, domain, body)
+                let len = self.scope.len();
+                let domain = self.foreach_head(*name_at, name, domain)?;
+                let number = self.declare(name, Declared::Foreach)?;
+                let body = self.inner(body)?;
+                self.cut(len);
+                Ok(Stmt::Foreach(*place, number, domain, body))
             }
         }
     }

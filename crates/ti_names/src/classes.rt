@@ -1,8 +1,7 @@
 // Classes and fields.
 
-ghost use Rattle.std.specs.Prelude.{◌≡◌, ◌++◌, ◌∷◌, [], map, IfOk, OnOk};
-ghost use Rattle.ti_lang.specs.Trees.Views.{tree_of, class_of, member_of, field_of, type_of};
-ghost use Rattle.ti_lang.specs.Trees.Classes.{ClassTree};
+ghost use Rattle.std.specs.Prelude.{◌≡◌, ◌∷◌, [], map, IfOk, OnOk};
+ghost use Rattle.ti_lang.specs.Trees.Views.{class_of, member_of, field_of, type_of};
 ghost use Rattle.ti_lang.specs.Program.Views.{numbered_field_of, numbered_class_of};
 ghost use Rattle.ti_lang.specs.Members.{fields_in, name_number};
 ghost use Rattle.ti_lang.specs.Scopes.{numbered_type, class_site};
@@ -84,11 +83,7 @@ impl<'t, 'a> Around<'t, 'a> {
     }
 
     #[tactic(auto, using(crate::proofs::Lists::lists))]
-    fn whole_class(
-        &self,
-        found: &mut Option<Refusal>,
-        class: &tree::Class,
-    ) -> Result<Class, Memory>
+    fn whole_class(&self, found: &mut Option<Refusal>, class: &tree::Class) -> Result<Class, Memory>
         ensures value { IfOk result (λ c. numbered_class_of c ≡ record { modifiers = class.now.modifiers.items; fields = number_fields (text_of self.now.tables.now) (fields_in (class_of class.now).members) }) }
         ensures found { OnOk result (found.new ≡ noted found.old (node (site_of self.now) (ClassName self.now.class (class_of class.now)) ∷ fields_nodes (site_of self.now) 0 (fields_in (class_of class.now).members))) }
     {

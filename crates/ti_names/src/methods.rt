@@ -20,11 +20,10 @@ use crate::own::Own;
 use crate::tables::Tables;
 use std::alloc::Global;
 use ti_base::Memory;
-use ti_lang::Spelled;
 use ti_lang::program::{
     Declared, Method, Params, ResultType, Return, TypeUse, copy_modifiers, has_single, has_static,
 };
-use ti_lang::tree;
+use ti_lang::{Spelled, tree};
 use ti_rules::{Refusal, Rule};
 
 /// Methods, with the string literals so far and the refusal that counts so far.
@@ -39,11 +38,9 @@ impl<'t, 'a> Body<'t, 'a> {
     /// Whether the method of a number is the first of its name.
     #[tactic(auto, unfolding(crate::specs::Faults::noted))]
     fn check_method(&mut self, own: Own<'a>, number: u32)
-        ensures { self.new ≡ record self.old { found = noted self.old.found (node (site_at self.old) (MethodName number (own_of own)) ∷ []) } }
+        ensures { self.new ≡ record (self.old) { found = noted self.old.found (node (site_at self.old) (MethodName number (own_of own.entry)) ∷ []) } }
     {
-        let named = self
-            .tables
-            .method(own.class, own.method.name.as_bytes());
+        let named = self.tables.method(own.class, own.method.name.as_bytes());
         let mut found = self.found;
         note(
             &mut found,
@@ -71,6 +68,7 @@ impl<'t, 'a> Body<'t, 'a> {
         Ok(ty)
     }
 
+    #[tactic(auto, using(crate::proofs::Lists::lists))]
     fn param_list(&mut self, params: &'a [tree::Param]) -> Result<Vec<TypeUse>, Memory>
         ensures value { IfOk result (λ v. map type_use_of v.items ≡ number_param_list (text_of self.old.tables.now) (map param_of params.now)) }
         ensures site { OnOk result (site_at self.new ≡ behind_params (site_at self.old) (map param_of params.now)) }
@@ -100,7 +98,7 @@ impl<'t, 'a> Body<'t, 'a> {
     #[tactic(auto, using(crate::proofs::Lists::lists))]
     fn result(&mut self, given: &tree::ResultType) -> Result<ResultType, Memory>
         ensures value { IfOk result (λ r. numbered_result_of r ≡ number_result (text_of self.old.tables.now) (result_of given.now)) }
-        ensures body { OnOk result (self.new ≡ record self.old { found = noted self.old.found (result_nodes (site_at self.old) (result_of given.now)) }) }
+        ensures body { OnOk result (self.new ≡ record (self.old) { found = noted self.old.found (result_nodes (site_at self.old) (result_of given.now)) }) }
     {
         match given {
             tree::ResultType::Void(_) => Ok(ResultType::Void),
@@ -111,7 +109,7 @@ impl<'t, 'a> Body<'t, 'a> {
     #[tactic(auto, using(crate::proofs::Lists::lists))]
     fn last(&mut self, last: &Option<tree::Return>) -> Result<Option<Return>, Memory>
         ensures value { IfOk result (λ r. maybe_of numbered_return_of r ≡ number_return (site_at self.old) (maybe_of return_of last.now)) }
-        ensures body { OnOk result (self.new ≡ record self.old { found = noted self.old.found (return_nodes (site_at self.old) (maybe_of return_of last.now)) }) }
+        ensures body { OnOk result (self.new ≡ record (self.old) { found = noted self.old.found (return_nodes (site_at self.old) (maybe_of return_of last.now)) }) }
     {
         match last {
             Some(last) => Ok(Some(Return {
@@ -121,23 +119,47 @@ impl<'t, 'a> Body<'t, 'a> {
             None => Ok(None),
         }
     }
+
+    /// The method of a number.
+    fn method(&mut self, own: Own<'a>, number: u32) -> Result<Method, Memory>
+        ensures value { IfOk result (λ m. numbered_method_of m ≡ number_method (site_at self.old) (own_of own.entry)) }
+        ensures literals { OnOk result (self.new.literals.items ≡ self.old.literals.items ++ literals_in (stms (own_of own.entry).method.body)) }
+        ensures found { OnOk result (self.new.found ≡ noted self.old.found (method_nodes (site_at self.old) number (own_of own.entry))) }
+    {
+        let name = self.tables.name(own.method.name.as_bytes());
+        self.check_method(own, number);
+        let result = self.result(&own.method.result)?;
+        let params = self.params(&own.method.params)?;
+        let body = self.stms(&own.method.body)?;
+        let last = self.last(&own.method.last)?;
+        let modifiers = copy_modifiers(self.alloc, &own.method.modifiers)?;
+        Ok(Method {
+            class: own.class,
+            modifiers,
+            result,
+            place: own.method.place,
+            name,
+            params,
+            body,
+            last,
+            end: own.method.end,
+        })
+    }
 }
 
-/// The method of a number, with the string literals and the refusal behind those before it.
-#[tactic(auto, using(crate::proofs::Lists::lists))]
-fn method<'a>(
+/// At the first parameter of a method.
+fn before_params<'t, 'a>(
     alloc: Global,
-    tables: &Tables<'a>,
+    tables: &'t Tables<'a>,
     own: Own<'a>,
-    number: u32,
     literals: Vec<Spelled>,
     found: Option<Refusal>,
-) -> Result<Walked, Memory>
-    ensures value { IfOk result (λ w. numbered_method_of w.method ≡ number_method (method_site (text_of tables.now) (own_of own) (length literals.items)) (own_of own)) }
-    ensures literals { IfOk result (λ w. w.literals.items ≡ literals.items ++ literals_in (stms (own_of own).method.body)) }
-    ensures found { IfOk result (λ w. w.found ≡ noted found (method_nodes (method_site (text_of tables.now) (own_of own) (length literals.items)) number (own_of own))) }
+) -> Body<'t, 'a>
+    ensures site { site_at result ≡ method_site (text_of tables.now) (own_of own.entry) (length literals.items) }
+    ensures literals { result.literals.items ≡ literals.items }
+    ensures found { result.found ≡ found }
 {
-    let mut body = Body {
+    Body {
         alloc,
         tables,
         class: own.class,
@@ -146,24 +168,26 @@ fn method<'a>(
         variables: 0,
         literals,
         found,
-    };
-    body.check_method(own, number);
-    let result = body.result(&own.method.result)?;
-    let params = body.params(&own.method.params)?;
-    let statements = body.stms(&own.method.body)?;
-    let last = body.last(&own.method.last)?;
+    }
+}
+
+/// The method of a number, with the string literals and the refusal behind those before it.
+fn method<'a>(
+    alloc: Global,
+    tables: &Tables<'a>,
+    own: Own<'a>,
+    number: u32,
+    literals: Vec<Spelled>,
+    found: Option<Refusal>,
+) -> Result<Walked, Memory>
+    ensures value { IfOk result (λ w. numbered_method_of w.method ≡ number_method (method_site (text_of tables.now) (own_of own.entry) (length literals.items)) (own_of own.entry)) }
+    ensures literals { IfOk result (λ w. w.literals.items ≡ literals.items ++ literals_in (stms (own_of own.entry).method.body)) }
+    ensures found { IfOk result (λ w. w.found ≡ noted found (method_nodes (method_site (text_of tables.now) (own_of own.entry) (length literals.items)) number (own_of own.entry))) }
+{
+    let mut body = before_params(alloc, tables, own, literals, found);
+    let method = body.method(own, number)?;
     Ok(Walked {
-        method: Method {
-            class: own.class,
-            modifiers: copy_modifiers(alloc, &own.method.modifiers)?,
-            result,
-            place: own.method.place,
-            name: tables.name(own.method.name.as_bytes()),
-            params,
-            body: statements,
-            last,
-            end: own.method.end,
-        },
+        method,
         literals: body.literals,
         found: body.found,
     })

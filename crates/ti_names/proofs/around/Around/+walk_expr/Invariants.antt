@@ -1,4 +1,4 @@
-use Rattle.std.proofs.Common.{◌≡◌, ◌++◌, ◌+◌, [], map, fold, flat_map, drop, take, length, ◌≤◌}
+use Rattle.std.proofs.Common.{◌≡◌, map, drop, take}
 use Rattle.ti_lang.specs.Trees.Views.{exp_of, range_of}
 use Rattle.ti_lang.specs.Trees.Expressions.{exps, ranges_tree}
 use Rattle.ti_lang.specs.Program.Views.{expression_of, bound_of}

@@ -1,4 +1,4 @@
-use Rattle.std.proofs.Common.{◌≡◌, ◌++◌, ◌+◌, [], map, fold, flat_map, drop, take, length, ◌≤◌}
+use Rattle.std.proofs.Common.{◌≡◌, map, drop, length, ◌≤◌}
 use Rattle.ti_lang.specs.Trees.Views.{grid_of}
 use Rattle.ti_lang.specs.Program.Views.{value_type_of}
 use Rattle.ti_lang.specs.Scopes.{grid_type}
