@@ -26,3 +26,5 @@ pub use compiling::one_answer;
 
 #[cfg(test)]
 mod tests;
+#[cfg(test)]
+mod tree_tests;
