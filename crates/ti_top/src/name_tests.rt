@@ -14,7 +14,8 @@ use ti_parse::parse;
 use ti_rules::Refusal;
 
 /// Texts with the broken rule and its place.
-const REFUSALS: &str = "class C { int D; } class Main { public static single void main(String[] args) {  } } => accepted
+const REFUSALS: &str =
+    "class C { int D; } class Main { public static single void main(String[] args) {  } } => accepted
 class Main { public static single void main(String[] args) { println(x); } } => N1@1:70
 class Main { public static single void main(String[] args) { println(args); } } => N1@1:70
 class Main { public static single void main(String[] args) { int x = x; } } => N1@1:70
@@ -101,7 +102,8 @@ class Main { public static single void main(String[] args) { `200`int v7 = 0; } 
 /// and what is written where they are declared; fields of `this` by their number in the class; classes, methods and string
 /// literals by that in the text; the members of another object by the number of their name, where the 11 names of the language
 /// come before those of the text.
-const PROGRAMS: &str = "class Main { public static single void main(String[] args) { `200`v199 = v0; } } => Variable { number: 199, declared: Typed .. Variable { number: 0, declared: Typed
+const PROGRAMS: &str =
+    "class Main { public static single void main(String[] args) { `200`v199 = v0; } } => Variable { number: 199, declared: Typed .. Variable { number: 0, declared: Typed
 class C { void f() { `200`v0 = 1; } } class Main { public static single void main(String[] args) {  } } => Variable { number: 0, declared: Typed
 class C { void f(int a) { `199`v198 = a; } } class Main { public static single void main(String[] args) {  } } => Variable { number: 199, declared: Typed .. Variable { number: 0, declared: Typed
 class Main { public static single void main(String[] args) { { int x = 1; x = 2; } { int x = 3; x = 4; } } } => Variable { number: 0, declared: Typed .. Variable { number: 1, declared: Typed

@@ -176,10 +176,7 @@ fn refused() -> [(Text, &'static str); 11] {
             Text::Main("int x = 1;"),
             "a.ti:1:62: Y1 an operand of the wrong type\n",
         ),
-        (
-            Text::Main("println(x);"),
-            "a.ti:1:70: N1 an unknown name\n",
-        ),
+        (Text::Main("println(x);"), "a.ti:1:70: N1 an unknown name\n"),
         (
             Text::Main("int x = 1; int x = 2;"),
             "a.ti:1:77: N2 a name declared twice\n",
