@@ -8,26 +8,17 @@ use Rattle.ti_lang.specs.Trees.Statements as s
 use Rattle.ti_lang.specs.Program.Expressions.{NumberedExp}
 use Rattle.ti_lang.specs.Program.Statements.{NumberedStm, MaybeNumbered}
 use Rattle.ti_lang.specs.Program.Statements as m
-use Rattle.ti_lang.specs.Scopes.{Site, literals, literals_of, past, past_maybe, behind, behind_maybe}
+use Rattle.ti_lang.specs.Scopes.{Site, literals, literals_of, past, past_maybe, behind_maybe}
 use Rattle.ti_lang.specs.Nodes.{exp_nodes, maybe_nodes, stm_nodes, maybe_stm_nodes}
 use Rattle.ti_rules.specs.declared.refusal.Refusal.{Refusal}
 use Rattle.ti_names.specs.Faults.{noted}
-use Rattle.ti_names.specs.Numbered.{number_exp, number_maybe, number_stm, number_maybe_stm}
+use Rattle.ti_names.specs.Numbered.{number_maybe, number_stm, number_maybe_stm}
 use Rattle.ti_names.proofs.Noting.{noted_append}
-use Rattle.ti_names.proofs.Branches.{branches, numbered_branches, number_branches, behind_branches, literals_branches, noted_branches}
+use Rattle.ti_names.proofs.Branches.{branches, literals_branches, noted_branches}
 
 -- ---- if
 
 module _ (at : Place) (c : Exp) (x : Stm) (y : MaybeStm) where
-  pub if_value : (s0 s1 s2 : Site) (c' : NumberedExp) (x' : NumberedStm) (y' : MaybeNumbered) → s1 ≡ s0 → s2 ≡ past s1 x
-      → c' ≡ number_exp s0 c → x' ≡ number_stm s1 x → y' ≡ number_maybe_stm s2 y → numbered_branches at c' x' y' ≡ number_stm s0 (branches at c x y)
-  if_value s0 s1 s2 c' x' y' e1 e2 is_c is_x is_y =
-      ap (λ z. numbered_branches at z x' y') is_c ∙ ap (λ z. numbered_branches at (number_exp s0 c) z y') (is_x ∙ ap (λ z. number_stm z x) e1)
-      ∙ ap (numbered_branches at (number_exp s0 c) (number_stm s0 x)) (is_y ∙ ap (λ z. number_maybe_stm z y) (e2 ∙ ap (λ z. past z x) e1)) ∙ sym (number_branches s0 at c x y)
-
-  pub if_site : (s0 s1 s2 s3 : Site) → s1 ≡ s0 → s2 ≡ past s1 x → s3 ≡ past_maybe s2 y → s3 ≡ behind s0 (branches at c x y)
-  if_site s0 s1 s2 s3 e1 e2 e3 = e3 ∙ ap (λ z. past_maybe z y) (e2 ∙ ap (λ z. past z x) e1) ∙ sym (behind_branches s0 at c x y)
-
   pub if_literals : (l0 l1 l2 l3 : List (List ℕ)) → l1 ≡ l0 → l2 ≡ l1 ++ literals x → l3 ≡ l2 ++ literals_of y → l3 ≡ l0 ++ literals (branches at c x y)
   if_literals l0 l1 l2 l3 e1 e2 e3 =
       e3 ∙ ap (λ z. z ++ literals_of y) (e2 ∙ ap (λ z. z ++ literals x) e1) ∙ append_assoc l0 (literals x) (literals_of y) ∙ ap (λ z. l0 ++ z) (sym (literals_branches at c x y))
