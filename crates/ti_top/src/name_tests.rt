@@ -195,12 +195,12 @@ fn names_become_numbers(rt: HostRuntime) -> Result<(), Fail> {
             Ok(program) => format!(in alloc; "{:?}", program.parts)?,
             Err(_) => return Err(Fail::from("a text without a program")),
         };
-        let shown = without_places(alloc, &found)?;
-        let mut rest = shown.as_str();
+        let mut rest = without_places(alloc, &found)?;
         for piece in pieces.split(" .. ") {
-            let (_, behind) = rest.split_once(piece).unwrap_or(("", "nothing"));
+            let (_, behind) = rest.split_once(piece).unwrap_or(("", ""));
             assert!(rt; rest.contains(piece), "{case} has no {piece}");
-            rest = behind;
+            let next = String::from_str(alloc, behind)?;
+            rest = next;
         }
     }
     Ok(())
