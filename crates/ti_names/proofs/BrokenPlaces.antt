@@ -209,13 +209,6 @@ no_faults text c e = (λ j. faults_of_clean (nodes_of text) c j ++ main_faults t
 pub none_first : (text : TextTree) → first_fault text ≡ None → all_faults text ≡ []
 none_first text e = least_none (all_faults text) (sym (first_is text) ∙ e)
 
--- nothing is broken exactly where there is no fault
+-- nothing is broken where there is no fault
 pub unbroken_of : (text : TextTree) → all_faults text ≡ [] → (r : Refusal) → BreaksNames text r → ⊥
 unbroken_of text none r b = nowhere (subst (λ fs. In fs r) none (breaks_in text r b))
-
-pub faultless_of : (text : TextTree) → ((r : Refusal) → BreaksNames text r → ⊥) → all_faults text ≡ []
-faultless_of text h = by (all_faults text) (λ r i. h r (in_breaks text r i))
-  where
-    by : (fs : List Refusal) → ((r : Refusal) → In fs r → ⊥) → fs ≡ []
-    by [] none = refl
-    by (f ∷ fs) none = absurd (none f (In.here refl))

@@ -1,5 +1,5 @@
 // Trees become programs.
-ghost use Rattle.std.specs.Prelude.{◌≡◌, map, IfOk, Option};
+ghost use Rattle.std.specs.Prelude.{◌≡◌, ◌⊎◌, map, IfOk, Option};
 ghost use Rattle.ti_lang.specs.Trees.Classes.{TextTree};
 ghost use Rattle.ti_lang.specs.Trees.Views.{tree_of};
 ghost use Rattle.ti_lang.specs.Program.Classes.{NumberedProgram};
@@ -79,9 +79,9 @@ pub fn resolve(alloc: Global, tree: &Tree) -> Result<Program, NameErr>
     }
 }
 
-/// That there is a program of a text exactly where it breaks no rule of names, and only one.
+/// That each text has a program or a refusal by the rules of names: a program exactly where it breaks none of them, and only one.
 pub fn one_program()
-    ensures some { (text : TextTree) → ((refusal : RefusalSeen) → BreaksNames text refusal → ⊥) → (program : NumberedProgram) × Numbers text program }
+    ensures some { (text : TextTree) → ((program : NumberedProgram) × Numbers text program) ⊎ ((refusal : RefusalSeen) × IsFirstRefusal (BreaksNames text) refusal) }
     ensures unbroken { (text : TextTree) (program : NumberedProgram) → Numbers text program → (refusal : RefusalSeen) → BreaksNames text refusal → ⊥ }
     ensures only { (text : TextTree) (p q : NumberedProgram) → Numbers text p → Numbers text q → p ≡ q }
 {}
