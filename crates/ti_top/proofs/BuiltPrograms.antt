@@ -1,27 +1,26 @@
 -- The program of a tree without unbuilt forms has a listing.
-use Rattle.std.proofs.Common.{◌≡◌, ℕ, zero, suc, ◌+◌, true, List, [], ◌∷◌, ◌++◌, length, Option, None, Some, is_some, slice_get, refl, sym, ap, ◌∙◌, subst}
+use Rattle.std.proofs.Common.{◌≡◌, ℕ, zero, suc, true, List, [], ◌++◌, Option, None, Some, is_some, slice_get, refl, sym, ap, ◌∙◌, subst}
 use Rattle.std.specs.List.{flat_map}
 use Rattle.std.specs.Option.{option_map, option_to_list}
 use Rattle.std.proofs.lemmas.Grind.{flat_map-append}
 use Rattle.std.proofs.lemmas.Option.{same_Some}
 use Rattle.ti_base.specs.declared.place.Place.{Place}
-use Rattle.ti_lang.specs.declared.listing.Operand.{Operand}
 use Rattle.ti_lang.specs.declared.listing.Statement.{Statement}
 use Rattle.ti_lang.specs.Programs.{Program}
 use Rattle.ti_lang.specs.Trees.Expressions.{Exp}
-use Rattle.ti_lang.specs.Trees.Statements.{PrintTree, Stm, Stms, stms}
-use Rattle.ti_lang.specs.Trees.Classes.{MethodTree, TextTree}
-use Rattle.ti_lang.specs.MainMethod.{IsMainClass, IsMainOf}
+use Rattle.ti_lang.specs.Trees.Statements.{PrintTree, Stm, Stms}
+use Rattle.ti_lang.specs.Trees.Classes.{MethodTree, ClassTree, TextTree}
+use Rattle.ti_lang.specs.MainMethod.{IsMainClass, IsMainMethod, IsMainOf}
 use Rattle.ti_lang.specs.Program.Expressions.{NumberedExp}
 use Rattle.ti_lang.specs.Program.Statements.{NumberedPrint, NumberedStm, NumberedStms, numbered_stms}
 use Rattle.ti_lang.specs.Program.Classes.{NumberedMethod, NumberedProgram}
-use Rattle.ti_lang.specs.Members.{OwnMethod}
-use Rattle.ti_lang.specs.Scopes.{Site, method_site, body_site}
+use Rattle.ti_lang.specs.Members.{OwnMethod, methods_of}
+use Rattle.ti_lang.specs.Scopes.{Site, method_site}
 use Rattle.ti_lang.specs.Numbering.{NumbersExp, NumbersPrint, NumbersStm, NumbersStms, NumbersMethod, NumbersMethods, Numbers}
 use Rattle.ti_lang.specs.Listings.{operand_of, listed_print, listed, all_listed, IsListing}
 use Rattle.ti_names.proofs.MainPlaces.{main_class_of, main_method_of}
 use Rattle.ti_rules.specs.declared.rule.Rule.TheVariants.{Y1}
-use Rattle.ti_rules.specs.Unbuilt.{opened, all_opened, body_opened, refused_value, refused_print}
+use Rattle.ti_rules.specs.Unbuilt.{opened, all_opened, refused_value, refused_print}
 use Rattle.ti_rules.specs.RefusalOf.{unbuilt, IsAccepted}
 use Rattle.ti_top.specs.Judging.{refused_places, refused_in}
 use Rattle.ti_top.specs.Flattening.{IsBuilt}
@@ -123,17 +122,40 @@ listing_of program main stands None is built = cc
 listing_of program main stands (Some ys) is built =
     (record { statements = ys; literals = program.literals; end = main.end }, record { main = main; is_main = stands; statements = is; literals = refl; end = refl })
 
-pub has_listing : (tree : TextTree) (program : NumberedProgram) → IsAccepted tree → Numbers tree program → (listing : Program) × IsListing program listing
-has_listing tree program accepted numbers =
+-- the main of a tree that has a program
+pub record MainStands (tree : TextTree) (program : NumberedProgram) : Type 0 where
+  pub class_at : ℕ
+  pub class : ClassTree
+  pub is_class : IsMainClass tree class_at class
+  pub method_at : ℕ
+  pub method : MethodTree
+  pub is_method : IsMainMethod class method_at method
+  pub stands : slice_get (methods_of tree) program.main ≡ Some (record { class = class_at; method = method })
+
+pub main_stands : (tree : TextTree) (program : NumberedProgram) → Numbers tree program → MainStands tree program
+main_stands tree program numbers =
     let class = main_class_of tree numbers.main.class numbers.main.is_class in
     let found = main_method_of tree numbers.main.class program.main numbers.main.is_method in
     let same_class : found.class ≡ class.0 = same_Some found.class class.0 (sym found.is_class ∙ class.1.stands) in
-    let is_main : IsMainOf tree found.method = record {
+    record {
       class_at = numbers.main.class;
       class = found.class;
       is_class = subst (λ z. IsMainClass tree numbers.main.class z) (sym same_class) class.1;
       method_at = found.member_at;
+      method = found.method;
       is_method = found.is_main;
+      stands = found.stands;
+    }
+
+pub has_listing : (tree : TextTree) (program : NumberedProgram) → IsAccepted tree → Numbers tree program → (listing : Program) × IsListing program listing
+has_listing tree program accepted numbers =
+    let main = main_stands tree program numbers in
+    let is_main : IsMainOf tree main.method = record {
+      class_at = main.class_at;
+      class = main.class;
+      is_class = main.is_class;
+      method_at = main.method_at;
+      is_method = main.is_method;
     } in
-    let at = numbered_at program.main (record { class = numbers.main.class; method = found.method }) numbers.methods found.stands in
-    listing_of program at.method at.stands _ refl (body_built at.numbers (is_built tree found.method accepted is_main))
+    let at = numbered_at program.main (record { class = main.class_at; method = main.method }) numbers.methods main.stands in
+    listing_of program at.method at.stands _ refl (body_built at.numbers (is_built tree main.method accepted is_main))

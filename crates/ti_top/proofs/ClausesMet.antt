@@ -164,7 +164,8 @@ clauses_refused refusal job c from whole refused x = record {
   };
   completeness = λ nothing. record {
     refused = λ _ _. calm (Refused refusal) c from nothing.err;
-    accepted = λ program has. absurd (refused.no_program program has);
+    accepted = λ unrefused. absurd (unrefused refusal refused.is);
+    program = λ unrefused. absurd (unrefused refusal refused.is);
     ended = λ program has. absurd (refused.no_program program has);
   };
 }
@@ -301,12 +302,14 @@ clauses_ran before job c command from whole x =
           by_end
           (λ e. record {
             refused = λ refusal refused. absurd (unrefused refusal refused);
-            accepted = λ p has. inl (is ∙ ap status_of e);
+            accepted = λ _. inl (is ∙ ap status_of e);
+            program = λ _. (x.program, x.compiled.has);
             ended = λ p has. inr (subst (λ q. AllEnded (run_of q job.procs) c.history) (sym (only p has)) (says.ended e));
           })
           (λ f. record {
             refused = λ refusal refused. absurd (unrefused refusal refused);
-            accepted = λ p has. inr (is ∙ ap status_of f.1);
+            accepted = λ _. inr (is ∙ ap status_of f.1);
+            program = λ _. (x.program, x.compiled.has);
             ended = λ p has. inl (fault_is_there c.history f.0 (says.faulted f.0 f.1));
           })
           (λ e. absurd (nothing.memory (is ∙ ap status_of e)))

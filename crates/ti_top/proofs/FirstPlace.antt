@@ -80,15 +80,21 @@ pub rest_cut : {A : Type 0} (xs : List A) (n : ℕ) → take (length xs - n) (dr
 rest_cut xs n = take_all (length xs - n) (drop n xs) (omega (arith, length-drop n xs))
 
 -- what the elements before number k and those behind it give
+pub first_of_rest : {A : Type 0} (f : A → List Place) (xs : List A) (k : ℕ)
+    → IsFirstPlace (OfAnother f xs k) (earlier_of (earliest (flat_map f (take k xs))) (earliest (flat_map f (drop (k + 1) xs))))
+first_of_rest f xs k =
+    let before = λ (p : Place). Among (flat_map f (take k xs)) p in
+    let behind = λ (p : Place). Among (flat_map f (drop (k + 1) xs)) p in
+    let front = earliest (flat_map f (take k xs)) in
+    let back = earliest (flat_map f (drop (k + 1) xs)) in
+    first_same (λ p. before p ⊎ behind p) (OfAnother f xs k) (earlier_of front back) (λ p broken. elim broken [ inl among ↦ another_before f xs k p among | inr among ↦ another_behind f xs k p among ]) (of_another f xs k)
+    (first_of_both before behind front back (earliest_first (flat_map f (take k xs))) (earliest_first (flat_map f (drop (k + 1) xs))))
+
+-- so do parts of a tree that are seen in it
 pub first_of_others : {A B : Type 0} (f : B → List Place) (v : A → B) (xs front back : List A) (k : ℕ) (a b both : Option Place) → front ≡ take k xs → back ≡ drop (k + 1) xs
     → a ≡ earliest (flat_map f (map v front)) → b ≡ earliest (flat_map f (map v back)) → both ≡ earlier_of a b → IsFirstPlace (OfAnother f (map v xs) k) both
 first_of_others {A} f v xs front back k a b both is_front is_back first second joined =
     let ys = map v xs in
     let front_seen = first ∙ ap (λ (zs : List A). earliest (flat_map f (map v zs))) is_front ∙ ap (λ zs. earliest (flat_map f zs)) (sym (take-map v k xs)) in
     let back_seen = second ∙ ap (λ (zs : List A). earliest (flat_map f (map v zs))) is_back ∙ ap (λ zs. earliest (flat_map f zs)) (sym (drop-map v (k + 1) xs)) in
-    let before = λ (p : Place). Among (flat_map f (take k ys)) p in
-    let behind = λ (p : Place). Among (flat_map f (drop (k + 1) ys)) p in
-    let parts : IsFirstPlace (λ p. before p ⊎ behind p) both =
-    subst (λ (o : Option Place). IsFirstPlace (λ p. before p ⊎ behind p) o) (sym (joined ∙ ap (λ o. earlier_of o b) front_seen ∙ ap (earlier_of (earliest (flat_map f (take k ys)))) back_seen))
-    (first_of_both before behind (earliest (flat_map f (take k ys))) (earliest (flat_map f (drop (k + 1) ys))) (earliest_first (flat_map f (take k ys))) (earliest_first (flat_map f (drop (k + 1) ys)))) in
-    first_same (λ p. before p ⊎ behind p) (OfAnother f ys k) both (λ p broken. elim broken [ inl among ↦ another_before f ys k p among | inr among ↦ another_behind f ys k p among ]) (of_another f ys k) parts
+    subst (λ (o : Option Place). IsFirstPlace (OfAnother f ys k) o) (sym (joined ∙ ap (λ o. earlier_of o b) front_seen ∙ ap (earlier_of (earliest (flat_map f (take k ys)))) back_seen)) (first_of_rest f ys k)

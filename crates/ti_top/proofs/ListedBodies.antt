@@ -1,8 +1,8 @@
 -- Listing the statements of a body, one after the other.
-use Rattle.std.proofs.Common.{◌≡◌, ℕ, zero, suc, ◌+◌, ◌<◌, true, List, [], ◌∷◌, ◌++◌, length, take, get_or, map, Option, None, Some, arith, refl, sym, ap, subst, ◌∙◌, append_assoc}
+use Rattle.std.proofs.Common.{◌≡◌, ℕ, zero, suc, ◌+◌, ◌<◌, List, [], ◌∷◌, ◌++◌, length, take, get_or, map, Option, None, Some, arith, refl, sym, ap, subst, ◌∙◌, append_assoc}
 use Rattle.std.proofs.lemmas.List.{append-nil, take_more, map-append}
 use Rattle.ti_lang.specs.declared.listing.Statement.{Statement}
-use Rattle.ti_lang.specs.Program.Statements.{NumberedStm, block}
+use Rattle.ti_lang.specs.Program.Statements.{NumberedStm}
 use Rattle.ti_lang.specs.Listings.{in_turn, listed}
 use Rattle.ti_top.specs.Flattening.{body_listed, IsBuilt, Adds}
 

@@ -7,7 +7,7 @@ use Rattle.ti_lang.specs.Runs.{AllEnded, IsRun, IsSolo, IsComplete as IsComplete
 use Rattle.ti_lang.specs.Lines.{lines_of}
 use Rattle.ti_lang.specs.Alignment.{IsAligned}
 use Rattle.ti_rules.specs.declared.refusal.Refusal.{Refusal}
-use Rattle.ti_rules.specs.RefusalOf.{HasListing, IsRefusal}
+use Rattle.ti_rules.specs.RefusalOf.{HasNone, HasListing, IsRefusal}
 use Rattle.ti_top.specs.declared.fault.Fault.{Fault}
 use Rattle.ti_top.specs.declared.ending.Ending.{Ending}
 use Rattle.ti_top.specs.declared.ending.Ending.TheVariants.{Done, Refused, Faulted, NoCommand, CantRead, CantWrite, NoMemory}
@@ -143,11 +143,12 @@ pub record NothingFailed (job : Job) (c : Call) : Type 0 where
   pub there : IsMissing c.source job.file → ⊥
   pub memory : c.status ≡ 6 → ⊥
 
--- Completeness: where nothing failed the text decides, and an accepted one is run until all processes have their end, or one
--- has a fault.
+-- Completeness: where nothing failed the text decides, and one without a refusal has a program, which is run until all processes
+-- have their end, or one has a fault.
 pub record IsComplete (job : Job) (c : Call) : Type 0 where
   pub refused : (refusal : Refusal) → IsRefusal c.text refusal → c.status ≡ 1
-  pub accepted : (program : Program) → HasListing c.text program → (c.status ≡ 0) ⊎ (c.status ≡ 2)
+  pub accepted : HasNone (IsRefusal c.text) → (c.status ≡ 0) ⊎ (c.status ≡ 2)
+  pub program : HasNone (IsRefusal c.text) → (program : Program) × HasListing c.text program
   pub ended : (program : Program) → HasListing c.text program → IsCompleteRun (run_of program job.procs) c.history
 
 -- What the command promises.

@@ -1,5 +1,5 @@
 -- What is added to a listing while the statements of a program are listed.
-use Rattle.std.specs.Prelude.{◌≡◌, List, Option, Some, map, is_some, true}
+use Rattle.std.specs.Prelude.{◌≡◌, List, Option, Some, is_some, true}
 use Rattle.ti_lang.specs.declared.listing.Statement.{Statement}
 use Rattle.ti_lang.specs.Program.Statements.{NumberedStm, numbered_stms}
 use Rattle.ti_lang.specs.Listings.{in_turn, all_listed}

@@ -4,7 +4,7 @@ use Rattle.std.specs.List.{flat_map}
 use Rattle.ti_base.specs.declared.place.Place.{Place}
 use Rattle.ti_base.specs.Places.{place_lt}
 use Rattle.ti_lang.specs.Trees.Statements.{Stm}
-use Rattle.ti_lang.specs.Trees.Classes.{ParamsTree, Words, Params, ReturnTree, MethodTree, MemberTree, FieldMember, MethodMember, ClassTree}
+use Rattle.ti_lang.specs.Trees.Classes.{ReturnTree, MemberTree, ClassTree}
 use Rattle.ti_rules.specs.Unbuilt.{opened, member_place, class_place, refused_statement}
 
 -- whether the first place stands before the second

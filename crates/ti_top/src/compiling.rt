@@ -1,5 +1,5 @@
 // From a text to its program.
-ghost use Rattle.std.specs.Prelude.{◌≡◌, ℕ, List, IfSome, IfNone};
+ghost use Rattle.std.specs.Prelude.{◌≡◌, ◌⊎◌, ℕ, List, IfSome, IfNone};
 ghost use Rattle.ti_lang.specs.Trees.Views.{tree_of};
 ghost use Rattle.ti_lang.specs.Programs.{Program as ListingSeen};
 ghost use Rattle.ti_lang.specs.Program.Classes.{NumberedProgram};
@@ -81,8 +81,9 @@ impl From<Memory> for CompileErr {
     }
 }
 
-/// That a text has at most one program, with one listing, or one refusal, and never both.
+/// That a text has one program, with one listing, or one refusal, and never both.
 pub fn one_answer()
+    ensures some { (text : List ℕ) → ((listing : ListingSeen) × HasListing text listing) ⊎ ((refusal : RefusalSeen) × IsRefusal text refusal) }
     ensures one_program { (text : List ℕ) (p q : NumberedProgram) → HasProgram text p → HasProgram text q → p ≡ q }
     ensures one_listing { (text : List ℕ) (p q : ListingSeen) → HasListing text p → HasListing text q → p ≡ q }
     ensures one_refusal { (text : List ℕ) (a b : RefusalSeen) → IsRefusal text a → IsRefusal text b → a ≡ b }

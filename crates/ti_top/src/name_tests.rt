@@ -7,7 +7,7 @@
 use crate::compiling::CompileErr;
 use std::alloc::{AllocError, Global};
 use std::test::Fail;
-use ti_lang::program::Program;
+use ti_lang::program::{Program, Scope, Ty};
 use ti_lex::lex;
 use ti_names::resolve;
 use ti_parse::parse;
@@ -203,5 +203,56 @@ fn names_become_numbers(rt: HostRuntime) -> Result<(), Fail> {
             rest = next;
         }
     }
+    Ok(())
+}
+
+#[test]
+fn programs_are_copied(rt: HostRuntime) -> Result<(), Fail> {
+    let alloc = rt.alloc();
+    for case in PROGRAMS.split('\n') {
+        let (case, _) = case.split_once(" => ").ok_or("a case without an arrow")?;
+        let Ok(program) = program(alloc, case) else {
+            return Err(Fail::from("a text without a program"));
+        };
+        let Ok(copy) = program.copy(alloc) else {
+            return Err(Fail::from("a program without a copy"));
+        };
+        let expected = format!(in alloc; "{:?}", program.parts)?;
+        let found = format!(in alloc; "{:?}", copy.parts)?;
+        assert_eq!(rt; found.as_str(), expected.as_str(), "{case}");
+    }
+    Ok(())
+}
+
+/// A text whose first method has a `this` and two parameters, the first of them single.
+const METHOD: &str =
+    "class C { int f(int single a, C b) { boolean c = true; return a; } } class Main { public static single void main(String[] args) { } }";
+
+#[test]
+fn a_scope_grows_behind_its_parameters(rt: HostRuntime) -> Result<(), Fail> {
+    let alloc = rt.alloc();
+    let Ok(program) = program(alloc, METHOD) else {
+        return Err(Fail::from("a text without a program"));
+    };
+    if program.parts.methods.is_empty() {
+        return Err(Fail::from("a program without a method"));
+    }
+    let Ok(mut scope) = Scope::begin(alloc, &program, 0) else {
+        return Err(Fail::from("a method without a scope"));
+    };
+    if scope.push(2, Ty::Bool, false).is_err() {
+        return Err(Fail::from("a scope without room"));
+    }
+    let grown = format!(in alloc; "{scope:?}")?;
+    assert_eq!(rt;
+        grown.as_str(),
+        "Scope { this: Some(0), variables: [InScope { number: 0, ty: Int, single: true }, InScope { number: 1, ty: Class { class: 0, local: false }, single: false }, InScope { number: 2, ty: Bool, single: false }] }"
+    );
+    scope.cut(1);
+    let cut = format!(in alloc; "{scope:?}")?;
+    assert_eq!(rt;
+        cut.as_str(),
+        "Scope { this: Some(0), variables: [InScope { number: 0, ty: Int, single: true }] }"
+    );
     Ok(())
 }

@@ -4,8 +4,6 @@ use Rattle.ti_lang.specs.declared.token.Token.{Token}
 use Rattle.ti_lang.specs.Trees.Views.{tree_of}
 use Rattle.ti_lang.specs.Program.Views.{program_of}
 use Rattle.ti_parse.specs.Answer.{Parsed}
-use Rattle.ti_rules.specs.BrokenNames.{BreaksNames}
-use Rattle.ti_rules.specs.RefusalOf.{HasNone}
 use Rattle.ti_top.proofs.BuiltPrograms.{has_listing}
 use Rattle.ti_top.proofs.Compiled.{OneAnswer, not_lexed, not_parsed, not_named, judged, compiled}
 use Rattle.ti_top.proofs.compiling.compile.Goals as goal

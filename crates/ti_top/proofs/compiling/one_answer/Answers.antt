@@ -1,4 +1,5 @@
 use Rattle.ti_rules.proofs.OneAnswer.{OneReading, one_program, one_listing, one_refusal, never_both}
+use Rattle.ti_top.proofs.EachAnswered.{Answered, some_answer}
 use Rattle.ti_top.proofs.compiling.one_answer.Goals as goal
 
 pub returns : goal.returns
@@ -11,4 +12,16 @@ returns c =
       one_misfit = c.one_text.ensures.only;
       one_numbered = c.one_program.ensures.only;
     } in
-    record { one_program = one_program known; one_listing = one_listing known; one_refusal = one_refusal known; never_both = never_both known }
+    let answered : Answered = record {
+      reading = c.one_reading.ensures.some;
+      fitting = c.one_text.ensures.some;
+      numbering = c.one_program.ensures.some;
+      unbroken = c.one_program.ensures.unbroken;
+    } in
+    record {
+      some = some_answer answered;
+      one_program = one_program known;
+      one_listing = one_listing known;
+      one_refusal = one_refusal known;
+      never_both = never_both known;
+    }
