@@ -1,4 +1,4 @@
-pub mod Bridges
+pub mod Copies
 pub mod Counting
 pub mod Entries
 pub mod Moves

@@ -1,5 +1,6 @@
 pub mod Alignment
 pub mod Answers
+pub mod Copies
 pub mod Evaluation
 pub mod Lines
 pub mod Listings
@@ -14,7 +15,3 @@ pub mod Program
 pub mod Programs
 pub mod Runs
 pub mod Scopes
-pub mod Spelling
-pub mod Tokenizing
-pub mod Tokens
-pub mod Trees

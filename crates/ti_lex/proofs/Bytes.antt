@@ -3,7 +3,7 @@ use Rattle.std.proofs.Common.{◌≡◌, ◌≢◌, ℕ, ◌==◌, true, false, 
 use Rattle.std.proofs.lemmas.Bool.{cond_both}
 use Rattle.std.proofs.lemmas.Bool.Decides.{nat_tests}
 use Rattle.std.specs.Char.{is_ascii_digit}
-use Rattle.ti_lang.specs.Tokenizing.{is_blank, begins_name}
+use Rattle.ti_syntax.specs.Tokenizing.{is_blank, begins_name}
 use Rattle.ti_lex.specs.declared.class.Class.{Class}
 use Rattle.ti_lex.specs.declared.class.Class.TheVariants as c
 use Rattle.ti_lex.specs.Reading.{class_of}

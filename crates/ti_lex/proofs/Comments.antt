@@ -3,8 +3,8 @@ use Rattle.std.proofs.Common.{◌≡◌, ◌≢◌, ℕ, ◌+◌, ◌==◌, Bool
 use Rattle.std.proofs.lemmas.Bool.{eqb-true, eqb-false}
 use Rattle.std.proofs.lemmas.List.Folds.{length-prefix_len}
 use Rattle.std.specs.List.{list_all}
-use Rattle.ti_lang.specs.Tokenizing.{Space, IsPiece, ClosesAtEnd, Flaw, OpenComment, HasFlaw}
-use Rattle.ti_lang.specs.Tokenizing as pieces
+use Rattle.ti_syntax.specs.Tokenizing.{Space, IsPiece, ClosesAtEnd, Flaw, OpenComment, HasFlaw}
+use Rattle.ti_syntax.specs.Tokenizing as pieces
 use Rattle.ti_lex.specs.Reading.{Reading, Takes, Refuses, comment_from, line_left}
 use Rattle.ti_lex.proofs.Fronts.{Beats, IsSound, IsRefusal, beats_same}
 use Rattle.ti_lex.proofs.Runs.{run_covers, run_passes}

@@ -1,7 +1,7 @@
 -- What a reading says of the front of a list.
 use Rattle.std.proofs.Common.{◌≡◌, ◌⊎◌, inl, inr, ℕ, ◌+◌, ◌<◌, ◌≤◌, List, ◌++◌, length, refl, arith}
 use Rattle.std.proofs.lemmas.Bool.{cases_lt}
-use Rattle.ti_lang.specs.Tokenizing.{Piece, IsPiece, Flaw, HasFlaw}
+use Rattle.ti_syntax.specs.Tokenizing.{Piece, IsPiece, Flaw, HasFlaw}
 use Rattle.ti_lex.specs.Reading.{Reading, Takes, Refuses}
 
 -- the reading takes more than a piece of this size, or it takes that piece

@@ -6,11 +6,11 @@ use Rattle.std.proofs.lemmas.Bool.Decides.{nat_tests}
 use Rattle.std.specs.Char.{is_ascii_digit}
 use Rattle.std.specs.List.{list_all}
 use Rattle.std.specs.Str.Parse.{digits_value}
-use Rattle.ti_lang.specs.declared.token.TokenKind.{TokenKind}
-use Rattle.ti_lang.specs.declared.token.TokenKind.TheVariants as k
-use Rattle.ti_lang.specs.Tokens.{word_of, sign_of}
-use Rattle.ti_lang.specs.Tokenizing.{Piece, Space, Spells, StrayByte, IsPiece, IsLongest, OpensComment, BeginsNoPiece, HasFlaw, begins_name, is_name_byte, first_passes}
-use Rattle.ti_lang.specs.Tokenizing as pieces
+use Rattle.ti_syntax.specs.declared.token.TokenKind.{TokenKind}
+use Rattle.ti_syntax.specs.declared.token.TokenKind.TheVariants as k
+use Rattle.ti_syntax.specs.Tokens.{word_of, sign_of}
+use Rattle.ti_syntax.specs.Tokenizing.{Piece, Space, Spells, StrayByte, IsPiece, IsLongest, OpensComment, BeginsNoPiece, HasFlaw, begins_name, is_name_byte, first_passes}
+use Rattle.ti_syntax.specs.Tokenizing as pieces
 use Rattle.ti_lex.specs.declared.class.Class.{Class}
 use Rattle.ti_lex.specs.declared.class.Class.TheVariants as c
 use Rattle.ti_lex.specs.Reading.{Reading, Takes, Refuses, class_of, comment_from, line_left, word, slash, sign, first_by, first}

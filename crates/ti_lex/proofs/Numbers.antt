@@ -9,9 +9,9 @@ use Rattle.std.specs.Int.{is_in_range}
 use Rattle.std.specs.List.{list_all, prefix_len}
 use Rattle.std.specs.Option.{option_map_or}
 use Rattle.std.specs.Str.Parse.{digits_value, digits_value_after}
-use Rattle.ti_lang.specs.declared.token.TokenKind.TheVariants as k
-use Rattle.ti_lang.specs.Tokenizing.{Piece, Spells, WrongNumber, IsPiece, HasFlaw, first_passes, is_name_byte}
-use Rattle.ti_lang.specs.Tokenizing as pieces
+use Rattle.ti_syntax.specs.declared.token.TokenKind.TheVariants as k
+use Rattle.ti_syntax.specs.Tokenizing.{Piece, Spells, WrongNumber, IsPiece, HasFlaw, first_passes, is_name_byte}
+use Rattle.ti_syntax.specs.Tokenizing as pieces
 use Rattle.ti_lex.specs.Reading.{Takes, Refuses, dimension, too_large, value_from, is_number, number_of, digits, number}
 use Rattle.ti_lex.proofs.Fronts.{Beats, IsSound}
 use Rattle.ti_lex.proofs.Runs.{run_ends, run_passes, run_stops}

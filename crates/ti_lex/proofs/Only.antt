@@ -9,11 +9,11 @@ use Rattle.std.specs.Option.{option_map_or}
 use Rattle.std.specs.declared.vec.Vec.{Vec}
 use Rattle.std.specs.declared.alloc.Global.{Global}
 use Rattle.ti_base.specs.Places.{place_of, end_place}
-use Rattle.ti_lang.specs.declared.token.Token.{Token}
-use Rattle.ti_lang.specs.declared.token.TokenKind.{TokenKind}
-use Rattle.ti_lang.specs.declared.token.TokenKind.TheVariants as k
-use Rattle.ti_lang.specs.Tokenizing.{Piece, Space, Spells, IsLongest, Pieces, IsTokenized, BeginsNoPiece, BeginsNoItem, IsItem, AreItems, OpensComment, breaks_string, is_plain, escaped, first_passes, Flaw, StrayByte, OpenComment, OpenString, WrongNumber, HasFlaw, IsFlawed}
-use Rattle.ti_lang.specs.Tokenizing as pieces
+use Rattle.ti_syntax.specs.declared.token.Token.{Token}
+use Rattle.ti_syntax.specs.declared.token.TokenKind.{TokenKind}
+use Rattle.ti_syntax.specs.declared.token.TokenKind.TheVariants as k
+use Rattle.ti_syntax.specs.Tokenizing.{Piece, Space, Spells, IsLongest, Pieces, IsTokenized, BeginsNoPiece, BeginsNoItem, IsItem, AreItems, OpensComment, breaks_string, is_plain, escaped, first_passes, Flaw, StrayByte, OpenComment, OpenString, WrongNumber, HasFlaw, IsFlawed}
+use Rattle.ti_syntax.specs.Tokenizing as pieces
 use Rattle.ti_rules.specs.declared.refusal.Refusal.{Refusal}
 use Rattle.ti_rules.specs.LexicalRefusals.{most_bytes, rule_of, IsLexicalRefusal}
 use Rattle.ti_rules.specs.LexicalRefusals as refusals

@@ -2,7 +2,7 @@
 use Rattle.std.proofs.Common.{◌≡◌, ℕ, suc, ◌+◌, ◌≤◌, Bool, true, false, ◌&&◌, cond, List, [], ◌∷◌, ◌++◌, length, take, drop, refl, sym, ap, ◌∙◌, subst, arith}
 use Rattle.std.specs.List.{list_all, prefix_len}
 use Rattle.std.proofs.lemmas.Bool.{and_parts}
-use Rattle.ti_lang.specs.Tokenizing.{first_passes}
+use Rattle.ti_syntax.specs.Tokenizing.{first_passes}
 
 module _ (p : ℕ → Bool) where
   -- a run goes at least as far as bytes that all pass

@@ -3,9 +3,9 @@ use Rattle.std.proofs.Common.{◌≡◌, ◌≢◌, ◌⊎◌, ℕ, ◌+◌, ◌
 use Rattle.std.proofs.lemmas.Bool.{cond_both, eqb-true, eqb-false}
 use Rattle.std.proofs.lemmas.Bool.Decides.{nat_tests}
 use Rattle.std.proofs.lemmas.List.{append-nil}
-use Rattle.ti_lang.specs.declared.token.TokenKind.TheVariants as k
-use Rattle.ti_lang.specs.Tokenizing.{Piece, Spells, Flaw, StrayByte, OpenString, IsPiece, HasFlaw, IsItem, AreItems, BeginsNoItem, breaks_string, first_passes, is_plain, escaped}
-use Rattle.ti_lang.specs.Tokenizing as pieces
+use Rattle.ti_syntax.specs.declared.token.TokenKind.TheVariants as k
+use Rattle.ti_syntax.specs.Tokenizing.{Piece, Spells, Flaw, StrayByte, OpenString, IsPiece, HasFlaw, IsItem, AreItems, BeginsNoItem, breaks_string, first_passes, is_plain, escaped}
+use Rattle.ti_syntax.specs.Tokenizing as pieces
 use Rattle.ti_lex.specs.Reading.{Reading, Takes, Refuses, string_from, escape_from}
 use Rattle.ti_lex.proofs.Fronts.{Beats, IsSound}
 

@@ -4,9 +4,9 @@ use Rattle.std.specs.declared.vec.Vec.{Vec}
 use Rattle.std.specs.declared.alloc.Global.{Global}
 use Rattle.ti_base.specs.declared.place.Place.{Place}
 use Rattle.ti_base.specs.Places.{place_of}
-use Rattle.ti_lang.specs.declared.token.Token.{Token}
-use Rattle.ti_lang.specs.Tokenizing as tokenizing
-use Rattle.ti_lang.specs.Tokenizing.{IsTokenized}
+use Rattle.ti_syntax.specs.declared.token.Token.{Token}
+use Rattle.ti_syntax.specs.Tokenizing as tokenizing
+use Rattle.ti_syntax.specs.Tokenizing.{IsTokenized}
 use Rattle.ti_rules.specs.declared.refusal.Refusal.{Refusal}
 use Rattle.ti_rules.specs.declared.rule.Rule.TheVariants.{X1, X3}
 use Rattle.ti_rules.specs.LexicalRefusals.{most_bytes, rule_of, IsLexicalRefusal}

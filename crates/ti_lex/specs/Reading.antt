@@ -6,9 +6,9 @@ use Rattle.std.specs.Int.{is_in_range}
 use Rattle.std.specs.Char.{is_ascii_digit}
 use Rattle.std.specs.Str.{bytes_eq}
 use Rattle.std.specs.Map.{lookup}
-use Rattle.ti_lang.specs.declared.token.TokenKind.{TokenKind}
-use Rattle.ti_lang.specs.declared.token.TokenKind.TheVariants as k
-use Rattle.ti_lang.specs.Tokenizing.{Piece, Space, Spells, Flaw, StrayByte, OpenComment, OpenString, WrongNumber, is_blank, begins_name, is_name_byte, first_passes, is_plain, escaped}
+use Rattle.ti_syntax.specs.declared.token.TokenKind.{TokenKind}
+use Rattle.ti_syntax.specs.declared.token.TokenKind.TheVariants as k
+use Rattle.ti_syntax.specs.Tokenizing.{Piece, Space, Spells, Flaw, StrayByte, OpenComment, OpenString, WrongNumber, is_blank, begins_name, is_name_byte, first_passes, is_plain, escaped}
 use Rattle.ti_lex.specs.declared.class.Class.{Class}
 use Rattle.ti_lex.specs.declared.class.Class.TheVariants as c
 

@@ -1,6 +1,6 @@
 // Kinds of bytes.
 ghost use Rattle.std.specs.Prelude.{◌≡◌};
-ghost use Rattle.ti_lang.specs.Tokenizing.{is_blank, is_name_byte, is_plain, escaped};
+ghost use Rattle.ti_syntax.specs.Tokenizing.{is_blank, is_name_byte, is_plain, escaped};
 ghost use Rattle.ti_lex.specs.Reading.{class_of};
 
 /// What kind of piece can begin with a byte.

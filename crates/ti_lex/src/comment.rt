@@ -1,6 +1,6 @@
 // Comments, and what else begins with a slash.
 ghost use Rattle.std.specs.Prelude.{◌≡◌, ◌+◌, ◌≤◌, ◌<◌, ◌++◌, List, ℕ, codes, length, drop, false};
-ghost use Rattle.ti_lang.specs.Tokenizing.{Space};
+ghost use Rattle.ti_syntax.specs.Tokenizing.{Space};
 ghost use Rattle.ti_lex.specs.Answer.{Reads};
 ghost use Rattle.ti_lex.specs.Cursor.{rest};
 ghost use Rattle.ti_lex.specs.Reading.{Takes, comment_from, line_left, slash};

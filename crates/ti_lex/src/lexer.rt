@@ -1,7 +1,7 @@
 // Texts become tokens.
 ghost use Rattle.std.specs.Prelude.{◌≡◌, ◌⊎◌, ◌≤◌, ◌∷◌, ℕ, List, length, drop};
-ghost use Rattle.ti_lang.specs.declared.token.Token.{Token};
-ghost use Rattle.ti_lang.specs.Tokenizing.{IsTokenized};
+ghost use Rattle.ti_syntax.specs.declared.token.Token.{Token};
+ghost use Rattle.ti_syntax.specs.Tokenizing.{IsTokenized};
 ghost use Rattle.ti_rules.specs.declared.refusal.Refusal.{Refusal};
 ghost use Rattle.ti_rules.specs.LexicalRefusals.{most_bytes, IsLexicalRefusal};
 ghost use Rattle.ti_lex.specs.Answer.{Lexes, Reads, GivesOnly, RefusesOnly};
@@ -14,7 +14,7 @@ use crate::error::{LexErr, refused};
 use crate::piece::Piece;
 use std::alloc::Global;
 use ti_base::Place;
-use ti_lang::{Token, TokenKind};
+use ti_syntax::{Token, TokenKind};
 use ti_rules::Rule;
 
 /// How many bytes a text may have.

@@ -10,7 +10,7 @@ use crate::class::is_name_byte;
 use crate::cursor::Cursor;
 use crate::error::{LexErr, refused};
 use crate::piece::Piece;
-use ti_lang::TokenKind;
+use ti_syntax::TokenKind;
 use ti_rules::Rule;
 
 /// One more than the largest number.

@@ -7,7 +7,7 @@ ghost use Rattle.ti_lex.specs.Answer.{Reads};
 use crate::cursor::Cursor;
 use crate::error::{LexErr, refused};
 use crate::piece::Piece;
-use ti_lang::TokenKind;
+use ti_syntax::TokenKind;
 use ti_rules::Rule;
 
 /// The operator or mark of one byte.

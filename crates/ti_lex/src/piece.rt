@@ -1,6 +1,6 @@
 // Pieces of a text.
 
-use ti_lang::TokenKind;
+use ti_syntax::TokenKind;
 
 /// A piece of a text.
 #[derive(Debug, Drop)]

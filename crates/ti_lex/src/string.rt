@@ -10,7 +10,7 @@ use crate::error::{LexErr, refused};
 use crate::piece::Piece;
 use std::alloc::Global;
 use ti_base::Place;
-use ti_lang::{Spelled, TokenKind};
+use ti_syntax::{Spelled, TokenKind};
 use ti_rules::Rule;
 
 impl Cursor<'_> {

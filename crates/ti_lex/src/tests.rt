@@ -4,7 +4,7 @@ use crate::{LexErr, lex};
 use std::alloc::{AllocError, Global};
 use std::test::Fail;
 use ti_base::Place;
-use ti_lang::{Spelled, Token, TokenKind};
+use ti_syntax::{Spelled, Token, TokenKind};
 use ti_rules::{Refusal, Rule};
 
 /// Texts, and their tokens with their places.

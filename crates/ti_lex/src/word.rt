@@ -3,7 +3,7 @@ ghost use Rattle.std.specs.Prelude.{◌≡◌, ◌<◌, Some, slice_get, take};
 ghost use Rattle.std.specs.List.{prefix_len};
 ghost use Rattle.std.specs.Map.{lookup};
 ghost use Rattle.std.specs.Str.{bytes_eq};
-ghost use Rattle.ti_lang.specs.Tokenizing.{is_name_byte};
+ghost use Rattle.ti_syntax.specs.Tokenizing.{is_name_byte};
 ghost use Rattle.ti_lex.specs.Answer.{Reads};
 ghost use Rattle.ti_lex.specs.Cursor.{rest, moved};
 ghost use Rattle.ti_lex.specs.Reading.{reserved, word};
@@ -13,7 +13,7 @@ use crate::cursor::Cursor;
 use crate::error::LexErr;
 use crate::piece::Piece;
 use std::alloc::Global;
-use ti_lang::{Spelled, TokenKind};
+use ti_syntax::{Spelled, TokenKind};
 
 /// How many words are reserved.
 const RESERVED: usize = 34;

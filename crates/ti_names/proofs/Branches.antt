@@ -3,18 +3,18 @@ use Rattle.std.proofs.Common.{◌≡◌, ℕ, List, [], ◌∷◌, ◌++◌, Opt
 use Rattle.std.specs.declared.alloc.Global.{Global}
 use Rattle.std.specs.declared.boxed.Box.{Box}
 use Rattle.ti_base.specs.declared.place.Place.{Place}
-use Rattle.ti_lang.specs.declared.tree.exprs.Expr.{Expr}
-use Rattle.ti_lang.specs.declared.tree.stmts.Stmt.{Stmt, If, For}
+use Rattle.ti_syntax.specs.declared.tree.exprs.Expr.{Expr}
+use Rattle.ti_syntax.specs.declared.tree.stmts.Stmt.{Stmt, If, For}
 use Rattle.ti_lang.specs.declared.program.exprs.Expr as numbered_exp
 use Rattle.ti_lang.specs.declared.program.stmts.Stmt as numbered
-use Rattle.ti_lang.specs.Trees.Statements as s
-use Rattle.ti_lang.specs.Trees.Views.{maybe_of, exp_of, stm_of}
+use Rattle.ti_syntax.specs.Trees.Statements as s
+use Rattle.ti_syntax.specs.Trees.Views.{maybe_of, exp_of, stm_of}
 use Rattle.ti_lang.specs.Program.Expressions.{NumberedExp}
 use Rattle.ti_lang.specs.Program.Statements.{NumberedStm, MaybeNumbered}
 use Rattle.ti_lang.specs.Program.Statements as m
 use Rattle.ti_lang.specs.Program.Views.{expression_of, statement_of}
-use Rattle.ti_lang.specs.Trees.Expressions.{Exp}
-use Rattle.ti_lang.specs.Trees.Statements.{Stm, MaybeStm}
+use Rattle.ti_syntax.specs.Trees.Expressions.{Exp}
+use Rattle.ti_syntax.specs.Trees.Statements.{Stm, MaybeStm}
 use Rattle.ti_lang.specs.Scopes.{Site, literals, literals_of, past, past_maybe, behind}
 use Rattle.ti_lang.specs.Nodes.{exp_nodes, stm_nodes, maybe_stm_nodes}
 use Rattle.ti_rules.specs.declared.refusal.Refusal.{Refusal}

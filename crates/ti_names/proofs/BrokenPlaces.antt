@@ -2,9 +2,9 @@
 use Rattle.std.proofs.Common.{◌≡◌, ℕ, ◌≤◌, true, ◌&&◌, nat_le, List, [], ◌∷◌, ◌++◌, length, flat_map, Option, Some, None, is_some, is_none, refl, ap, sym, ◌∙◌, subst, arith, ◌⊎◌, inl, inr}
 use Rattle.std.proofs.lemmas.Bool.Decides.{nat_tests}
 use Rattle.ti_base.specs.declared.place.Place.{Place}
-use Rattle.ti_lang.specs.Trees.Expressions.{Exp}
-use Rattle.ti_lang.specs.Trees.Expressions as t
-use Rattle.ti_lang.specs.Trees.Classes.{TextTree}
+use Rattle.ti_syntax.specs.Trees.Expressions.{Exp}
+use Rattle.ti_syntax.specs.Trees.Expressions as t
+use Rattle.ti_syntax.specs.Trees.Classes.{TextTree}
 use Rattle.ti_lang.specs.Members.{class_named, field_named, method_named}
 use Rattle.ti_lang.specs.Scopes.{Site, variable_named, own_field_named, own_method_named, static_method_named, class_before_dot, most_variables}
 use Rattle.ti_lang.specs.Nodes.{Written, ClassName, FieldName, MethodName, VariableName, ClassUse, Expression, Node, nodes_of}

@@ -2,9 +2,9 @@
 -- behind it.
 use Rattle.std.proofs.Common.{◌≡◌, ℕ, List, ◌++◌, Option, ap, sym, ◌∙◌, append_assoc}
 use Rattle.ti_base.specs.declared.place.Place.{Place}
-use Rattle.ti_lang.specs.Trees.Expressions.{Exp}
-use Rattle.ti_lang.specs.Trees.Statements.{Stm, MaybeStm}
-use Rattle.ti_lang.specs.Trees.Statements as s
+use Rattle.ti_syntax.specs.Trees.Expressions.{Exp}
+use Rattle.ti_syntax.specs.Trees.Statements.{Stm, MaybeStm}
+use Rattle.ti_syntax.specs.Trees.Statements as s
 use Rattle.ti_lang.specs.Program.Expressions.{NumberedExp}
 use Rattle.ti_lang.specs.Program.Statements.{NumberedStm, MaybeNumbered}
 use Rattle.ti_lang.specs.Program.Statements as m

@@ -1,6 +1,6 @@
 -- There is a program of a text exactly where it breaks no rule of names, and only one; where it breaks one, there is a refusal.
 use Rattle.std.proofs.Common.{◌≡◌, ◌⊎◌, inl, inr, Option, None, Some, refl, sym, ◌∙◌}
-use Rattle.ti_lang.specs.Trees.Classes.{TextTree}
+use Rattle.ti_syntax.specs.Trees.Classes.{TextTree}
 use Rattle.ti_lang.specs.Program.Classes.{NumberedProgram}
 use Rattle.ti_lang.specs.Numbering.{Numbers}
 use Rattle.ti_rules.specs.declared.refusal.Refusal.{Refusal}

@@ -5,10 +5,10 @@ use Rattle.std.specs.Map.{lookup}
 use Rattle.std.specs.Option.{option_map, option_copied}
 use Rattle.ti_lang.specs.declared.program.types.Variable.{Variable}
 use Rattle.ti_lang.specs.Program.Views.{variable_of}
-use Rattle.ti_lang.specs.Trees.Expressions.{Exp, exps, RangeTree, ranges_tree}
+use Rattle.ti_syntax.specs.Trees.Expressions.{Exp, exps, RangeTree, ranges_tree}
 use Rattle.ti_lang.specs.Program.Expressions.{numbered_exps, numbered_ranges}
 use Rattle.ti_lang.specs.Program.Expressions as n
-use Rattle.ti_lang.specs.Trees.Statements.{Stm, stms}
+use Rattle.ti_syntax.specs.Trees.Statements.{Stm, stms}
 use Rattle.ti_lang.specs.Program.Statements.{numbered_stms}
 use Rattle.ti_lang.specs.Program.Statements as m
 use Rattle.ti_lang.specs.Scopes.{Site, behind, with_variable}

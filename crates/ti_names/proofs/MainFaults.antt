@@ -4,10 +4,10 @@ use Rattle.std.specs.Option.{option_map_or, unwrap_or}
 use Rattle.std.proofs.lemmas.Bool.Decides.{nat_tests}
 use Rattle.ti_base.specs.declared.place.Place.{Place}
 use Rattle.ti_base.specs.Places.{place_after}
-use Rattle.ti_lang.specs.declared.tree.classes.Modifier.{Modifier}
-use Rattle.ti_lang.specs.declared.tree.classes.ModifierWord.{ModifierWord}
-use Rattle.ti_lang.specs.declared.tree.classes.ModifierWord.TheVariants as word
-use Rattle.ti_lang.specs.Trees.Classes.{ParamsTree, Words, Params, ResultTree, Void, Typed, MethodTree, ClassTree, TextTree}
+use Rattle.ti_syntax.specs.declared.tree.classes.Modifier.{Modifier}
+use Rattle.ti_syntax.specs.declared.tree.classes.ModifierWord.{ModifierWord}
+use Rattle.ti_syntax.specs.declared.tree.classes.ModifierWord.TheVariants as word
+use Rattle.ti_syntax.specs.Trees.Classes.{ParamsTree, Words, Params, ResultTree, Void, Typed, MethodTree, ClassTree, TextTree}
 use Rattle.ti_lang.specs.MainForm.{HasMainModifiers, IsVoid, IsWords, IsMainForm}
 use Rattle.ti_lang.specs.MainMethod.{IsMainClass, IsMainMethod}
 use Rattle.ti_lang.specs.Members.{class_named, OwnMethod, methods_of, method_named}

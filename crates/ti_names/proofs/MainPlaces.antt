@@ -5,7 +5,7 @@ use Rattle.std.proofs.lemmas.Bool.Decides.{Decides-and, Decides-eqb}
 use Rattle.std.proofs.lemmas.Bool.{cases_order}
 use Rattle.std.proofs.lemmas.Slice.Eq.{bytes_eq-Decides}
 use Rattle.ti_lang.specs.MainMethod.{IsFirst, IsMainClass, IsNamedMain, IsMainMethod}
-use Rattle.ti_lang.specs.Trees.Classes.{MethodTree, MemberTree, FieldMember, MethodMember, ClassTree, TextTree}
+use Rattle.ti_syntax.specs.Trees.Classes.{MethodTree, MemberTree, FieldMember, MethodMember, ClassTree, TextTree}
 use Rattle.ti_lang.specs.Members.{class_named, OwnMethod, methods_in, methods_from, methods_of, method_named}
 use Rattle.ti_names.proofs.Firsts.{position_of_first, first_of_position, one_element}
 

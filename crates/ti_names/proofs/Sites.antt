@@ -1,8 +1,8 @@
 -- Sites behind statements whose variables have left.
 use Rattle.std.proofs.Common.{◌≡◌, ℕ, Bool, true, false, if◌then◌else◌, List, [], ◌∷◌, ◌++◌, length, take, is_some, bytes_eq, refl, ap, sym, ◌∙◌, append_assoc}
 use Rattle.std.specs.Map.{lookup}
-use Rattle.ti_lang.specs.Trees.Statements.{Stm, MaybeStm, Stms}
-use Rattle.ti_lang.specs.Trees.Statements as s
+use Rattle.ti_syntax.specs.Trees.Statements.{Stm, MaybeStm, Stms}
+use Rattle.ti_syntax.specs.Trees.Statements as s
 use Rattle.ti_lang.specs.Program.Types.{VariableUse, Foreach}
 use Rattle.ti_lang.specs.Scopes.{Known, Site, with_variable, declares, past, past_maybe, past_all, past_variable, behind, behind_maybe, behind_all}
 

@@ -1,11 +1,11 @@
 -- Where nothing is broken, the function gives a program that the text is.
 use Rattle.std.proofs.Common.{◌≡◌, ℕ, Bool, true, false, ◌&&◌, if◌then◌else◌, List, [], ◌++◌, Option, Some, None, is_some, is_none, refl}
 use Rattle.ti_base.specs.declared.place.Place.{Place}
-use Rattle.ti_lang.specs.declared.tree.types.Base.{Base}
-use Rattle.ti_lang.specs.declared.tree.types.Base.TheVariants as b
-use Rattle.ti_lang.specs.Trees.Types.{TypeTree}
-use Rattle.ti_lang.specs.Trees.Expressions.{Exp, Exps, RangeTree, RangeTrees, ranges_tree}
-use Rattle.ti_lang.specs.Trees.Expressions as t
+use Rattle.ti_syntax.specs.declared.tree.types.Base.{Base}
+use Rattle.ti_syntax.specs.declared.tree.types.Base.TheVariants as b
+use Rattle.ti_syntax.specs.Trees.Types.{TypeTree}
+use Rattle.ti_syntax.specs.Trees.Expressions.{Exp, Exps, RangeTree, RangeTrees, ranges_tree}
+use Rattle.ti_syntax.specs.Trees.Expressions as t
 use Rattle.ti_lang.specs.Program.Types.{VariableUse}
 use Rattle.ti_lang.specs.Program.Expressions.{NumberedExp, NumberedExps}
 use Rattle.ti_lang.specs.Program.Expressions as n

@@ -3,9 +3,9 @@ use Rattle.std.proofs.Common.{◌≡◌, ℕ, ◌+◌, ◌==◌, Bool, true, fal
 use Rattle.std.proofs.lemmas.Bool.Decides.{nat_tests}
 use Rattle.std.specs.Option.{unwrap_or}
 use Rattle.ti_base.specs.declared.place.Place.{Place}
-use Rattle.ti_lang.specs.Trees.Statements.{stms}
-use Rattle.ti_lang.specs.Trees.Classes.{FieldTree, ParamTree, ParamsTree, ReturnTree, ResultTree, MethodTree, ClassTree, TextTree}
-use Rattle.ti_lang.specs.Trees.Classes as c
+use Rattle.ti_syntax.specs.Trees.Statements.{stms}
+use Rattle.ti_syntax.specs.Trees.Classes.{FieldTree, ParamTree, ParamsTree, ReturnTree, ResultTree, MethodTree, ClassTree, TextTree}
+use Rattle.ti_syntax.specs.Trees.Classes as c
 use Rattle.ti_lang.specs.Members.{class_named, fields_in, field_named, OwnMethod, methods_of, method_named}
 use Rattle.ti_lang.specs.Scopes.{Site, class_site, declares, typed_as, literals_in, behind_all, method_site, body_site}
 use Rattle.ti_lang.specs.Nodes.{type_nodes, result_nodes, param_list_nodes, params_nodes, return_nodes, stms_nodes, fields_nodes, classes_nodes, method_nodes, methods_nodes, nodes_of, node, VariableName, ClassName, FieldName, MethodName}

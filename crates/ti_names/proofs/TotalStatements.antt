@@ -3,9 +3,9 @@ use Rattle.std.proofs.Common.{◌≡◌, ℕ, Bool, true, false, nat_le, List, [
 use Rattle.std.proofs.lemmas.Bool.Decides.{nat_tests}
 use Rattle.std.specs.Option.{unwrap_or}
 use Rattle.ti_base.specs.declared.place.Place.{Place}
-use Rattle.ti_lang.specs.Trees.Expressions.{Exp, ranges_tree}
-use Rattle.ti_lang.specs.Trees.Statements.{DimsTree, InitTree, PrintTree, Stm, MaybeStm, Stms, stms}
-use Rattle.ti_lang.specs.Trees.Statements as s
+use Rattle.ti_syntax.specs.Trees.Expressions.{Exp, ranges_tree}
+use Rattle.ti_syntax.specs.Trees.Statements.{DimsTree, InitTree, PrintTree, Stm, MaybeStm, Stms, stms}
+use Rattle.ti_syntax.specs.Trees.Statements as s
 use Rattle.ti_lang.specs.Program.Types.{VariableUse, Foreach}
 use Rattle.ti_lang.specs.Members.{class_named}
 use Rattle.ti_lang.specs.Scopes.{Site, declares, past, past_maybe, behind, behind_maybe, variable_named, most_variables, IsFresh, HasRoom}

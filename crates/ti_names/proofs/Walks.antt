@@ -3,15 +3,15 @@ use Rattle.std.proofs.Common.{◌≡◌, ℕ, suc, ◌+◌, ◌<◌, ◌≤◌, 
 use Rattle.std.proofs.Math.Seq.{drop-cons}
 use Rattle.std.proofs.lemmas.List.{drop_all}
 use Rattle.ti_base.specs.declared.place.Place.{Place}
-use Rattle.ti_lang.specs.declared.tree.exprs.Expr.{Expr}
-use Rattle.ti_lang.specs.declared.tree.exprs.Range.{Range}
-use Rattle.ti_lang.specs.declared.tree.classes.Field.{Field}
-use Rattle.ti_lang.specs.declared.tree.classes.Method.{Method}
-use Rattle.ti_lang.specs.declared.tree.classes.Member.{Member}
-use Rattle.ti_lang.specs.declared.tree.classes.Member.TheVariants as m
-use Rattle.ti_lang.specs.Trees.Views.{exp_of, range_of, member_of, field_of}
-use Rattle.ti_lang.specs.Trees.Expressions.{Exp, exps, ranges_tree}
-use Rattle.ti_lang.specs.Trees.Expressions as t
+use Rattle.ti_syntax.specs.declared.tree.exprs.Expr.{Expr}
+use Rattle.ti_syntax.specs.declared.tree.exprs.Range.{Range}
+use Rattle.ti_syntax.specs.declared.tree.classes.Field.{Field}
+use Rattle.ti_syntax.specs.declared.tree.classes.Method.{Method}
+use Rattle.ti_syntax.specs.declared.tree.classes.Member.{Member}
+use Rattle.ti_syntax.specs.declared.tree.classes.Member.TheVariants as m
+use Rattle.ti_syntax.specs.Trees.Views.{exp_of, range_of, member_of, field_of}
+use Rattle.ti_syntax.specs.Trees.Expressions.{Exp, exps, ranges_tree}
+use Rattle.ti_syntax.specs.Trees.Expressions as t
 use Rattle.ti_lang.specs.Program.Expressions.{NumberedExp, numbered_exps}
 use Rattle.ti_lang.specs.Program.Expressions as n
 use Rattle.ti_lang.specs.Members.{name_number, fields_in}

@@ -1,7 +1,7 @@
 -- What a method means, from what its parts mean.
 use Rattle.std.proofs.Common.{◌≡◌, ℕ, List, [], ◌∷◌, ◌++◌, Option, ap, sym, ◌∙◌}
-use Rattle.ti_lang.specs.declared.tree.classes.Modifier.{Modifier}
-use Rattle.ti_lang.specs.Trees.Statements.{stms}
+use Rattle.ti_syntax.specs.declared.tree.classes.Modifier.{Modifier}
+use Rattle.ti_syntax.specs.Trees.Statements.{stms}
 use Rattle.ti_lang.specs.Program.Statements.{NumberedStm}
 use Rattle.ti_lang.specs.Program.Classes.{NumberedParams, NumberedReturn, NumberedResult, NumberedMethod}
 use Rattle.ti_lang.specs.Members.{OwnMethod, name_number}

@@ -1,7 +1,7 @@
 -- What `resolve` answers.
 use Rattle.std.specs.Prelude.{◌≡◌, ◌⊎◌, Result, Ok, Err}
 use Rattle.ti_lang.specs.declared.program.numbered.Program.{Program}
-use Rattle.ti_lang.specs.Trees.Classes.{TextTree}
+use Rattle.ti_syntax.specs.Trees.Classes.{TextTree}
 use Rattle.ti_lang.specs.Program.Classes.{NumberedProgram}
 use Rattle.ti_lang.specs.Program.Views.{program_of}
 use Rattle.ti_lang.specs.Numbering.{Numbers}

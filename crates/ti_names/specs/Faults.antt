@@ -4,12 +4,12 @@ use Rattle.std.specs.List.{list_any}
 use Rattle.std.specs.Option.{option_map_or, option_and_then}
 use Rattle.ti_base.specs.declared.place.Place.{Place}
 use Rattle.ti_base.specs.Places.{place_after}
-use Rattle.ti_lang.specs.declared.tree.classes.Modifier.{Modifier}
-use Rattle.ti_lang.specs.declared.tree.classes.ModifierWord.{ModifierWord}
-use Rattle.ti_lang.specs.declared.tree.classes.ModifierWord.TheVariants as word
-use Rattle.ti_lang.specs.Trees.Expressions.{Exp}
-use Rattle.ti_lang.specs.Trees.Expressions as t
-use Rattle.ti_lang.specs.Trees.Classes.{ParamsTree, Words, Params, ResultTree, Void, Typed, MethodTree, ClassTree, TextTree}
+use Rattle.ti_syntax.specs.declared.tree.classes.Modifier.{Modifier}
+use Rattle.ti_syntax.specs.declared.tree.classes.ModifierWord.{ModifierWord}
+use Rattle.ti_syntax.specs.declared.tree.classes.ModifierWord.TheVariants as word
+use Rattle.ti_syntax.specs.Trees.Expressions.{Exp}
+use Rattle.ti_syntax.specs.Trees.Expressions as t
+use Rattle.ti_syntax.specs.Trees.Classes.{ParamsTree, Words, Params, ResultTree, Void, Typed, MethodTree, ClassTree, TextTree}
 use Rattle.ti_lang.specs.Members.{class_named, field_named, OwnMethod, methods_of, method_named}
 use Rattle.ti_lang.specs.Scopes.{Site, variable_named, own_field_named, own_method_named, static_method_named, class_before_dot, most_variables}
 use Rattle.ti_lang.specs.Nodes.{Written, ClassName, FieldName, MethodName, VariableName, ClassUse, Expression, Node, nodes_of}

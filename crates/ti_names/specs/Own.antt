@@ -1,5 +1,5 @@
 -- What clauses see of the methods of a text.
-use Rattle.ti_lang.specs.Trees.Views.{method_of}
+use Rattle.ti_syntax.specs.Trees.Views.{method_of}
 use Rattle.ti_lang.specs.Members.{OwnMethod}
 use Rattle.ti_names.specs.declared.own.Own.{Own}
 

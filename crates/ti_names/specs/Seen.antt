@@ -2,13 +2,13 @@
 use Rattle.std.specs.Prelude.{ℕ, List, map, length, Option, Some, None}
 use Rattle.std.specs.declared.alloc.Global.{Global}
 use Rattle.std.specs.declared.boxed.Box.{Box}
-use Rattle.ti_lang.specs.declared.tree.stmts.Stmt.{Stmt}
+use Rattle.ti_syntax.specs.declared.tree.stmts.Stmt.{Stmt}
 use Rattle.ti_lang.specs.declared.program.types.Variable.{Variable}
 use Rattle.ti_lang.specs.declared.program.stmts.Stmt as numbered
-use Rattle.ti_lang.specs.Trees.Statements.{MaybeStm}
-use Rattle.ti_lang.specs.Trees.Statements as s
-use Rattle.ti_lang.specs.Trees.Classes.{TextTree}
-use Rattle.ti_lang.specs.Trees.Views.{tree_of, stm_of}
+use Rattle.ti_syntax.specs.Trees.Statements.{MaybeStm}
+use Rattle.ti_syntax.specs.Trees.Statements as s
+use Rattle.ti_syntax.specs.Trees.Classes.{TextTree}
+use Rattle.ti_syntax.specs.Trees.Views.{tree_of, stm_of}
 use Rattle.ti_lang.specs.Program.Statements.{MaybeNumbered}
 use Rattle.ti_lang.specs.Program.Statements as m
 use Rattle.ti_lang.specs.Program.Views.{variable_of, statement_of}

@@ -2,7 +2,7 @@
 use Rattle.std.specs.Prelude.{ℕ, Bool, ◌+◌, if◌then◌else◌, List, [], ◌∷◌, ◌++◌, map, length, Option, is_some, slice_get, bytes_eq}
 use Rattle.std.specs.Map.{lookup}
 use Rattle.std.specs.Option.{option_and_then}
-use Rattle.ti_lang.specs.Trees.Classes.{FieldTree, MemberTree, FieldMember, MethodMember, ClassTree, TextTree}
+use Rattle.ti_syntax.specs.Trees.Classes.{FieldTree, MemberTree, FieldMember, MethodMember, ClassTree, TextTree}
 use Rattle.ti_lang.specs.Members.{fields_in, OwnMethod, is_static, names_of}
 
 -- the table with one pair more, if its name isn't there

@@ -2,9 +2,9 @@
 
 ghost use Rattle.std.specs.Prelude.{◌≡◌, [], ◌∷◌, map, Some, IfOk, OnOk};
 ghost use Rattle.std.specs.Option.{option_map};
-ghost use Rattle.ti_lang.specs.Trees.Views.{exp_of, range_of, type_of, grid_of, dims_of, init_of, maybe_of};
-ghost use Rattle.ti_lang.specs.Trees.Expressions.{exps, ranges_tree};
-ghost use Rattle.ti_lang.specs.Trees.Expressions as t;
+ghost use Rattle.ti_syntax.specs.Trees.Views.{exp_of, range_of, type_of, grid_of, dims_of, init_of, maybe_of};
+ghost use Rattle.ti_syntax.specs.Trees.Expressions.{exps, ranges_tree};
+ghost use Rattle.ti_syntax.specs.Trees.Expressions as t;
 ghost use Rattle.ti_lang.specs.Program.Views.{value_type_of, type_use_of, variable_of, expression_of, bound_of, extent_of, initial_of};
 ghost use Rattle.ti_lang.specs.Program.Expressions.{numbered_exps};
 ghost use Rattle.ti_lang.specs.Members.{class_named};
@@ -23,8 +23,8 @@ use ti_base::{Memory, Place};
 use ti_lang::program::{
     Dims, Expr, Init, Range, Ty, TypeUse, Variable, copy_brackets, copy_qualifiers, has_local,
 };
-use ti_lang::tree::{Base, Brackets, Qualifier, TypeName};
-use ti_lang::{Spelled, tree};
+use ti_syntax::tree::{Base, Brackets, Qualifier, TypeName};
+use ti_syntax::{Spelled, tree};
 use ti_rules::{Refusal, Rule};
 
 /// What stands around an expression.
@@ -383,7 +383,7 @@ impl<'t, 'a> Around<'t, 'a> {
 
     /// An expression.
     #[cycle(walk_expr)]
-    #[tactic(auto, using(ti_lang::proofs::Bridges::bridges, ti_lang::proofs::ProgramBridges::program_bridges, crate::proofs::Lists::lists))]
+    #[tactic(auto, using(ti_syntax::proofs::Bridges::bridges, ti_lang::proofs::ProgramBridges::program_bridges, crate::proofs::Lists::lists))]
     pub fn exp(&self, found: &mut Option<Refusal>, x: &tree::Expr) -> Result<Expr, Memory>
         ensures value { IfOk result (λ y. expression_of y ≡ number_exp (site_of self.now) (exp_of x.now)) }
         ensures found { OnOk result (found.new ≡ noted found.old (exp_nodes (site_of self.now) (exp_of x.now))) }

@@ -1,9 +1,9 @@
 // Statements.
 
 ghost use Rattle.std.specs.Prelude.{◌≡◌, ◌+◌, ◌++◌, [], ◌∷◌, map, take, length, Some, IfOk, OnOk};
-ghost use Rattle.ti_lang.specs.Trees.Views.{exp_of, type_of, init_of, print_of, stm_of, maybe_of};
-ghost use Rattle.ti_lang.specs.Trees.Statements.{stms};
-ghost use Rattle.ti_lang.specs.Trees.Statements as s;
+ghost use Rattle.ti_syntax.specs.Trees.Views.{exp_of, type_of, init_of, print_of, stm_of, maybe_of};
+ghost use Rattle.ti_syntax.specs.Trees.Statements.{stms};
+ghost use Rattle.ti_syntax.specs.Trees.Statements as s;
 ghost use Rattle.ti_lang.specs.Program.Views.{type_use_of, declared_of, expression_of, initial_of, printed_of, statement_of};
 ghost use Rattle.ti_lang.specs.Program.Types.{Foreach};
 ghost use Rattle.ti_lang.specs.Scopes.{numbered_type, typed_as, declares, literals, literals_of, literals_in, printed_text, past, past_maybe, behind, behind_maybe, behind_all};
@@ -20,7 +20,7 @@ use crate::tables::Tables;
 use std::alloc::Global;
 use ti_base::{Memory, Place};
 use ti_lang::program::{Declared, Expr, Init, Printed, Stmt, TypeUse, Variable, has_single};
-use ti_lang::{Spelled, tree};
+use ti_syntax::{Spelled, tree};
 use ti_rules::{Refusal, Rule};
 
 /// How many variables may be in scope.
@@ -292,7 +292,7 @@ impl<'t, 'a> Body<'t, 'a> {
 
     /// A statement.
     #[cycle(walk_stmt)]
-    #[tactic(auto, using(ti_lang::proofs::Bridges::bridges, ti_lang::proofs::ProgramBridges::program_bridges, crate::proofs::Lists::lists, crate::proofs::Branches::statement_bridges))]
+    #[tactic(auto, using(ti_syntax::proofs::Bridges::bridges, ti_lang::proofs::ProgramBridges::program_bridges, crate::proofs::Lists::lists, crate::proofs::Branches::statement_bridges))]
     pub fn stm(&mut self, x: &'a tree::Stmt) -> Result<Stmt, Memory>
         ensures value { IfOk result (λ y. statement_of y ≡ number_stm (site_at self.old) (stm_of x.now)) }
         ensures site { OnOk result (site_at self.new ≡ behind (site_at self.old) (stm_of x.now)) }

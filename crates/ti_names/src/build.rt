@@ -1,6 +1,6 @@
 // The tables of a text, filled.
 ghost use Rattle.std.specs.Prelude.{◌≡◌, ◌+◌, [], map, fold, length, IfOk};
-ghost use Rattle.ti_lang.specs.Trees.Views.{tree_of, member_of};
+ghost use Rattle.ti_syntax.specs.Trees.Views.{tree_of, member_of};
 ghost use Rattle.ti_lang.specs.Members.{fields_in, names_of, name_of_member, with_name};
 ghost use Rattle.ti_names.specs.Tables.{with_numbered, class_table, field_tables, field_names, method_tables, method_names};
 
@@ -9,7 +9,7 @@ use crate::number::next;
 use crate::spelling::NameTable;
 use std::alloc::Global;
 use ti_base::Memory;
-use ti_lang::tree::{Member, Tree};
+use ti_syntax::tree::{Member, Tree};
 
 /// The classes.
 pub fn class_table<'a>(alloc: Global, tree: &'a Tree) -> Result<Names<'a, u32>, Memory>

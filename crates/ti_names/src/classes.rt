@@ -1,7 +1,7 @@
 // Classes and fields.
 
 ghost use Rattle.std.specs.Prelude.{◌≡◌, ◌∷◌, [], map, IfOk, OnOk};
-ghost use Rattle.ti_lang.specs.Trees.Views.{class_of, member_of, field_of, type_of};
+ghost use Rattle.ti_syntax.specs.Trees.Views.{class_of, member_of, field_of, type_of};
 ghost use Rattle.ti_lang.specs.Program.Views.{numbered_field_of, numbered_class_of};
 ghost use Rattle.ti_lang.specs.Members.{fields_in, name_number};
 ghost use Rattle.ti_lang.specs.Scopes.{numbered_type, class_site};
@@ -18,7 +18,7 @@ use crate::tables::Tables;
 use std::alloc::Global;
 use ti_base::Memory;
 use ti_lang::program::{Class, Field, copy_modifiers};
-use ti_lang::tree;
+use ti_syntax::tree;
 use ti_rules::{Refusal, Rule};
 
 impl<'t, 'a> Around<'t, 'a> {

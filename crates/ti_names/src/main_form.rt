@@ -1,7 +1,7 @@
 // The form of `main`.
 
 ghost use Rattle.std.specs.Prelude.{◌≡◌, ◌++◌, map, length, Some, slice_get, codes, IfOk};
-ghost use Rattle.ti_lang.specs.Trees.Views.{tree_of, class_of, method_of, params_of, result_of};
+ghost use Rattle.ti_syntax.specs.Trees.Views.{tree_of, class_of, method_of, params_of, result_of};
 ghost use Rattle.ti_lang.specs.Members.{class_named, methods_of};
 ghost use Rattle.ti_names.specs.Faults.{is_word, has_word, is_void, is_words, has_main_form, main_method, main_number, form_faults, words_faults, main_faults, fault_if, least};
 ghost use Rattle.ti_names.specs.Own.{own_of};
@@ -12,7 +12,7 @@ use crate::number::next;
 use crate::own::Own;
 use crate::tables::Tables;
 use ti_base::{Memory, Place};
-use ti_lang::tree::{Method, Modifier, ModifierWord, Params, ResultType, Tree};
+use ti_syntax::tree::{Method, Modifier, ModifierWord, Params, ResultType, Tree};
 use ti_rules::{Refusal, Rule};
 
 fn is_word(word: ModifierWord, other: ModifierWord) -> bool

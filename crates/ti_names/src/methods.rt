@@ -1,8 +1,8 @@
 // Methods.
 
 ghost use Rattle.std.specs.Prelude.{◌≡◌, ◌++◌, ◌∷◌, [], map, flat_map, length, IfOk, OnOk};
-ghost use Rattle.ti_lang.specs.Trees.Statements.{stms};
-ghost use Rattle.ti_lang.specs.Trees.Views.{type_of, param_of, params_of, result_of, return_of, maybe_of};
+ghost use Rattle.ti_syntax.specs.Trees.Statements.{stms};
+ghost use Rattle.ti_syntax.specs.Trees.Views.{type_of, param_of, params_of, result_of, return_of, maybe_of};
 ghost use Rattle.ti_lang.specs.Program.Views.{type_use_of, numbered_params_of, numbered_result_of, numbered_return_of, numbered_method_of};
 ghost use Rattle.ti_lang.specs.Members.{OwnMethod};
 ghost use Rattle.ti_lang.specs.Scopes.{numbered_type, declares, typed_as, behind_params, body_site, literals_in, method_site};
@@ -23,7 +23,7 @@ use ti_base::Memory;
 use ti_lang::program::{
     Declared, Method, Params, ResultType, Return, TypeUse, copy_modifiers, has_single, has_static,
 };
-use ti_lang::{Spelled, tree};
+use ti_syntax::{Spelled, tree};
 use ti_rules::{Refusal, Rule};
 
 /// Methods, with the string literals so far and the refusal that counts so far.

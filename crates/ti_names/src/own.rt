@@ -1,6 +1,6 @@
 // The methods of a text.
 ghost use Rattle.std.specs.Prelude.{◌≡◌, ◌++◌, map, IfOk};
-ghost use Rattle.ti_lang.specs.Trees.Views.{tree_of, member_of};
+ghost use Rattle.ti_syntax.specs.Trees.Views.{tree_of, member_of};
 ghost use Rattle.ti_lang.specs.Members.{methods_of, methods_in};
 ghost use Rattle.ti_names.specs.Own.{own_of};
 ghost use Rattle.ti_names.specs.Tables.{static_table};
@@ -9,7 +9,7 @@ use crate::number::next;
 use std::alloc::Global;
 use ti_base::Memory;
 use ti_lang::program::has_static;
-use ti_lang::tree::{Member, Method, Tree};
+use ti_syntax::tree::{Member, Method, Tree};
 
 /// A method with the number of its class.
 #[derive(Clone, Copy)]

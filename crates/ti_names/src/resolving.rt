@@ -1,7 +1,7 @@
 // Trees become programs.
 ghost use Rattle.std.specs.Prelude.{◌≡◌, ◌⊎◌, map, IfOk, Option};
-ghost use Rattle.ti_lang.specs.Trees.Classes.{TextTree};
-ghost use Rattle.ti_lang.specs.Trees.Views.{tree_of};
+ghost use Rattle.ti_syntax.specs.Trees.Classes.{TextTree};
+ghost use Rattle.ti_syntax.specs.Trees.Views.{tree_of};
 ghost use Rattle.ti_lang.specs.Program.Classes.{NumberedProgram};
 ghost use Rattle.ti_lang.specs.Program.Views.{program_of};
 ghost use Rattle.ti_lang.specs.Numbering.{Numbers};
@@ -23,7 +23,7 @@ use crate::tables::Tables;
 use std::alloc::Global;
 use ti_base::Memory;
 use ti_lang::program::{Parts, Program};
-use ti_lang::tree::Tree;
+use ti_syntax::tree::Tree;
 use ti_rules::Refusal;
 
 /// A program, and the refusal that counts, if there is one.

@@ -6,7 +6,7 @@ use crate::names::Names;
 use crate::number::narrow;
 use std::alloc::Global;
 use ti_base::Memory;
-use ti_lang::Spelled;
+use ti_syntax::Spelled;
 
 /// The names of members, with the number of each.
 #[derive(Drop)]

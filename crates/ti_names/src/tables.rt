@@ -3,7 +3,7 @@ ghost use Rattle.std.specs.Prelude.{◌≡◌, ℕ, List, false, slice_get};
 ghost use Rattle.std.specs.Map.{lookup};
 ghost use Rattle.std.specs.Option.{unwrap_or};
 ghost use Rattle.std.specs.Str.{bytes_eq};
-ghost use Rattle.ti_lang.specs.Trees.Views.{tree_of};
+ghost use Rattle.ti_syntax.specs.Trees.Views.{tree_of};
 ghost use Rattle.ti_lang.specs.Members.{class_named, field_named, method_named, is_static_method, name_number};
 ghost use Rattle.ti_names.specs.Tables.{found_in, numbered};
 
@@ -14,8 +14,8 @@ use crate::own::{Own, statics};
 use crate::spelling::NameTable;
 use std::alloc::Global;
 use ti_base::Memory;
-use ti_lang::Spelled;
-use ti_lang::tree::Tree;
+use ti_syntax::Spelled;
+use ti_syntax::tree::Tree;
 
 /// What the names of a text mean.
 #[derive(Drop)]

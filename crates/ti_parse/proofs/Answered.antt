@@ -1,14 +1,14 @@
 -- What reading a text answers is what the grammar says of the list.
 use Rattle.std.proofs.Common.{◌≡◌, ℕ, suc, ◌+◌, ◌<◌, ◌≤◌, true, List, [], ◌∷◌, ◌++◌, length, Option, Some, None, Ok, Err, refl, sym, ap, ◌∙◌, subst, append_assoc, arith, length-append}
 use Rattle.ti_base.specs.declared.place.Place.{Place}
-use Rattle.ti_lang.specs.declared.token.Token.{Token}
-use Rattle.ti_lang.specs.declared.token.TokenKind.{TokenKind}
-use Rattle.ti_lang.specs.declared.token.TokenKind.TheVariants as k
-use Rattle.ti_lang.specs.Tokens.{same_kind}
-use Rattle.ti_lang.specs.Trees.Classes.{ClassTree, TextTree}
-use Rattle.ti_lang.specs.Spelling.{Spells, BeginsText, IsTooDeep, IsShallow, Misfit, IsGrammarRefusal, fits, Unexpected, TooDeep, unexpected, too_deep, refused}
-use Rattle.ti_lang.specs.Spelling.Classes.{AllClasses}
-use Rattle.ti_lang.specs.Spelling.Loads.{classes_loads}
+use Rattle.ti_syntax.specs.declared.token.Token.{Token}
+use Rattle.ti_syntax.specs.declared.token.TokenKind.{TokenKind}
+use Rattle.ti_syntax.specs.declared.token.TokenKind.TheVariants as k
+use Rattle.ti_syntax.specs.Tokens.{same_kind}
+use Rattle.ti_syntax.specs.Trees.Classes.{ClassTree, TextTree}
+use Rattle.ti_syntax.specs.Spelling.{Spells, BeginsText, IsTooDeep, IsShallow, Misfit, IsGrammarRefusal, fits, Unexpected, TooDeep, unexpected, too_deep, refused}
+use Rattle.ti_syntax.specs.Spelling.Classes.{AllClasses}
+use Rattle.ti_syntax.specs.Spelling.Loads.{classes_loads}
 use Rattle.ti_parse_expr.specs.Answers.{EndsAtEnd}
 use Rattle.ti_parse_expr.specs.Input.{At, Over, Spent, Outcome, Parser, and_then, kind, place, sees}
 use Rattle.ti_parse_expr.specs.Full.{limited, rest_of}

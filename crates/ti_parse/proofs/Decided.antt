@@ -1,12 +1,12 @@
 -- What reading a text answers decides what the list of tokens is.
 use Rattle.std.proofs.Common.{◌≡◌, ℕ, ◌+◌, ◌<◌, ◌≤◌, List, [], ◌++◌, length, Option, Some, Ok, Err, arith}
 use Rattle.ti_base.specs.declared.place.Place.{Place}
-use Rattle.ti_lang.specs.declared.token.Token.{Token}
-use Rattle.ti_lang.specs.declared.token.TokenKind.TheVariants as k
-use Rattle.ti_lang.specs.Trees.Classes.{ClassTree, TextTree}
-use Rattle.ti_lang.specs.Spelling.{Spells, IsShallow, Misfit, Unexpected, TooDeep, IsGrammarRefusal}
-use Rattle.ti_lang.specs.Spelling.Classes.{AllClasses}
-use Rattle.ti_lang.specs.Spelling.Loads.{classes_loads}
+use Rattle.ti_syntax.specs.declared.token.Token.{Token}
+use Rattle.ti_syntax.specs.declared.token.TokenKind.TheVariants as k
+use Rattle.ti_syntax.specs.Trees.Classes.{ClassTree, TextTree}
+use Rattle.ti_syntax.specs.Spelling.{Spells, IsShallow, Misfit, Unexpected, TooDeep, IsGrammarRefusal}
+use Rattle.ti_syntax.specs.Spelling.Classes.{AllClasses}
+use Rattle.ti_syntax.specs.Spelling.Loads.{classes_loads}
 use Rattle.ti_parse_expr.specs.Answers.{EndsAtEnd}
 use Rattle.ti_parse_expr.specs.Input.{At, Over, Spent, kind, place}
 use Rattle.ti_parse_expr.specs.Full.{usual, limited}

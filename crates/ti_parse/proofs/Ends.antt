@@ -1,24 +1,24 @@
 -- No token of the classes of a text is the end.
 use Rattle.std.proofs.Common.{◌≡◌, ℕ, ◌+◌, ◌≤◌, List, [], ◌∷◌, ◌++◌, Option, Some, Bool, refl, ap, arith}
-use Rattle.ti_lang.specs.declared.token.Token.{Token}
-use Rattle.ti_lang.specs.declared.token.TokenKind.{TokenKind}
-use Rattle.ti_lang.specs.declared.token.TokenKind.TheVariants as k
-use Rattle.ti_lang.specs.declared.tree.exprs.BinaryOperator.{BinaryOperator}
-use Rattle.ti_lang.specs.declared.tree.stmts.StepOperator.{StepOperator}
-use Rattle.ti_lang.specs.declared.tree.classes.Modifier.{Modifier}
-use Rattle.ti_lang.specs.declared.tree.classes.ModifierWord.{ModifierWord}
-use Rattle.ti_lang.specs.Trees.Types.{TypeTree}
-use Rattle.ti_lang.specs.Trees.Expressions.{Exp}
-use Rattle.ti_lang.specs.Trees.Statements.{DimsTree, InitTree, PrintTree, Stm, MaybeStm}
-use Rattle.ti_lang.specs.Trees.Classes.{ParamTree, ParamsTree, ReturnTree, MemberTree, ClassTree}
-use Rattle.ti_lang.specs.Spelling.Operators.{update_of, step_of, modifier_of, class_modifier_of}
-use Rattle.ti_lang.specs.Spelling.Types.{FieldType, WideType, Typed}
-use Rattle.ti_lang.specs.Spelling.Types as types
-use Rattle.ti_lang.specs.Spelling.Expressions.{Ending, Whole}
-use Rattle.ti_lang.specs.Spelling.Statements.{Start, Region, Dims, Initial, Declared, Changed, Printer, Printed, Condition, First, Test, Update, Stated, Items}
-use Rattle.ti_lang.specs.Spelling.Statements as s
-use Rattle.ti_lang.specs.Spelling.Classes.{ParamList, Parameters, Returned, Method, Modified, Member, Members, ClassModified, Class, AllClasses}
-use Rattle.ti_lang.specs.Spelling.Classes as c
+use Rattle.ti_syntax.specs.declared.token.Token.{Token}
+use Rattle.ti_syntax.specs.declared.token.TokenKind.{TokenKind}
+use Rattle.ti_syntax.specs.declared.token.TokenKind.TheVariants as k
+use Rattle.ti_syntax.specs.declared.tree.exprs.BinaryOperator.{BinaryOperator}
+use Rattle.ti_syntax.specs.declared.tree.stmts.StepOperator.{StepOperator}
+use Rattle.ti_syntax.specs.declared.tree.classes.Modifier.{Modifier}
+use Rattle.ti_syntax.specs.declared.tree.classes.ModifierWord.{ModifierWord}
+use Rattle.ti_syntax.specs.Trees.Types.{TypeTree}
+use Rattle.ti_syntax.specs.Trees.Expressions.{Exp}
+use Rattle.ti_syntax.specs.Trees.Statements.{DimsTree, InitTree, PrintTree, Stm, MaybeStm}
+use Rattle.ti_syntax.specs.Trees.Classes.{ParamTree, ParamsTree, ReturnTree, MemberTree, ClassTree}
+use Rattle.ti_syntax.specs.Spelling.Operators.{update_of, step_of, modifier_of, class_modifier_of}
+use Rattle.ti_syntax.specs.Spelling.Types.{FieldType, WideType, Typed}
+use Rattle.ti_syntax.specs.Spelling.Types as types
+use Rattle.ti_syntax.specs.Spelling.Expressions.{Ending, Whole}
+use Rattle.ti_syntax.specs.Spelling.Statements.{Start, Region, Dims, Initial, Declared, Changed, Printer, Printed, Condition, First, Test, Update, Stated, Items}
+use Rattle.ti_syntax.specs.Spelling.Statements as s
+use Rattle.ti_syntax.specs.Spelling.Classes.{ParamList, Parameters, Returned, Method, Modified, Member, Members, ClassModified, Class, AllClasses}
+use Rattle.ti_syntax.specs.Spelling.Classes as c
 use Rattle.ti_parse_expr.proofs.Ends.{ends, end_of, arity_ends, based_ends, qualified_ends, gridded_ends, whole_ends, postfixed_ends, ranges_ends}
 
 -- how many tokens are the end

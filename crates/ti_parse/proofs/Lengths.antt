@@ -1,17 +1,17 @@
 -- Each token of what is spelled has a load.
 use Rattle.std.proofs.Common.{◌≡◌, ℕ, suc, List, [], ◌∷◌, ◌++◌, length, Option, refl, ap, arith, length-append, Bool}
 use Rattle.std.proofs.lemmas.List.{length-map}
-use Rattle.ti_lang.specs.declared.token.Token.{Token}
-use Rattle.ti_lang.specs.Trees.Expressions.{Exp, RangeTree}
-use Rattle.ti_lang.specs.Trees.Statements.{DimsTree, InitTree, PrintTree, Stm, MaybeStm}
-use Rattle.ti_lang.specs.Trees.Classes.{ParamsTree, ReturnTree, MemberTree}
-use Rattle.ti_lang.specs.Spelling.Expressions.{Ranges, Range}
-use Rattle.ti_lang.specs.Spelling.Expressions as e
-use Rattle.ti_lang.specs.Spelling.Statements.{Region, Dims, Initial, Declared, Changed, Printed, Condition, First, Test, Update, Stated, Items}
-use Rattle.ti_lang.specs.Spelling.Statements as s
-use Rattle.ti_lang.specs.Spelling.Classes.{Returned, Method, Member, Members}
-use Rattle.ti_lang.specs.Spelling.Classes as c
-use Rattle.ti_lang.specs.Spelling.Loads.{Load, Free, free, weights, region_loads, range_loads, ranges_loads, dims_loads, initial_loads, declared_loads, changed_loads, printed_loads, condition_loads, first_loads, test_loads, update_loads, stated_loads, items_loads, returned_loads, method_loads, member_loads, members_loads}
+use Rattle.ti_syntax.specs.declared.token.Token.{Token}
+use Rattle.ti_syntax.specs.Trees.Expressions.{Exp, RangeTree}
+use Rattle.ti_syntax.specs.Trees.Statements.{DimsTree, InitTree, PrintTree, Stm, MaybeStm}
+use Rattle.ti_syntax.specs.Trees.Classes.{ParamsTree, ReturnTree, MemberTree}
+use Rattle.ti_syntax.specs.Spelling.Expressions.{Ranges, Range}
+use Rattle.ti_syntax.specs.Spelling.Expressions as e
+use Rattle.ti_syntax.specs.Spelling.Statements.{Region, Dims, Initial, Declared, Changed, Printed, Condition, First, Test, Update, Stated, Items}
+use Rattle.ti_syntax.specs.Spelling.Statements as s
+use Rattle.ti_syntax.specs.Spelling.Classes.{Returned, Method, Member, Members}
+use Rattle.ti_syntax.specs.Spelling.Classes as c
+use Rattle.ti_syntax.specs.Spelling.Loads.{Load, Free, free, weights, region_loads, range_loads, ranges_loads, dims_loads, initial_loads, declared_loads, changed_loads, printed_loads, condition_loads, first_loads, test_loads, update_loads, stated_loads, items_loads, returned_loads, method_loads, member_loads, members_loads}
 use Rattle.ti_parse_expr.proofs.FullLaws.{weights_long}
 
 -- as many loads as tokens

@@ -1,9 +1,9 @@
 -- Reading within the limits stops at the first token whose load is above its limit.
 use Rattle.std.proofs.Common.{◌≡◌, ℕ, zero, suc, ◌<◌, ◌≤◌, Bool, true, false, if◌then◌else◌, List, [], ◌∷◌, ◌++◌, length, Some, Ok, Err, refl, ap, arith, length-append, slice_get}
 use borrow.Author.Tests.{ltb-true, ltb-false}
-use Rattle.ti_lang.specs.declared.token.Token.{Token}
-use Rattle.ti_lang.specs.Spelling.Loads.{Load, Free, Level, Weight}
-use Rattle.ti_lang.specs.Spelling.{IsAbove}
+use Rattle.ti_syntax.specs.declared.token.Token.{Token}
+use Rattle.ti_syntax.specs.Spelling.Loads.{Load, Free, Level, Weight}
+use Rattle.ti_syntax.specs.Spelling.{IsAbove}
 use Rattle.ti_parse_expr.specs.Input.{At, Over, Outcome, next}
 use Rattle.ti_parse_expr.specs.Full.{is_above, limited, rest_of}
 

@@ -1,10 +1,10 @@
 -- A list of tokens is at most one tree: both of two trees are what is read up to limits that no load of theirs is above.
 use Rattle.std.proofs.Common.{◌≡◌, ℕ, suc, ◌+◌, ◌<◌, ◌≤◌, List, [], ◌∷◌, ◌++◌, length, nat_lt, if◌then◌else◌, Ok, Err, refl, sym, ap, ◌∙◌, arith}
 use Rattle.std.proofs.lemmas.Bool.{le-ltb}
-use Rattle.ti_lang.specs.declared.token.Token.{Token}
-use Rattle.ti_lang.specs.Trees.Classes.{TextTree}
-use Rattle.ti_lang.specs.Spelling.{Spells}
-use Rattle.ti_lang.specs.Spelling.Loads.{Load, Free, Level, Weight, classes_loads}
+use Rattle.ti_syntax.specs.declared.token.Token.{Token}
+use Rattle.ti_syntax.specs.Trees.Classes.{TextTree}
+use Rattle.ti_syntax.specs.Spelling.{Spells}
+use Rattle.ti_syntax.specs.Spelling.Loads.{Load, Free, Level, Weight, classes_loads}
 use Rattle.ti_parse_expr.specs.Input.{Over, Outcome, Parser, next}
 use Rattle.ti_parse_expr.specs.Full.{Limits, limited_to}
 use Rattle.ti_parse.specs.Way.{up_to}

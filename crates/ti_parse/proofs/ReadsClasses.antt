@@ -1,23 +1,23 @@
 -- Classes that are spelled are read, up to the first token whose load is above its limit.
 use Rattle.std.proofs.Common.{◌≡◌, ℕ, zero, suc, ◌<◌, List, [], ◌∷◌, ◌++◌, length, Option, Some, None, Ok, refl, sym, ap, ◌∙◌, append_assoc, arith, length-append, true, false, Bool}
 use Rattle.ti_base.specs.declared.place.Place.{Place}
-use Rattle.ti_lang.specs.declared.token.Token.{Token}
-use Rattle.ti_lang.specs.declared.token.TokenKind.{TokenKind}
-use Rattle.ti_lang.specs.declared.token.TokenKind.TheVariants as k
-use Rattle.ti_lang.specs.declared.tree.classes.Modifier.{Modifier}
-use Rattle.ti_lang.specs.declared.tree.classes.ModifierWord.{ModifierWord}
-use Rattle.ti_lang.specs.Tokens.{same_kind}
-use Rattle.ti_lang.specs.Trees.Types.{TypeTree}
-use Rattle.ti_lang.specs.Trees.Statements.{Stm}
-use Rattle.ti_lang.specs.Trees.Classes.{ParamTree, ParamsTree, ReturnTree, ResultTree, MemberTree, ClassTree}
-use Rattle.ti_lang.specs.Trees.Classes as tree
-use Rattle.ti_lang.specs.Spelling.Operators.{modifier_of, class_modifier_of}
-use Rattle.ti_lang.specs.Spelling.Types.{FieldType, WideType, Typed}
-use Rattle.ti_lang.specs.Spelling.Types as types
-use Rattle.ti_lang.specs.Spelling.Statements as statements
-use Rattle.ti_lang.specs.Spelling.Classes.{ParamList, Parameters, Returned, Method, Modified, Member, Members, ClassModified, Class, AllClasses}
-use Rattle.ti_lang.specs.Spelling.Classes as grammar
-use Rattle.ti_lang.specs.Spelling.Loads.{free, returned_loads, method_loads, member_loads, members_loads, class_loads, classes_loads}
+use Rattle.ti_syntax.specs.declared.token.Token.{Token}
+use Rattle.ti_syntax.specs.declared.token.TokenKind.{TokenKind}
+use Rattle.ti_syntax.specs.declared.token.TokenKind.TheVariants as k
+use Rattle.ti_syntax.specs.declared.tree.classes.Modifier.{Modifier}
+use Rattle.ti_syntax.specs.declared.tree.classes.ModifierWord.{ModifierWord}
+use Rattle.ti_syntax.specs.Tokens.{same_kind}
+use Rattle.ti_syntax.specs.Trees.Types.{TypeTree}
+use Rattle.ti_syntax.specs.Trees.Statements.{Stm}
+use Rattle.ti_syntax.specs.Trees.Classes.{ParamTree, ParamsTree, ReturnTree, ResultTree, MemberTree, ClassTree}
+use Rattle.ti_syntax.specs.Trees.Classes as tree
+use Rattle.ti_syntax.specs.Spelling.Operators.{modifier_of, class_modifier_of}
+use Rattle.ti_syntax.specs.Spelling.Types.{FieldType, WideType, Typed}
+use Rattle.ti_syntax.specs.Spelling.Types as types
+use Rattle.ti_syntax.specs.Spelling.Statements as statements
+use Rattle.ti_syntax.specs.Spelling.Classes.{ParamList, Parameters, Returned, Method, Modified, Member, Members, ClassModified, Class, AllClasses}
+use Rattle.ti_syntax.specs.Spelling.Classes as grammar
+use Rattle.ti_syntax.specs.Spelling.Loads.{free, returned_loads, method_loads, member_loads, members_loads, class_loads, classes_loads}
 use Rattle.ti_parse_expr.specs.Input.{and_then, kind, sees}
 use Rattle.ti_parse_expr.specs.Full.{Limits, limited_to}
 use Rattle.ti_parse_expr.proofs.Law.{append_nil}

@@ -1,26 +1,26 @@
 -- Right sides, heads and prints that are spelled are read, up to the first token whose load is above its limit.
 use Rattle.std.proofs.Common.{◌≡◌, ℕ, zero, suc, ◌≤◌, List, [], ◌∷◌, ◌++◌, length, Option, Some, None, Ok, refl, ap, append_assoc, arith, true, false, Bool, codes}
 use Rattle.ti_base.specs.declared.place.Place.{Place}
-use Rattle.ti_lang.specs.declared.token.Token.{Token}
-use Rattle.ti_lang.specs.declared.token.TokenKind.{TokenKind}
-use Rattle.ti_lang.specs.declared.token.TokenKind.TheVariants as k
-use Rattle.ti_lang.specs.declared.tree.types.Base.{Base}
-use Rattle.ti_lang.specs.declared.tree.types.Qualifier.{Qualifier}
-use Rattle.ti_lang.specs.declared.tree.types.QualifierWord.{QualifierWord}
-use Rattle.ti_lang.specs.Tokens.{same_kind}
-use Rattle.ti_lang.specs.Trees.Types.{GridTree, TypeTree}
-use Rattle.ti_lang.specs.Trees.Expressions.{Exp, RangeTree}
-use Rattle.ti_lang.specs.Trees.Expressions as e
-use Rattle.ti_lang.specs.Trees.Statements.{DimsTree, InitTree, PrintTree}
-use Rattle.ti_lang.specs.Trees.Statements as tree
-use Rattle.ti_lang.specs.Spelling.Operators.{qualifier_of}
-use Rattle.ti_lang.specs.Spelling.Types.{Based, Qualified, Gridded}
-use Rattle.ti_lang.specs.Spelling.Types as types
-use Rattle.ti_lang.specs.Spelling.Expressions.{Whole, Range, Ranges}
-use Rattle.ti_lang.specs.Spelling.Expressions as expressions
-use Rattle.ti_lang.specs.Spelling.Statements.{Region, Dims, Initial, Printer, Printed, Condition, Test}
-use Rattle.ti_lang.specs.Spelling.Statements as grammar
-use Rattle.ti_lang.specs.Spelling.Loads.{Load, Free, free, weights, region_loads, range_loads, ranges_loads, dims_loads, initial_loads, printed_loads, condition_loads, test_loads}
+use Rattle.ti_syntax.specs.declared.token.Token.{Token}
+use Rattle.ti_syntax.specs.declared.token.TokenKind.{TokenKind}
+use Rattle.ti_syntax.specs.declared.token.TokenKind.TheVariants as k
+use Rattle.ti_syntax.specs.declared.tree.types.Base.{Base}
+use Rattle.ti_syntax.specs.declared.tree.types.Qualifier.{Qualifier}
+use Rattle.ti_syntax.specs.declared.tree.types.QualifierWord.{QualifierWord}
+use Rattle.ti_syntax.specs.Tokens.{same_kind}
+use Rattle.ti_syntax.specs.Trees.Types.{GridTree, TypeTree}
+use Rattle.ti_syntax.specs.Trees.Expressions.{Exp, RangeTree}
+use Rattle.ti_syntax.specs.Trees.Expressions as e
+use Rattle.ti_syntax.specs.Trees.Statements.{DimsTree, InitTree, PrintTree}
+use Rattle.ti_syntax.specs.Trees.Statements as tree
+use Rattle.ti_syntax.specs.Spelling.Operators.{qualifier_of}
+use Rattle.ti_syntax.specs.Spelling.Types.{Based, Qualified, Gridded}
+use Rattle.ti_syntax.specs.Spelling.Types as types
+use Rattle.ti_syntax.specs.Spelling.Expressions.{Whole, Range, Ranges}
+use Rattle.ti_syntax.specs.Spelling.Expressions as expressions
+use Rattle.ti_syntax.specs.Spelling.Statements.{Region, Dims, Initial, Printer, Printed, Condition, Test}
+use Rattle.ti_syntax.specs.Spelling.Statements as grammar
+use Rattle.ti_syntax.specs.Spelling.Loads.{Load, Free, free, weights, region_loads, range_loads, ranges_loads, dims_loads, initial_loads, printed_loads, condition_loads, test_loads}
 use Rattle.ti_parse_expr.specs.declared.parse.Form.TheVariants as form
 use Rattle.ti_parse_expr.specs.Input.{Parser, and_then, kind, sees, take_token}
 use Rattle.ti_parse_expr.specs.Types.{base, qualifiers, grids}

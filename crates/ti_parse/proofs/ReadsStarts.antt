@@ -1,23 +1,23 @@
 -- What statements begin with: operands and types that are spelled are read, up to the first token whose load is above its limit.
 use Rattle.std.proofs.Common.{◌≡◌, ℕ, ◌<◌, List, [], ◌∷◌, ◌++◌, length, Some, None, Ok, Err, refl, sym, ap, ◌∙◌, subst, append_assoc, arith, true, false, Bool}
-use Rattle.ti_lang.specs.declared.token.Token.{Token}
-use Rattle.ti_lang.specs.declared.token.TokenKind.{TokenKind}
-use Rattle.ti_lang.specs.declared.token.TokenKind.TheVariants as k
-use Rattle.ti_lang.specs.declared.tree.exprs.BinaryOperator.{BinaryOperator}
-use Rattle.ti_lang.specs.declared.tree.stmts.StepOperator.{StepOperator}
-use Rattle.ti_lang.specs.Tokens.{same_kind}
-use Rattle.ti_lang.specs.Trees.Types.{TypeTree}
-use Rattle.ti_lang.specs.Trees.Expressions.{Exp}
-use Rattle.ti_lang.specs.Trees.Statements.{InitTree, Stm, MaybeStm}
-use Rattle.ti_lang.specs.Trees.Statements as tree
-use Rattle.ti_lang.specs.Spelling.Operators.{qualifier_of, update_of, step_of}
-use Rattle.ti_lang.specs.Spelling.Types.{Typed}
-use Rattle.ti_lang.specs.Spelling.Types as types
-use Rattle.ti_lang.specs.Spelling.Expressions.{Ending, Target, Postfixed, Listed}
-use Rattle.ti_lang.specs.Spelling.Expressions as expressions
-use Rattle.ti_lang.specs.Spelling.Statements.{Start, Initial, Declared, Changed, First, Update, starts, starts_so}
-use Rattle.ti_lang.specs.Spelling.Statements as grammar
-use Rattle.ti_lang.specs.Spelling.Loads.{Load, Free, free, weights, initial_loads, declared_loads, changed_loads, first_loads, update_loads}
+use Rattle.ti_syntax.specs.declared.token.Token.{Token}
+use Rattle.ti_syntax.specs.declared.token.TokenKind.{TokenKind}
+use Rattle.ti_syntax.specs.declared.token.TokenKind.TheVariants as k
+use Rattle.ti_syntax.specs.declared.tree.exprs.BinaryOperator.{BinaryOperator}
+use Rattle.ti_syntax.specs.declared.tree.stmts.StepOperator.{StepOperator}
+use Rattle.ti_syntax.specs.Tokens.{same_kind}
+use Rattle.ti_syntax.specs.Trees.Types.{TypeTree}
+use Rattle.ti_syntax.specs.Trees.Expressions.{Exp}
+use Rattle.ti_syntax.specs.Trees.Statements.{InitTree, Stm, MaybeStm}
+use Rattle.ti_syntax.specs.Trees.Statements as tree
+use Rattle.ti_syntax.specs.Spelling.Operators.{qualifier_of, update_of, step_of}
+use Rattle.ti_syntax.specs.Spelling.Types.{Typed}
+use Rattle.ti_syntax.specs.Spelling.Types as types
+use Rattle.ti_syntax.specs.Spelling.Expressions.{Ending, Target, Postfixed, Listed}
+use Rattle.ti_syntax.specs.Spelling.Expressions as expressions
+use Rattle.ti_syntax.specs.Spelling.Statements.{Start, Initial, Declared, Changed, First, Update, starts, starts_so}
+use Rattle.ti_syntax.specs.Spelling.Statements as grammar
+use Rattle.ti_syntax.specs.Spelling.Loads.{Load, Free, free, weights, initial_loads, declared_loads, changed_loads, first_loads, update_loads}
 use Rattle.ti_parse_expr.specs.Input.{Parser, Outcome, and_then, kind, next, sees}
 use Rattle.ti_parse_expr.specs.Expr.{Operand, is_dim}
 use Rattle.ti_parse_expr.specs.Full.{Limits, operand_to}

@@ -2,20 +2,20 @@
 use Rattle.std.proofs.Common.{◌≡◌, ℕ, zero, suc, ◌+◌, ◌<◌, List, [], ◌∷◌, ◌++◌, length, Option, Ok, refl, sym, ap, ◌∙◌, append_assoc, arith, length-append, true, false, Bool, ◌&&◌, codes}
 use Rattle.std.proofs.lemmas.Bool.{le-ltb, lt-ltb}
 use Rattle.ti_base.specs.declared.place.Place.{Place}
-use Rattle.ti_lang.specs.declared.token.Token.{Token}
-use Rattle.ti_lang.specs.declared.token.TokenKind.{TokenKind}
-use Rattle.ti_lang.specs.declared.token.TokenKind.TheVariants as k
-use Rattle.ti_lang.specs.Tokens.{same_kind}
-use Rattle.ti_lang.specs.Trees.Types.{TypeTree}
-use Rattle.ti_lang.specs.Trees.Expressions.{Exp}
-use Rattle.ti_lang.specs.Trees.Statements.{PrintTree, Stm, MaybeStm}
-use Rattle.ti_lang.specs.Trees.Statements as tree
-use Rattle.ti_lang.specs.Spelling.Types.{Typed}
-use Rattle.ti_lang.specs.Spelling.Types as types
-use Rattle.ti_lang.specs.Spelling.Expressions.{Whole, Call}
-use Rattle.ti_lang.specs.Spelling.Statements.{Start, Declared, Changed, Printer, Printed, Condition, First, Test, Update, Stated, Items, starts}
-use Rattle.ti_lang.specs.Spelling.Statements as grammar
-use Rattle.ti_lang.specs.Spelling.Loads.{Load, Free, Level, free, weights, changed_loads, printed_loads, condition_loads, first_loads, test_loads, update_loads, declared_loads, stated_loads, items_loads}
+use Rattle.ti_syntax.specs.declared.token.Token.{Token}
+use Rattle.ti_syntax.specs.declared.token.TokenKind.{TokenKind}
+use Rattle.ti_syntax.specs.declared.token.TokenKind.TheVariants as k
+use Rattle.ti_syntax.specs.Tokens.{same_kind}
+use Rattle.ti_syntax.specs.Trees.Types.{TypeTree}
+use Rattle.ti_syntax.specs.Trees.Expressions.{Exp}
+use Rattle.ti_syntax.specs.Trees.Statements.{PrintTree, Stm, MaybeStm}
+use Rattle.ti_syntax.specs.Trees.Statements as tree
+use Rattle.ti_syntax.specs.Spelling.Types.{Typed}
+use Rattle.ti_syntax.specs.Spelling.Types as types
+use Rattle.ti_syntax.specs.Spelling.Expressions.{Whole, Call}
+use Rattle.ti_syntax.specs.Spelling.Statements.{Start, Declared, Changed, Printer, Printed, Condition, First, Test, Update, Stated, Items, starts}
+use Rattle.ti_syntax.specs.Spelling.Statements as grammar
+use Rattle.ti_syntax.specs.Spelling.Loads.{Load, Free, Level, free, weights, changed_loads, printed_loads, condition_loads, first_loads, test_loads, update_loads, declared_loads, stated_loads, items_loads}
 use Rattle.ti_parse_expr.specs.Input.{Parser, and_then, kind, sees, expect_by, take_token}
 use Rattle.ti_parse_expr.specs.Full.{Limits, operand_to}
 use Rattle.ti_parse_expr.proofs.Follows.{test_reads as same_test, then_ok, is_name, paren_closes}

@@ -1,27 +1,27 @@
 -- A relation between parsers that the steps keep holds between reading in the plain way and in another one.
 use Rattle.std.proofs.Common.{◌≡◌, ℕ, zero, suc, List, [], ◌∷◌, ◌++◌, Option, Some, None, Ok, Err, refl, sym, subst, true, false, Bool, ◌&&◌, if◌then◌else◌, codes}
 use Rattle.ti_base.specs.declared.place.Place.{Place}
-use Rattle.ti_lang.specs.declared.token.TokenKind.{TokenKind}
-use Rattle.ti_lang.specs.declared.token.TokenKind.TheVariants as k
-use Rattle.ti_lang.specs.declared.tree.types.Base.{Base}
-use Rattle.ti_lang.specs.declared.tree.types.Base.TheVariants as b
-use Rattle.ti_lang.specs.declared.tree.types.Qualifier.{Qualifier}
-use Rattle.ti_lang.specs.declared.tree.types.QualifierWord.{QualifierWord}
-use Rattle.ti_lang.specs.declared.tree.exprs.BinaryOperator.{BinaryOperator}
-use Rattle.ti_lang.specs.declared.tree.stmts.StepOperator.{StepOperator}
-use Rattle.ti_lang.specs.declared.tree.classes.Modifier.{Modifier}
-use Rattle.ti_lang.specs.declared.tree.classes.ModifierWord.{ModifierWord}
-use Rattle.ti_lang.specs.Trees.Types.{GridTree, TypeTree}
-use Rattle.ti_lang.specs.Trees.Expressions.{Exp, RangeTree}
-use Rattle.ti_lang.specs.Trees.Expressions as e
-use Rattle.ti_lang.specs.Trees.Statements.{DimsTree, InitTree, PrintTree, Stm, MaybeStm}
-use Rattle.ti_lang.specs.Trees.Statements as s
-use Rattle.ti_lang.specs.Trees.Classes.{ParamTree, ParamsTree, ReturnTree, ResultTree, MemberTree, ClassTree, TextTree}
-use Rattle.ti_lang.specs.Trees.Classes as c
-use Rattle.ti_lang.specs.Tokens.{same_kind}
-use Rattle.ti_lang.specs.Spelling.Operators.{update_of, step_of, qualifier_of, modifier_of, class_modifier_of}
-use Rattle.ti_lang.specs.Spelling.Expressions.{Ending, Target}
-use Rattle.ti_lang.specs.Spelling.Statements.{starts}
+use Rattle.ti_syntax.specs.declared.token.TokenKind.{TokenKind}
+use Rattle.ti_syntax.specs.declared.token.TokenKind.TheVariants as k
+use Rattle.ti_syntax.specs.declared.tree.types.Base.{Base}
+use Rattle.ti_syntax.specs.declared.tree.types.Base.TheVariants as b
+use Rattle.ti_syntax.specs.declared.tree.types.Qualifier.{Qualifier}
+use Rattle.ti_syntax.specs.declared.tree.types.QualifierWord.{QualifierWord}
+use Rattle.ti_syntax.specs.declared.tree.exprs.BinaryOperator.{BinaryOperator}
+use Rattle.ti_syntax.specs.declared.tree.stmts.StepOperator.{StepOperator}
+use Rattle.ti_syntax.specs.declared.tree.classes.Modifier.{Modifier}
+use Rattle.ti_syntax.specs.declared.tree.classes.ModifierWord.{ModifierWord}
+use Rattle.ti_syntax.specs.Trees.Types.{GridTree, TypeTree}
+use Rattle.ti_syntax.specs.Trees.Expressions.{Exp, RangeTree}
+use Rattle.ti_syntax.specs.Trees.Expressions as e
+use Rattle.ti_syntax.specs.Trees.Statements.{DimsTree, InitTree, PrintTree, Stm, MaybeStm}
+use Rattle.ti_syntax.specs.Trees.Statements as s
+use Rattle.ti_syntax.specs.Trees.Classes.{ParamTree, ParamsTree, ReturnTree, ResultTree, MemberTree, ClassTree, TextTree}
+use Rattle.ti_syntax.specs.Trees.Classes as c
+use Rattle.ti_syntax.specs.Tokens.{same_kind}
+use Rattle.ti_syntax.specs.Spelling.Operators.{update_of, step_of, qualifier_of, modifier_of, class_modifier_of}
+use Rattle.ti_syntax.specs.Spelling.Expressions.{Ending, Target}
+use Rattle.ti_syntax.specs.Spelling.Statements.{starts}
 use Rattle.ti_parse_expr.specs.declared.parse.Form.{Form}
 use Rattle.ti_parse_expr.specs.declared.parse.Form.TheVariants as form
 use Rattle.ti_parse_expr.specs.Input.{At, Over, Spent, Parser, ◌>>=◌, ◌>>◌, pure, refuse, and_then, kind, place, here, sees, spells, expect_by, expect_word_by, take_token, name_with, named_by}

@@ -1,24 +1,24 @@
 -- What reading classes and their members says of the grammar.
 use Rattle.std.proofs.Common.{◌≡◌, ℕ, zero, suc, ◌<◌, ◌≤◌, List, [], ◌∷◌, ◌++◌, length, Option, Some, None, Ok, refl, sym, ◌∙◌, subst, append_assoc, arith, length-append, true, false, Bool, if◌then◌else◌}
 use Rattle.ti_base.specs.declared.place.Place.{Place}
-use Rattle.ti_lang.specs.declared.token.Token.{Token}
-use Rattle.ti_lang.specs.declared.token.TokenKind.{TokenKind}
-use Rattle.ti_lang.specs.declared.token.TokenKind.TheVariants as k
-use Rattle.ti_lang.specs.declared.tree.types.Base.TheVariants as b
-use Rattle.ti_lang.specs.declared.tree.classes.Modifier.{Modifier}
-use Rattle.ti_lang.specs.declared.tree.classes.ModifierWord.{ModifierWord}
-use Rattle.ti_lang.specs.Trees.Types.{TypeTree}
-use Rattle.ti_lang.specs.Trees.Expressions.{Exp}
-use Rattle.ti_lang.specs.Trees.Statements.{Stm}
-use Rattle.ti_lang.specs.Trees.Classes.{ParamTree, ParamsTree, ReturnTree, ResultTree, MemberTree, ClassTree}
-use Rattle.ti_lang.specs.Trees.Classes as tree
-use Rattle.ti_lang.specs.Spelling.Operators.{modifier_of, class_modifier_of}
-use Rattle.ti_lang.specs.Spelling.Types.{FieldType, Typed}
-use Rattle.ti_lang.specs.Spelling.Types as types
-use Rattle.ti_lang.specs.Spelling.Statements.{Test}
-use Rattle.ti_lang.specs.Spelling.Statements as statements
-use Rattle.ti_lang.specs.Spelling.Classes.{ParamList, Parameters, Returned, Method, Modified, Member, Members, ClassModified, Class, AllClasses}
-use Rattle.ti_lang.specs.Spelling.Classes as grammar
+use Rattle.ti_syntax.specs.declared.token.Token.{Token}
+use Rattle.ti_syntax.specs.declared.token.TokenKind.{TokenKind}
+use Rattle.ti_syntax.specs.declared.token.TokenKind.TheVariants as k
+use Rattle.ti_syntax.specs.declared.tree.types.Base.TheVariants as b
+use Rattle.ti_syntax.specs.declared.tree.classes.Modifier.{Modifier}
+use Rattle.ti_syntax.specs.declared.tree.classes.ModifierWord.{ModifierWord}
+use Rattle.ti_syntax.specs.Trees.Types.{TypeTree}
+use Rattle.ti_syntax.specs.Trees.Expressions.{Exp}
+use Rattle.ti_syntax.specs.Trees.Statements.{Stm}
+use Rattle.ti_syntax.specs.Trees.Classes.{ParamTree, ParamsTree, ReturnTree, ResultTree, MemberTree, ClassTree}
+use Rattle.ti_syntax.specs.Trees.Classes as tree
+use Rattle.ti_syntax.specs.Spelling.Operators.{modifier_of, class_modifier_of}
+use Rattle.ti_syntax.specs.Spelling.Types.{FieldType, Typed}
+use Rattle.ti_syntax.specs.Spelling.Types as types
+use Rattle.ti_syntax.specs.Spelling.Statements.{Test}
+use Rattle.ti_syntax.specs.Spelling.Statements as statements
+use Rattle.ti_syntax.specs.Spelling.Classes.{ParamList, Parameters, Returned, Method, Modified, Member, Members, ClassModified, Class, AllClasses}
+use Rattle.ti_syntax.specs.Spelling.Classes as grammar
 use Rattle.ti_parse_expr.specs.Input.{Outcome, Parser, ◌>>=◌, ◌>>◌, pure, here, and_then, sees, expect_by, name_with, take_token}
 use Rattle.ti_parse_expr.proofs.TokenKinds.{paren_is, close_is, bracket_is, shut_is, comma_is}
 use Rattle.ti_parse_expr.proofs.Law.{BeginsIn, Said, token, append_nil}

@@ -1,8 +1,8 @@
 -- A token that is of a kind by its number is that token: those of statements and classes.
 use Rattle.std.proofs.Common.{◌≡◌, true, refl}
-use Rattle.ti_lang.specs.declared.token.TokenKind.{TokenKind}
-use Rattle.ti_lang.specs.declared.token.TokenKind.TheVariants as k
-use Rattle.ti_lang.specs.Tokens.{same_kind}
+use Rattle.ti_syntax.specs.declared.token.TokenKind.{TokenKind}
+use Rattle.ti_syntax.specs.declared.token.TokenKind.TheVariants as k
+use Rattle.ti_syntax.specs.Tokens.{same_kind}
 
 pub assign_is : (a : TokenKind) → same_kind a k.Assign ≡ true → a ≡ k.Assign
 assign_is k.Assign h = refl

@@ -1,26 +1,26 @@
 -- What reading the parts of statements and members says of the grammar.
 use Rattle.std.proofs.Common.{◌≡◌, ℕ, zero, suc, pos, ◌+◌, ◌<◌, ◌≤◌, List, [], ◌∷◌, ◌++◌, length, Option, Some, None, Ok, Err, refl, sym, ap, ◌∙◌, subst, append_assoc, arith, length-append, true, false, Bool, if◌then◌else◌, codes}
 use Rattle.ti_base.specs.declared.place.Place.{Place}
-use Rattle.ti_lang.specs.declared.token.Token.{Token}
-use Rattle.ti_lang.specs.declared.token.TokenKind.{TokenKind}
-use Rattle.ti_lang.specs.declared.token.TokenKind.TheVariants as k
-use Rattle.ti_lang.specs.declared.tree.types.Base.{Base}
-use Rattle.ti_lang.specs.declared.tree.types.Base.TheVariants as b
-use Rattle.ti_lang.specs.declared.tree.types.QualifierWord.{QualifierWord}
-use Rattle.ti_lang.specs.declared.tree.exprs.BinaryOperator.{BinaryOperator}
-use Rattle.ti_lang.specs.declared.tree.stmts.StepOperator.{StepOperator}
-use Rattle.ti_lang.specs.Trees.Types.{GridTree, TypeTree}
-use Rattle.ti_lang.specs.Trees.Expressions.{Exp, RangeTree}
-use Rattle.ti_lang.specs.Trees.Expressions as e
-use Rattle.ti_lang.specs.Trees.Statements.{Stm}
-use Rattle.ti_lang.specs.Trees.Statements as tree
-use Rattle.ti_lang.specs.Spelling.Operators.{update_of, step_of, qualifier_of}
-use Rattle.ti_lang.specs.Spelling.Types.{Arity, Based, Qualified, Gridded, FieldType, WideType, Typed}
-use Rattle.ti_lang.specs.Spelling.Types as types
-use Rattle.ti_lang.specs.Spelling.Expressions.{Ending, Target, Call, Other, Whole, Postfixed, Ranges, Range}
-use Rattle.ti_lang.specs.Spelling.Expressions as exprs
-use Rattle.ti_lang.specs.Spelling.Statements.{starts, starts_so, Start, Region, Dims, Initial, Declared, Changed, Printer, Printed, Condition, First, Test, Update, Stated}
-use Rattle.ti_lang.specs.Spelling.Statements as grammar
+use Rattle.ti_syntax.specs.declared.token.Token.{Token}
+use Rattle.ti_syntax.specs.declared.token.TokenKind.{TokenKind}
+use Rattle.ti_syntax.specs.declared.token.TokenKind.TheVariants as k
+use Rattle.ti_syntax.specs.declared.tree.types.Base.{Base}
+use Rattle.ti_syntax.specs.declared.tree.types.Base.TheVariants as b
+use Rattle.ti_syntax.specs.declared.tree.types.QualifierWord.{QualifierWord}
+use Rattle.ti_syntax.specs.declared.tree.exprs.BinaryOperator.{BinaryOperator}
+use Rattle.ti_syntax.specs.declared.tree.stmts.StepOperator.{StepOperator}
+use Rattle.ti_syntax.specs.Trees.Types.{GridTree, TypeTree}
+use Rattle.ti_syntax.specs.Trees.Expressions.{Exp, RangeTree}
+use Rattle.ti_syntax.specs.Trees.Expressions as e
+use Rattle.ti_syntax.specs.Trees.Statements.{Stm}
+use Rattle.ti_syntax.specs.Trees.Statements as tree
+use Rattle.ti_syntax.specs.Spelling.Operators.{update_of, step_of, qualifier_of}
+use Rattle.ti_syntax.specs.Spelling.Types.{Arity, Based, Qualified, Gridded, FieldType, WideType, Typed}
+use Rattle.ti_syntax.specs.Spelling.Types as types
+use Rattle.ti_syntax.specs.Spelling.Expressions.{Ending, Target, Call, Other, Whole, Postfixed, Ranges, Range}
+use Rattle.ti_syntax.specs.Spelling.Expressions as exprs
+use Rattle.ti_syntax.specs.Spelling.Statements.{starts, starts_so, Start, Region, Dims, Initial, Declared, Changed, Printer, Printed, Condition, First, Test, Update, Stated}
+use Rattle.ti_syntax.specs.Spelling.Statements as grammar
 use Rattle.ti_parse_expr.specs.declared.parse.Form.TheVariants as form
 use Rattle.ti_parse_expr.specs.Input.{At, Over, Spent, Outcome, Parser, ◌>>=◌, ◌>>◌, pure, and_then, kind, sees, expect_by, take_token}
 use Rattle.ti_parse_expr.specs.Types.{arity, base, qualifiers, grid, grids, field_type}

@@ -1,9 +1,9 @@
 -- A list of tokens has at most one grammar refusal.
 use Rattle.std.proofs.Common.{◌≡◌, inl, inr, List, [], ◌∷◌, ◌++◌, Option, Some, refl, sym, ap, ◌∙◌, subst, append_assoc}
 use Rattle.ti_base.specs.declared.place.Place.{Place}
-use Rattle.ti_lang.specs.declared.token.Token.{Token}
-use Rattle.ti_lang.specs.Trees.Classes.{TextTree}
-use Rattle.ti_lang.specs.Spelling.{Spells, BeginsText, IsShallow, Misfit, ShowsMisfit, unexpected, too_deep, IsGrammarRefusal, fits, refused}
+use Rattle.ti_syntax.specs.declared.token.Token.{Token}
+use Rattle.ti_syntax.specs.Trees.Classes.{TextTree}
+use Rattle.ti_syntax.specs.Spelling.{Spells, BeginsText, IsShallow, Misfit, ShowsMisfit, unexpected, too_deep, IsGrammarRefusal, fits, refused}
 use Rattle.ti_parse_expr.proofs.Readings.{Apart, apart}
 
 -- what begins a text has fronts that begin it too

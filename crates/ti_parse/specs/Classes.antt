@@ -1,14 +1,14 @@
 -- Reading classes and their members, by one token of sight.
 use Rattle.std.specs.Prelude.{ℕ, zero, suc, Bool, true, false, if◌then◌else◌, List, [], ◌∷◌, ◌++◌, Option, Some, None, Ok, Err}
 use Rattle.ti_base.specs.declared.place.Place.{Place}
-use Rattle.ti_lang.specs.declared.token.TokenKind.{TokenKind}
-use Rattle.ti_lang.specs.declared.token.TokenKind.TheVariants as k
-use Rattle.ti_lang.specs.declared.tree.classes.Modifier.{Modifier}
-use Rattle.ti_lang.specs.declared.tree.classes.ModifierWord.{ModifierWord}
-use Rattle.ti_lang.specs.Trees.Types.{TypeTree}
-use Rattle.ti_lang.specs.Trees.Classes.{ParamTree, ParamsTree, ReturnTree, ResultTree, MemberTree, ClassTree, TextTree}
-use Rattle.ti_lang.specs.Trees.Classes as c
-use Rattle.ti_lang.specs.Spelling.Operators.{modifier_of, class_modifier_of}
+use Rattle.ti_syntax.specs.declared.token.TokenKind.{TokenKind}
+use Rattle.ti_syntax.specs.declared.token.TokenKind.TheVariants as k
+use Rattle.ti_syntax.specs.declared.tree.classes.Modifier.{Modifier}
+use Rattle.ti_syntax.specs.declared.tree.classes.ModifierWord.{ModifierWord}
+use Rattle.ti_syntax.specs.Trees.Types.{TypeTree}
+use Rattle.ti_syntax.specs.Trees.Classes.{ParamTree, ParamsTree, ReturnTree, ResultTree, MemberTree, ClassTree, TextTree}
+use Rattle.ti_syntax.specs.Trees.Classes as c
+use Rattle.ti_syntax.specs.Spelling.Operators.{modifier_of, class_modifier_of}
 use Rattle.ti_parse_expr.specs.Input.{Parser, At, Spent, ◌>>=◌, ◌>>◌, ◌<$>◌, pure, peek, here, kind, sees, expect_by, name_with}
 use Rattle.ti_parse.specs.Way.{Way}
 use Rattle.ti_parse.specs.Parts.{is_wide, wide, field, typed, optional}

@@ -1,9 +1,9 @@
 -- A function value that reads statements where so many levels of compound ones may still begin.
 use Rattle.std.specs.Prelude.{ℕ, Result, List}
 use denote.Ref.{MutBor}
-use Rattle.ti_lang.specs.declared.token.Token.{Token}
-use Rattle.ti_lang.specs.declared.tree.stmts.Stmt.{Stmt}
-use Rattle.ti_lang.specs.Trees.Views.{stm_of}
+use Rattle.ti_syntax.specs.declared.token.Token.{Token}
+use Rattle.ti_syntax.specs.declared.tree.stmts.Stmt.{Stmt}
+use Rattle.ti_syntax.specs.Trees.Views.{stm_of}
 use Rattle.ti_parse_expr.specs.declared.stop.Stop.{Stop}
 use Rattle.ti_parse_expr.specs.Input.{ReadsAs}
 use Rattle.ti_parse.specs.declared.reader.Reader.{Reader}

@@ -3,19 +3,19 @@ use Rattle.std.specs.Prelude.{◌≡◌, List, map, Option, Some, None, Result, 
 use Rattle.std.specs.declared.boxed.Box.{Box}
 use Rattle.std.specs.declared.vec.Vec.{Vec}
 use Rattle.std.specs.declared.alloc.Global.{Global}
-use Rattle.ti_lang.specs.declared.token.Token.{Token}
-use Rattle.ti_lang.specs.declared.token.TokenKind.{TokenKind}
-use Rattle.ti_lang.specs.declared.token.TokenKind.TheVariants as k
-use Rattle.ti_lang.specs.declared.tree.stmts.Stmt.{Stmt}
-use Rattle.ti_lang.specs.declared.tree.classes.ModifierWord.{ModifierWord}
-use Rattle.ti_lang.specs.declared.tree.classes.Modifier.{Modifier}
-use Rattle.ti_lang.specs.declared.tree.classes.Param.{Param}
-use Rattle.ti_lang.specs.declared.tree.classes.Member.{Member}
-use Rattle.ti_lang.specs.declared.tree.classes.Class.{Class}
-use Rattle.ti_lang.specs.Trees.Statements.{Stm, MaybeStm, NoStm, SomeStm}
-use Rattle.ti_lang.specs.Trees.Classes.{ParamTree, MemberTree, TextTree}
-use Rattle.ti_lang.specs.Trees.Views.{stm_of, type_of, param_of, member_of, class_of}
-use Rattle.ti_lang.specs.Spelling.Operators.{modifier_of, class_modifier_of}
+use Rattle.ti_syntax.specs.declared.token.Token.{Token}
+use Rattle.ti_syntax.specs.declared.token.TokenKind.{TokenKind}
+use Rattle.ti_syntax.specs.declared.token.TokenKind.TheVariants as k
+use Rattle.ti_syntax.specs.declared.tree.stmts.Stmt.{Stmt}
+use Rattle.ti_syntax.specs.declared.tree.classes.ModifierWord.{ModifierWord}
+use Rattle.ti_syntax.specs.declared.tree.classes.Modifier.{Modifier}
+use Rattle.ti_syntax.specs.declared.tree.classes.Param.{Param}
+use Rattle.ti_syntax.specs.declared.tree.classes.Member.{Member}
+use Rattle.ti_syntax.specs.declared.tree.classes.Class.{Class}
+use Rattle.ti_syntax.specs.Trees.Statements.{Stm, MaybeStm, NoStm, SomeStm}
+use Rattle.ti_syntax.specs.Trees.Classes.{ParamTree, MemberTree, TextTree}
+use Rattle.ti_syntax.specs.Trees.Views.{stm_of, type_of, param_of, member_of, class_of}
+use Rattle.ti_syntax.specs.Spelling.Operators.{modifier_of, class_modifier_of}
 use Rattle.ti_parse_expr.specs.declared.stop.Stop.{Stop}
 use Rattle.ti_parse_expr.specs.Input.{Outcome, Parser, Fails, ◌>>=◌, ◌>>◌, pure, expect_by, take_within}
 use Rattle.ti_parse_expr.specs.Seen.{operand_of}

@@ -1,11 +1,11 @@
 -- Reading statements, by one token of sight.
 use Rattle.std.specs.Prelude.{ℕ, zero, suc, Bool, true, false, if◌then◌else◌, List, [], ◌∷◌, ◌++◌, Ok, Err, codes}
 use Rattle.ti_base.specs.declared.place.Place.{Place}
-use Rattle.ti_lang.specs.declared.token.TokenKind.{TokenKind}
-use Rattle.ti_lang.specs.declared.token.TokenKind.TheVariants as k
-use Rattle.ti_lang.specs.Trees.Statements.{Stm}
-use Rattle.ti_lang.specs.Trees.Statements as s
-use Rattle.ti_lang.specs.Spelling.Statements.{starts}
+use Rattle.ti_syntax.specs.declared.token.TokenKind.{TokenKind}
+use Rattle.ti_syntax.specs.declared.token.TokenKind.TheVariants as k
+use Rattle.ti_syntax.specs.Trees.Statements.{Stm}
+use Rattle.ti_syntax.specs.Trees.Statements as s
+use Rattle.ti_syntax.specs.Spelling.Statements.{starts}
 use Rattle.ti_parse_expr.specs.declared.parse.Form.TheVariants as form
 use Rattle.ti_parse_expr.specs.Input.{Parser, Over, Spent, ◌>>=◌, ◌>>◌, pure, refuse, peek, here, kind, sees, expect_by, expect_word_by, name_with}
 use Rattle.ti_parse.specs.Way.{Way}

@@ -1,7 +1,7 @@
 -- Ways to read a text.
 use Rattle.std.specs.Prelude.{ℕ, List}
 use Rattle.ti_base.specs.declared.place.Place.{Place}
-use Rattle.ti_lang.specs.Trees.Expressions.{Exp}
+use Rattle.ti_syntax.specs.Trees.Expressions.{Exp}
 use Rattle.ti_parse_expr.specs.declared.parse.Form.{Form}
 use Rattle.ti_parse_expr.specs.Input.{Parser, take_token, take_within}
 use Rattle.ti_parse_expr.specs.Expr.{Operand}

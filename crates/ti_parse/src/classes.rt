@@ -1,7 +1,7 @@
 // Classes and their members, by one token of sight.
 
 ghost use Rattle.std.specs.Prelude.{[], ◌≡◌};
-ghost use Rattle.ti_lang.specs.Trees.Views.{class_of, maybe_of, member_of, params_of, result_of, return_of, type_of};
+ghost use Rattle.ti_syntax.specs.Trees.Views.{class_of, maybe_of, member_of, params_of, result_of, return_of, type_of};
 ghost use Rattle.ti_parse.specs.Classes as spec;
 ghost use Rattle.ti_parse.specs.Seen.{classes_of, members_of, modifiers_of, param_list_of, word_of};
 ghost use Rattle.ti_parse.specs.Way.{careful};
@@ -10,10 +10,10 @@ ghost use Rattle.ti_parse_expr.specs.Input.{ReadsAs};
 use crate::reader::Reader;
 use crate::words::{Modified, modifier_of};
 use ti_base::Place;
-use ti_lang::tree::{
+use ti_syntax::tree::{
     Class, Field, Member, Method, Modifier, Param, Params, ResultType, Return, TypeName,
 };
-use ti_lang::{Spelled, TokenKind};
+use ti_syntax::{Spelled, TokenKind};
 use ti_parse_expr::{Stop, Tokens};
 
 impl Reader {

@@ -1,7 +1,7 @@
 // The heads of compound statements, by one token of sight.
 
 ghost use Rattle.std.specs.Prelude.{◌≡◌};
-ghost use Rattle.ti_lang.specs.Trees.Views.{exp_of, maybe_of, stm_of};
+ghost use Rattle.ti_syntax.specs.Trees.Views.{exp_of, maybe_of, stm_of};
 ghost use Rattle.ti_parse.specs.Parts as spec;
 ghost use Rattle.ti_parse.specs.Seen.{begun_of, maybe_stm};
 ghost use Rattle.ti_parse.specs.Way.{careful};
@@ -10,8 +10,8 @@ ghost use Rattle.ti_parse_expr.specs.Input.{ReadsAs};
 use crate::reader::Reader;
 use crate::simple::Begun;
 use crate::words::begins_declaration;
-use ti_lang::TokenKind;
-use ti_lang::tree::{Expr, Stmt};
+use ti_syntax::TokenKind;
+use ti_syntax::tree::{Expr, Stmt};
 use ti_parse_expr::{Stop, Tokens};
 
 impl Reader {

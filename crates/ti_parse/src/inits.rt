@@ -1,7 +1,7 @@
 // Right sides of declarations and assignments, by one token of sight.
 
 ghost use Rattle.std.specs.Prelude.{[], ◌∷◌, ◌≡◌};
-ghost use Rattle.ti_lang.specs.Trees.Views.{dims_of, exp_of, init_of, maybe_of, range_of, ranges_of};
+ghost use Rattle.ti_syntax.specs.Trees.Views.{dims_of, exp_of, init_of, maybe_of, range_of, ranges_of};
 ghost use Rattle.ti_parse.specs.Parts as spec;
 ghost use Rattle.ti_parse.specs.Way.{careful};
 ghost use Rattle.ti_parse_expr.specs.Input.{ReadsAs};
@@ -9,8 +9,8 @@ ghost use Rattle.ti_parse_expr.specs.declared.parse.Form.TheVariants as form;
 
 use crate::reader::Reader;
 use ti_base::Place;
-use ti_lang::tree::{Base, Dims, Expr, Init, Range, TypeName};
-use ti_lang::{Spelled, TokenKind};
+use ti_syntax::tree::{Base, Dims, Expr, Init, Range, TypeName};
+use ti_syntax::{Spelled, TokenKind};
 use ti_parse_expr::full::full;
 use ti_parse_expr::types::{base, grids, qualifiers};
 use ti_parse_expr::{Form, Stop, Tokens};

@@ -1,10 +1,10 @@
 // Statements with no others in them, by one token of sight.
 
 ghost use Rattle.std.specs.Prelude.{◌≡◌, false};
-ghost use Rattle.ti_lang.specs.Trees.Views.{exp_of, print_of, stm_of, type_of};
-ghost use Rattle.ti_lang.specs.Spelling.Expressions.{Target};
+ghost use Rattle.ti_syntax.specs.Trees.Views.{exp_of, print_of, stm_of, type_of};
+ghost use Rattle.ti_syntax.specs.Spelling.Expressions.{Target};
 ghost use Rattle.ti_parse.specs.Parts as spec;
-ghost use Rattle.ti_lang.specs.declared.token.TokenKind.TheVariants.{KeywordPrintln, Semicolon};
+ghost use Rattle.ti_syntax.specs.declared.token.TokenKind.TheVariants.{KeywordPrintln, Semicolon};
 ghost use Rattle.ti_parse.specs.Seen.{Keeps, begun_of, before_semicolon};
 ghost use Rattle.ti_parse.specs.Way.{careful};
 ghost use Rattle.ti_parse_expr.specs.Input.{Reads, ReadsAs, expect_by, take_within};
@@ -13,8 +13,8 @@ ghost use Rattle.ti_parse_expr.specs.Seen.{operand_of};
 use crate::reader::Reader;
 use crate::words::{is_dim, starts, step_of, update_of};
 use ti_base::Place;
-use ti_lang::tree::{Base, Expr, Printed, Stmt, TypeName};
-use ti_lang::{Spelled, TokenKind};
+use ti_syntax::tree::{Base, Expr, Printed, Stmt, TypeName};
+use ti_syntax::{Spelled, TokenKind};
 use ti_parse_expr::full::{full, full_behind_bracket, full_behind_name, full_operand};
 use ti_parse_expr::operators::qualifier_of;
 use ti_parse_expr::types::{field_type, grid, grids};

@@ -2,7 +2,7 @@
 // proved by itself.
 
 ghost use Rattle.std.specs.Prelude.{[], ◌≡◌};
-ghost use Rattle.ti_lang.specs.Trees.Views.{stm_of, stms_of};
+ghost use Rattle.ti_syntax.specs.Trees.Views.{stm_of, stms_of};
 ghost use Rattle.ti_parse.specs.Nests.{Nests};
 ghost use Rattle.ti_parse.specs.Seen.{begun_of, boxed_stm};
 ghost use Rattle.ti_parse.specs.Statements as spec;
@@ -13,8 +13,8 @@ use crate::reader::Reader;
 use crate::simple::Begun;
 use crate::words::{begins_declaration, ends_items, is_compound, starts};
 use ti_base::Place;
-use ti_lang::TokenKind;
-use ti_lang::tree::Stmt;
+use ti_syntax::TokenKind;
+use ti_syntax::tree::Stmt;
 use ti_parse_expr::full::full_operand;
 use ti_parse_expr::{Stop, Tokens};
 
@@ -101,7 +101,7 @@ impl<F: Fn(Reader, &mut Tokens<'_>, u32) -> Result<Stmt, Stop>> Statements<F> {
     // ---- compound statements
 
     /// A block, after its `{`.
-    #[tactic(auto, unfolding(crate::specs::Statements::block), using(ti_lang::proofs::Bridges::bridges))]
+    #[tactic(auto, unfolding(crate::specs::Statements::block), using(ti_syntax::proofs::Bridges::bridges))]
     fn block(&self, tokens: &mut Tokens<'_>) -> Result<Stmt, Stop>
         requires { Nests self.now.reader self.now.levels (F.pre self.now.stmt) (F.post self.now.stmt) }
         ensures { ReadsAs stm_of (spec.block careful self.now.reader.turns (spec.stmt careful self.now.reader.turns self.now.levels) tokens.old) result tokens.new }

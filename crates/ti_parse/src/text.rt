@@ -2,10 +2,10 @@
 
 ghost use Rattle.std.specs.Prelude.{◌≡◌, List, Option};
 ghost use Rattle.ti_base.specs.declared.place.Place.{Place as PlaceSeen};
-ghost use Rattle.ti_lang.specs.declared.token.Token.{Token as TokenSeen};
-ghost use Rattle.ti_lang.specs.Trees.Classes.{TextTree};
-ghost use Rattle.ti_lang.specs.Trees.Views.{tree_of};
-ghost use Rattle.ti_lang.specs.Spelling.{Spells, Misfit, IsGrammarRefusal};
+ghost use Rattle.ti_syntax.specs.declared.token.Token.{Token as TokenSeen};
+ghost use Rattle.ti_syntax.specs.Trees.Classes.{TextTree};
+ghost use Rattle.ti_syntax.specs.Trees.Views.{tree_of};
+ghost use Rattle.ti_syntax.specs.Spelling.{Spells, Misfit, IsGrammarRefusal};
 ghost use Rattle.ti_parse.specs.Answer.{Parsed};
 ghost use Rattle.ti_parse.specs.Classes as spec;
 ghost use Rattle.ti_parse.specs.Way.{careful};
@@ -15,8 +15,8 @@ ghost use Rattle.ti_parse_expr.specs.Input.{ReadsAs};
 use crate::reader::Reader;
 use std::alloc::Global;
 use ti_base::Place;
-use ti_lang::Token;
-use ti_lang::tree::Tree;
+use ti_syntax::Token;
+use ti_syntax::tree::Tree;
 use ti_parse_expr::{ParseErr, Stop, Tokens};
 use ti_rules::{Refusal, Rule};
 

@@ -1,15 +1,15 @@
 // Types, by one token of sight.
 
 ghost use Rattle.std.specs.Prelude.{[], ◌≡◌};
-ghost use Rattle.ti_lang.specs.Trees.Views.{type_of};
+ghost use Rattle.ti_syntax.specs.Trees.Views.{type_of};
 ghost use Rattle.ti_parse.specs.Parts as spec;
 ghost use Rattle.ti_parse.specs.Way.{careful};
 ghost use Rattle.ti_parse_expr.specs.Input.{ReadsAs};
 
 use crate::reader::Reader;
 use crate::words::is_wide;
-use ti_lang::TokenKind;
-use ti_lang::tree::{Base, TypeName};
+use ti_syntax::TokenKind;
+use ti_syntax::tree::{Base, TypeName};
 use ti_parse_expr::types::{arity, base, field_type, qualifiers};
 use ti_parse_expr::{Stop, Tokens};
 

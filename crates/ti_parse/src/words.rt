@@ -1,15 +1,15 @@
 // What tokens stand for, and what may begin with them.
 
 ghost use Rattle.std.specs.Prelude.{◌≡◌};
-ghost use Rattle.ti_lang.specs.Spelling.Operators as operators;
-ghost use Rattle.ti_lang.specs.Spelling.Statements.{starts as starts_spec};
+ghost use Rattle.ti_syntax.specs.Spelling.Operators as operators;
+ghost use Rattle.ti_syntax.specs.Spelling.Statements.{starts as starts_spec};
 ghost use Rattle.ti_parse.specs.Parts as parts;
 ghost use Rattle.ti_parse.specs.Seen.{word_of};
 ghost use Rattle.ti_parse.specs.Statements as statements;
 ghost use Rattle.ti_parse_expr.specs.Expr.{is_dim as is_dim_spec};
 
-use ti_lang::TokenKind;
-use ti_lang::tree::{BinaryOperator, ModifierWord, StepOperator};
+use ti_syntax::TokenKind;
+use ti_syntax::tree::{BinaryOperator, ModifierWord, StepOperator};
 
 /// The operator of `t op= e`.
 pub fn update_of(kind: &TokenKind) -> Option<BinaryOperator>

@@ -2,8 +2,8 @@
 use Rattle.std.proofs.Common.{◌≡◌, ℕ, suc, ◌+◌, ◌-◌, List, length, drop, Result, Ok, Err, refl, sym, ap, ◌∙◌, subst, true, false, Bool, nat_lt, if◌then◌else◌}
 use denote.Ref.{MutBor}
 use borrow.Author.Tests.{ltb-true, ltb-false}
-use Rattle.ti_lang.specs.declared.token.Token.{Token}
-use Rattle.ti_lang.specs.Spelling.Weights.{weigh}
+use Rattle.ti_syntax.specs.declared.token.Token.{Token}
+use Rattle.ti_syntax.specs.Spelling.Weights.{weigh}
 use Rattle.ti_parse_expr.specs.declared.stop.Stop.{Stop}
 use Rattle.ti_parse_expr.specs.declared.stop.Stop.TheVariants as stop
 use Rattle.ti_parse_expr.specs.Input.{At, Over, Spent, Outcome, Parser, ReadsAs}

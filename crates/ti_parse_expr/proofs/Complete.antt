@@ -2,24 +2,24 @@
 use Rattle.std.proofs.Common.{◌≡◌, ℕ, zero, suc, ◌+◌, ◌<◌, ◌≤◌, List, [], ◌∷◌, ◌++◌, length, Option, Some, None, is_some, Ok, Err, refl, sym, ap, ◌∙◌, subst, append_assoc, arith, length-append, true, false, Bool, nat_lt, if◌then◌else◌, codes}
 use Rattle.std.proofs.lemmas.Bool.{le-ltb, lt-ltb}
 use Rattle.ti_base.specs.declared.place.Place.{Place}
-use Rattle.ti_lang.specs.declared.token.Token.{Token}
-use Rattle.ti_lang.specs.declared.token.TokenKind.{TokenKind}
-use Rattle.ti_lang.specs.declared.token.TokenKind.TheVariants as k
-use Rattle.ti_lang.specs.declared.tree.types.Base.{Base}
-use Rattle.ti_lang.specs.declared.tree.types.Base.TheVariants as b
-use Rattle.ti_lang.specs.declared.tree.types.Qualifier.{Qualifier}
-use Rattle.ti_lang.specs.declared.tree.types.QualifierWord.{QualifierWord}
-use Rattle.ti_lang.specs.declared.tree.exprs.UnaryOperator.{UnaryOperator}
-use Rattle.ti_lang.specs.declared.tree.exprs.BinaryOperator.{BinaryOperator}
-use Rattle.ti_lang.specs.Trees.Types.{GridTree, TypeTree}
-use Rattle.ti_lang.specs.Trees.Expressions.{Exp, RangeTree}
-use Rattle.ti_lang.specs.Trees.Expressions as e
-use Rattle.ti_lang.specs.Tokens.{same_kind}
-use Rattle.ti_lang.specs.Spelling.Operators.{prefix_of, infix_of, strength, qualifier_of}
-use Rattle.ti_lang.specs.Spelling.Types.{Based, Qualified, Gridded, FieldType, CastType, is_name_alone}
-use Rattle.ti_lang.specs.Spelling.Types as types
-use Rattle.ti_lang.specs.Spelling.Expressions.{Ending, Target, Call, Other, Whole, Prefixed, Postfixed, Args, Listed, Ranges, Range}
-use Rattle.ti_lang.specs.Spelling.Expressions as grammar
+use Rattle.ti_syntax.specs.declared.token.Token.{Token}
+use Rattle.ti_syntax.specs.declared.token.TokenKind.{TokenKind}
+use Rattle.ti_syntax.specs.declared.token.TokenKind.TheVariants as k
+use Rattle.ti_syntax.specs.declared.tree.types.Base.{Base}
+use Rattle.ti_syntax.specs.declared.tree.types.Base.TheVariants as b
+use Rattle.ti_syntax.specs.declared.tree.types.Qualifier.{Qualifier}
+use Rattle.ti_syntax.specs.declared.tree.types.QualifierWord.{QualifierWord}
+use Rattle.ti_syntax.specs.declared.tree.exprs.UnaryOperator.{UnaryOperator}
+use Rattle.ti_syntax.specs.declared.tree.exprs.BinaryOperator.{BinaryOperator}
+use Rattle.ti_syntax.specs.Trees.Types.{GridTree, TypeTree}
+use Rattle.ti_syntax.specs.Trees.Expressions.{Exp, RangeTree}
+use Rattle.ti_syntax.specs.Trees.Expressions as e
+use Rattle.ti_syntax.specs.Tokens.{same_kind}
+use Rattle.ti_syntax.specs.Spelling.Operators.{prefix_of, infix_of, strength, qualifier_of}
+use Rattle.ti_syntax.specs.Spelling.Types.{Based, Qualified, Gridded, FieldType, CastType, is_name_alone}
+use Rattle.ti_syntax.specs.Spelling.Types as types
+use Rattle.ti_syntax.specs.Spelling.Expressions.{Ending, Target, Call, Other, Whole, Prefixed, Postfixed, Args, Listed, Ranges, Range}
+use Rattle.ti_syntax.specs.Spelling.Expressions as grammar
 use Rattle.ti_parse_expr.specs.Input.{At, Outcome, place, Parser, and_then, kind, next, sees, spells, expect_by, take_token, name_with, named_by}
 use Rattle.ti_parse_expr.specs.Types.{base as type_base, grid, grids}
 use Rattle.ti_parse_expr.specs.Expr as spec

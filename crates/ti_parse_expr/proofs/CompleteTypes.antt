@@ -1,17 +1,17 @@
 -- What the grammar spells as a type is read, whatever follows it that can't go on with it.
 use Rattle.std.proofs.Common.{◌≡◌, ℕ, zero, suc, pos, ◌<◌, ◌≤◌, List, [], ◌∷◌, ◌++◌, length, Some, None, Ok, refl, sym, ap, ◌∙◌, append_assoc, arith, length-append, true, false}
 use Rattle.std.proofs.lemmas.Bool.{le-leb}
-use Rattle.ti_lang.specs.declared.token.Token.{Token}
-use Rattle.ti_lang.specs.declared.token.TokenKind.{TokenKind}
-use Rattle.ti_lang.specs.declared.token.TokenKind.TheVariants as k
-use Rattle.ti_lang.specs.declared.tree.types.Base.{Base}
-use Rattle.ti_lang.specs.declared.tree.types.Base.TheVariants as b
-use Rattle.ti_lang.specs.declared.tree.types.Qualifier.{Qualifier}
-use Rattle.ti_lang.specs.Trees.Types.{GridTree}
-use Rattle.ti_lang.specs.Tokens.{same_kind}
-use Rattle.ti_lang.specs.Spelling.Operators.{qualifier_of}
-use Rattle.ti_lang.specs.Spelling.Types.{Arity, Based, Qualified, Gridded, FieldType}
-use Rattle.ti_lang.specs.Spelling.Types as grammar
+use Rattle.ti_syntax.specs.declared.token.Token.{Token}
+use Rattle.ti_syntax.specs.declared.token.TokenKind.{TokenKind}
+use Rattle.ti_syntax.specs.declared.token.TokenKind.TheVariants as k
+use Rattle.ti_syntax.specs.declared.tree.types.Base.{Base}
+use Rattle.ti_syntax.specs.declared.tree.types.Base.TheVariants as b
+use Rattle.ti_syntax.specs.declared.tree.types.Qualifier.{Qualifier}
+use Rattle.ti_syntax.specs.Trees.Types.{GridTree}
+use Rattle.ti_syntax.specs.Tokens.{same_kind}
+use Rattle.ti_syntax.specs.Spelling.Operators.{qualifier_of}
+use Rattle.ti_syntax.specs.Spelling.Types.{Arity, Based, Qualified, Gridded, FieldType}
+use Rattle.ti_syntax.specs.Spelling.Types as grammar
 use Rattle.ti_parse_expr.specs.Input.{and_then, kind, sees, expect_by, take_token}
 use Rattle.ti_parse_expr.specs.Types as spec
 use Rattle.ti_parse_expr.specs.Types.{dim_of, dimension, arity, base, qualifiers, grid, grids, field_type}

@@ -1,6 +1,6 @@
 -- Reading where the last token is never taken: as reading else, but that it gives up where the last token would be taken.
 use Rattle.std.proofs.Common.{◌≡◌, ℕ, zero, suc, ◌<◌, ◌≤◌, List, [], ◌∷◌, length, Ok, Err, refl, sym, ap, subst, arith}
-use Rattle.ti_lang.specs.declared.token.Token.{Token}
+use Rattle.ti_syntax.specs.declared.token.Token.{Token}
 use Rattle.ti_parse_expr.specs.Input.{At, Over, Spent, Outcome, Parser, and_then, kind, place, take_token, take_within}
 use Rattle.ti_parse_expr.proofs.Related.{Readers, readers_related}
 

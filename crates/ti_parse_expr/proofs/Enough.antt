@@ -1,6 +1,6 @@
 -- Where reading comes to an end, more turns change nothing.
 use Rattle.std.proofs.Common.{◌≡◌, ℕ, suc, zero, ◌≤◌, List, Ok, Err, refl, ap, ◌∙◌, arith}
-use Rattle.ti_lang.specs.declared.token.Token.{Token}
+use Rattle.ti_syntax.specs.declared.token.Token.{Token}
 use Rattle.ti_parse_expr.specs.Input.{At, Over, Spent, Outcome, Parser, and_then, kind, place, take_token}
 use Rattle.ti_parse_expr.proofs.Related.{Readers, readers_related}
 

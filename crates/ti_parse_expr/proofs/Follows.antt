@@ -1,11 +1,11 @@
 -- Steps that are known to go on, and what follows a phrase that ends.
 use Rattle.std.proofs.Common.{◌≡◌, ℕ, ◌<◌, ◌≤◌, List, [], ◌∷◌, ◌++◌, Some, Ok, Err, refl, ap, ◌∙◌, arith, true, false, Bool, if◌then◌else◌}
-use Rattle.ti_lang.specs.declared.token.Token.{Token}
-use Rattle.ti_lang.specs.declared.token.TokenKind.{TokenKind}
-use Rattle.ti_lang.specs.declared.token.TokenKind.TheVariants as k
-use Rattle.ti_lang.specs.declared.tree.exprs.BinaryOperator.{BinaryOperator}
-use Rattle.ti_lang.specs.Tokens.{same_kind}
-use Rattle.ti_lang.specs.Spelling.Operators.{infix_of}
+use Rattle.ti_syntax.specs.declared.token.Token.{Token}
+use Rattle.ti_syntax.specs.declared.token.TokenKind.{TokenKind}
+use Rattle.ti_syntax.specs.declared.token.TokenKind.TheVariants as k
+use Rattle.ti_syntax.specs.declared.tree.exprs.BinaryOperator.{BinaryOperator}
+use Rattle.ti_syntax.specs.Tokens.{same_kind}
+use Rattle.ti_syntax.specs.Spelling.Operators.{infix_of}
 use Rattle.ti_parse_expr.specs.Input.{At, Outcome, Parser, and_then, kind, sees, expect_by, take_token}
 use Rattle.ti_parse_expr.proofs.Phrases.{binds}
 

@@ -1,15 +1,15 @@
 -- The laws of reading full expressions.
 use Rattle.std.proofs.Common.{◌≡◌, ℕ, suc, ◌+◌, ◌<◌, List, [], ◌∷◌, ◌++◌, length, Ok, refl, ap, ◌∙◌, arith, if◌then◌else◌}
 use Rattle.ti_base.specs.declared.place.Place.{Place}
-use Rattle.ti_lang.specs.declared.token.Token.{Token}
-use Rattle.ti_lang.specs.declared.token.TokenKind.TheVariants as k
-use Rattle.ti_lang.specs.Tokens.{same_kind}
-use Rattle.ti_lang.specs.Trees.Expressions.{Exp}
-use Rattle.ti_lang.specs.Trees.Expressions as e
-use Rattle.ti_lang.specs.Spelling.Expressions.{Ending, Target, Postfixed}
-use Rattle.ti_lang.specs.Spelling.Expressions as grammar
-use Rattle.ti_lang.specs.Spelling.Loads.{weights}
-use Rattle.ti_lang.specs.Spelling.Weights.{counts, arity_behind}
+use Rattle.ti_syntax.specs.declared.token.Token.{Token}
+use Rattle.ti_syntax.specs.declared.token.TokenKind.TheVariants as k
+use Rattle.ti_syntax.specs.Tokens.{same_kind}
+use Rattle.ti_syntax.specs.Trees.Expressions.{Exp}
+use Rattle.ti_syntax.specs.Trees.Expressions as e
+use Rattle.ti_syntax.specs.Spelling.Expressions.{Ending, Target, Postfixed}
+use Rattle.ti_syntax.specs.Spelling.Expressions as grammar
+use Rattle.ti_syntax.specs.Spelling.Loads.{weights}
+use Rattle.ti_syntax.specs.Spelling.Weights.{counts, arity_behind}
 use Rattle.ti_parse_expr.specs.declared.parse.Form.{Form}
 use Rattle.ti_parse_expr.specs.Answers.{Phrase}
 use Rattle.ti_parse_expr.specs.Input.{Parser, take_token, take_within}

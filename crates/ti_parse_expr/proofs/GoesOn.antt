@@ -1,16 +1,16 @@
 -- A phrase goes on with the token behind it, or it can end there.
 use Rattle.std.proofs.Common.{◌≡◌, ◌⊎◌, inl, inr, ℕ, ◌+◌, ◌<◌, ◌≤◌, List, [], ◌∷◌, ◌++◌, length, Option, Some, None, pos, refl, sym, ap, ◌∙◌, subst, append_assoc, arith, true, false, Bool, nat_lt}
 use borrow.Author.Tests.{ltb-true, ltb-false}
-use Rattle.ti_lang.specs.declared.token.Token.{Token}
-use Rattle.ti_lang.specs.declared.token.TokenKind.{TokenKind}
-use Rattle.ti_lang.specs.declared.token.TokenKind.TheVariants as k
-use Rattle.ti_lang.specs.declared.tree.exprs.BinaryOperator.{BinaryOperator}
-use Rattle.ti_lang.specs.Trees.Expressions.{Exp}
-use Rattle.ti_lang.specs.Trees.Expressions as e
-use Rattle.ti_lang.specs.Tokens.{same_kind}
-use Rattle.ti_lang.specs.Spelling.Operators.{infix_of, strength}
-use Rattle.ti_lang.specs.Spelling.Expressions.{Ending, Target, Call, Other, Whole, Prefixed, Postfixed}
-use Rattle.ti_lang.specs.Spelling.Expressions as grammar
+use Rattle.ti_syntax.specs.declared.token.Token.{Token}
+use Rattle.ti_syntax.specs.declared.token.TokenKind.{TokenKind}
+use Rattle.ti_syntax.specs.declared.token.TokenKind.TheVariants as k
+use Rattle.ti_syntax.specs.declared.tree.exprs.BinaryOperator.{BinaryOperator}
+use Rattle.ti_syntax.specs.Trees.Expressions.{Exp}
+use Rattle.ti_syntax.specs.Trees.Expressions as e
+use Rattle.ti_syntax.specs.Tokens.{same_kind}
+use Rattle.ti_syntax.specs.Spelling.Operators.{infix_of, strength}
+use Rattle.ti_syntax.specs.Spelling.Expressions.{Ending, Target, Call, Other, Whole, Prefixed, Postfixed}
+use Rattle.ti_syntax.specs.Spelling.Expressions as grammar
 use Rattle.ti_parse_expr.proofs.TokenKinds.{paren_is}
 use Rattle.ti_parse_expr.proofs.Law.{BeginsIn, token}
 use Rattle.ti_parse_expr.proofs.Sound.{whole_int}

@@ -2,9 +2,9 @@
 use Rattle.std.proofs.Common.{◌≡◌, ℕ, zero, suc, ◌+◌, ◌<◌, ◌≤◌, List, [], ◌∷◌, ◌++◌, length, Ok, Err, refl, ap, ◌∙◌, arith, true, false, Bool, nat_lt, if◌then◌else◌}
 use borrow.Author.Tests.{ltb-true, ltb-false}
 use Rattle.std.proofs.lemmas.Bool.{le-ltb, lt-ltb}
-use Rattle.ti_lang.specs.declared.token.Token.{Token}
-use Rattle.ti_lang.specs.Spelling.Loads.{Load, Weight, weights_behind, weights}
-use Rattle.ti_lang.specs.Spelling.Weights.{counts, arity_behind, weigh_behind}
+use Rattle.ti_syntax.specs.declared.token.Token.{Token}
+use Rattle.ti_syntax.specs.Spelling.Loads.{Load, Weight, weights_behind, weights}
+use Rattle.ti_syntax.specs.Spelling.Weights.{counts, arity_behind, weigh_behind}
 use Rattle.ti_parse_expr.specs.Answers.{most_weight}
 use Rattle.ti_parse_expr.specs.Input.{Halt, Over, Outcome, Parser, and_then, next}
 use Rattle.ti_parse_expr.specs.Full.{Limits, usual, above, is_above, limited_to, limited, rest_of}

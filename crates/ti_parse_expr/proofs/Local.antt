@@ -1,6 +1,6 @@
 -- Reading looks no further than the token that it refuses: what stands behind that token doesn't matter, nor do more turns.
 use Rattle.std.proofs.Common.{◌≡◌, ℕ, zero, suc, ◌≤◌, List, [], ◌∷◌, ◌++◌, length, Ok, Err, refl, sym, ap, ◌∙◌, subst, append_assoc, arith, length-append}
-use Rattle.ti_lang.specs.declared.token.Token.{Token}
+use Rattle.ti_syntax.specs.declared.token.Token.{Token}
 use Rattle.ti_parse_expr.specs.Input.{At, Over, Spent, Outcome, Parser, and_then, kind, place, take_token}
 use Rattle.ti_parse_expr.proofs.Related.{Readers, readers_related}
 

@@ -1,8 +1,8 @@
 -- A token that is of a kind by its number is that token.
 use Rattle.std.proofs.Common.{◌≡◌, true, refl}
-use Rattle.ti_lang.specs.declared.token.TokenKind.{TokenKind}
-use Rattle.ti_lang.specs.declared.token.TokenKind.TheVariants as k
-use Rattle.ti_lang.specs.Tokens.{same_kind}
+use Rattle.ti_syntax.specs.declared.token.TokenKind.{TokenKind}
+use Rattle.ti_syntax.specs.declared.token.TokenKind.TheVariants as k
+use Rattle.ti_syntax.specs.Tokens.{same_kind}
 
 pub less_is : (a : TokenKind) → same_kind a k.Less ≡ true → a ≡ k.Less
 less_is k.Less h = refl

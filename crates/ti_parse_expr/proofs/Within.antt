@@ -2,10 +2,10 @@
 use Rattle.std.proofs.Common.{◌≡◌, ◌⊎◌, inl, inr, ℕ, suc, ◌+◌, ◌-◌, ◌<◌, ◌≤◌, List, [], ◌∷◌, ◌++◌, length, take, drop, Ok, Err, refl, sym, ap, ◌∙◌, subst, append_assoc, arith, length-append, true, false, Bool, nat_lt, if◌then◌else◌}
 use Rattle.std.proofs.Math.Seq.{drop-append_seam}
 use borrow.Author.Tests.{ltb-true, ltb-false}
-use Rattle.ti_lang.specs.declared.token.Token.{Token}
-use Rattle.ti_lang.specs.declared.token.TokenKind.TheVariants as k
-use Rattle.ti_lang.specs.Spelling.Loads.{Load, Weight, weights_behind}
-use Rattle.ti_lang.specs.Spelling.Weights.{counts, arity_behind, weigh}
+use Rattle.ti_syntax.specs.declared.token.Token.{Token}
+use Rattle.ti_syntax.specs.declared.token.TokenKind.TheVariants as k
+use Rattle.ti_syntax.specs.Spelling.Loads.{Load, Weight, weights_behind}
+use Rattle.ti_syntax.specs.Spelling.Weights.{counts, arity_behind, weigh}
 use Rattle.ti_parse_expr.specs.Answers.{most_weight}
 use Rattle.ti_parse_expr.specs.Input.{At, Over, Spent, Outcome, Parser}
 use Rattle.ti_parse_expr.specs.Reach.{ends_expression}

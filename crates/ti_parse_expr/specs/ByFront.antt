@@ -1,8 +1,8 @@
 -- What a function value answers for the front of a list, and what is answered for the list.
 use Rattle.std.specs.Prelude.{◌≡◌, ℕ, suc, ◌+◌, ◌-◌, ◌<◌, ◌≤◌, List, length, drop, Result, Err}
 use denote.Ref.{MutBor}
-use Rattle.ti_lang.specs.declared.token.Token.{Token}
-use Rattle.ti_lang.specs.Spelling.Weights.{weigh}
+use Rattle.ti_syntax.specs.declared.token.Token.{Token}
+use Rattle.ti_syntax.specs.Spelling.Weights.{weigh}
 use Rattle.ti_parse_expr.specs.declared.stop.Stop.{Stop}
 use Rattle.ti_parse_expr.specs.declared.stop.Stop.TheVariants as stop
 use Rattle.ti_parse_expr.specs.Answers.{most_weight}

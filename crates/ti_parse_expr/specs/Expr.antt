@@ -1,17 +1,17 @@
 -- Reading expressions, by one token of sight. The numbers of turns are enough wherever they are above the count of tokens.
 use Rattle.std.specs.Prelude.{ℕ, zero, suc, ◌+◌, if◌then◌else◌, nat_lt, Bool, true, false, is_some, List, [], ◌∷◌, ◌++◌, Option, Some, None, Ok, Err, codes}
 use Rattle.ti_base.specs.declared.place.Place.{Place}
-use Rattle.ti_lang.specs.declared.token.TokenKind.{TokenKind}
-use Rattle.ti_lang.specs.declared.token.TokenKind.TheVariants as k
-use Rattle.ti_lang.specs.declared.tree.types.Base.{Base}
-use Rattle.ti_lang.specs.declared.tree.types.Base.TheVariants as b
-use Rattle.ti_lang.specs.declared.tree.exprs.UnaryOperator.{UnaryOperator}
-use Rattle.ti_lang.specs.declared.tree.exprs.BinaryOperator.{BinaryOperator}
-use Rattle.ti_lang.specs.Trees.Types.{TypeTree}
-use Rattle.ti_lang.specs.Trees.Expressions.{Exp, RangeTree}
-use Rattle.ti_lang.specs.Trees.Expressions as e
-use Rattle.ti_lang.specs.Spelling.Operators.{prefix_of, infix_of, strength, qualifier_of}
-use Rattle.ti_lang.specs.Spelling.Expressions.{Ending, Target, Call, Other}
+use Rattle.ti_syntax.specs.declared.token.TokenKind.{TokenKind}
+use Rattle.ti_syntax.specs.declared.token.TokenKind.TheVariants as k
+use Rattle.ti_syntax.specs.declared.tree.types.Base.{Base}
+use Rattle.ti_syntax.specs.declared.tree.types.Base.TheVariants as b
+use Rattle.ti_syntax.specs.declared.tree.exprs.UnaryOperator.{UnaryOperator}
+use Rattle.ti_syntax.specs.declared.tree.exprs.BinaryOperator.{BinaryOperator}
+use Rattle.ti_syntax.specs.Trees.Types.{TypeTree}
+use Rattle.ti_syntax.specs.Trees.Expressions.{Exp, RangeTree}
+use Rattle.ti_syntax.specs.Trees.Expressions as e
+use Rattle.ti_syntax.specs.Spelling.Operators.{prefix_of, infix_of, strength, qualifier_of}
+use Rattle.ti_syntax.specs.Spelling.Expressions.{Ending, Target, Call, Other}
 use Rattle.ti_parse_expr.specs.Input.{Parser, Spent, ◌>>=◌, ◌>>◌, ◌<$>◌, pure, refuse, peek, here, sees, sees_word, expect_by, name_with}
 use Rattle.ti_parse_expr.specs.declared.parse.Form.{Form}
 use Rattle.ti_parse_expr.specs.declared.parse.Form.TheVariants as form

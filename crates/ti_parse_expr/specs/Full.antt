@@ -2,10 +2,10 @@
 -- too deep.
 use Rattle.std.specs.Prelude.{ℕ, suc, ◌+◌, ◌-◌, Bool, false, nat_lt, if◌then◌else◌, List, [], ◌∷◌, length, take, drop, Ok, Err}
 use Rattle.ti_base.specs.declared.place.Place.{Place}
-use Rattle.ti_lang.specs.declared.token.Token.{Token}
-use Rattle.ti_lang.specs.Trees.Expressions.{Exp}
-use Rattle.ti_lang.specs.Spelling.Loads.{Load, Free, Level, Weight, weights_behind}
-use Rattle.ti_lang.specs.Spelling.Weights.{weigh}
+use Rattle.ti_syntax.specs.declared.token.Token.{Token}
+use Rattle.ti_syntax.specs.Trees.Expressions.{Exp}
+use Rattle.ti_syntax.specs.Spelling.Loads.{Load, Free, Level, Weight, weights_behind}
+use Rattle.ti_syntax.specs.Spelling.Weights.{weigh}
 use Rattle.ti_parse_expr.specs.declared.parse.Form.{Form}
 use Rattle.ti_parse_expr.specs.Input.{At, Over, Spent, Outcome, Parser, next, take_token, take_within}
 use Rattle.ti_parse_expr.specs.Reach.{reach}

@@ -2,9 +2,9 @@
 use Rattle.std.specs.Prelude.{ℕ, Result, List}
 use Rattle.std.specs.declared.alloc.Global.{Global}
 use denote.Ref.{MutBor}
-use Rattle.ti_lang.specs.declared.token.Token.{Token}
-use Rattle.ti_lang.specs.declared.tree.exprs.Expr.{Expr}
-use Rattle.ti_lang.specs.Trees.Views.{exp_of}
+use Rattle.ti_syntax.specs.declared.token.Token.{Token}
+use Rattle.ti_syntax.specs.declared.tree.exprs.Expr.{Expr}
+use Rattle.ti_syntax.specs.Trees.Views.{exp_of}
 use Rattle.ti_parse_expr.specs.declared.stop.Stop.{Stop}
 use Rattle.ti_parse_expr.specs.Input.{ReadsAs, take_within}
 use Rattle.ti_parse_expr.specs.Expr.{expr}

@@ -2,12 +2,12 @@
 use Rattle.std.specs.Prelude.{List, map}
 use Rattle.std.specs.declared.vec.Vec.{Vec}
 use Rattle.std.specs.declared.alloc.Global.{Global}
-use Rattle.ti_lang.specs.declared.tree.types.Brackets.{Brackets}
-use Rattle.ti_lang.specs.declared.tree.types.Qualifier.{Qualifier}
-use Rattle.ti_lang.specs.Trees.Types.{GridTree}
-use Rattle.ti_lang.specs.Trees.Expressions.{Exp}
-use Rattle.ti_lang.specs.Trees.Views.{grid_of, exp_of}
-use Rattle.ti_lang.specs.Spelling.Expressions as e
+use Rattle.ti_syntax.specs.declared.tree.types.Brackets.{Brackets}
+use Rattle.ti_syntax.specs.declared.tree.types.Qualifier.{Qualifier}
+use Rattle.ti_syntax.specs.Trees.Types.{GridTree}
+use Rattle.ti_syntax.specs.Trees.Expressions.{Exp}
+use Rattle.ti_syntax.specs.Trees.Views.{grid_of, exp_of}
+use Rattle.ti_syntax.specs.Spelling.Expressions as e
 use Rattle.ti_parse_expr.specs.declared.operand.Ending.{Ending}
 use Rattle.ti_parse_expr.specs.declared.operand.Ending.TheVariants as ending
 use Rattle.ti_parse_expr.specs.declared.operand.Operand.{Operand}

@@ -2,7 +2,7 @@
 // itself.
 
 ghost use Rattle.std.specs.Prelude.{[], ◌∷◌, ◌++◌, ◌≡◌, ◌+◌, ◌<◌, ◌^◌, IfOk};
-ghost use Rattle.ti_lang.specs.Trees.Views.{exp_of, exps_of, range_of, ranges_of, type_of};
+ghost use Rattle.ti_syntax.specs.Trees.Views.{exp_of, exps_of, range_of, ranges_of, type_of};
 ghost use Rattle.ti_parse_expr.specs.Input.{Reads, ReadsAs, take_within};
 ghost use Rattle.ti_parse_expr.specs.Seen.{operand_of};
 ghost use Rattle.ti_parse_expr.specs.Expr as spec;
@@ -15,8 +15,8 @@ use crate::tokens::Tokens;
 use crate::types;
 use std::alloc::Global;
 use ti_base::Place;
-use ti_lang::tree::{Base, BinaryOperator, Expr, Range, TypeName, UnaryOperator};
-use ti_lang::{Spelled, TokenKind};
+use ti_syntax::tree::{Base, BinaryOperator, Expr, Range, TypeName, UnaryOperator};
+use ti_syntax::{Spelled, TokenKind};
 
 /// The rules, with a reader of the expressions inside.
 #[derive(Clone, Copy)]
@@ -160,7 +160,7 @@ impl<F: Fn(Global, &mut Tokens<'_>, usize, u8) -> Result<Expr, Stop>> Grammar<F>
 
     // ---- a Postfix
 
-    #[tactic(auto, unfolding(crate::specs::Expr::bracket), using(ti_lang::proofs::Bridges::bridges))]
+    #[tactic(auto, unfolding(crate::specs::Expr::bracket), using(ti_syntax::proofs::Bridges::bridges))]
     fn bracket(&self, tokens: &mut Tokens<'_>, place: Place) -> Result<Expr, Stop>
         requires { Nests self.now.turns (F.pre self.now.expr) (F.post self.now.expr) }
         ensures { ReadsAs exp_of (spec.bracket take_within self.now.turns (spec.expr take_within self.now.turns) place tokens.old) result tokens.new }
@@ -174,7 +174,7 @@ impl<F: Fn(Global, &mut Tokens<'_>, usize, u8) -> Result<Expr, Stop>> Grammar<F>
     }
 
     /// What begins with a name, after the name.
-    #[tactic(auto, unfolding(crate::specs::Expr::named), using(ti_lang::proofs::Bridges::bridges))]
+    #[tactic(auto, unfolding(crate::specs::Expr::named), using(ti_syntax::proofs::Bridges::bridges))]
     pub fn named(
         &self,
         tokens: &mut Tokens<'_>,
@@ -198,7 +198,7 @@ impl<F: Fn(Global, &mut Tokens<'_>, usize, u8) -> Result<Expr, Stop>> Grammar<F>
         })
     }
 
-    #[tactic(auto, unfolding(crate::specs::Expr::member), using(ti_lang::proofs::Bridges::bridges))]
+    #[tactic(auto, unfolding(crate::specs::Expr::member), using(ti_syntax::proofs::Bridges::bridges))]
     fn member(&self, tokens: &mut Tokens<'_>, left: Expr) -> Result<Operand, Stop>
         requires { Nests self.now.turns (F.pre self.now.expr) (F.post self.now.expr) }
         ensures { ReadsAs operand_of (spec.member take_within self.now.turns (spec.expr take_within self.now.turns) (exp_of left) tokens.old) result tokens.new }
@@ -221,7 +221,7 @@ impl<F: Fn(Global, &mut Tokens<'_>, usize, u8) -> Result<Expr, Stop>> Grammar<F>
     }
 
     /// An index, after its `[`.
-    #[tactic(auto, unfolding(crate::specs::Expr::index), using(ti_lang::proofs::Bridges::bridges))]
+    #[tactic(auto, unfolding(crate::specs::Expr::index), using(ti_syntax::proofs::Bridges::bridges))]
     pub fn index(&self, tokens: &mut Tokens<'_>, place: Place, left: Expr) -> Result<Operand, Stop>
         requires { Nests self.now.turns (F.pre self.now.expr) (F.post self.now.expr) }
         ensures { ReadsAs operand_of (spec.index take_within self.now.turns (spec.expr take_within self.now.turns) place (exp_of left) tokens.old) result tokens.new }

@@ -1,7 +1,7 @@
 // Full expressions, which stand in no other one: no token of them weighs too much.
 
 ghost use Rattle.std.specs.Prelude.{ℕ, ◌+◌, ◌<◌, ◌≤◌, ◌^◌};
-ghost use Rattle.ti_lang.specs.Trees.Views.{exp_of};
+ghost use Rattle.ti_syntax.specs.Trees.Views.{exp_of};
 ghost use Rattle.ti_parse_expr.specs.Answers.{most_weight};
 ghost use Rattle.ti_parse_expr.specs.ByFront.{ByFront};
 ghost use Rattle.ti_parse_expr.specs.Full as spec;
@@ -16,8 +16,8 @@ use crate::stop::Stop;
 use crate::tokens::Tokens;
 use std::alloc::Global;
 use ti_base::Place;
-use ti_lang::Spelled;
-use ti_lang::tree::Expr;
+use ti_syntax::Spelled;
+use ti_syntax::tree::Expr;
 
 /// Reads a front of the tokens, and answers for all of them.
 fn within<T, F: FnOnce(&mut Tokens<'_>, usize) -> Result<T, Stop>>(

@@ -1,6 +1,6 @@
 // A Postfix.
 
-use ti_lang::tree::Expr;
+use ti_syntax::tree::Expr;
 
 /// What a Postfix ends with.
 #[derive(Clone, Copy, Debug, PartialEq, Eq)]

@@ -1,11 +1,11 @@
 // What tokens stand for.
 
 ghost use Rattle.std.specs.Prelude.{◌≡◌};
-ghost use Rattle.ti_lang.specs.Spelling.Operators as spec;
-ghost use Rattle.ti_lang.specs.Spelling.Weights.{counts as counts_spec, arity_behind as arity_behind_spec};
+ghost use Rattle.ti_syntax.specs.Spelling.Operators as spec;
+ghost use Rattle.ti_syntax.specs.Spelling.Weights.{counts as counts_spec, arity_behind as arity_behind_spec};
 
-use ti_lang::TokenKind;
-use ti_lang::tree::{BinaryOperator, QualifierWord, UnaryOperator};
+use ti_syntax::TokenKind;
+use ti_syntax::tree::{BinaryOperator, QualifierWord, UnaryOperator};
 
 /// The operators of one operand.
 pub fn prefix_of(kind: &TokenKind) -> Option<UnaryOperator>

@@ -1,9 +1,9 @@
 // The tree of an expression.
 
 ghost use Rattle.std.specs.Prelude.{[], ◌∷◌, ◌++◌, ◌≡◌, ◌<◌, List, length};
-ghost use Rattle.ti_lang.specs.declared.token.Token.{Token as TokenSeen};
-ghost use Rattle.ti_lang.specs.Trees.Views.{exp_of};
-ghost use Rattle.ti_lang.specs.Trees.Expressions.{Exp};
+ghost use Rattle.ti_syntax.specs.declared.token.Token.{Token as TokenSeen};
+ghost use Rattle.ti_syntax.specs.Trees.Views.{exp_of};
+ghost use Rattle.ti_syntax.specs.Trees.Expressions.{Exp};
 ghost use Rattle.ti_parse_expr.specs.declared.parse.Form.{Form as FormSeen};
 ghost use Rattle.ti_parse_expr.specs.Answers.{Answers, EndsAtEnd, Phrase};
 ghost use Rattle.ti_parse_expr.specs.Input.{ReadsAs, take_within};
@@ -16,8 +16,8 @@ use crate::stop::Stop;
 use crate::tokens::Tokens;
 use std::alloc::Global;
 use ti_base::Place;
-use ti_lang::Token;
-use ti_lang::tree::Expr;
+use ti_syntax::Token;
+use ti_syntax::tree::Expr;
 use ti_rules::{Refusal, Rule};
 
 /// Which part of the grammar an expression is.

@@ -1,14 +1,14 @@
 // How far a list of tokens is read.
 
 ghost use Rattle.std.specs.Prelude.{[], ◌≡◌, ◌≤◌, ◌<◌, ◌+◌, ◌^◌, length};
-ghost use Rattle.ti_lang.specs.Spelling.Weights.{weigh as weigh_spec};
+ghost use Rattle.ti_syntax.specs.Spelling.Weights.{weigh as weigh_spec};
 ghost use Rattle.ti_parse_expr.specs.Answers.{EndsAtEnd, most_weight};
 ghost use Rattle.ti_parse_expr.specs.Reach.{IsCut};
 ghost use Rattle.ti_parse_expr.specs.Reach as spec;
 ghost use Rattle.ti_parse_expr.specs.Full as full;
 
 use crate::operators::{arity_behind, counts};
-use ti_lang::{Token, TokenKind};
+use ti_syntax::{Token, TokenKind};
 
 /// The most that a token may weigh.
 pub const MOST_WEIGHT: u32 = 256;

@@ -12,8 +12,8 @@ use crate::{Form, Operand, ParseErr, Stop, Tokens, parse_expr};
 use std::alloc::{AllocError, Global};
 use std::test::Fail;
 use ti_base::Place;
-use ti_lang::tree::{Base, Expr, Qualifier, QualifierWord, Range, TypeName};
-use ti_lang::{Token, TokenKind};
+use ti_syntax::tree::{Base, Expr, Qualifier, QualifierWord, Range, TypeName};
+use ti_syntax::{Token, TokenKind};
 use ti_lex::lex;
 
 /// Literals, names and calls.

@@ -8,7 +8,7 @@ use crate::stop::Stop;
 use std::alloc::Global;
 use std::marker::Model;
 use ti_base::Place;
-use ti_lang::{Spelled, Token, TokenKind};
+use ti_syntax::{Spelled, Token, TokenKind};
 
 /// A cursor over a list of tokens. Contracts see the tokens that are left.
 ///
@@ -20,7 +20,7 @@ pub struct Tokens<'a> {
 
 impl<'a> Model for Tokens<'a> {
     ghost use Rattle.std.specs.Prelude.{List, length, ◌<◌};
-    ghost use Rattle.ti_lang.specs.declared.token.Token.{Token};
+    ghost use Rattle.ti_syntax.specs.declared.token.Token.{Token};
 
     ghost Value = { List Token };
 

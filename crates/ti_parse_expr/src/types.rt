@@ -1,7 +1,7 @@
 // Types, by one token of sight.
 
 ghost use Rattle.std.specs.Prelude.{[], ◌∷◌, ◌++◌, ◌≡◌, ◌≤◌};
-ghost use Rattle.ti_lang.specs.Trees.Views.{grid_of, type_of};
+ghost use Rattle.ti_syntax.specs.Trees.Views.{grid_of, type_of};
 ghost use Rattle.ti_parse_expr.specs.Input.{Reads, ReadsAs, take_within};
 ghost use Rattle.ti_parse_expr.specs.Types as spec;
 ghost use Rattle.ti_parse_expr.specs.Seen.{grids_of, qualifiers_of};
@@ -10,8 +10,8 @@ use crate::operators::qualifier_of;
 use crate::stop::Stop;
 use crate::tokens::Tokens;
 use std::alloc::Global;
-use ti_lang::TokenKind;
-use ti_lang::tree::{Base, Brackets, Qualifier, TypeName};
+use ti_syntax::TokenKind;
+use ti_syntax::tree::{Base, Brackets, Qualifier, TypeName};
 
 /// A number of dimensions.
 fn dim_of(n: i32) -> Option<u8>

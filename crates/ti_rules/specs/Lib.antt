@@ -1,4 +1,5 @@
 pub mod BrokenNames
+pub mod First
 pub mod LexicalRefusals
 pub mod MainForm
 pub mod RefusalOf

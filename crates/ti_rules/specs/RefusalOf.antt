@@ -2,10 +2,10 @@
 -- earlier one has a refusal.
 use Rattle.std.specs.Prelude.{ℕ, ◌≤◌, List, length, Some}
 use Rattle.ti_base.specs.declared.place.Place.{Place}
-use Rattle.ti_lang.specs.declared.token.Token.{Token}
-use Rattle.ti_lang.specs.Tokenizing.{IsTokenized}
-use Rattle.ti_lang.specs.Trees.Classes.{TextTree}
-use Rattle.ti_lang.specs.Spelling.{Spells, IsShallow, Misfit, Unexpected, TooDeep, IsGrammarRefusal}
+use Rattle.ti_syntax.specs.declared.token.Token.{Token}
+use Rattle.ti_syntax.specs.Tokenizing.{IsTokenized}
+use Rattle.ti_syntax.specs.Trees.Classes.{TextTree}
+use Rattle.ti_syntax.specs.Spelling.{Spells, IsShallow, Misfit, Unexpected, TooDeep, IsGrammarRefusal}
 use Rattle.ti_lang.specs.Programs.{Program}
 use Rattle.ti_lang.specs.Listings.{IsListing}
 use Rattle.ti_lang.specs.Program.Classes.{NumberedProgram}

@@ -3,13 +3,13 @@
 use Rattle.std.specs.Prelude.{◌≡◌, ℕ, List, [], ◌∷◌, ◌++◌, Contains, Option, Some, None, slice_get}
 use Rattle.std.specs.List.{flat_map}
 use Rattle.ti_base.specs.declared.place.Place.{Place}
-use Rattle.ti_lang.specs.declared.tree.classes.Modifier.{Modifier}
-use Rattle.ti_lang.specs.Trees.Types.{TypeTree, place_of_base}
-use Rattle.ti_lang.specs.Trees.Expressions.{Exp, place_of_exp}
-use Rattle.ti_lang.specs.Trees.Expressions as e
-use Rattle.ti_lang.specs.Trees.Statements.{PrintTree, Stm, Stms}
-use Rattle.ti_lang.specs.Trees.Statements as s
-use Rattle.ti_lang.specs.Trees.Classes.{ReturnTree, ResultTree, Void, Typed, MethodTree, MemberTree, FieldMember, MethodMember, ClassTree, TextTree}
+use Rattle.ti_syntax.specs.declared.tree.classes.Modifier.{Modifier}
+use Rattle.ti_syntax.specs.Trees.Types.{TypeTree, place_of_base}
+use Rattle.ti_syntax.specs.Trees.Expressions.{Exp, place_of_exp}
+use Rattle.ti_syntax.specs.Trees.Expressions as e
+use Rattle.ti_syntax.specs.Trees.Statements.{PrintTree, Stm, Stms}
+use Rattle.ti_syntax.specs.Trees.Statements as s
+use Rattle.ti_syntax.specs.Trees.Classes.{ResultTree, Void, Typed, MethodTree, MemberTree, FieldMember, MethodMember, ClassTree, TextTree}
 use Rattle.ti_lang.specs.MainMethod.{IsFirst, IsMainClass, IsNamedMain, IsMainOf}
 
 -- ---- first tokens
@@ -81,6 +81,9 @@ refused_statement (s.Step at op target) = Some (place_of_first target)
 refused_statement (s.Call x) = Some (place_of_first x)
 refused_statement (s.Print at what) = refused_print what
 refused_statement (s.Barrier at) = None
+refused_statement (s.Break at) = Some at
+refused_statement (s.Continue at) = Some at
+refused_statement (s.Return at value) = Some at
 refused_statement (s.Block body) = None
 refused_statement (s.If at c x) = Some at
 refused_statement (s.IfElse at c x y) = Some at
@@ -97,5 +100,3 @@ pub data IsUnbuilt (tree : TextTree) : Place → Type 0 where
       → (IsFirst IsNamedMain c.members j m → ⊥) → IsUnbuilt tree (member_place m)
   -- a statement of main, in blocks or not
   statement : {m : MethodTree} {x : Stm} {place : Place} → IsMainOf tree m → Contains (body_opened m.body) x → refused_statement x ≡ Some place → IsUnbuilt tree place
-  -- the last `return` of main
-  last_return : {m : MethodTree} {last : ReturnTree} → IsMainOf tree m → m.last ≡ Some last → IsUnbuilt tree last.place

@@ -1,8 +1,10 @@
 //! The rules that a text must keep, and what it is refused for.
 #![tactic(auto)]
 
+mod order;
 mod refusal;
 mod rule;
 
+pub use order::{first_counts, refused_if, sooner};
 pub use refusal::Refusal;
 pub use rule::{Rule, rule_text};

@@ -13,7 +13,7 @@ pub enum Rule {
     X2,
     /// A string whose line or text ends before its closing quote.
     X3,
-    /// A run of digits that is no whole number from 0 to 2147483647, or has a 0 in front.
+    /// A run of digits, with an `L` or `l` behind it or not, that is no whole number in range, or has a 0 in front.
     X4,
     /// A text of more than 1048576 bytes.
     X5,
@@ -43,6 +43,8 @@ pub enum Rule {
     Y6,
     /// A qualifier or modifier on what can't have it, or twice in one place.
     Y7,
+    /// A `break` or `continue` in no loop of its method.
+    Y8,
     /// A global reference where a local one is wanted.
     Q1,
     /// A field or element of local type that is written through a global reference.
@@ -100,6 +102,7 @@ impl Rule {
             Rule::Y5 => "Y5",
             Rule::Y6 => "Y6",
             Rule::Y7 => "Y7",
+            Rule::Y8 => "Y8",
             Rule::Q1 => "Q1",
             Rule::Q2 => "Q2",
             Rule::Q3 => "Q3",
@@ -139,6 +142,7 @@ pub fn rule_text(r: Rule) -> &'static str
         Rule::Y5 => "the wrong dimension",
         Rule::Y6 => "a value is missing or a call can't stand here",
         Rule::Y7 => "a qualifier can't stand here",
+        Rule::Y8 => "a break or continue outside a loop",
         Rule::Q1 => "a global reference where local is wanted",
         Rule::Q2 => "a local part written through a global reference",
         Rule::Q3 => "an exchange into local elements",

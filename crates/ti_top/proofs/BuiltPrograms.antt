@@ -7,9 +7,9 @@ use Rattle.std.proofs.lemmas.Option.{same_Some}
 use Rattle.ti_base.specs.declared.place.Place.{Place}
 use Rattle.ti_lang.specs.declared.listing.Statement.{Statement}
 use Rattle.ti_lang.specs.Programs.{Program}
-use Rattle.ti_lang.specs.Trees.Expressions.{Exp}
-use Rattle.ti_lang.specs.Trees.Statements.{PrintTree, Stm, Stms}
-use Rattle.ti_lang.specs.Trees.Classes.{MethodTree, ClassTree, TextTree}
+use Rattle.ti_syntax.specs.Trees.Expressions.{Exp}
+use Rattle.ti_syntax.specs.Trees.Statements.{PrintTree, Stm, Stms}
+use Rattle.ti_syntax.specs.Trees.Classes.{MethodTree, ClassTree, TextTree}
 use Rattle.ti_lang.specs.MainMethod.{IsMainClass, IsMainMethod, IsMainOf}
 use Rattle.ti_lang.specs.Program.Expressions.{NumberedExp}
 use Rattle.ti_lang.specs.Program.Statements.{NumberedPrint, NumberedStm, NumberedStms, numbered_stms}

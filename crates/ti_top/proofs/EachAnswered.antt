@@ -3,11 +3,11 @@ use Rattle.std.proofs.Common.{◌⊎◌, inl, inr, ℕ, ◌+◌, ◌≤◌, List
 use Rattle.std.specs.List.{flat_map}
 use Rattle.ti_base.specs.declared.place.Place.{Place}
 use Rattle.ti_base.specs.Places.{end_place}
-use Rattle.ti_lang.specs.declared.token.Token.{Token}
-use Rattle.ti_lang.specs.declared.token.TokenKind.TheVariants as k
-use Rattle.ti_lang.specs.Tokenizing.{IsTokenized}
-use Rattle.ti_lang.specs.Trees.Classes.{TextTree}
-use Rattle.ti_lang.specs.Spelling.{Misfit, IsGrammarRefusal, fits}
+use Rattle.ti_syntax.specs.declared.token.Token.{Token}
+use Rattle.ti_syntax.specs.declared.token.TokenKind.TheVariants as k
+use Rattle.ti_syntax.specs.Tokenizing.{IsTokenized}
+use Rattle.ti_syntax.specs.Trees.Classes.{TextTree}
+use Rattle.ti_syntax.specs.Spelling.{Misfit, IsGrammarRefusal, fits}
 use Rattle.ti_lang.specs.Programs.{Program}
 use Rattle.ti_lang.specs.Program.Classes.{NumberedProgram}
 use Rattle.ti_lang.specs.Numbering.{Numbers}

@@ -2,7 +2,7 @@
 use Rattle.std.proofs.Common.{◌≡◌, inl, ℕ, zero, suc, ◌<◌, List, [], ◌∷◌, ◌++◌, length, get_or, map, arith, refl, sym, ap, subst, ◌∙◌}
 use Rattle.std.specs.List.{flat_map}
 use Rattle.std.proofs.lemmas.Grind.{flat_map-append}
-use Rattle.ti_lang.specs.Trees.Statements.{Stm, stms, block}
+use Rattle.ti_syntax.specs.Trees.Statements.{Stm, stms, block}
 use Rattle.ti_rules.specs.Unbuilt.{opened, all_opened, body_opened}
 use Rattle.ti_top.specs.Judging.{refused_places, refused_in}
 use Rattle.ti_top.proofs.Among.{Among}

@@ -1,7 +1,7 @@
 -- The refusal of a tree that breaks no rule of names, from the first place at which a form isn't built.
 use Rattle.std.proofs.Common.{None, Some, arith, inl, inr}
 use Rattle.ti_base.specs.declared.place.Place.{Place}
-use Rattle.ti_lang.specs.Trees.Classes.{TextTree}
+use Rattle.ti_syntax.specs.Trees.Classes.{TextTree}
 use Rattle.ti_rules.specs.declared.rule.Rule.TheVariants.{N3, Y1}
 use Rattle.ti_rules.specs.declared.refusal.Refusal.{Refusal}
 use Rattle.ti_rules.specs.Refusals.{refusal_lt}

@@ -3,8 +3,8 @@ use Rattle.std.proofs.Common.{◌≡◌, ◌⊎◌, inl, inr, ℕ, ◌≢◌, Op
 use Rattle.std.specs.List.{slice_get, Contains, flat_map}
 use Rattle.std.specs.Option.{option_to_list}
 use Rattle.ti_base.specs.declared.place.Place.{Place}
-use Rattle.ti_lang.specs.Trees.Statements.{Stm}
-use Rattle.ti_lang.specs.Trees.Classes.{ReturnTree, MethodTree, MethodMember, ClassTree, TextTree}
+use Rattle.ti_syntax.specs.Trees.Statements.{Stm}
+use Rattle.ti_syntax.specs.Trees.Classes.{ReturnTree, MethodTree, MethodMember, ClassTree, TextTree}
 use Rattle.ti_lang.specs.MainMethod.{IsFirst, IsMainClass, IsMainMethod, IsNamedMain, IsMainOf}
 use Rattle.ti_lang.proofs.OneMain.{same_element, first_unique, one_class, one_main}
 use Rattle.ti_rules.specs.Unbuilt.{body_opened, class_place, member_place, refused_statement, IsUnbuilt, another_class, another_member, statement, last_return}

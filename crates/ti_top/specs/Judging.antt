@@ -3,8 +3,8 @@ use Rattle.std.specs.Prelude.{◌≡◌, ◌≢◌, ℕ, ◌==◌, nat_lt, Bool,
 use Rattle.std.specs.List.{flat_map}
 use Rattle.ti_base.specs.declared.place.Place.{Place}
 use Rattle.ti_base.specs.Places.{place_lt}
-use Rattle.ti_lang.specs.Trees.Statements.{Stm}
-use Rattle.ti_lang.specs.Trees.Classes.{ReturnTree, MemberTree, ClassTree}
+use Rattle.ti_syntax.specs.Trees.Statements.{Stm}
+use Rattle.ti_syntax.specs.Trees.Classes.{ReturnTree, MemberTree, ClassTree}
 use Rattle.ti_rules.specs.Unbuilt.{opened, member_place, class_place, refused_statement}
 
 -- whether the first place stands before the second

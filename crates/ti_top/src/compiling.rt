@@ -1,6 +1,6 @@
 // From a text to its program.
 ghost use Rattle.std.specs.Prelude.{◌≡◌, ◌⊎◌, ℕ, List, IfSome, IfNone};
-ghost use Rattle.ti_lang.specs.Trees.Views.{tree_of};
+ghost use Rattle.ti_syntax.specs.Trees.Views.{tree_of};
 ghost use Rattle.ti_lang.specs.Programs.{Program as ListingSeen};
 ghost use Rattle.ti_lang.specs.Program.Classes.{NumberedProgram};
 ghost use Rattle.ti_rules.specs.declared.refusal.Refusal.{Refusal as RefusalSeen};
@@ -13,7 +13,7 @@ use crate::unbuilt::unbuilt_form;
 use std::alloc::Global;
 use ti_base::Memory;
 use ti_lang::Listing;
-use ti_lang::tree::Tree;
+use ti_syntax::tree::Tree;
 use ti_lex::{LexErr, lex, one_reading};
 use ti_names::{NameErr, one_program, resolve};
 use ti_parse::{ParseErr, one_text, parse};

@@ -1,11 +1,11 @@
 // Finding the `main` of a tree.
 ghost use Rattle.std.specs.Prelude.{◌≡◌, ◌↔◌, ℕ, ◌<◌, map, IsTrue, IfSome, IfNone};
-ghost use Rattle.ti_lang.specs.Trees.Classes.{ClassTree, MethodTree, MethodMember};
-ghost use Rattle.ti_lang.specs.Trees.Views.{class_of, member_of, method_of};
+ghost use Rattle.ti_syntax.specs.Trees.Classes.{ClassTree, MethodTree, MethodMember};
+ghost use Rattle.ti_syntax.specs.Trees.Views.{class_of, member_of, method_of};
 ghost use Rattle.ti_lang.specs.MainMethod.{IsMainClass, IsMainMethod, IsNamedMain};
 
-use ti_lang::Spelled;
-use ti_lang::tree::{Class, Member, Method};
+use ti_syntax::Spelled;
+use ti_syntax::tree::{Class, Member, Method};
 
 // Whether a name is spelled so.
 fn is_spelled(name: &Spelled, text: &[u8]) -> bool

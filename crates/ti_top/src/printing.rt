@@ -9,7 +9,8 @@ use crate::line::Line;
 use crate::run_line::RunLine;
 use ti_base::{Action, Entry, Value};
 use ti_io::{Failed, Sink, write_piece};
-use ti_lang::{Listing, Spelled};
+use ti_lang::Listing;
+use ti_syntax::Spelled;
 
 // What the literal of a print spells.
 fn literal_bytes(literals: &[Spelled], literal: Option<u32>) -> &[u8]

@@ -5,7 +5,7 @@ ghost use Rattle.ti_top.specs.Line.{HasRoom};
 use std::alloc::Global;
 use std::marker::Model;
 use ti_base::Memory;
-use ti_lang::Spelled;
+use ti_syntax::Spelled;
 
 /// A value has at most 11 bytes, and a line end one.
 const VALUE_ROOM: usize = 12;

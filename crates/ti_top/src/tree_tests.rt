@@ -12,7 +12,7 @@ use show::show_tree;
 use std::alloc::{AllocError, Global};
 use std::test::Fail;
 use ti_base::Place;
-use ti_lang::tree::Tree;
+use ti_syntax::tree::Tree;
 use ti_lex::lex;
 use ti_parse::parse;
 use ti_rules::{Refusal, Rule};

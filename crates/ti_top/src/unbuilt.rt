@@ -4,7 +4,7 @@
 ghost use Rattle.std.specs.Prelude.{◌≡◌, ◌<◌, length, map};
 ghost use Rattle.std.specs.List.{flat_map};
 ghost use Rattle.ti_base.specs.declared.place.Place.{Place as PlaceSeen};
-ghost use Rattle.ti_lang.specs.Trees.Views.{class_of, member_of, method_of, stm_of, exp_of, result_of, print_of, return_of, maybe_of};
+ghost use Rattle.ti_syntax.specs.Trees.Views.{class_of, member_of, method_of, stm_of, exp_of, result_of, print_of, return_of, maybe_of};
 ghost use Rattle.ti_rules.specs.MainForm.{BreaksMainForm};
 ghost use Rattle.ti_rules.specs.Unbuilt.{place_of_first, modified_place, class_place, member_place, result_place, refused_value as value_spec, refused_print, IsUnbuilt};
 ghost use Rattle.ti_top.specs.Judging.{earlier_of, earliest, IsFirstPlace, class_places, member_places, refused_in, return_places, OfAnother};
@@ -12,7 +12,7 @@ ghost use Rattle.ti_top.specs.Judging.{earlier_of, earliest, IsFirstPlace, class
 use crate::earliest::earlier;
 use crate::main_method::{main_class, main_method};
 use ti_base::Place;
-use ti_lang::tree::{Class, Expr, Member, Method, Modifier, Printed, ResultType, Return, Stmt};
+use ti_syntax::tree::{Class, Expr, Member, Method, Modifier, Printed, ResultType, Return, Stmt};
 
 // The first token of an expression.
 fn first_place(x: &Expr) -> Place

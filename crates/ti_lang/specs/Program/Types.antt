@@ -1,11 +1,12 @@
 -- Types, and variables as they are used.
 use Rattle.std.specs.Prelude.{ℕ, Bool, List}
-use Rattle.ti_lang.specs.declared.tree.types.Qualifier.{Qualifier}
-use Rattle.ti_lang.specs.Trees.Types.{GridTree}
+use Rattle.ti_syntax.specs.declared.tree.types.Qualifier.{Qualifier}
+use Rattle.ti_syntax.specs.Trees.Types.{GridTree}
 
 -- a type, which tells nothing of `single`
 pub data ValueType : Type 0 where
   Int : ValueType
+  Long : ValueType
   Boolean : ValueType
   Pt : (dim : ℕ) → ValueType
   Rc : (dim : ℕ) → ValueType
@@ -19,9 +20,10 @@ pub data ValueType : Type 0 where
   -- that of a call without a result
   Void : ValueType
 
--- a type where it is written, with the words that qualify its base and its grids
+-- a type where it is written: whether what has it is single, and the words that qualify its base and its grids
 pub record NumberedType : Type 0 where
   pub type : ValueType
+  pub is_single : Bool
   pub qualifiers : List Qualifier
   pub grids : List GridTree
 

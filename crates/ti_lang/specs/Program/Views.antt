@@ -23,27 +23,28 @@ use Rattle.ti_lang.specs.declared.program.stmts.Stmt.{Stmt, Row_of-Stmt, end_of-
 use Rattle.ti_lang.specs.declared.program.stmts.Stmt.TheVariants as st
 use Rattle.ti_lang.specs.declared.program.classes.Field.{Field}
 use Rattle.ti_lang.specs.declared.program.classes.Class.{Class}
+use Rattle.ti_lang.specs.declared.program.classes.Param.{Param}
 use Rattle.ti_lang.specs.declared.program.classes.Params.{Params}
 use Rattle.ti_lang.specs.declared.program.classes.Params.TheVariants as params
-use Rattle.ti_lang.specs.declared.program.classes.Return.{Return}
 use Rattle.ti_lang.specs.declared.program.classes.ResultType.{ResultType}
 use Rattle.ti_lang.specs.declared.program.classes.ResultType.TheVariants as result
 use Rattle.ti_lang.specs.declared.program.classes.Method.{Method}
 use Rattle.ti_lang.specs.declared.program.classes.Parts.{Parts}
-use Rattle.ti_lang.specs.Trees.Views.{maybe_of, grid_of}
+use Rattle.ti_syntax.specs.Trees.Views.{maybe_of, grid_of}
 use Rattle.ti_lang.specs.Program.Types.{ValueType, NumberedType, Declaration, VariableUse}
 use Rattle.ti_lang.specs.Program.Types as types
 use Rattle.ti_lang.specs.Program.Expressions.{NumberedExp, NumberedExps, NumberedRange, NumberedRanges}
 use Rattle.ti_lang.specs.Program.Expressions as x
 use Rattle.ti_lang.specs.Program.Statements.{NumberedDims, NumberedInit, NumberedPrint, NumberedStm, MaybeNumbered, NumberedStms}
 use Rattle.ti_lang.specs.Program.Statements as s
-use Rattle.ti_lang.specs.Program.Classes.{NumberedField, NumberedClass, NumberedParams, NumberedReturn, NumberedResult, NumberedMethod, NumberedProgram}
+use Rattle.ti_lang.specs.Program.Classes.{NumberedField, NumberedClass, NumberedParam, NumberedParams, NumberedResult, NumberedMethod, NumberedProgram}
 use Rattle.ti_lang.specs.Program.Classes as c
 
 -- ---- types
 
 abbrev pub value_type_of : Ty → ValueType
 value_type_of t.Int = types.Int
+value_type_of t.Long = types.Long
 value_type_of t.Bool = types.Boolean
 value_type_of (t.Pt n) = types.Pt n
 value_type_of (t.Rc n) = types.Rc n
@@ -55,7 +56,7 @@ value_type_of t.Null = types.Null
 value_type_of t.Void = types.Void
 
 abbrev pub type_use_of : TypeUse → NumberedType
-type_use_of t = record { type = value_type_of t.ty; qualifiers = t.qualifiers.items; grids = map grid_of t.grids.items }
+type_use_of t = record { type = value_type_of t.ty; is_single = t.single; qualifiers = t.qualifiers.items; grids = map grid_of t.grids.items }
 
 abbrev pub declared_of : Declared → Declaration
 declared_of (declared.Typed single ty) = types.Typed single (value_type_of ty)
@@ -69,6 +70,7 @@ variable_of v = record { number = v.number; declared = declared_of v.declared }
 abbrev mutual
   pub expression_of : Expr → NumberedExp
   expression_of (e.Int at n) = x.Int at n
+  expression_of (e.Long at n) = x.Long at n
   expression_of (e.Truth at b) = x.Truth at b
   expression_of (e.Null at) = x.Null at
   expression_of (e.This at) = x.This at
@@ -82,7 +84,7 @@ abbrev mutual
   expression_of (e.Rect' at _ ranges) = x.Rect at (bounds_of ranges)
   expression_of (e.Unary' at op _ a) = x.Unary at op (expression_of a)
   expression_of (e.Binary' at op _ a _ b) = x.Binary at op (expression_of a) (expression_of b)
-  expression_of (e.Cast' at to _ a) = x.Cast at (type_use_of to) (expression_of a)
+  expression_of (e.Cast' at to _ a) = x.Cast at (type_use_of to.value) (expression_of a)
   expression_of (e.Select' at _ a name) = x.Select at (expression_of a) name
   expression_of (e.Member' at _ a name _ args) = x.Member at (expression_of a) name (arguments_of args)
   expression_of (e.Index' at _ a _ parts) = x.Index at (expression_of a) (arguments_of parts)
@@ -127,13 +129,16 @@ printed_of (p.TextAndValue literal a) = s.TextAndExpression literal (expression_
 abbrev mutual
   pub statement_of : Stmt → NumberedStm
   statement_of st.Empty = s.Empty
-  statement_of (st.Declare at ty variable value) = s.Declare at (type_use_of ty) variable (initial_of value)
-  statement_of (st.Assign at target value) = s.Assign at (expression_of target) (initial_of value)
+  statement_of (st.Declare at ty variable value) = s.Declare at (type_use_of ty) variable (initial_of value.value)
+  statement_of (st.Assign at target value) = s.Assign at (expression_of target) (initial_of value.value)
   statement_of (st.Update at op target a) = s.Update at op (expression_of target) (expression_of a)
   statement_of (st.Step at op target) = s.Step at op (expression_of target)
   statement_of (st.Call a) = s.Call (expression_of a)
   statement_of (st.Print at what) = s.Print at (printed_of what)
   statement_of (st.Barrier at) = s.Barrier at
+  statement_of (st.Break at) = s.Break at
+  statement_of (st.Continue at) = s.Continue at
+  statement_of (st.Return at value) = s.Return at (maybe_of expression_of value)
   statement_of (st.Block' _ body) = s.Block (statement_row_of body)
   statement_of (st.If' at c _ a b) = branches_of at (expression_of c) (statement_of a) b
   statement_of (st.While' at c _ body) = s.While at (expression_of c) (statement_of body)
@@ -163,12 +168,12 @@ numbered_field_of f = record { modifiers = f.modifiers.items; ty = type_use_of f
 abbrev pub numbered_class_of : Class → NumberedClass
 numbered_class_of c = record { modifiers = c.modifiers.items; fields = map numbered_field_of c.fields.items }
 
+abbrev pub numbered_param_of : Param → NumberedParam
+numbered_param_of p = record { place = p.place; ty = type_use_of p.ty }
+
 abbrev pub numbered_params_of : Params → NumberedParams
 numbered_params_of params.Words = c.Words
-numbered_params_of (params.Typed v) = c.Params (map type_use_of v.items)
-
-abbrev pub numbered_return_of : Return → NumberedReturn
-numbered_return_of r = record { place = r.place; value = maybe_of expression_of r.value }
+numbered_params_of (params.Typed v) = c.Params (map numbered_param_of v.items)
 
 abbrev pub numbered_result_of : ResultType → NumberedResult
 numbered_result_of result.Void = c.Void
@@ -178,12 +183,12 @@ abbrev pub numbered_method_of : Method → NumberedMethod
 numbered_method_of m = record {
   class = m.class;
   modifiers = m.modifiers.items;
+  is_single = m.single;
   result = numbered_result_of m.result;
   place = m.place;
   name = m.name;
   params = numbered_params_of m.params;
   body = statements_of m.body;
-  last = maybe_of numbered_return_of m.last;
   end = m.end;
 }
 

@@ -1,17 +1,58 @@
 // Copies of programs, in room of their own.
 
 ghost use Rattle.std.specs.Prelude.{◌≡◌, map, IfOk};
-ghost use Rattle.ti_lang.specs.Trees.Views.{grid_of, maybe_of};
+ghost use Rattle.ti_syntax.specs.Trees.Views.{grid_of, maybe_of};
+ghost use Rattle.ti_lang.specs.Copies.{AreSame};
 ghost use Rattle.ti_lang.specs.Program.Views as view;
 
-use super::classes::{Class, Field, Method, Params, Parts, ResultType, Return};
+use super::classes::{Class, Field, Method, Param, Params, Parts, ResultType};
 use super::exprs::{Expr, Range};
 use super::stmts::{Dims, Init, Printed, Stmt};
 use super::types::{Declared, Ty, TypeUse, Variable};
-use crate::Spelled;
-use crate::tree::{Brackets, Modifier, Qualifier};
 use std::alloc::Global;
 use ti_base::Memory;
+use ti_syntax::Spelled;
+use ti_syntax::tree::Brackets;
+
+/// What can be copied into room of its own.
+pub trait Copied: Drop {
+    /// When two of them are the same, wherever they lie.
+    ghost same: { Self → Self → Type 0 };
+
+    /// The same, in room of its own.
+    fn copy(&self, alloc: Global) -> Result<Self, Memory>
+        ensures { IfOk result (λ x. same x self.now) };
+}
+
+/// The same elements, in room of their own.
+pub fn copy_all<T: Copied>(alloc: Global, xs: &[T]) -> Result<Vec<T>, Memory>
+    ensures { IfOk result (λ v. AreSame T.same v.items xs.now) }
+{
+    let mut found = Vec::new(alloc);
+    for x in xs {
+        found.push(x.copy(alloc)?)?;
+    }
+    Ok(found)
+}
+
+impl Copied for Spelled {
+    ghost same = { λ a b. a ≡ b };
+
+    fn copy(&self, alloc: Global) -> Result<Spelled, Memory> {
+        Spelled::copy(self, alloc)
+    }
+}
+
+impl Copied for Brackets {
+    ghost same = { λ a b. grid_of a ≡ grid_of b };
+
+    fn copy(&self, alloc: Global) -> Result<Brackets, Memory> {
+        Ok(Brackets {
+            dim: self.dim,
+            qualifiers: self.qualifiers.to_vec(alloc)?,
+        })
+    }
+}
 
 impl Ty {
     /// The same type.
@@ -20,6 +61,7 @@ impl Ty {
     {
         match self {
             Ty::Int => Ok(Ty::Int),
+            Ty::Long => Ok(Ty::Long),
             Ty::Bool => Ok(Ty::Bool),
             Ty::Pt(dim) => Ok(Ty::Pt(*dim)),
             Ty::Rc(dim) => Ok(Ty::Rc(*dim)),
@@ -43,40 +85,17 @@ impl Ty {
     }
 }
 
-/// The same qualifiers.
-pub fn copy_qualifiers(alloc: Global, words: &[Qualifier]) -> Result<Vec<Qualifier>, Memory>
-    ensures { IfOk result (λ v. v.items ≡ words.now) }
-{
-    let mut found = Vec::new(alloc);
-    for word in words {
-        found.push(*word)?;
-    }
-    Ok(found)
-}
-
-/// The same brackets.
-pub fn copy_brackets(alloc: Global, grids: &[Brackets]) -> Result<Vec<Brackets>, Memory>
-    ensures { IfOk result (λ v. map grid_of v.items ≡ map grid_of grids.now) }
-{
-    let mut found = Vec::new(alloc);
-    for grid in grids {
-        found.push(Brackets {
-            dim: grid.dim,
-            qualifiers: copy_qualifiers(alloc, &grid.qualifiers)?,
-        })?;
-    }
-    Ok(found)
-}
-
 impl TypeUse {
     /// The same type with the same words.
+    #[tactic(auto, using(crate::proofs::Copies::copies))]
     pub fn copy(&self, alloc: Global) -> Result<TypeUse, Memory>
         ensures { IfOk result (λ t. view.type_use_of t ≡ view.type_use_of self.now) }
     {
         Ok(TypeUse {
             ty: self.ty.copy(alloc)?,
-            qualifiers: copy_qualifiers(alloc, &self.qualifiers)?,
-            grids: copy_brackets(alloc, &self.grids)?,
+            single: self.single,
+            qualifiers: self.qualifiers.to_vec(alloc)?,
+            grids: copy_all(alloc, &self.grids)?,
         })
     }
 }
@@ -135,12 +154,15 @@ impl Range {
         ensures { IfOk result (λ r. view.bound_of r ≡ view.bound_of self.now) }
     {
         match self {
-            Range::Plain(low, high) => Ok(Range::Plain(low.copy(alloc)?, high.copy(alloc)?)),
-            Range::Stepped(low, high, step) => Ok(Range::Stepped(
-                low.copy(alloc)?,
-                high.copy(alloc)?,
-                step.copy(alloc)?,
-            )),
+            Range::Plain { low, high } => Ok(Range::Plain {
+                low: low.copy(alloc)?,
+                high: high.copy(alloc)?,
+            }),
+            Range::Stepped { low, high, step } => Ok(Range::Stepped {
+                low: low.copy(alloc)?,
+                high: high.copy(alloc)?,
+                step: step.copy(alloc)?,
+            }),
         }
     }
 }
@@ -154,41 +176,88 @@ impl Expr {
     {
         match self {
             Expr::Int(place, number) => Ok(Expr::Int(*place, *number)),
+            Expr::Long(place, number) => Ok(Expr::Long(*place, *number)),
             Expr::Truth(place, truth) => Ok(Expr::Truth(*place, *truth)),
             Expr::Null(place) => Ok(Expr::Null(*place)),
             Expr::This(place) => Ok(Expr::This(*place)),
             Expr::Variable(place, variable) => Ok(Expr::Variable(*place, variable.copy(alloc)?)),
             Expr::OwnField(place, field) => Ok(Expr::OwnField(*place, *field)),
-            Expr::Call(place, method, args) => {
-                Ok(Expr::Call(*place, *method, copy_exprs(alloc, args)?))
-            }
-            Expr::OwnCall(place, method, args) => {
-                Ok(Expr::OwnCall(*place, *method, copy_exprs(alloc, args)?))
-            }
+            Expr::Call {
+                place,
+                method,
+                args,
+            } => Ok(Expr::Call {
+                place: *place,
+                method: *method,
+                args: copy_exprs(alloc, args)?,
+            }),
+            Expr::OwnCall {
+                place,
+                method,
+                args,
+            } => Ok(Expr::OwnCall {
+                place: *place,
+                method: *method,
+                args: copy_exprs(alloc, args)?,
+            }),
             Expr::ThisProc(place) => Ok(Expr::ThisProc(*place)),
             Expr::NumProcs(place) => Ok(Expr::NumProcs(*place)),
             Expr::Point(place, parts) => Ok(Expr::Point(*place, copy_exprs(alloc, parts)?)),
             Expr::Rect(place, ranges) => Ok(Expr::Rect(*place, copy_ranges(alloc, ranges)?)),
-            Expr::Unary(place, op, x) => Ok(Expr::Unary(*place, *op, copy_boxed(alloc, x)?)),
-            Expr::Binary(place, op, x, y) => {
-                let x = copy_boxed(alloc, x)?;
-                Ok(Expr::Binary(*place, *op, x, copy_boxed(alloc, y)?))
-            }
-            Expr::Cast(place, to, x) => {
-                let to = to.copy(alloc)?;
-                Ok(Expr::Cast(*place, to, copy_boxed(alloc, x)?))
-            }
-            Expr::Select(place, x, name) => {
-                Ok(Expr::Select(*place, copy_boxed(alloc, x)?, *name))
-            }
-            Expr::Member(place, x, name, args) => {
-                let x = copy_boxed(alloc, x)?;
-                Ok(Expr::Member(*place, x, *name, copy_exprs(alloc, args)?))
-            }
-            Expr::Index(place, x, parts) => {
-                let x = copy_boxed(alloc, x)?;
-                Ok(Expr::Index(*place, x, copy_exprs(alloc, parts)?))
-            }
+            Expr::Unary {
+                place,
+                operator,
+                operand,
+            } => Ok(Expr::Unary {
+                place: *place,
+                operator: *operator,
+                operand: copy_boxed(alloc, operand)?,
+            }),
+            Expr::Binary {
+                place,
+                operator,
+                left,
+                right,
+            } => Ok(Expr::Binary {
+                place: *place,
+                operator: *operator,
+                left: copy_boxed(alloc, left)?,
+                right: copy_boxed(alloc, right)?,
+            }),
+            Expr::Cast { place, to, operand } => Ok(Expr::Cast {
+                place: *place,
+                to: Box::new(alloc, to.copy(alloc)?)?,
+                operand: copy_boxed(alloc, operand)?,
+            }),
+            Expr::Select {
+                place,
+                receiver,
+                name,
+            } => Ok(Expr::Select {
+                place: *place,
+                receiver: copy_boxed(alloc, receiver)?,
+                name: *name,
+            }),
+            Expr::Member {
+                place,
+                receiver,
+                name,
+                args,
+            } => Ok(Expr::Member {
+                place: *place,
+                receiver: copy_boxed(alloc, receiver)?,
+                name: *name,
+                args: copy_exprs(alloc, args)?,
+            }),
+            Expr::Index {
+                place,
+                receiver,
+                indices,
+            } => Ok(Expr::Index {
+                place: *place,
+                receiver: copy_boxed(alloc, receiver)?,
+                indices: copy_exprs(alloc, indices)?,
+            }),
         }
     }
 }
@@ -220,19 +289,33 @@ impl Init {
         match self {
             Init::Value(x) => Ok(Init::Value(x.copy(alloc)?)),
             Init::NewRegion(place) => Ok(Init::NewRegion(*place)),
-            Init::NewObject(place, region, class) => {
-                Ok(Init::NewObject(*place, copy_maybe(alloc, region)?, *class))
-            }
-            Init::NewGrid(place, region, element, at, dims) => {
-                let region = copy_maybe(alloc, region)?;
-                let element = element.copy(alloc)?;
-                let dims = dims.copy(alloc)?;
-                Ok(Init::NewGrid(*place, region, element, *at, dims))
-            }
-            Init::Broadcast(place, x, root) => {
-                let x = x.copy(alloc)?;
-                Ok(Init::Broadcast(*place, x, root.copy(alloc)?))
-            }
+            Init::NewObject {
+                place,
+                region,
+                class,
+            } => Ok(Init::NewObject {
+                place: *place,
+                region: copy_maybe(alloc, region)?,
+                class: *class,
+            }),
+            Init::NewGrid {
+                place,
+                region,
+                element,
+                bracket,
+                dims,
+            } => Ok(Init::NewGrid {
+                place: *place,
+                region: copy_maybe(alloc, region)?,
+                element: element.copy(alloc)?,
+                bracket: *bracket,
+                dims: dims.copy(alloc)?,
+            }),
+            Init::Broadcast { place, value, root } => Ok(Init::Broadcast {
+                place: *place,
+                value: value.copy(alloc)?,
+                root: root.copy(alloc)?,
+            }),
         }
     }
 }
@@ -279,37 +362,88 @@ impl Stmt {
     {
         match self {
             Stmt::Empty => Ok(Stmt::Empty),
-            Stmt::Declare(place, ty, variable, value) => {
-                let ty = ty.copy(alloc)?;
-                Ok(Stmt::Declare(*place, ty, *variable, value.copy(alloc)?))
-            }
-            Stmt::Assign(place, target, value) => {
-                let target = target.copy(alloc)?;
-                Ok(Stmt::Assign(*place, target, value.copy(alloc)?))
-            }
-            Stmt::Update(place, op, target, x) => {
-                let target = target.copy(alloc)?;
-                Ok(Stmt::Update(*place, *op, target, x.copy(alloc)?))
-            }
-            Stmt::Step(place, op, target) => Ok(Stmt::Step(*place, *op, target.copy(alloc)?)),
+            Stmt::Declare {
+                place,
+                ty,
+                variable,
+                value,
+            } => Ok(Stmt::Declare {
+                place: *place,
+                ty: ty.copy(alloc)?,
+                variable: *variable,
+                value: Box::new(alloc, value.copy(alloc)?)?,
+            }),
+            Stmt::Assign {
+                place,
+                target,
+                value,
+            } => Ok(Stmt::Assign {
+                place: *place,
+                target: target.copy(alloc)?,
+                value: Box::new(alloc, value.copy(alloc)?)?,
+            }),
+            Stmt::Update {
+                place,
+                operator,
+                target,
+                value,
+            } => Ok(Stmt::Update {
+                place: *place,
+                operator: *operator,
+                target: target.copy(alloc)?,
+                value: value.copy(alloc)?,
+            }),
+            Stmt::Step {
+                place,
+                operator,
+                target,
+            } => Ok(Stmt::Step {
+                place: *place,
+                operator: *operator,
+                target: target.copy(alloc)?,
+            }),
             Stmt::Call(x) => Ok(Stmt::Call(x.copy(alloc)?)),
             Stmt::Print(place, what) => Ok(Stmt::Print(*place, what.copy(alloc)?)),
             Stmt::Barrier(place) => Ok(Stmt::Barrier(*place)),
+            Stmt::Break(place) => Ok(Stmt::Break(*place)),
+            Stmt::Continue(place) => Ok(Stmt::Continue(*place)),
+            Stmt::Return(place, value) => Ok(Stmt::Return(*place, copy_maybe(alloc, value)?)),
             Stmt::Block(body) => Ok(Stmt::Block(copy_stmts(alloc, body)?)),
-            Stmt::If(place, condition, then, otherwise) => {
+            Stmt::If {
+                place,
+                condition,
+                then,
+                otherwise,
+            } => {
                 let condition = condition.copy(alloc)?;
                 let then = copy_inner(alloc, then)?;
                 let otherwise = match otherwise {
                     Some(otherwise) => Some(copy_inner(alloc, otherwise)?),
                     None => None,
                 };
-                Ok(Stmt::If(*place, condition, then, otherwise))
+                Ok(Stmt::If {
+                    place: *place,
+                    condition,
+                    then,
+                    otherwise,
+                })
             }
-            Stmt::While(place, condition, body) => {
-                let condition = condition.copy(alloc)?;
-                Ok(Stmt::While(*place, condition, copy_inner(alloc, body)?))
-            }
-            Stmt::For(place, first, condition, update, body) => {
+            Stmt::While {
+                place,
+                condition,
+                body,
+            } => Ok(Stmt::While {
+                place: *place,
+                condition: condition.copy(alloc)?,
+                body: copy_inner(alloc, body)?,
+            }),
+            Stmt::For {
+                place,
+                first,
+                condition,
+                update,
+                body,
+            } => {
                 let first = match first {
                     Some(first) => Some(copy_inner(alloc, first)?),
                     None => None,
@@ -320,72 +454,72 @@ impl Stmt {
                     None => None,
                 };
                 let body = copy_inner(alloc, body)?;
-                Ok(Stmt::For(*place, first, condition, update, body))
+                Ok(Stmt::For {
+                    place: *place,
+                    first,
+                    condition,
+                    update,
+                    body,
+                })
             }
-            Stmt::Foreach(place, variable, domain, body) => {
-                let domain = domain.copy(alloc)?;
-                let body = copy_inner(alloc, body)?;
-                Ok(Stmt::Foreach(*place, *variable, domain, body))
-            }
+            Stmt::Foreach {
+                place,
+                variable,
+                domain,
+                body,
+            } => Ok(Stmt::Foreach {
+                place: *place,
+                variable: *variable,
+                domain: domain.copy(alloc)?,
+                body: copy_inner(alloc, body)?,
+            }),
         }
     }
 }
 
-/// The same modifiers.
-pub fn copy_modifiers(alloc: Global, words: &[Modifier]) -> Result<Vec<Modifier>, Memory>
-    ensures { IfOk result (λ v. v.items ≡ words.now) }
-{
-    let mut found = Vec::new(alloc);
-    for word in words {
-        found.push(*word)?;
+impl Copied for Field {
+    ghost same = { λ a b. view.numbered_field_of a ≡ view.numbered_field_of b };
+
+    fn copy(&self, alloc: Global) -> Result<Field, Memory> {
+        Ok(Field {
+            modifiers: self.modifiers.to_vec(alloc)?,
+            ty: self.ty.copy(alloc)?,
+            name: self.name,
+        })
     }
-    Ok(found)
 }
 
-fn copy_fields(alloc: Global, fields: &[Field]) -> Result<Vec<Field>, Memory>
-    ensures { IfOk result (λ v. map view.numbered_field_of v.items ≡ map view.numbered_field_of fields.now) }
-{
-    let mut found = Vec::new(alloc);
-    for field in fields {
-        found.push(Field {
-            modifiers: copy_modifiers(alloc, &field.modifiers)?,
-            ty: field.ty.copy(alloc)?,
-            name: field.name,
-        })?;
+impl Copied for Class {
+    ghost same = { λ a b. view.numbered_class_of a ≡ view.numbered_class_of b };
+
+    #[tactic(auto, using(crate::proofs::Copies::copies))]
+    fn copy(&self, alloc: Global) -> Result<Class, Memory> {
+        Ok(Class {
+            modifiers: self.modifiers.to_vec(alloc)?,
+            fields: copy_all(alloc, &self.fields)?,
+        })
     }
-    Ok(found)
 }
 
-fn copy_classes(alloc: Global, classes: &[Class]) -> Result<Vec<Class>, Memory>
-    ensures { IfOk result (λ v. map view.numbered_class_of v.items ≡ map view.numbered_class_of classes.now) }
-{
-    let mut found = Vec::new(alloc);
-    for class in classes {
-        found.push(Class {
-            modifiers: copy_modifiers(alloc, &class.modifiers)?,
-            fields: copy_fields(alloc, &class.fields)?,
-        })?;
-    }
-    Ok(found)
-}
+impl Copied for Param {
+    ghost same = { λ a b. view.numbered_param_of a ≡ view.numbered_param_of b };
 
-fn copy_types(alloc: Global, types: &[TypeUse]) -> Result<Vec<TypeUse>, Memory>
-    ensures { IfOk result (λ v. map view.type_use_of v.items ≡ map view.type_use_of types.now) }
-{
-    let mut found = Vec::new(alloc);
-    for ty in types {
-        found.push(ty.copy(alloc)?)?;
+    fn copy(&self, alloc: Global) -> Result<Param, Memory> {
+        Ok(Param {
+            place: self.place,
+            ty: self.ty.copy(alloc)?,
+        })
     }
-    Ok(found)
 }
 
 impl Params {
+    #[tactic(auto, using(crate::proofs::Copies::copies))]
     fn copy(&self, alloc: Global) -> Result<Params, Memory>
         ensures { IfOk result (λ p. view.numbered_params_of p ≡ view.numbered_params_of self.now) }
     {
         match self {
             Params::Words => Ok(Params::Words),
-            Params::Typed(types) => Ok(Params::Typed(copy_types(alloc, types)?)),
+            Params::Typed(params) => Ok(Params::Typed(copy_all(alloc, params)?)),
         }
     }
 }
@@ -401,67 +535,36 @@ impl ResultType {
     }
 }
 
-fn copy_return(alloc: Global, last: &Option<Return>) -> Result<Option<Return>, Memory>
-    ensures { IfOk result (λ r. maybe_of view.numbered_return_of r ≡ maybe_of view.numbered_return_of last.now) }
-{
-    match last {
-        Some(last) => Ok(Some(Return {
-            place: last.place,
-            value: copy_maybe(alloc, &last.value)?,
-        })),
-        None => Ok(None),
-    }
-}
+impl Copied for Method {
+    ghost same = { λ a b. view.numbered_method_of a ≡ view.numbered_method_of b };
 
-impl Method {
-    fn copy(&self, alloc: Global) -> Result<Method, Memory>
-        ensures { IfOk result (λ m. view.numbered_method_of m ≡ view.numbered_method_of self.now) }
-    {
+    fn copy(&self, alloc: Global) -> Result<Method, Memory> {
         Ok(Method {
             class: self.class,
-            modifiers: copy_modifiers(alloc, &self.modifiers)?,
+            modifiers: self.modifiers.to_vec(alloc)?,
+            single: self.single,
             result: self.result.copy(alloc)?,
             place: self.place,
             name: self.name,
             params: self.params.copy(alloc)?,
             body: copy_stmts(alloc, &self.body)?,
-            last: copy_return(alloc, &self.last)?,
             end: self.end,
         })
     }
 }
 
-fn copy_methods(alloc: Global, methods: &[Method]) -> Result<Vec<Method>, Memory>
-    ensures { IfOk result (λ v. map view.numbered_method_of v.items ≡ map view.numbered_method_of methods.now) }
-{
-    let mut found = Vec::new(alloc);
-    for method in methods {
-        found.push(method.copy(alloc)?)?;
-    }
-    Ok(found)
-}
-
-fn copy_texts(alloc: Global, texts: &[Spelled]) -> Result<Vec<Spelled>, Memory>
-    ensures { IfOk result (λ v. v.items ≡ texts.now) }
-{
-    let mut found = Vec::new(alloc);
-    for text in texts {
-        found.push(text.copy(alloc)?)?;
-    }
-    Ok(found)
-}
-
 impl Parts {
     /// The same parts.
+    #[tactic(auto, using(crate::proofs::Copies::copies))]
     pub fn copy(&self, alloc: Global) -> Result<Parts, Memory>
         ensures { IfOk result (λ p. view.program_of p ≡ view.program_of self.now) }
     {
         Ok(Parts {
-            classes: copy_classes(alloc, &self.classes)?,
-            methods: copy_methods(alloc, &self.methods)?,
+            classes: copy_all(alloc, &self.classes)?,
+            methods: copy_all(alloc, &self.methods)?,
             main: self.main,
-            names: copy_texts(alloc, &self.names)?,
-            literals: copy_texts(alloc, &self.literals)?,
+            names: copy_all(alloc, &self.names)?,
+            literals: copy_all(alloc, &self.literals)?,
         })
     }
 }

@@ -1,12 +1,13 @@
 // Types, and variables as they are used.
 
-use crate::tree::{Brackets, Qualifier};
+use ti_syntax::tree::{Brackets, Qualifier};
 
 /// A type. It tells nothing of `single`.
 #[derive(Debug, Drop)]
 #[cycle(ty)]
 pub enum Ty {
     Int,
+    Long,
     Bool,
     /// `Point<N>`
     Pt(u8),
@@ -30,6 +31,8 @@ pub enum Ty {
 #[derive(Debug, Drop)]
 pub struct TypeUse {
     pub ty: Ty,
+    /// Whether what has this type is single. At first it is where the word stands; it may be set and cleared.
+    pub single: bool,
     /// Those behind the base.
     pub qualifiers: Vec<Qualifier>,
     /// The brackets from the outermost grid on, with those behind each.

@@ -1,7 +1,7 @@
 // Trees as texts.
 
 use std::alloc::{AllocError, Global};
-use ti_lang::tree::Tree;
+use ti_syntax::tree::Tree;
 
 /// How lists are shown that are left out.
 const EMPTY_LISTS: [&str; 3] = ["modifiers: [], ", ", qualifiers: []", ", grids: []"];

@@ -1,5 +1,5 @@
 use Rattle.std.proofs.Common.{◌≡◌, ◌++◌, map, drop}
-use Rattle.ti_lang.specs.Trees.Views.{class_of}
+use Rattle.ti_syntax.specs.Trees.Views.{class_of}
 use Rattle.ti_names.specs.Tables.{method_tables}
 use Rattle.ti_names.proofs.build.method_tables.Given as goal
 

@@ -1,7 +1,7 @@
 use Rattle.std.proofs.Common.{◌≡◌, map, fold, flat_map, drop}
-use Rattle.ti_lang.specs.Trees.Views.{class_of}
+use Rattle.ti_syntax.specs.Trees.Views.{class_of}
 use Rattle.ti_lang.specs.Members.{name_of_member, with_name, built_in}
-use Rattle.ti_lang.specs.Trees.Classes.{ClassTree}
+use Rattle.ti_syntax.specs.Trees.Classes.{ClassTree}
 use Rattle.ti_names.proofs.build.name_table.Given as goal
 
 abbrev pub invariant-loop-class : goal.invariant-loop-class

@@ -1,5 +1,5 @@
 use Rattle.std.proofs.Common.{◌≡◌, map, fold, drop}
-use Rattle.ti_lang.specs.Trees.Views.{member_of}
+use Rattle.ti_syntax.specs.Trees.Views.{member_of}
 use Rattle.ti_lang.specs.Members.{name_of_member, with_name}
 use Rattle.ti_names.proofs.build.with_members.Given as goal
 

@@ -1,5 +1,5 @@
 use Rattle.std.proofs.Common.{◌≡◌, ◌++◌, map, drop}
-use Rattle.ti_lang.specs.Trees.Views.{class_of}
+use Rattle.ti_syntax.specs.Trees.Views.{class_of}
 use Rattle.ti_lang.specs.Program.Views.{numbered_class_of}
 use Rattle.ti_lang.specs.Nodes.{classes_nodes}
 use Rattle.ti_names.specs.Faults.{noted}

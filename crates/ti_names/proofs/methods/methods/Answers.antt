@@ -1,6 +1,6 @@
 use Rattle.std.proofs.Common.{◌≡◌, ◌+◌, ◌++◌, ◌∷◌, map, flat_map, length, drop, arith, ap, sym, ◌∙◌, append_assoc}
 use Rattle.std.proofs.lemmas.List.{drop_all, length-append}
-use Rattle.ti_lang.specs.Trees.Statements.{stms}
+use Rattle.ti_syntax.specs.Trees.Statements.{stms}
 use Rattle.ti_lang.specs.Program.Views.{numbered_method_of}
 use Rattle.ti_lang.specs.Members.{OwnMethod}
 use Rattle.ti_lang.specs.Scopes.{literals_in, method_site}

@@ -1,5 +1,5 @@
 use Rattle.std.proofs.Common.{◌≡◌, ◌++◌, map, flat_map, length, drop}
-use Rattle.ti_lang.specs.Trees.Statements.{stms}
+use Rattle.ti_syntax.specs.Trees.Statements.{stms}
 use Rattle.ti_lang.specs.Program.Views.{numbered_method_of}
 use Rattle.ti_lang.specs.Members.{OwnMethod}
 use Rattle.ti_lang.specs.Scopes.{literals_in}

@@ -1,5 +1,5 @@
 use Rattle.std.proofs.Common.{◌≡◌, ◌++◌, map, drop}
-use Rattle.ti_lang.specs.Trees.Views.{class_of}
+use Rattle.ti_syntax.specs.Trees.Views.{class_of}
 use Rattle.ti_names.specs.Own.{own_of}
 use Rattle.ti_lang.specs.Members.{methods_from}
 use Rattle.ti_names.proofs.own.own_methods.Given as goal

@@ -1,7 +1,7 @@
 use Rattle.std.proofs.Common.{◌≡◌, ◌∙◌, ◌<◌, ◌+◌, ℕ, List, [], ◌∷◌, ◌++◌, map, take, length, get_or, ap, sym, refl}
 use Rattle.std.specs.List.{list_any}
 use Rattle.std.proofs.lemmas.List.{take_more}
-use Rattle.ti_lang.specs.declared.tree.classes.Modifier.{Modifier}
+use Rattle.ti_syntax.specs.declared.tree.classes.Modifier.{Modifier}
 use Rattle.ti_lang.specs.Members.{is_static, is_static_word}
 use Rattle.ti_names.specs.declared.own.Own.{Own}
 use Rattle.ti_names.specs.Own.{own_of}

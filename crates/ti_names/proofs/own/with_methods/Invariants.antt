@@ -1,5 +1,5 @@
 use Rattle.std.proofs.Common.{◌≡◌, ◌++◌, map, drop}
-use Rattle.ti_lang.specs.Trees.Views.{member_of}
+use Rattle.ti_syntax.specs.Trees.Views.{member_of}
 use Rattle.ti_names.specs.Own.{own_of}
 use Rattle.ti_lang.specs.Members.{methods_in}
 use Rattle.ti_names.proofs.own.with_methods.Given as goal

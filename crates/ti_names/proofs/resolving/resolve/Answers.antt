@@ -1,5 +1,5 @@
 use Rattle.std.proofs.Common.{◌∙◌, ap, sym, subst, inl}
-use Rattle.ti_lang.specs.Trees.Views.{tree_of}
+use Rattle.ti_syntax.specs.Trees.Views.{tree_of}
 use Rattle.ti_lang.specs.Numbering.{Numbers}
 use Rattle.ti_rules.specs.BrokenNames.{BreaksNames}
 use Rattle.ti_rules.proofs.FirstRefusal.{first_only}

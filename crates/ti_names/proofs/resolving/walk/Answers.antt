@@ -1,7 +1,7 @@
 use Rattle.std.proofs.Common.{◌≡◌, ◌∙◌, map, flat_map, None, ap, sym}
 use Rattle.std.specs.Option.{unwrap_or}
-use Rattle.ti_lang.specs.Trees.Statements.{stms}
-use Rattle.ti_lang.specs.Trees.Views.{tree_of, class_of}
+use Rattle.ti_syntax.specs.Trees.Statements.{stms}
+use Rattle.ti_syntax.specs.Trees.Views.{tree_of, class_of}
 use Rattle.ti_lang.specs.Program.Views.{numbered_class_of, numbered_method_of}
 use Rattle.ti_lang.specs.Members.{OwnMethod, methods_of, names_of}
 use Rattle.ti_lang.specs.Scopes.{literals_in, literals_of_text}

@@ -1,6 +1,6 @@
 use Rattle.std.proofs.Common.{rules, arith, ◌≡◌, ◌∙◌, ◌-◌, ◌<◌, ℕ, zero, suc, true, false, List, refl}
 use Rattle.std.proofs.lemmas.Grind.{common_steps}
-use Rattle.ti_lang.specs.declared.token.Token.{Token}
+use Rattle.ti_syntax.specs.declared.token.Token.{Token}
 use Rattle.ti_parse_expr.specs.Input.{and_then, kind, place, take_within}
 use Rattle.ti_parse_expr.proofs.Turns.{deeper}
 use Rattle.ti_parse.specs.Way.{careful}

@@ -1,6 +1,6 @@
 use Rattle.std.proofs.Common.{Some, Err, refl, ap, sym, ◌∙◌, subst, ◌+◌, length}
-use Rattle.ti_lang.specs.Trees.Views.{tree_of}
-use Rattle.ti_lang.specs.Spelling.{Unexpected, TooDeep, IsGrammarRefusal}
+use Rattle.ti_syntax.specs.Trees.Views.{tree_of}
+use Rattle.ti_syntax.specs.Spelling.{Unexpected, TooDeep, IsGrammarRefusal}
 use Rattle.ti_parse_expr.specs.Input.{Fails}
 use Rattle.ti_parse.specs.Answer.{Parsed}
 use Rattle.ti_parse.specs.Classes.{text}

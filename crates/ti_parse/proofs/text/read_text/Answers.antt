@@ -1,7 +1,7 @@
 use Rattle.std.proofs.Common.{rules, arith, ◌≡◌, ◌<◌, ℕ, List, [], ◌∷◌, length, Ok, refl}
 use Rattle.std.proofs.lemmas.Grind.{common_steps}
-use Rattle.ti_lang.specs.declared.token.Token.{Token}
-use Rattle.ti_lang.specs.Trees.Classes.{TextTree}
+use Rattle.ti_syntax.specs.declared.token.Token.{Token}
+use Rattle.ti_syntax.specs.Trees.Classes.{TextTree}
 use Rattle.ti_parse_expr.specs.Input.{and_then, refuse, take_within}
 use Rattle.ti_parse.specs.Way.{careful}
 use Rattle.ti_parse.specs.Classes.{classes, ended, text}

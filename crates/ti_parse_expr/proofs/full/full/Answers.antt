@@ -1,5 +1,5 @@
 use Rattle.std.proofs.Common.{rules, of_calls}
-use Rattle.ti_lang.specs.Trees.Views.{exp_of}
+use Rattle.ti_syntax.specs.Trees.Views.{exp_of}
 use Rattle.ti_parse_expr.specs.Input.{take_within}
 use Rattle.ti_parse_expr.specs.Expr.{phrase}
 use Rattle.ti_parse_expr.proofs.ByFront.{front_reads}

@@ -1,7 +1,7 @@
 use Rattle.std.proofs.Common.{rules, length, Err, ap, sym, ◌∙◌, subst, ◌+◌, ◌-◌, ◌≤◌, arith, take, drop, refl}
 use Rattle.std.proofs.lemmas.Grind.{common_steps}
-use Rattle.ti_lang.specs.Trees.Views.{exp_of}
-use Rattle.ti_lang.specs.Spelling.Weights.{weigh}
+use Rattle.ti_syntax.specs.Trees.Views.{exp_of}
+use Rattle.ti_syntax.specs.Spelling.Weights.{weigh}
 use Rattle.ti_parse_expr.specs.Answers.{Answers, IsPhrase, IsNoPhrase, IsTooHeavy, most_weight}
 use Rattle.ti_parse_expr.specs.Input.{Fails, take_within}
 use Rattle.ti_parse_expr.specs.Expr.{phrase}

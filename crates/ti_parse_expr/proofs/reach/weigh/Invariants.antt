@@ -1,5 +1,5 @@
 use Rattle.std.proofs.Common.{◌≡◌, ◌+◌, length}
-use Rattle.ti_lang.specs.Spelling.Weights.{weigh, weigh_behind}
+use Rattle.ti_syntax.specs.Spelling.Weights.{weigh, weigh_behind}
 use Rattle.ti_parse_expr.proofs.reach.weigh.Given as goal
 
 abbrev pub invariant-loop-rest : goal.invariant-loop-rest

@@ -1,7 +1,7 @@
 use Rattle.std.proofs.Common.{List, Ok, Err, subst}
 use Rattle.std.proofs.lemmas.Result.{err_from_is_err_and}
-use Rattle.ti_lang.specs.declared.token.Token.{Token}
-use Rattle.ti_lang.specs.Trees.Views.{tree_of}
+use Rattle.ti_syntax.specs.declared.token.Token.{Token}
+use Rattle.ti_syntax.specs.Trees.Views.{tree_of}
 use Rattle.ti_lang.specs.Program.Views.{program_of}
 use Rattle.ti_parse.specs.Answer.{Parsed}
 use Rattle.ti_top.proofs.BuiltPrograms.{has_listing}

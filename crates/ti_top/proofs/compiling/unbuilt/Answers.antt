@@ -1,7 +1,7 @@
 use Rattle.std.proofs.Common.{List, Option, None, Some, map, sym, subst}
 use Rattle.ti_base.specs.declared.place.Place.{Place}
-use Rattle.ti_lang.specs.declared.tree.classes.Class.{Class}
-use Rattle.ti_lang.specs.Trees.Views.{tree_of, class_of}
+use Rattle.ti_syntax.specs.declared.tree.classes.Class.{Class}
+use Rattle.ti_syntax.specs.Trees.Views.{tree_of, class_of}
 use Rattle.ti_rules.specs.MainForm.{BreaksMainForm}
 use Rattle.ti_rules.specs.Unbuilt.{IsUnbuilt}
 use Rattle.ti_top.specs.Judging.{IsFirstPlace}

@@ -1,6 +1,6 @@
 use Rattle.std.proofs.Common.{◌≡◌, codes, sym, ◌∙◌, true≢false}
-use Rattle.ti_lang.specs.Trees.Classes.{ClassTree}
-use Rattle.ti_lang.specs.Trees.Views.{class_of}
+use Rattle.ti_syntax.specs.Trees.Classes.{ClassTree}
+use Rattle.ti_syntax.specs.Trees.Views.{class_of}
 use Rattle.ti_top.proofs.FirstOfList.{none_more_seen, none_in_all_seen}
 use Rattle.ti_top.proofs.main_method.main_class.Goals as goal
 

@@ -1,6 +1,6 @@
 use Rattle.std.proofs.Common.{◌≡◌, map, codes}
-use Rattle.ti_lang.specs.Trees.Classes.{ClassTree}
-use Rattle.ti_lang.specs.Trees.Views.{class_of}
+use Rattle.ti_syntax.specs.Trees.Classes.{ClassTree}
+use Rattle.ti_syntax.specs.Trees.Views.{class_of}
 use Rattle.ti_top.proofs.FirstOfList.{NoneBefore}
 use Rattle.ti_top.proofs.main_method.main_class.Given as goal
 

@@ -1,7 +1,7 @@
 use Rattle.std.proofs.Common.{◌+◌, List, map, sym, subst}
-use Rattle.ti_lang.specs.declared.tree.classes.Member.{Member}
-use Rattle.ti_lang.specs.Trees.Classes.{MethodMember}
-use Rattle.ti_lang.specs.Trees.Views.{member_of}
+use Rattle.ti_syntax.specs.declared.tree.classes.Member.{Member}
+use Rattle.ti_syntax.specs.Trees.Classes.{MethodMember}
+use Rattle.ti_syntax.specs.Trees.Views.{member_of}
 use Rattle.ti_lang.specs.MainMethod.{IsFirst, IsNamedMain}
 use Rattle.ti_top.proofs.FirstOfList.{NoneBefore, none_more_seen, none_in_all_seen}
 use Rattle.ti_top.proofs.main_method.main_method.Goals as goal

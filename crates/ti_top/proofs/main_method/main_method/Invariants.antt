@@ -1,5 +1,5 @@
 use Rattle.std.proofs.Common.{map}
-use Rattle.ti_lang.specs.Trees.Views.{member_of}
+use Rattle.ti_syntax.specs.Trees.Views.{member_of}
 use Rattle.ti_lang.specs.MainMethod.{IsNamedMain}
 use Rattle.ti_top.proofs.FirstOfList.{NoneBefore}
 use Rattle.ti_top.proofs.main_method.main_method.Given as goal

@@ -1,8 +1,8 @@
 use Rattle.std.proofs.Common.{List, map, ap, sym, ◌∙◌}
 use Rattle.std.specs.List.{flat_map}
-use Rattle.ti_lang.specs.declared.tree.stmts.Stmt.{Stmt}
-use Rattle.ti_lang.specs.Trees.Views.{stm_of}
-use Rattle.ti_lang.proofs.Bridges.{seen_block}
+use Rattle.ti_syntax.specs.declared.tree.stmts.Stmt.{Stmt}
+use Rattle.ti_syntax.specs.Trees.Views.{stm_of}
+use Rattle.ti_syntax.proofs.Bridges.{seen_block}
 use Rattle.ti_top.specs.Judging.{earliest, refused_in}
 use Rattle.ti_top.proofs.EarliestPlace.{earliest_step}
 use Rattle.ti_top.proofs.OpenedBodies.{refused_block}

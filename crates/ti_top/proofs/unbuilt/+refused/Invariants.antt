@@ -1,6 +1,6 @@
 use Rattle.std.proofs.Common.{◌≡◌, take, map}
 use Rattle.std.specs.List.{flat_map}
-use Rattle.ti_lang.specs.Trees.Views.{stm_of}
+use Rattle.ti_syntax.specs.Trees.Views.{stm_of}
 use Rattle.ti_top.specs.Judging.{earliest, refused_in}
 use Rattle.ti_top.proofs.unbuilt.+refused.Given as goal
 

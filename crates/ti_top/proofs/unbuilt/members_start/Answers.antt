@@ -1,5 +1,5 @@
 use Rattle.std.proofs.Common.{Some, ap}
-use Rattle.ti_lang.specs.Trees.Views.{member_of}
+use Rattle.ti_syntax.specs.Trees.Views.{member_of}
 use Rattle.ti_top.specs.Judging.{member_places}
 use Rattle.ti_top.proofs.EarliestPlace.{earliest_step}
 use Rattle.ti_top.proofs.unbuilt.members_start.Goals as goal

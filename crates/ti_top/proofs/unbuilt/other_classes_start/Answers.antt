@@ -1,5 +1,5 @@
 use Rattle.std.proofs.Common.{◌+◌, refl}
-use Rattle.ti_lang.specs.Trees.Views.{class_of}
+use Rattle.ti_syntax.specs.Trees.Views.{class_of}
 use Rattle.ti_top.specs.Judging.{class_places}
 use Rattle.ti_top.proofs.FirstPlace.{rest_cut, first_of_others}
 use Rattle.ti_top.proofs.unbuilt.other_classes_start.Goals as goal

@@ -1,5 +1,5 @@
 use Rattle.std.proofs.Common.{◌+◌, refl}
-use Rattle.ti_lang.specs.Trees.Views.{member_of}
+use Rattle.ti_syntax.specs.Trees.Views.{member_of}
 use Rattle.ti_top.specs.Judging.{member_places}
 use Rattle.ti_top.proofs.FirstPlace.{rest_cut, first_of_others}
 use Rattle.ti_top.proofs.unbuilt.other_members_start.Goals as goal

@@ -1,9 +1,9 @@
 use Rattle.std.proofs.Common.{[], List, Option, length, ◌<◌, map, sym, ap, subst, ◌∙◌}
 use Rattle.ti_base.specs.declared.place.Place.{Place}
 use Rattle.ti_base.specs.Places.{place_after}
-use Rattle.ti_lang.specs.declared.tree.classes.Member.{Member}
-use Rattle.ti_lang.specs.Trees.Classes.{MethodMember}
-use Rattle.ti_lang.specs.Trees.Views.{class_of, method_of, member_of}
+use Rattle.ti_syntax.specs.declared.tree.classes.Member.{Member}
+use Rattle.ti_syntax.specs.Trees.Classes.{MethodMember}
+use Rattle.ti_syntax.specs.Trees.Views.{class_of, method_of, member_of}
 use Rattle.ti_rules.specs.MainForm.{no_class, no_method}
 use Rattle.ti_rules.specs.Unbuilt.{IsUnbuilt}
 use Rattle.ti_top.specs.Judging.{earlier_of, IsFirstPlace, OfAnother, member_places}

@@ -1,14 +1,14 @@
 use Rattle.std.proofs.Common.{◌≡◌, ◌+◌, map, take, drop, arith, ap, sym, ◌∙◌, refl, rules, Some, None}
 use Rattle.std.proofs.lemmas.Grind.{common_steps}
-use Rattle.ti_lang.specs.Trees.Expressions as t
-use Rattle.ti_lang.specs.Trees.Views.{exp_of, range_of}
+use Rattle.ti_syntax.specs.Trees.Expressions as t
+use Rattle.ti_syntax.specs.Trees.Views.{exp_of, range_of}
 use Rattle.ti_lang.specs.Program.Views.{expression_of, bound_of}
 use Rattle.ti_lang.specs.declared.program.exprs.Expr.{Member}
 use Rattle.ti_lang.specs.Members.{name_number}
 use Rattle.ti_lang.specs.Scopes.{class_before_dot}
 use Rattle.ti_lang.specs.Nodes.{exp_nodes, exps_nodes, ranges_nodes}
-use Rattle.ti_lang.specs.Trees.Expressions.{exps, ranges_tree}
-use Rattle.ti_lang.proofs.Bridges.{seen_call, seen_point, seen_rect, seen_index, seen_member}
+use Rattle.ti_syntax.specs.Trees.Expressions.{exps, ranges_tree}
+use Rattle.ti_syntax.proofs.Bridges.{seen_call, seen_point, seen_rect, seen_index, seen_member}
 use Rattle.ti_lang.proofs.ProgramBridges.{seen_numbered_member}
 use Rattle.ti_names.specs.Faults.{noted}
 use Rattle.ti_names.specs.Numbered.{number_exp, number_range}

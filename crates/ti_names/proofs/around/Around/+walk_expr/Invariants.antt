@@ -1,6 +1,6 @@
 use Rattle.std.proofs.Common.{◌≡◌, map, drop, take}
-use Rattle.ti_lang.specs.Trees.Views.{exp_of, range_of}
-use Rattle.ti_lang.specs.Trees.Expressions.{exps, ranges_tree}
+use Rattle.ti_syntax.specs.Trees.Views.{exp_of, range_of}
+use Rattle.ti_syntax.specs.Trees.Expressions.{exps, ranges_tree}
 use Rattle.ti_lang.specs.Program.Views.{expression_of, bound_of}
 use Rattle.ti_lang.specs.Nodes.{exps_nodes, ranges_nodes}
 use Rattle.ti_names.specs.Faults.{noted}

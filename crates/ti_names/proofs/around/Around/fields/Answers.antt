@@ -3,7 +3,7 @@ use Rattle.std.proofs.lemmas.List.{drop_all}
 use Rattle.std.specs.declared.vec.Vec.{Vec}
 use Rattle.std.specs.declared.alloc.Global.{Global}
 use Rattle.ti_lang.specs.declared.program.classes.Field.{Field}
-use Rattle.ti_lang.specs.Trees.Views.{member_of, field_of, type_of}
+use Rattle.ti_syntax.specs.Trees.Views.{member_of, field_of, type_of}
 use Rattle.ti_lang.specs.Program.Views.{numbered_field_of}
 use Rattle.ti_lang.specs.Members.{fields_in}
 use Rattle.ti_lang.specs.Nodes.{node, FieldName, type_nodes, fields_nodes}

@@ -1,5 +1,5 @@
 use Rattle.std.proofs.Common.{◌≡◌, ◌++◌, map, drop}
-use Rattle.ti_lang.specs.Trees.Views.{member_of}
+use Rattle.ti_syntax.specs.Trees.Views.{member_of}
 use Rattle.ti_lang.specs.Program.Views.{numbered_field_of}
 use Rattle.ti_lang.specs.Members.{fields_in}
 use Rattle.ti_lang.specs.Nodes.{fields_nodes}

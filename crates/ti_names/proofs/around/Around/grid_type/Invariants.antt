@@ -1,5 +1,5 @@
 use Rattle.std.proofs.Common.{◌≡◌, map, drop, length, ◌≤◌}
-use Rattle.ti_lang.specs.Trees.Views.{grid_of}
+use Rattle.ti_syntax.specs.Trees.Views.{grid_of}
 use Rattle.ti_lang.specs.Program.Views.{value_type_of}
 use Rattle.ti_lang.specs.Scopes.{grid_type}
 use Rattle.ti_names.proofs.around.Around.grid_type.Given as goal

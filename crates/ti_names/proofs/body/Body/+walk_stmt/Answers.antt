@@ -1,8 +1,8 @@
 use Rattle.std.proofs.Common.{◌≡◌, ◌+◌, ◌++◌, ◌∷◌, map, drop, arith, ap, sym, ◌∙◌, append_assoc}
 use Rattle.std.proofs.lemmas.List.{drop_all}
-use Rattle.ti_lang.specs.Trees.Statements.{stms}
-use Rattle.ti_lang.specs.Trees.Statements as s
-use Rattle.ti_lang.specs.Trees.Views.{exp_of, stm_of, maybe_of}
+use Rattle.ti_syntax.specs.Trees.Statements.{stms}
+use Rattle.ti_syntax.specs.Trees.Statements as s
+use Rattle.ti_syntax.specs.Trees.Views.{exp_of, stm_of, maybe_of}
 use Rattle.ti_lang.specs.Program.Types.{Foreach}
 use Rattle.ti_lang.specs.Program.Views.{expression_of, statement_of}
 use Rattle.ti_lang.specs.Scopes.{literals, literals_in, declares, past, past_maybe, behind, behind_maybe, behind_all}

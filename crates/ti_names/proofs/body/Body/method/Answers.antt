@@ -1,6 +1,6 @@
 use Rattle.std.proofs.Common.{◌≡◌, [], ◌∷◌, ◌++◌, map, ap, ◌∙◌}
-use Rattle.ti_lang.specs.Trees.Statements.{stms}
-use Rattle.ti_lang.specs.Trees.Views.{stm_of, maybe_of}
+use Rattle.ti_syntax.specs.Trees.Statements.{stms}
+use Rattle.ti_syntax.specs.Trees.Views.{stm_of, maybe_of}
 use Rattle.ti_lang.specs.Program.Views.{statement_of, numbered_params_of, numbered_result_of, numbered_return_of}
 use Rattle.ti_lang.specs.Members.{name_number}
 use Rattle.ti_lang.specs.Scopes.{Site, body_site, behind_all, literals_in}

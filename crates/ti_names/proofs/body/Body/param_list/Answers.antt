@@ -1,6 +1,6 @@
 use Rattle.std.proofs.Common.{◌≡◌, ◌+◌, ◌++◌, ◌∷◌, [], map, drop, arith, ap, sym, ◌∙◌}
 use Rattle.std.proofs.lemmas.List.{drop_all}
-use Rattle.ti_lang.specs.Trees.Views.{param_of, type_of}
+use Rattle.ti_syntax.specs.Trees.Views.{param_of, type_of}
 use Rattle.ti_lang.specs.Program.Views.{type_use_of}
 use Rattle.ti_lang.specs.Scopes.{Site, numbered_type, declares, typed_as, behind_params}
 use Rattle.ti_lang.specs.Nodes.{node, VariableName, type_nodes, param_list_nodes}

@@ -1,5 +1,5 @@
 use Rattle.std.proofs.Common.{◌≡◌, ◌++◌, map, drop}
-use Rattle.ti_lang.specs.Trees.Views.{param_of}
+use Rattle.ti_syntax.specs.Trees.Views.{param_of}
 use Rattle.ti_lang.specs.Program.Views.{type_use_of}
 use Rattle.ti_lang.specs.Scopes.{behind_params}
 use Rattle.ti_lang.specs.Nodes.{param_list_nodes}

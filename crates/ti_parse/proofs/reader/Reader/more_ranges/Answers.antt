@@ -1,6 +1,6 @@
 use Rattle.std.proofs.Common.{rules, arith}
 use Rattle.std.proofs.lemmas.Grind.{common_steps}
-use Rattle.ti_lang.specs.Trees.Views.{ranges_of}
+use Rattle.ti_syntax.specs.Trees.Views.{ranges_of}
 use Rattle.ti_parse.specs.Way.{careful}
 use Rattle.ti_parse.specs.Parts.{more_ranges}
 use Rattle.ti_parse_expr.proofs.Turns.{one_more}

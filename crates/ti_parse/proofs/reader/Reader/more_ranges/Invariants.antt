@@ -1,5 +1,5 @@
 use Rattle.std.proofs.Common.{◌≡◌, ◌-◌}
-use Rattle.ti_lang.specs.Trees.Views.{ranges_of}
+use Rattle.ti_syntax.specs.Trees.Views.{ranges_of}
 use Rattle.ti_parse.specs.Way.{careful}
 use Rattle.ti_parse.specs.Parts.{more_ranges}
 use Rattle.ti_parse.proofs.reader.Reader.more_ranges.Given as goal

@@ -1,5 +1,5 @@
 use Rattle.std.proofs.Common.{◌≡◌, ◌-◌, []}
-use Rattle.ti_lang.specs.Trees.Views.{stms_of}
+use Rattle.ti_syntax.specs.Trees.Views.{stms_of}
 use Rattle.ti_parse.specs.Way.{careful}
 use Rattle.ti_parse.specs.Statements.{stmt, items}
 use Rattle.ti_parse.proofs.stmts.Statements.items.Given as goal

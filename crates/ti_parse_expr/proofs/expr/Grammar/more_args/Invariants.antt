@@ -1,5 +1,5 @@
 use Rattle.std.proofs.Common.{◌≡◌, ◌-◌, []}
-use Rattle.ti_lang.specs.Trees.Views.{exps_of}
+use Rattle.ti_syntax.specs.Trees.Views.{exps_of}
 use Rattle.ti_parse_expr.specs.Input.{take_within}
 use Rattle.ti_parse_expr.specs.Expr.{expr, more_args}
 use Rattle.ti_parse_expr.proofs.expr.Grammar.more_args.Given as goal

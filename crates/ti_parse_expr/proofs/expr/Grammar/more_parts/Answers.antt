@@ -1,6 +1,6 @@
 use Rattle.std.proofs.Common.{rules, arith}
 use Rattle.std.proofs.lemmas.Grind.{common_steps}
-use Rattle.ti_lang.specs.Trees.Views.{exps_of}
+use Rattle.ti_syntax.specs.Trees.Views.{exps_of}
 use Rattle.ti_parse_expr.specs.Input.{take_within}
 use Rattle.ti_parse_expr.specs.Expr.{expr, more_parts}
 use Rattle.ti_parse_expr.proofs.Turns.{one_more}

@@ -1,0 +1,4 @@
+pub mod Spelling
+pub mod Tokenizing
+pub mod Tokens
+pub mod Trees
