@@ -17,7 +17,7 @@ use Rattle.ti_lex.specs.Reading.{Reading, Takes, Refuses, class_of, comment_from
 use Rattle.ti_lex.proofs.Bytes.{class_of-blank, class_of-letter, class_of-digit, IsOfClass, class_of_is}
 use Rattle.ti_lex.proofs.Comments.{line_beats, line_sound, comment_taken, comment_sound}
 use Rattle.ti_lex.proofs.Fronts.{Beats, IsSound}
-use Rattle.ti_lex.proofs.Numbers.{dimension_beats, number_beats, number_sound}
+use Rattle.ti_lex.proofs.Numbers.{dimension_beats, number_beats, long_beats, number_sound}
 use Rattle.ti_lex.proofs.Signs.{sign_beats, sign_sound}
 use Rattle.ti_lex.proofs.StringPieces.{string_beats, string_sound}
 use Rattle.ti_lex.proofs.Words.{reserved_found, name_found, word_beats, word_sound}
@@ -117,7 +117,9 @@ first_beats (pieces.reserved kind {word = word} {rest = rest} h) at =
 first_beats (pieces.dimension n {rest = rest} low high stop) at =
     subst (λ q. Beats at 2 (Spells (k.Dim n)) (first_by q at ((n + 48) ∷ 100 ∷ rest))) (sym (class_of-digit (n + 48) (digit_of n high))) (dimension_beats at n rest low high stop)
 first_beats (pieces.number digit more {rest = rest} all stop no_zero fits) at =
-    subst (λ q. Beats at (length (digit ∷ more)) (Spells (k.Int (pos (digits_value 10 (digit ∷ more))))) (first_by q at (digit ∷ (more ++ rest)))) (sym (class_of-digit digit (and_parts (is_ascii_digit digit) (list_all is_ascii_digit more) all).0)) (number_beats at digit more rest all stop no_zero fits)
+    subst (λ q. Beats at (length (digit ∷ more)) (Spells (k.Int (pos (digits_value 10 (digit ∷ more))))) (first_by q at (digit ∷ (more ++ rest)))) (sym (class_of-digit digit (and_parts (is_ascii_digit digit) (list_all is_ascii_digit more) all).0)) (number_beats at digit more rest all no_zero stop fits)
+first_beats (pieces.long_number digit more letter {rest = rest} all is no_zero fits) at =
+    subst (λ q. Beats at (length ((digit ∷ more) ++ letter ∷ [])) (Spells (k.LongInt (pos (digits_value 10 (digit ∷ more))))) (first_by q at (((digit ∷ more) ++ letter ∷ []) ++ rest))) (sym (class_of-digit digit (and_parts (is_ascii_digit digit) (list_all is_ascii_digit more) all).0)) (long_beats at digit more rest all no_zero letter is fits)
 first_beats (pieces.string {items = items} {bytes = bytes} {rest = rest} are) at =
     string_beats at items bytes rest are
 first_beats (pieces.sign kind {sign = spelling} {rest = rest} h no_comment) at =

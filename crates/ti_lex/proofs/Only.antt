@@ -12,7 +12,7 @@ use Rattle.ti_base.specs.Places.{place_of, end_place}
 use Rattle.ti_syntax.specs.declared.token.Token.{Token}
 use Rattle.ti_syntax.specs.declared.token.TokenKind.{TokenKind}
 use Rattle.ti_syntax.specs.declared.token.TokenKind.TheVariants as k
-use Rattle.ti_syntax.specs.Tokenizing.{Piece, Space, Spells, IsLongest, Pieces, IsTokenized, BeginsNoPiece, BeginsNoItem, IsItem, AreItems, OpensComment, breaks_string, is_plain, escaped, first_passes, Flaw, StrayByte, OpenComment, OpenString, WrongNumber, HasFlaw, IsFlawed}
+use Rattle.ti_syntax.specs.Tokenizing.{Piece, Space, Spells, IsLongest, Pieces, IsTokenized, BeginsNoPiece, BeginsNoItem, IsItem, AreItems, OpensComment, breaks_string, is_plain, is_long_letter, escaped, first_passes, Flaw, StrayByte, OpenComment, OpenString, WrongNumber, HasFlaw, IsFlawed}
 use Rattle.ti_syntax.specs.Tokenizing as pieces
 use Rattle.ti_rules.specs.declared.refusal.Refusal.{Refusal}
 use Rattle.ti_rules.specs.LexicalRefusals.{most_bytes, rule_of, IsLexicalRefusal}
@@ -22,7 +22,7 @@ use Rattle.ti_lex.specs.declared.error.LexErr.TheVariants as e
 use Rattle.ti_lex.specs.Answer.{Lexes, GivesOnly, RefusesOnly}
 use Rattle.ti_lex.specs.declared.class.Class.{Class}
 use Rattle.ti_lex.specs.declared.class.Class.TheVariants as c
-use Rattle.ti_lex.specs.Reading.{Reading, Takes, Refuses, class_of, dimension, value_from, is_number, digits, number, string_from, escape_from, slash, first_by, first}
+use Rattle.ti_lex.specs.Reading.{Reading, Takes, Refuses, class_of, dimension, value_from, most_of, kind_of_number, letters, is_number, digits, number, string_from, escape_from, slash, first_by, first}
 use Rattle.ti_lex.proofs.Bytes.{IsOfClass, class_of_is, class_of-digit}
 use Rattle.ti_lex.proofs.Comments.{only_open}
 use Rattle.ti_lex.proofs.Fronts.{IsRefusal}
@@ -33,14 +33,16 @@ use Rattle.ti_lex.proofs.StringPieces.{items_read}
 number_refusal : (at : ℕ) (l : List ℕ) → IsRefusal WrongNumber at (number at l)
 number_refusal at l = by (dimension l)
   where
-    cases : (t : Bool) → IsRefusal WrongNumber at (cond t (Takes (Spells (k.Int (pos (value_from 0 l)))) (at + prefix_len is_ascii_digit l)) (Refuses WrongNumber at))
-    cases true = tt
-    cases false = (refl, refl)
+    cases : (taken : Reading) (t : Bool) → IsRefusal WrongNumber at taken → IsRefusal WrongNumber at (cond t taken (Refuses WrongNumber at))
+    cases taken true is = is
+    cases taken false is = (refl, refl)
 
     by : (found : Option ℕ) → IsRefusal WrongNumber at (option_map_or (λ n. Takes (Spells (k.Dim n)) (at + 2)) found (digits at l))
     by (Some n) = tt
     by None =
-        cases (is_number (first_passes (λ b. b == 48) l) (prefix_len is_ascii_digit l) (value_from 0 l))
+        let size = prefix_len is_ascii_digit l in
+        let long = first_passes is_long_letter (drop size l) in
+        cases (Takes (Spells (kind_of_number long (value_from 0 l))) (at + size + letters long)) (is_number (first_passes (λ b. b == 48) l) size (most_of long) (value_from 0 l)) tt
 
 -- where a string breaks, it is refused at its quote
 breaks_refused : (quote : ℕ) (bytes : List ℕ) (at : ℕ) (l : List ℕ) → breaks_string l ≡ true → string_from quote bytes at l ≡ Refuses OpenString quote

@@ -1,5 +1,5 @@
 -- Reading the piece at the front of a list, as functions of the list; `at` is where it begins in the text.
-use Rattle.std.specs.Prelude.{ℕ, ◌+◌, ◌-◌, ◌*◌, ◌==◌, min, Bool, false, not, ◌&&◌, ◌||◌, if◌then◌else◌, Option, Some, None, is_some, unwrap_or, List, [], ◌∷◌, ◌++◌, take, drop, codes, pos}
+use Rattle.std.specs.Prelude.{ℕ, ◌+◌, ◌-◌, ◌*◌, ◌==◌, min, nat_le, Bool, true, false, not, ◌&&◌, ◌||◌, if◌then◌else◌, Option, Some, None, is_some, unwrap_or, List, [], ◌∷◌, ◌++◌, take, drop, codes, pos}
 use Rattle.std.specs.List.{prefix_len}
 use Rattle.std.specs.Option.{option_map_or}
 use Rattle.std.specs.Int.{is_in_range}
@@ -8,7 +8,7 @@ use Rattle.std.specs.Str.{bytes_eq}
 use Rattle.std.specs.Map.{lookup}
 use Rattle.ti_syntax.specs.declared.token.TokenKind.{TokenKind}
 use Rattle.ti_syntax.specs.declared.token.TokenKind.TheVariants as k
-use Rattle.ti_syntax.specs.Tokenizing.{Piece, Space, Spells, Flaw, StrayByte, OpenComment, OpenString, WrongNumber, is_blank, begins_name, is_name_byte, first_passes, is_plain, escaped}
+use Rattle.ti_syntax.specs.Tokenizing.{Piece, Space, Spells, Flaw, StrayByte, OpenComment, OpenString, WrongNumber, is_blank, begins_name, is_name_byte, is_long_letter, first_passes, is_plain, escaped}
 use Rattle.ti_lex.specs.declared.class.Class.{Class}
 use Rattle.ti_lex.specs.declared.class.Class.TheVariants as c
 
@@ -82,9 +82,9 @@ dimension (b ∷ l) =
     if is_in_range 49 51 b && first_passes (λ d. d == 100) l && not (first_passes is_name_byte (drop 1 l)) then Some (b - 48)
     else None
 
--- one more than the largest number
+-- one more than the largest long number
 abbrev pub too_large : ℕ
-too_large = 2147483648
+too_large = 9223372036854775808
 
 -- the number that the digits at the front write behind those of `value`, or `too_large` where it is larger
 abbrev pub value_from : ℕ → List ℕ → ℕ
@@ -92,20 +92,35 @@ value_from value [] = value
 value_from value (b ∷ l) =
     if is_ascii_digit b then value_from (min (value * 10 + (b - 48)) too_large) l else value
 
--- a number has no 0 in front and isn't too large
-abbrev pub is_number : Bool → ℕ → ℕ → Bool
-is_number leads_with_zero size value = not (leads_with_zero && not (size == 1)) && not (value == too_large)
+-- the largest number, and the largest with the letter of a long one
+abbrev pub most_of : Bool → ℕ
+most_of false = 2147483647
+most_of true = 9223372036854775807
 
--- a whole number by its digits, or a run of digits that is none
-abbrev pub number_of : ℕ → Bool → ℕ → ℕ → Reading
-number_of at leads_with_zero size value =
-    if is_number leads_with_zero size value then Takes (Spells (k.Int (pos value))) (at + size)
+-- what a number is, and with the letter of a long one
+abbrev pub kind_of_number : Bool → ℕ → TokenKind
+kind_of_number false value = k.Int (pos value)
+kind_of_number true value = k.LongInt (pos value)
+
+-- how many letters there are
+abbrev pub letters : Bool → ℕ
+letters false = 0
+letters true = 1
+
+-- a number has no 0 in front and isn't too large
+abbrev pub is_number : Bool → ℕ → ℕ → ℕ → Bool
+is_number leads_with_zero size most value = not (leads_with_zero && not (size == 1)) && nat_le value most
+
+-- a whole number by its digits and whether the letter of a long one is behind them, or a run of digits that is none
+abbrev pub number_of : ℕ → Bool → ℕ → ℕ → Bool → Reading
+number_of at leads_with_zero size value long =
+    if is_number leads_with_zero size (most_of long) value then Takes (Spells (kind_of_number long value)) (at + size + letters long)
     else Refuses WrongNumber at
 
--- the run of digits at the front
+-- the run of digits at the front, with the letter behind it
 abbrev pub digits : ℕ → List ℕ → Reading
 digits at l =
-    number_of at (first_passes (λ b. b == 48) l) (prefix_len is_ascii_digit l) (value_from 0 l)
+    let size = prefix_len is_ascii_digit l in number_of at (first_passes (λ b. b == 48) l) size (value_from 0 l) (first_passes is_long_letter (drop size l))
 
 -- the dimension or the number at the front
 abbrev pub number : ℕ → List ℕ → Reading

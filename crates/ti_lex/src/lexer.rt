@@ -14,8 +14,8 @@ use crate::error::{LexErr, refused};
 use crate::piece::Piece;
 use std::alloc::Global;
 use ti_base::Place;
-use ti_syntax::{Token, TokenKind};
 use ti_rules::Rule;
+use ti_syntax::{Token, TokenKind};
 
 /// How many bytes a text may have.
 const MOST_BYTES: usize = 1048576;

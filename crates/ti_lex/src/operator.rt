@@ -7,8 +7,8 @@ ghost use Rattle.ti_lex.specs.Answer.{Reads};
 use crate::cursor::Cursor;
 use crate::error::{LexErr, refused};
 use crate::piece::Piece;
-use ti_syntax::TokenKind;
 use ti_rules::Rule;
+use ti_syntax::TokenKind;
 
 /// The operator or mark of one byte.
 fn first_sign(byte: u8) -> Option<TokenKind>

@@ -10,8 +10,8 @@ use crate::error::{LexErr, refused};
 use crate::piece::Piece;
 use std::alloc::Global;
 use ti_base::Place;
-use ti_syntax::{Spelled, TokenKind};
 use ti_rules::Rule;
+use ti_syntax::{Spelled, TokenKind};
 
 impl Cursor<'_> {
     /// The byte that the next item of a string stands for, or `None` at the closing quote.
