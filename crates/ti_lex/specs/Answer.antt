@@ -20,7 +20,7 @@ use Rattle.ti_lex.specs.Reading.{Reading, Takes, Refuses, Item, Gives, Closes, B
 -- the piece that the code's piece means
 abbrev pub meant : Piece → tokenizing.Piece
 meant p.Space = tokenizing.Space
-meant (p.Token kind) = tokenizing.Spells kind
+meant (p.Token kind) = tokenizing.Lexeme kind
 
 -- the code read this from the old spot on, and came to the new one
 abbrev pub Reads : Reading → Spot → Spot → Result Piece LexErr → Type 0

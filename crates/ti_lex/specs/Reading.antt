@@ -8,7 +8,7 @@ use Rattle.std.specs.Str.{bytes_eq}
 use Rattle.std.specs.Map.{lookup}
 use Rattle.ti_syntax.specs.declared.token.TokenKind.{TokenKind}
 use Rattle.ti_syntax.specs.declared.token.TokenKind.TheVariants as k
-use Rattle.ti_syntax.specs.Tokenizing.{Piece, Space, Spells, Flaw, StrayByte, OpenComment, OpenString, WrongNumber, is_blank, begins_name, is_name_byte, is_long_letter, first_passes, is_plain, escaped}
+use Rattle.ti_syntax.specs.Tokenizing.{Piece, Space, Lexeme, Flaw, StrayByte, OpenComment, OpenString, WrongNumber, is_blank, begins_name, is_name_byte, is_long_letter, first_passes, is_plain, escaped}
 use Rattle.ti_lex.specs.declared.class.Class.{Class}
 use Rattle.ti_lex.specs.declared.class.Class.TheVariants as c
 
@@ -73,7 +73,7 @@ kind_of_word word = unwrap_or (lookup (bytes_eq word) reserved) (k.Name word)
 -- a name or a reserved word, as far as it goes
 abbrev pub word : ℕ → List ℕ → Reading
 word at l =
-    let size = prefix_len is_name_byte l in Takes (Spells (kind_of_word (take size l))) (at + size)
+    let size = prefix_len is_name_byte l in Takes (Lexeme (kind_of_word (take size l))) (at + size)
 
 -- the number before the `d`, where a dimension stands at the front
 abbrev pub dimension : List ℕ → Option ℕ
@@ -114,7 +114,7 @@ is_number leads_with_zero size most value = not (leads_with_zero && not (size ==
 -- a whole number by its digits and whether the letter of a long one is behind them, or a run of digits that is none
 abbrev pub number_of : ℕ → Bool → ℕ → ℕ → Bool → Reading
 number_of at leads_with_zero size value long =
-    if is_number leads_with_zero size (most_of long) value then Takes (Spells (kind_of_number long value)) (at + size + letters long)
+    if is_number leads_with_zero size (most_of long) value then Takes (Lexeme (kind_of_number long value)) (at + size + letters long)
     else Refuses WrongNumber at
 
 -- the run of digits at the front, with the letter behind it
@@ -124,7 +124,7 @@ digits at l =
 
 -- the dimension or the number at the front
 abbrev pub number : ℕ → List ℕ → Reading
-number at l = option_map_or (λ n. Takes (Spells (k.Dim n)) (at + 2)) (dimension l) (digits at l)
+number at l = option_map_or (λ n. Takes (Lexeme (k.Dim n)) (at + 2)) (dimension l) (digits at l)
 
 -- what stands at the front of the rest of a string: an item for a byte, the closing quote, or a fault
 pub data Item : Type 0 where
@@ -153,7 +153,7 @@ abbrev mutual
   pub string_from : ℕ → List ℕ → ℕ → List ℕ → Reading
   string_from quote bytes at [] = Refuses OpenString quote
   string_from quote bytes at (b ∷ l) =
-      if b == 34 then Takes (Spells (k.Str bytes)) (at + 1)
+      if b == 34 then Takes (Lexeme (k.Str bytes)) (at + 1)
       else (if b == 92 then escape_from quote bytes at l
       else (if is_plain b then string_from quote (bytes ++ b ∷ []) (at + 1) l
       else (if b == 10 || b == 13 then Refuses OpenString quote
@@ -224,10 +224,10 @@ longer_sign _ b = None
 
 -- the longest operator that goes on from one
 abbrev pub sign_from : TokenKind → ℕ → List ℕ → Reading
-sign_from kind at [] = Takes (Spells kind) at
+sign_from kind at [] = Takes (Lexeme kind) at
 sign_from kind at (b ∷ l) =
     if is_some (longer_sign kind b) then sign_from (unwrap_or (longer_sign kind b) kind) (at + 1) l
-    else Takes (Spells kind) at
+    else Takes (Lexeme kind) at
 
 -- the operator or mark at the front
 abbrev pub sign : ℕ → List ℕ → Reading
