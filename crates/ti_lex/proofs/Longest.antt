@@ -13,7 +13,7 @@ use Rattle.ti_syntax.specs.Tokenizing.{Piece, Space, Lexeme, StrayByte, IsPiece,
 use Rattle.ti_syntax.specs.Tokenizing as pieces
 use Rattle.ti_lex.specs.declared.class.Class.{Class}
 use Rattle.ti_lex.specs.declared.class.Class.TheVariants as c
-use Rattle.ti_lex.specs.Reading.{Reading, Takes, Refuses, class_of, comment_from, line_left, word, slash, sign, first_by, first}
+use Rattle.ti_lex.specs.Mirrors.Reading.{Reading, Takes, Refuses, class_of, comment_from, line_left, word, slash, sign, first_by, first}
 use Rattle.ti_lex.proofs.Bytes.{class_of-blank, class_of-letter, class_of-digit, IsOfClass, class_of_is}
 use Rattle.ti_lex.proofs.Comments.{line_beats, line_sound, comment_taken, comment_sound}
 use Rattle.ti_lex.proofs.Fronts.{Beats, IsSound}

@@ -1,7 +1,7 @@
 -- Whole numbers and dimensions.
-use Rattle.std.proofs.Common.{◌≡◌, ◌≢◌, ℕ, zero, suc, ◌+◌, ◌-◌, ◌*◌, ◌≤◌, ◌==◌, nat_le, min, Bool, true, false, not, ◌&&◌, ◌||◌, cond, if◌then◌else◌, Option, Some, None, List, [], ◌∷◌, ◌++◌, length, take, drop, pos, inl, inr, refl, sym, ap, ◌∙◌, subst, arith, take-append-drop, append_assoc, length-append}
+use Rattle.std.proofs.Common.{◌≡◌, ℕ, zero, suc, ◌+◌, ◌-◌, ◌*◌, ◌≤◌, ◌==◌, nat_le, min, Bool, true, false, not, ◌&&◌, ◌||◌, cond, if◌then◌else◌, Option, Some, None, List, [], ◌∷◌, ◌++◌, length, take, drop, pos, inl, inr, refl, sym, ap, ◌∙◌, subst, arith, take-append-drop, append_assoc, length-append}
 use Rattle.std.proofs.Math.Seq.{take-append_seam, drop-append_seam}
-use Rattle.std.proofs.lemmas.Bool.{and_parts, eqb-true, ne_eqb}
+use Rattle.std.proofs.lemmas.Bool.{and_parts, eqb-true}
 use Rattle.std.proofs.lemmas.Bool.Decides.{nat_tests}
 use Rattle.std.proofs.lemmas.List.Folds.{length-prefix_len}
 use Rattle.std.specs.Char.{is_ascii_digit, digit_value}
@@ -12,7 +12,7 @@ use Rattle.std.specs.Str.Parse.{digits_value, digits_value_after}
 use Rattle.ti_syntax.specs.declared.token.TokenKind.TheVariants as k
 use Rattle.ti_syntax.specs.Tokenizing.{Piece, Lexeme, WrongNumber, IsPiece, HasFlaw, first_passes, is_name_byte, is_long_letter, goes_on_number}
 use Rattle.ti_syntax.specs.Tokenizing as pieces
-use Rattle.ti_lex.specs.Reading.{Takes, Refuses, dimension, too_large, value_from, most_of, kind_of_number, letters, is_number, number_of, digits, number}
+use Rattle.ti_lex.specs.Mirrors.Reading.{Takes, Refuses, dimension, too_large, value_from, most_of, kind_of_number, letters, is_number, number_of, digits, number}
 use Rattle.ti_lex.proofs.Fronts.{Beats, IsSound}
 use Rattle.ti_lex.proofs.Runs.{run_ends, run_passes, run_stops}
 

@@ -9,7 +9,7 @@ use Rattle.ti_syntax.specs.declared.token.TokenKind.TheVariants as k
 use Rattle.ti_syntax.specs.Tokens.{sign_of}
 use Rattle.ti_syntax.specs.Tokenizing.{Piece, Lexeme, IsPiece, OpensComment}
 use Rattle.ti_syntax.specs.Tokenizing as pieces
-use Rattle.ti_lex.specs.Reading.{Reading, Takes, Refuses, first_signs, first_sign, longer_sign, sign_from, sign}
+use Rattle.ti_lex.specs.Mirrors.Reading.{Reading, Takes, Refuses, first_signs, first_sign, longer_sign, sign_from, sign}
 use Rattle.ti_lex.proofs.Fronts.{Beats, IsSound, IsRefusal}
 
 -- an operator or a longer one is read behind it

@@ -6,7 +6,7 @@ use Rattle.std.proofs.lemmas.List.{append-nil}
 use Rattle.ti_syntax.specs.declared.token.TokenKind.TheVariants as k
 use Rattle.ti_syntax.specs.Tokenizing.{Piece, Lexeme, Flaw, StrayByte, OpenString, IsPiece, HasFlaw, IsItem, AreItems, BeginsNoItem, breaks_string, first_passes, is_plain, escaped}
 use Rattle.ti_syntax.specs.Tokenizing as pieces
-use Rattle.ti_lex.specs.Reading.{Reading, Takes, Refuses, string_from, escape_from}
+use Rattle.ti_lex.specs.Mirrors.Reading.{Reading, Takes, Refuses, string_from, escape_from}
 use Rattle.ti_lex.proofs.Fronts.{Beats, IsSound}
 
 plain_apart : (b : ℕ) → is_plain b ≡ true → ((b == 34) ≡ false) × ((b == 92) ≡ false)

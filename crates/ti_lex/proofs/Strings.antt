@@ -8,9 +8,9 @@ use Rattle.ti_syntax.specs.declared.token.TokenKind.TheVariants as k
 use Rattle.ti_syntax.specs.Tokenizing.{Lexeme, StrayByte, OpenString, escaped, is_plain}
 use Rattle.ti_lex.specs.declared.error.LexErr.{LexErr}
 use Rattle.ti_rules.specs.declared.rule.Rule.TheVariants.{X1}
-use Rattle.ti_lex.specs.Cursor.{Spot, rest, moved}
-use Rattle.ti_lex.specs.Reading.{Reading, Takes, Refuses, Item, Gives, Closes, Breaks, Strays, item, escape, string_from, escape_from}
-use Rattle.ti_lex.specs.Answer.{Reads, ReadsItem}
+use Rattle.ti_lex.specs.Mirrors.Cursor.{Spot, rest, moved}
+use Rattle.ti_lex.specs.Mirrors.Reading.{Reading, Takes, Refuses, Item, Gives, Closes, Breaks, Strays, item, escape, string_from, escape_from}
+use Rattle.ti_lex.specs.Mirrors.Answers.{Reads, ReadsItem}
 
 -- what an item makes of the rest of a string
 abbrev pub behind : ℕ → List ℕ → ℕ → List ℕ → Item → Reading

@@ -14,9 +14,10 @@ use Rattle.ti_lex.specs.declared.error.LexErr.{LexErr}
 use Rattle.ti_lex.specs.declared.error.LexErr.TheVariants as e
 use Rattle.ti_lex.specs.declared.piece.Piece as read
 use Rattle.ti_lex.specs.declared.piece.Piece.TheVariants as p
-use Rattle.ti_lex.specs.Answer.{Reads, Lexes}
-use Rattle.ti_lex.specs.Cursor.{Spot, rest}
-use Rattle.ti_lex.specs.Reading.{Reading, Takes, Refuses, first}
+use Rattle.ti_lex.specs.Answer.{Lexes}
+use Rattle.ti_lex.specs.Mirrors.Answers.{Reads}
+use Rattle.ti_lex.specs.Mirrors.Cursor.{Spot, rest}
+use Rattle.ti_lex.specs.Mirrors.Reading.{Reading, Takes, Refuses, first}
 use Rattle.ti_lex.proofs.Longest.{Tells, first_tells}
 
 -- one more piece behind others

@@ -13,7 +13,7 @@ use Rattle.ti_syntax.specs.declared.token.TokenKind.TheVariants as k
 use Rattle.ti_syntax.specs.Tokens.{word_of}
 use Rattle.ti_syntax.specs.Tokenizing.{Lexeme, IsPiece, first_passes, begins_name, is_name_byte}
 use Rattle.ti_syntax.specs.Tokenizing as pieces
-use Rattle.ti_lex.specs.Reading.{Takes, reserved, kind_of_word, word}
+use Rattle.ti_lex.specs.Mirrors.Reading.{Takes, reserved, kind_of_word, word}
 use Rattle.ti_lex.proofs.Fronts.{Beats, IsSound}
 use Rattle.ti_lex.proofs.Runs.{run_covers, run_passes}
 

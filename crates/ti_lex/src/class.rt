@@ -1,7 +1,7 @@
 // Kinds of bytes.
 ghost use Rattle.std.specs.Prelude.{◌≡◌};
 ghost use Rattle.ti_syntax.specs.Tokenizing.{is_blank, is_name_byte, is_long_letter, is_plain, escaped};
-ghost use Rattle.ti_lex.specs.Reading.{class_of};
+ghost use Rattle.ti_lex.specs.Mirrors.Reading.{class_of};
 
 /// What kind of piece can begin with a byte.
 #[derive(Clone, Copy, Debug)]

@@ -2,10 +2,10 @@
 ghost use Rattle.std.specs.Prelude.{◌≡◌, ◌+◌, ◌≤◌, length};
 ghost use Rattle.std.specs.List.{prefix_len};
 ghost use Rattle.std.specs.Char.{is_ascii_digit};
-ghost use Rattle.ti_lex.specs.Answer.{Reads};
-ghost use Rattle.ti_lex.specs.Cursor.{rest, moved};
+ghost use Rattle.ti_lex.specs.Mirrors.Answers.{Reads};
+ghost use Rattle.ti_lex.specs.Mirrors.Cursor.{rest, moved};
 ghost use Rattle.ti_syntax.specs.Tokenizing.{first_passes, is_long_letter};
-ghost use Rattle.ti_lex.specs.Reading.{dimension, digits, number, value_from, too_large, most_of, kind_of_number, letters};
+ghost use Rattle.ti_lex.specs.Mirrors.Reading.{dimension, digits, number, value_from, too_large, most_of, kind_of_number, letters};
 
 use crate::class::{is_long_letter, is_name_byte};
 use crate::cursor::Cursor;

@@ -1,8 +1,8 @@
 // String literals.
 ghost use Rattle.std.specs.Prelude.{◌≡◌, ◌+◌, [], ◌<◌, length, drop};
-ghost use Rattle.ti_lex.specs.Answer.{Reads, ReadsItem};
-ghost use Rattle.ti_lex.specs.Cursor.{rest};
-ghost use Rattle.ti_lex.specs.Reading.{item, string_from};
+ghost use Rattle.ti_lex.specs.Mirrors.Answers.{Reads, ReadsItem};
+ghost use Rattle.ti_lex.specs.Mirrors.Cursor.{rest};
+ghost use Rattle.ti_lex.specs.Mirrors.Reading.{item, string_from};
 
 use crate::class::{escaped, is_plain};
 use crate::cursor::Cursor;

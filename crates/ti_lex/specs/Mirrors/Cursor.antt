@@ -1,4 +1,4 @@
--- Where a text is being read.
+-- Mirrors the code; nobody has to believe it. Where a text is being read.
 use Rattle.std.specs.Prelude.{ℕ, ◌+◌, List, drop}
 
 -- a text, and how many of its bytes are read

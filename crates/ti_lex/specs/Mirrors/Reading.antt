@@ -1,4 +1,5 @@
--- Reading the piece at the front of a list, as functions of the list; `at` is where it begins in the text.
+-- Mirrors the code; nobody has to believe it. Reading the piece at the front of a list, as functions of the list; `at` is where
+-- it begins in the text.
 use Rattle.std.specs.Prelude.{ℕ, ◌+◌, ◌-◌, ◌*◌, ◌==◌, min, nat_le, Bool, true, false, not, ◌&&◌, ◌||◌, if◌then◌else◌, Option, Some, None, is_some, unwrap_or, List, [], ◌∷◌, ◌++◌, take, drop, codes, pos}
 use Rattle.std.specs.List.{prefix_len}
 use Rattle.std.specs.Option.{option_map_or}
