@@ -7,7 +7,5 @@ use Rattle.ti_domain.proofs.rest.beyond_all.Goals as goal
 
 pub loop-other-preserved : goal.loop-other-preserved
 loop-other-preserved c =
-    let other = get_or c.args.others.now c.loop-other.other-index no_rect in
     less_more c.args.dim c.args.others.now c.loop-other.other-index c.loop-other-test.true c.requires.others (IsInSome c.args.rects.now) c.loop-other.left.items c.in_ok-left-2.left.items
-    c.loop-other.invariant
-    (subst (λ l. ArePiecesOf other.dim c.in_ok-left-2.left.items (λ p. IsInSome l p × (IsIn other p → ⊥))) c.as_slice.ensures.value c.in_ok-left-2.ensures)
+    c.loop-other.invariant c.in_ok-left-2.ensures
