@@ -6,7 +6,7 @@ use Rattle.std.proofs.lemmas.Grind.{flat_map-append}
 use Rattle.std.proofs.lemmas.Option.{same_Some}
 use Rattle.ti_base.specs.declared.place.Place.{Place}
 use Rattle.ti_lang.specs.declared.listing.Statement.{Statement}
-use Rattle.ti_lang.specs.Programs.{Program}
+use Rattle.ti_lang.specs.Listed.{ListedProgram}
 use Rattle.ti_syntax.specs.Trees.Expressions.{Exp}
 use Rattle.ti_syntax.specs.Trees.Statements.{PrintTree, Stm, Stms}
 use Rattle.ti_syntax.specs.Trees.Classes.{MethodTree, ClassTree, TextTree}
@@ -117,7 +117,7 @@ is_built : (tree : TextTree) (m : MethodTree) → IsAccepted tree → IsMainOf t
 is_built tree m accepted is_main = nothing_among (flat_map refused_in m.body) (λ p among. accepted.types (record { rule = Y1; place = p }) (unbuilt (in_body tree m p is_main among)))
 
 listing_of : (program : NumberedProgram) (main : NumberedMethod) → slice_get program.methods program.main ≡ Some main → (ys : Option (List Statement)) → all_listed (numbered_stms main.body) ≡ ys → IsBuilt ys
-    → (listing : Program) × IsListing program listing
+    → (listing : ListedProgram) × IsListing program listing
 listing_of program main stands None is built = cc
 listing_of program main stands (Some ys) is built =
     (record { statements = ys; literals = program.literals; end = main.end }, record { main = main; is_main = stands; statements = is; literals = refl; end = refl })
@@ -147,7 +147,7 @@ main_stands tree program numbers =
       stands = found.stands;
     }
 
-pub has_listing : (tree : TextTree) (program : NumberedProgram) → IsAccepted tree → Numbers tree program → (listing : Program) × IsListing program listing
+pub has_listing : (tree : TextTree) (program : NumberedProgram) → IsAccepted tree → Numbers tree program → (listing : ListedProgram) × IsListing program listing
 has_listing tree program accepted numbers =
     let main = main_stands tree program numbers in
     let is_main : IsMainOf tree main.method = record {

@@ -1,7 +1,7 @@
 -- What compiling a text answers.
 use Rattle.std.specs.Prelude.{◌≡◌, ℕ, List, Result, Ok, Err}
 use Rattle.ti_lang.specs.declared.listing.Listing.{Listing}
-use Rattle.ti_lang.specs.Programs.{Program, listed_program}
+use Rattle.ti_lang.specs.Listed.{ListedProgram, listed_program}
 use Rattle.ti_rules.specs.declared.refusal.Refusal.{Refusal}
 use Rattle.ti_rules.specs.RefusalOf.{HasListing, IsRefusal}
 use Rattle.ti_lex.specs.declared.error.LexErr.{LexErr}
@@ -14,15 +14,15 @@ use Rattle.ti_top.specs.declared.compiling.CompileErr.{CompileErr}
 use Rattle.ti_top.specs.declared.compiling.CompileErr.TheVariants.{Refused, Memory}
 
 -- the text has this program alone, and no refusal
-pub record HasListingAlone (text : List ℕ) (program : Program) : Type 0 where
+pub record HasListingAlone (text : List ℕ) (program : ListedProgram) : Type 0 where
   pub has : HasListing text program
-  pub only : (other : Program) → HasListing text other → other ≡ program
+  pub only : (other : ListedProgram) → HasListing text other → other ≡ program
   pub unrefused : (refusal : Refusal) → IsRefusal text refusal → ⊥
 
 -- the text has this refusal, and no program
 pub record IsRefusedAs (text : List ℕ) (refusal : Refusal) : Type 0 where
   pub is : IsRefusal text refusal
-  pub no_program : (program : Program) → HasListing text program → ⊥
+  pub no_program : (program : ListedProgram) → HasListing text program → ⊥
 
 -- the program of the text or its refusal; memory may be wanting at any time
 abbrev pub Compiles : List ℕ → Result Listing CompileErr → Type 0

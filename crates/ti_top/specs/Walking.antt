@@ -4,7 +4,7 @@ use Rattle.ti_base.specs.declared.place.Place.{Place}
 use Rattle.ti_base.specs.declared.action.CollKind.TheVariants as coll
 use Rattle.ti_base.specs.declared.entry.Answer.TheVariants.{Done}
 use Rattle.ti_lang.specs.declared.listing.Listing.{Listing}
-use Rattle.ti_lang.specs.Programs.{listed_program}
+use Rattle.ti_lang.specs.Listed.{listed_program}
 use Rattle.ti_lang.specs.Processes.{Setting, Wait, Process}
 use Rattle.ti_lang.specs.NextStep.{Step, To, At, Ends, Faults, step}
 use Rattle.ti_top.specs.declared.walker.Walker.{Walker}

@@ -4,7 +4,7 @@ use Rattle.ti_base.specs.declared.entry.Entry.{Entry}
 use Rattle.ti_io.specs.Faults.{Rose}
 use Rattle.ti_io.specs.Source.{SourceState}
 use Rattle.ti_io.specs.Sink.{SinkState, GrewBy, GrewByFront}
-use Rattle.ti_lang.specs.Programs.{Program}
+use Rattle.ti_lang.specs.Listed.{ListedProgram}
 use Rattle.ti_lang.specs.Runs.{AllEnded, IsComplete, IsRun, IsSolo, has_fault}
 use Rattle.ti_lang.specs.Lines.{lines_of}
 use Rattle.ti_lang.specs.Alignment.{IsAligned}
@@ -43,7 +43,7 @@ pub record RanNothing (out out_after : SinkState) (history : List Entry) : Type 
   pub no_entry : history ≡ []
 
 -- the program was run, and its lines were written up to the first call that failed
-pub record RunSays (program : Program) (procs : ℕ) (out out_after : SinkState) (history : List Entry) (ending : Ending) : Type 0 where
+pub record RunSays (program : ListedProgram) (procs : ℕ) (out out_after : SinkState) (history : List Entry) (ending : Ending) : Type 0 where
   pub aligned : IsAligned program
   pub run : IsRun (run_of program procs) history
   pub solo : IsSolo (run_of program procs) history
@@ -60,7 +60,7 @@ pub record RunSays (program : Program) (procs : ℕ) (out out_after : SinkState)
 
 -- so was the program of the text
 pub record Ran (procs : ℕ) (text : List ℕ) (out out_after : SinkState) (history : List Entry) (ending : Ending) : Type 0 where
-  pub program : Program
+  pub program : ListedProgram
   pub compiled : HasListingAlone text program
   pub says : RunSays program procs out out_after history ending
 
