@@ -24,7 +24,7 @@ use Rattle.ti_names.specs.declared.error.NameErr.{NameErr}
 use Rattle.ti_names.specs.declared.error.NameErr.TheVariants as names
 use Rattle.ti_names.specs.Answer.{Resolves}
 use Rattle.ti_top.specs.declared.compiling.CompileErr.TheVariants.{Refused}
-use Rattle.ti_top.specs.Compiling.{IsRefusedAs, Compiles, of_lexer, of_parser, of_names}
+use Rattle.ti_top.specs.Mirrors.Compiling.{IsRefusedAs, Compiles, of_lexer, of_parser, of_names}
 
 -- that a text has one answer
 pub record OneAnswer : Type 0 where

@@ -12,11 +12,10 @@ use Rattle.ti_top.specs.declared.fault.Fault.{Fault}
 use Rattle.ti_top.specs.declared.ending.Ending.{Ending}
 use Rattle.ti_top.specs.declared.ending.Ending.TheVariants.{Done, Refused, Faulted, NoCommand, CantRead, CantWrite, NoMemory}
 use Rattle.ti_top.specs.Job.{Job}
-use Rattle.ti_top.specs.Reading.{most_read}
-use Rattle.ti_top.specs.RunEnds.{EndsWithFault}
+use Rattle.ti_top.specs.Run.{EndsWithFault}
 use Rattle.ti_top.specs.Ending.{status_of, err_line}
-use Rattle.ti_top.specs.Setting.{run_of}
-use Rattle.ti_top.specs.Call.{Call, IsCommand, IsNoCommand, file_of, SourceRose, OutRose, ErrRose, SinkRose, Yields}
+use Rattle.ti_top.specs.Run.{run_of}
+use Rattle.ti_top.specs.Call.{most_read, Call, IsCommand, IsNoCommand, file_of, SourceRose, OutRose, ErrRose, SinkRose, Yields}
 
 -- The words: status 3 says that they are no command, and then nothing was read.
 pub record AnswersWords (c : Call) : Type 0 where
@@ -105,6 +104,16 @@ pub record EndsRun (job : Job) (c : Call) : Type 0 where
   pub fault_everywhere : (fault : Fault) → EndsWithFault c.history fault → (c.status ≡ 2) ⊎ ((c.status ≡ 5) × SinkRose c)
   pub unfinished : c.status ≡ 6 → (program : ListedProgram) → HasListing c.text program → IsCompleteRun (run_of program job.procs) c.history → ⊥
 
+-- What the command promises of everything but its line on err.
+pub record MeetsBesideErr (c : Call) : Type 0 where
+  pub words : AnswersWords c
+  pub text : (job : Job) → IsCommand c job → ReadsText job c
+  pub refusal : (job : Job) → IsCommand c job → RefusesExactly job c
+  pub run : (job : Job) → IsCommand c job → KeepsRun job c
+  pub output : WritesOutput c
+  pub alignment : IsAlignedRun c
+  pub end : (job : Job) → IsCommand c job → EndsRun job c
+
 -- What an ending says of the call.
 abbrev pub Says : Call → Ending → Type 0
 Says c Done = (job : Job) × IsCommand c job × ((program : ListedProgram) × HasListing c.text program)
@@ -123,9 +132,14 @@ line c ending = err_line ending (file_of c)
 abbrev pub TellsEnding : Call → Type 0
 TellsEnding c = (ending : Ending) × (c.status ≡ status_of ending) × Says c ending × GrewBy c.err c.err_after (line c ending)
 
--- err grew by a front of the line of the ending that the call had before err failed
+-- the call with the status of an ending, before its line on err was written
+abbrev pub before_err : Call → Ending → Call
+before_err c ending = record c { status = status_of ending; err_after = c.err }
+
+-- err grew by a front of the line of the ending that the call had before err failed: one that is true of the call, and with whose
+-- status the call kept its promises on everything else
 abbrev pub TellsFront : Call → Type 0
-TellsFront c = (before : Ending) × Says c before × GrewByFront c.err c.err_after (line c before)
+TellsFront c = (before : Ending) × Says c before × MeetsBesideErr (before_err c before) × GrewByFront c.err c.err_after (line c before)
 
 -- The line on err: that of the status. Status 5 says that a sink failed; where err did, a front of a line stands there.
 pub record WritesErr (c : Call) : Type 0 where
@@ -153,12 +167,6 @@ pub record IsComplete (job : Job) (c : Call) : Type 0 where
 
 -- What the command promises.
 pub record Meets (c : Call) : Type 0 where
-  pub words : AnswersWords c
-  pub text : (job : Job) → IsCommand c job → ReadsText job c
-  pub refusal : (job : Job) → IsCommand c job → RefusesExactly job c
-  pub run : (job : Job) → IsCommand c job → KeepsRun job c
-  pub output : WritesOutput c
-  pub alignment : IsAlignedRun c
-  pub end : (job : Job) → IsCommand c job → EndsRun job c
+  pub beside_err : MeetsBesideErr c
   pub err : WritesErr c
   pub completeness : (job : Job) → IsCommand c job → NothingFailed job c → IsComplete job c
