@@ -179,7 +179,7 @@ clauses_cant_read job c from cause x = record {
   completeness = λ nothing. elim cause [ inl missing ↦ absurd (nothing.there missing) | inr rose ↦ absurd (nothing.source rose) ];
 }
 
--- memory was wanting before the run
+-- out of memory before the run
 clauses_no_memory : (job : Job) (c : Call) → 1 ≤ job.procs → StatusFrom NoMemory c → RanNothing c.out c.out_after c.history → Clauses job c
 clauses_no_memory job c some from x = record {
   refusal = record {
