@@ -1,5 +1,5 @@
 -- From what was done and how the line on err was written to the clauses of the command.
-use Rattle.std.proofs.Common.{◌≡◌, ◌⊎◌, inl, inr, ℕ, ◌≤◌, true, List, [], ◌∷◌, ◌++◌, Some, refl, sym, ◌∙◌, ap, subst, arith, append-nil}
+use Rattle.std.proofs.Common.{◌≡◌, ◌⊎◌, inl, inr, ℕ, ◌≤◌, true, List, [], ◌∷◌, ◌++◌, refl, sym, ◌∙◌, ap, subst, arith, append-nil}
 use Rattle.ti_base.specs.declared.entry.Entry.{Entry}
 use Rattle.ti_io.specs.Source.{IsMissing}
 use Rattle.ti_io.specs.Sink.{GrewBy, GrewByFront}
@@ -14,7 +14,7 @@ use Rattle.ti_top.specs.declared.reading.ReadEnd.{ReadEnd}
 use Rattle.ti_top.specs.declared.reading.ReadEnd.TheVariants as Read
 use Rattle.ti_top.specs.declared.ending.Ending.{Ending}
 use Rattle.ti_top.specs.declared.ending.Ending.TheVariants.{Done, Refused, Faulted, NoCommand, CantRead, CantWrite, NoMemory}
-use Rattle.ti_top.specs.Job.{Job, job_of}
+use Rattle.ti_top.specs.Job.{Job}
 use Rattle.ti_top.specs.Mirrors.Reading.{ReadsWhole}
 use Rattle.ti_top.specs.Ending.{status_of}
 use Rattle.ti_top.specs.Mirrors.Ended.{Ended}
@@ -22,8 +22,8 @@ use Rattle.ti_top.specs.Run.{fault_entry, EndsWithFault}
 use Rattle.ti_top.specs.Mirrors.Compiling.{IsRefusedAs}
 use Rattle.ti_top.specs.Run.{run_of}
 use Rattle.ti_top.specs.Mirrors.Work.{RanNothing, Ran, FileSays, WorkSays, work_of, DidNothing}
-use Rattle.ti_top.specs.Call.{Call, IsCommand, IsNoCommand, file_in, file_of, SourceRose, ErrRose, Yields}
-use Rattle.ti_top.specs.Clauses.{IsReadWhole, ReadsText, IsRefused, RefusesExactly, KeepsRun, WritesLines, WritesOutput, IsAlignedRun, EndsRun, NothingFailed, IsComplete, MeetsBesideErr, Says, before_err, Meets}
+use Rattle.ti_top.specs.Call.{Call, IsCommand, IsNoCommand, file_in, SourceRose, ErrRose, Yields}
+use Rattle.ti_top.specs.Clauses.{IsReadWhole, ReadsText, RefusesExactly, KeepsRun, WritesLines, WritesOutput, IsAlignedRun, EndsRun, NothingFailed, IsComplete, MeetsBesideErr, Says, before_err, Meets}
 use Rattle.ti_top.proofs.StatusFrom.{StatusFrom, status_from, not_five, is_done, is_faulted, is_no_memory}
 use Rattle.ti_top.proofs.WordsAnswered.{not_both, no_command_answers, command_answers}
 use Rattle.ti_top.proofs.TextRead.{EndsAs, read_whole, reads_text}

@@ -1,5 +1,5 @@
 -- One more entry of the lowest process that can take one.
-use Rattle.std.proofs.Common.{◌≡◌, ℕ, zero, suc, ◌+◌, ◌<◌, ◌≤◌, nat_lt, nat_le, Bool, true, false, not, ◌||◌, ◌&&◌, ◌==◌, is_none, if◌then◌else◌, Option, Some, None, Ok, List, [], ◌∷◌, ◌++◌, length, get_or, slice_set, position, map, count_by, ◌⊎◌, inl, inr, ⊎_elim, refl, sym, ◌∙◌, ap, subst, arith, eqb-true, length-set, length-append, get_or-set_same, get_or-set_other}
+use Rattle.std.proofs.Common.{◌≡◌, ℕ, zero, suc, ◌+◌, ◌<◌, ◌≤◌, nat_lt, nat_le, Bool, true, false, not, ◌||◌, ◌&&◌, ◌==◌, is_none, if◌then◌else◌, Option, Some, None, Ok, List, [], ◌∷◌, ◌++◌, length, get_or, slice_set, position, count_by, ◌⊎◌, inl, inr, ⊎_elim, refl, sym, ◌∙◌, ap, subst, arith, eqb-true, length-set, length-append, get_or-set_same, get_or-set_other}
 use Rattle.std.specs.List.{list_any, list_all, prefix_len}
 use Rattle.std.proofs.lemmas.List.{get_or_append_left}
 use Rattle.std.proofs.Math.Seq.{get_or-append_seam}
