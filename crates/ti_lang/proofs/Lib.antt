@@ -3,7 +3,6 @@ pub mod Counting
 pub mod Entries
 pub mod Moves
 pub mod OneListing
-pub mod OneMain
 pub mod ProgramBridges
 pub mod Standing
 pub mod Steps

@@ -6,7 +6,6 @@ pub mod Lines
 pub mod Listed
 pub mod Listings
 pub mod MainForm
-pub mod MainMethod
 pub mod Members
 pub mod NextStep
 pub mod Nodes
