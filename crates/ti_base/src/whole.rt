@@ -1,5 +1,5 @@
 // What the definitions of whole numbers say: laws, and the error of a division.
-ghost use Rattle.std.specs.Prelude.{◌≡◌, ◌≢◌, ℤ, pos};
+ghost use Rattle.std.specs.Prelude.{◌≡◌, ◌≢◌, ◌<◌, ℕ, ℤ, pos};
 ghost use Rattle.std.specs.Int.{Width};
 ghost use Rattle.ti_base.specs.WholeNumbers as whole;
 
@@ -18,4 +18,9 @@ pub fn wraps()
 pub fn divides()
     ensures some { (a b : ℤ) → b ≢ pos 0 → whole.IsDivided a b (whole.quotient a b) (whole.remainder a b) }
     ensures only { (a b q r : ℤ) → whole.IsDivided a b q r → (q ≡ whole.quotient a b) × (r ≡ whole.remainder a b) }
+{}
+
+/// A number is its quotient by a divisor, rounded down, times the divisor, and what is left modulo the divisor.
+pub fn rounds_down()
+    ensures { (n : ℤ) (d : ℕ) → 0 < d → whole.IsRoundedDown n d (whole.rounded_down n d) (whole.modulo n d) }
 {}

@@ -1,9 +1,9 @@
 -- The next point of one set or another.
-use Rattle.std.proofs.Common.{◌≡◌, ◌⊎◌, inl, inr, ⊎_elim, ◌↔◌, ℕ, Bool, true, false, List, [], ◌∷◌, Option, Some, None, All, refl, sym, subst, ◌∙◌}
+use Rattle.std.proofs.Common.{◌≡◌, ◌⊎◌, inl, inr, ⊎_elim, ◌↔◌, ℕ, Bool, true, false, List, [], ◌∷◌, Option, Some, None, IfSome, All, refl, sym, subst, ◌∙◌}
 use Rattle.std.proofs.lemmas.List.Elements.{All-head, All-tail}
 use Rattle.ti_base.specs.declared.point.Point.{Point}
 use Rattle.ti_base.specs.declared.point.Rect.{Rect}
-use Rattle.ti_base.specs.Points.{pt_lex_lt}
+use Rattle.ti_base.specs.Points.{IsPoint, pt_lex_lt}
 use Rattle.ti_base.specs.PointSets.{same_point, IsAbove, IsNextAfter}
 use Rattle.ti_base.proofs.DomainLaws.{same_from, same_self, other_below, below_trans}
 use Rattle.ti_domain.specs.Pieces.{IsShape, IsInSome}
@@ -68,3 +68,7 @@ pub dim_in_some : (d : ℕ) (rs : List Rect) (p : Point) → All (IsShape d) rs 
 dim_in_some d [] p h m = elim m [ ]
 dim_in_some d (r ∷ rs) p h (inl w) = w.one_dim ∙ (All-head (IsShape d) r rs h).one_dim
 dim_in_some d (r ∷ rs) p h (inr m) = dim_in_some d rs p (All-tail (IsShape d) r rs h) m
+
+pub next_point : (M : Point → Type 0) (p r : Option Point) → ((q : Point) → M q → IsPoint q) → IsNext M p r → IfSome r IsPoint
+next_point M p None f x = tt
+next_point M p (Some u) f x = f u x.member

@@ -4,11 +4,13 @@ use Rattle.std.proofs.lemmas.List.Elements.{All-head, All-tail, All-weaker}
 use Rattle.std.proofs.lemmas.List.Sums.{sum_by-cons}
 use Rattle.ti_base.specs.declared.point.Point.{Point}
 use Rattle.ti_base.specs.declared.point.Rect.{Rect}
+use Rattle.ti_base.specs.Points.{IsPoint}
 use Rattle.ti_base.specs.PointSets.{IsAmong, Rises, AllOf, IsListOf, same_point, is_lex_lt, with_point, union, is_among, meet}
 use Rattle.ti_base.specs.Rects.{IsRect, IsIn, points_of}
 use Rattle.ti_base.proofs.DomainLaws.{same_from, from_below, union_in, union_dim, union_lists, meet_lists}
 use Rattle.ti_base.proofs.PointLaws.{one_list, irreflexive}
 use Rattle.ti_rect.proofs.PointLists.{points_listed}
+use Rattle.ti_rect.proofs.RectLaws.{point_in}
 use Rattle.ti_domain.specs.Families.{AreApart}
 use Rattle.ti_domain.specs.Pieces.{IsShape, IsPiece, IsInSome, points_in, point_count, total_count}
 
@@ -56,6 +58,11 @@ shapes d rs = All-weaker (IsPiece d) (IsShape d) (λ r p. p.shape) rs
 
 pub forms : (d : ℕ) (rs : List Rect) → All (IsShape d) rs → All IsRect rs
 forms d rs = All-weaker (IsShape d) IsRect (λ r p. p.form) rs
+
+pub point_in_some : (d : ℕ) (rs : List Rect) (p : Point) → All (IsShape d) rs → IsInSome rs p → IsPoint p
+point_in_some d [] p h m = elim m [ ]
+point_in_some d (r ∷ rs) p h (inl w) = point_in r p (All-head (IsShape d) r rs h).form w
+point_in_some d (r ∷ rs) p h (inr m) = point_in_some d rs p (All-tail (IsShape d) r rs h) m
 
 -- ---- how many
 

@@ -2,8 +2,8 @@
 use Rattle.std.specs.Prelude.{ℕ, ◌≤◌, List, [], ◌∷◌, if◌then◌else◌, length}
 use Rattle.ti_base.specs.declared.point.Point.{Point}
 use Rattle.ti_base.specs.declared.point.Rect.{Rect}
-use Rattle.ti_base.specs.Points.{IsDim}
-use Rattle.ti_base.specs.PointSets.{IsDomain}
+use Rattle.ti_base.specs.Points.{IsDim, IsPoint}
+use Rattle.ti_base.specs.PointSets.{IsAmong, IsDomain}
 use Rattle.ti_base.specs.Rects.{is_empty}
 use Rattle.ti_domain.specs.Pieces.{ArePieces, points_in}
 
@@ -13,10 +13,11 @@ pub record Domain : Type 0 where
   pub points : List Point
   pub pieces : List Rect
 
--- points of the dimension in a rising list, at most 1,048,576
+-- points of the dimension, in their one form and in a rising list, at most 1,048,576
 pub record IsDom (d : Domain) : Type 0 where
   pub dim : IsDim d.dim
   pub domain : IsDomain d.dim d.points
+  pub form : (p : Point) → IsAmong d.points p → IsPoint p
   pub bound : length d.points ≤ 1048576
 
 -- what is kept of a domain: disjoint rectangles with few enough points

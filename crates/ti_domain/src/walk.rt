@@ -1,6 +1,7 @@
 // The next point of a domain.
 
 ghost use Rattle.std.specs.Prelude.{◌≡◌, IfSome, MatchOption, option_copied};
+ghost use Rattle.ti_base.specs.Points.{IsPoint};
 ghost use Rattle.ti_base.specs.PointSets.{IsAmong, IsNextAfter, NoneAfter};
 ghost use Rattle.ti_domain.specs.Walks.{IsSooner, AgreeInDim};
 
@@ -26,7 +27,8 @@ fn sooner(a: Option<Point>, b: Option<Point>) -> Option<Point>
 /// where there is no such point.
 pub fn dom_next_after(a: &Dom, p: Option<&Point>) -> Option<Point>
     requires { IfSome (option_copied p) (λ q. q.dim ≡ a.now.dim) }
-    ensures { MatchOption result (NoneAfter (IsAmong a.now.points) (option_copied p.entry)) (λ q. IsNextAfter (IsAmong a.now.points) (option_copied p.entry) q) }
+    ensures point { IfSome result IsPoint }
+    ensures next { MatchOption result (NoneAfter (IsAmong a.now.points) (option_copied p.entry)) (λ q. IsNextAfter (IsAmong a.now.points) (option_copied p.entry) q) }
 {
     let pieces = dom_pieces(a);
     let mut next = None;

@@ -1,8 +1,5 @@
-use Rattle.std.proofs.Common.{subst}
-use Rattle.ti_base.specs.Rects.{IsIn}
-use Rattle.ti_domain.specs.Pieces.{IsInSome, ArePiecesOf}
-use Rattle.std.proofs.Common.{get_or}
-use Rattle.ti_domain.proofs.StepLaws.{no_rect, less_more}
+use Rattle.ti_domain.specs.Pieces.{IsInSome}
+use Rattle.ti_domain.proofs.StepLaws.{less_more}
 use Rattle.ti_domain.proofs.rest.beyond_all.Goals as goal
 
 pub loop-other-preserved : goal.loop-other-preserved

@@ -3,8 +3,8 @@ use Rattle.std.proofs.lemmas.List.Elements.{All-take}
 use Rattle.ti_base.specs.Rects.{IsIn}
 use Rattle.ti_domain.specs.Pieces.{IsShape, IsInSome}
 use Rattle.ti_domain.proofs.FamilyLaws.{in_more}
-use Rattle.ti_domain.proofs.NextLaws.{sooner_is_next, agree, next_same, dim_in_some}
-use Rattle.ti_domain.proofs.PieceLaws.{shapes}
+use Rattle.ti_domain.proofs.NextLaws.{sooner_is_next, agree, next_same, next_point, dim_in_some}
+use Rattle.ti_domain.proofs.PieceLaws.{shapes, point_in_some}
 use Rattle.ti_domain.proofs.StepLaws.{no_rect}
 use Rattle.ti_domain.proofs.walk.dom_next_after.Goals as goal
 
@@ -35,3 +35,11 @@ loop-r-preserved c =
     next_same (λ q. M q ⊎ N q) (IsInSome (take (i + 1) rs)) p c.sooner-next.result
     (λ q. let m = in_more IsIn rs i no_rect c.loop-r-test.true q in (m.1, m.0))
     (sooner_is_next M N p c.loop-r.next c.rect_next_after.result c.sooner-next.result dims c.loop-r.invariant c.rect_next_after.ensures c.sooner-next.ensures)
+
+pub returns-clause-point : goal.returns-clause-point
+returns-clause-point c =
+    let rs = c.dom_pieces-pieces.result.now in
+    let i = c.loop-r.r-index in
+    let d = c.args.a.now.dim in
+    next_point (IsInSome (take i rs)) (option_copied c.args.p) c.loop-r.next
+    (λ q m. point_in_some d (take i rs) q (All-take (IsShape d) i rs (shapes d rs c.dom_pieces-pieces.ensures.pieces.each)) m) c.loop-r.invariant
