@@ -1,21 +1,19 @@
 -- A text has its `main` exactly where nothing is wrong with it.
-use Rattle.std.proofs.Common.{◌≡◌, ℕ, zero, suc, ◌+◌, ◌==◌, Bool, true, false, cond, not, ◌&&◌, ◌||◌, List, [], ◌∷◌, ◌++◌, map, length, Option, Some, None, slice_get, position, bytes_eq, codes, refl, ap, sym, ◌∙◌, subst, true≢false, arith}
+use Rattle.std.proofs.Common.{◌≡◌, ℕ, zero, suc, ◌+◌, ◌==◌, Bool, true, false, cond, not, ◌&&◌, ◌||◌, List, [], ◌∷◌, ◌++◌, map, length, Option, Some, None, slice_get, position, bytes_eq, codes, refl, ap, sym, ◌∙◌, subst, arith}
 use Rattle.std.specs.List.{list_any, position_from}
 use Rattle.std.specs.Option.{option_map_or, option_and_then, unwrap_or}
 use Rattle.std.proofs.lemmas.Bool.Decides.{nat_tests}
 use Rattle.std.proofs.lemmas.Iterator.Adapters.{position_from-zero}
 use Rattle.ti_base.specs.declared.place.Place.{Place}
-use Rattle.ti_base.specs.Places.{place_after}
 use Rattle.ti_syntax.specs.declared.tree.classes.Modifier.{Modifier}
 use Rattle.ti_syntax.specs.declared.tree.classes.ModifierWord.{ModifierWord}
 use Rattle.ti_syntax.specs.declared.tree.classes.ModifierWord.TheVariants as word
 use Rattle.ti_syntax.specs.Trees.Classes.{ParamsTree, Words, Params, ResultTree, Void, Typed, MethodTree, ClassTree, TextTree}
 use Rattle.ti_lang.specs.MainForm.{HasMainModifiers, IsVoid, IsWords, IsMainForm}
-use Rattle.ti_lang.specs.Members.{class_named, OwnMethod, methods_of, method_named, is_static, is_static_word, is_single, is_single_word}
+use Rattle.ti_lang.specs.Members.{OwnMethod, methods_of, method_named, is_static, is_static_word, is_single, is_single_word}
 use Rattle.ti_lang.specs.Numbering.{HasMain}
 use Rattle.ti_rules.specs.declared.rule.Rule.{Rule}
 use Rattle.ti_rules.specs.declared.rule.Rule.TheVariants.{N2, N3}
-use Rattle.ti_rules.specs.declared.refusal.Refusal.{Refusal}
 use Rattle.ti_rules.specs.First.{refused_if}
 use Rattle.ti_rules.specs.MainForm.{is_public, is_public_word, is_void, is_words, has_main_form, main_class, main_method, is_another, form_refusals, words_refusals, main_refusals}
 use Rattle.ti_rules.proofs.First.{In, in_contains, contains_in}

@@ -1,4 +1,4 @@
-use Rattle.std.proofs.Common.{◌≡◌, ◌+◌, ◌++◌, ◌&&◌, map, drop, arith, ap, sym, ◌∙◌}
+use Rattle.std.proofs.Common.{◌+◌, ◌&&◌, map, drop, arith, ap, ◌∙◌}
 use Rattle.std.proofs.lemmas.List.{drop_all}
 use Rattle.ti_rules.specs.declared.rule.Rule.TheVariants.{N3}
 use Rattle.ti_rules.specs.First.{sooner, first_of, refused_if}

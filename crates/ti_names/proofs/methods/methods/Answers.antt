@@ -42,7 +42,7 @@ loop-own-preserved c =
       refusal = ap (λ n. sooner c.sooner-refusal.result (first_in (methods_nodes text n (length c.body.new.self.texts.items) rest))) c.in_ok-number.ensures
           ∙ ap (λ n. sooner c.sooner-refusal.result (first_in (methods_nodes text (number + 1) n rest))) longer
           ∙ in_step c.loop-own.refusal c.sooner-refusal.result _ _ (method_nodes site number x) (methods_nodes text (number + 1) behind rest) c.loop-own.invariant.refusal
-              (ap (λ l. methods_nodes text number (length before) (map own_of l)) step) (c.sooner-refusal.ensures ∙ ap (sooner c.loop-own.refusal) is_refusal);
+          (ap (λ l. methods_nodes text number (length before) (map own_of l)) step) (c.sooner-refusal.ensures ∙ ap (sooner c.loop-own.refusal) is_refusal);
     }
 
 pub returns-clause-refusal : goal.returns-clause-refusal

@@ -1,4 +1,4 @@
-use Rattle.std.proofs.Common.{◌≡◌, ◌∙◌, ◌++◌, map, flat_map, ap, sym}
+use Rattle.std.proofs.Common.{◌≡◌, ◌∙◌, map, flat_map, ap}
 use Rattle.std.specs.Option.{unwrap_or}
 use Rattle.ti_syntax.specs.Trees.Statements.{stms}
 use Rattle.ti_syntax.specs.Trees.Text.{tree_of}
@@ -6,7 +6,7 @@ use Rattle.ti_syntax.specs.Trees.Views.{class_of}
 use Rattle.ti_lang.specs.Program.Views.{numbered_class_of, numbered_method_of}
 use Rattle.ti_lang.specs.Members.{OwnMethod, methods_of, names_of}
 use Rattle.ti_lang.specs.Scopes.{literals_in, literals_of_text}
-use Rattle.ti_lang.specs.Nodes.{classes_nodes, methods_nodes, nodes_of}
+use Rattle.ti_lang.specs.Nodes.{classes_nodes, methods_nodes}
 use Rattle.ti_rules.specs.First.{sooner, first_of}
 use Rattle.ti_rules.specs.MainForm.{main_method, main_refusals}
 use Rattle.ti_names.specs.Found.{first_in}

@@ -1,4 +1,4 @@
-use Rattle.std.proofs.Common.{◌≡◌, ◌+◌, [], map, drop, is_none, arith, ap, sym, ◌∙◌}
+use Rattle.std.proofs.Common.{◌+◌, map, drop, is_none, arith, ap, sym, ◌∙◌}
 use Rattle.std.proofs.lemmas.List.{drop_all}
 use Rattle.ti_syntax.specs.Trees.Views.{exp_of, range_of}
 use Rattle.ti_syntax.specs.Trees.Expressions.{exps, ranges_tree}

@@ -1,13 +1,10 @@
-use Rattle.std.proofs.Common.{◌≡◌, [], ◌∷◌, ◌++◌, map, ap, sym, ◌∙◌}
+use Rattle.std.proofs.Common.{◌≡◌, ◌∷◌, ◌++◌, map, ap, sym, ◌∙◌}
 use Rattle.ti_syntax.specs.Trees.Statements.{stms}
 use Rattle.ti_syntax.specs.Trees.Views.{stm_of}
-use Rattle.ti_lang.specs.Program.Views.{statement_of, numbered_params_of, numbered_result_of}
-use Rattle.ti_lang.specs.Members.{is_single, name_number}
 use Rattle.ti_lang.specs.Scopes.{body_site}
 use Rattle.ti_lang.specs.Nodes.{node, MethodName, result_nodes, params_nodes, stms_nodes}
 use Rattle.ti_rules.specs.First.{sooner}
 use Rattle.ti_names.specs.Found.{first_in}
-use Rattle.ti_names.specs.Mirrors.Numbered.{number_result, number_params, number_list}
 use Rattle.ti_names.specs.Own.{own_of}
 use Rattle.ti_names.specs.Seen.{site_of}
 use Rattle.ti_names.proofs.Firsts.{in_append}

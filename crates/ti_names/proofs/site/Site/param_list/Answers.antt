@@ -32,7 +32,7 @@ loop-param-preserved c =
           ∙ sym (ap (λ l. done ++ number_param_list text (map param_of l)) step) ∙ c.loop-param.invariant.part;
       refusal = ap (λ z. sooner c.sooner-refusal.result (first_in (param_list_nodes z rest))) moved
           ∙ in_step c.loop-param.refusal c.sooner-refusal.result _ _ (type_nodes site (type_of x.ty) ++ node site (VariableName x.place x.name) ∷ []) (param_list_nodes inner rest) c.loop-param.invariant.refusal
-              (ap (λ l. param_list_nodes site (map param_of l)) step) (c.sooner-refusal.ensures ∙ ap (sooner c.loop-param.refusal) c.in_ok-param.ensures.refusal);
+          (ap (λ l. param_list_nodes site (map param_of l)) step) (c.sooner-refusal.ensures ∙ ap (sooner c.loop-param.refusal) c.in_ok-param.ensures.refusal);
       site = ap (λ z. behind_params z rest) moved ∙ sym (ap (λ l. behind_params site (map param_of l)) step) ∙ c.loop-param.invariant.site;
     }
 
