@@ -36,6 +36,7 @@ use Rattle.ti_parse.specs.Statements as statements
 use Rattle.ti_parse.specs.Statements.{is_compound, ends_items, item, items, block, conditional, while_loop, for_loop, foreach_loop, compound, small, stmt, body}
 use Rattle.ti_parse.specs.Classes as texts
 use Rattle.ti_parse.specs.Classes.{more_params, words, params, returned, method, method_named, field_or_method, member_from, modifiers, member, members, class_from, class, classes}
+use Rattle.ti_syntax.specs.Spelling.{most_levels}
 
 -- ---- what is read behind a place
 
@@ -163,7 +164,7 @@ abbrev class_at : Way → ℕ → List Modifier → Place → Parser ClassTree
 class_at w turns ms word = (do expect_by w.take k.KeywordClass; at ← here; class_named_at w turns ms word at)
 
 -- Q is the relation, T relates the turns that are left, and v is the second way
-module _ (Q : (A : Type 0) → Parser A → Parser A → Type 0) (T : ℕ → ℕ → Type 0) (v : Way) (same_levels : v.levels ≡ 64) (q_pure : (A : Type 0) (x : A) → Q A (λ i. Ok (x, i)) (λ i. Ok (x, i)))
+module _ (Q : (A : Type 0) → Parser A → Parser A → Type 0) (T : ℕ → ℕ → Type 0) (v : Way) (same_levels : v.levels ≡ most_levels) (q_pure : (A : Type 0) (x : A) → Q A (λ i. Ok (x, i)) (λ i. Ok (x, i)))
     (q_refuse : (A : Type 0) → Q A (λ i. Err (At i)) (λ i. Err (At i))) (q_over : (A : Type 0) → Q A (λ i. Err (Over i)) (λ i. Err (Over i))) (q_take : Q (Unit {0}) take_token v.take)
     (q_full : (form : Form) → Q Exp (full form) (v.full form)) (q_operand : Q Operand full_operand v.operand)
     (q_behind_name : (at : Place) (name : List ℕ) → Q Operand (full_behind_name at name) (v.behind_name at name))
@@ -556,7 +557,7 @@ module _ (Q : (A : Type 0) → Parser A → Parser A → Type 0) (T : ℕ → �
     r_body_of level = r_items (stmt plain turns level) (stmt v more level) (r_stmt level) turns more most []
 
     r_body : R (body plain turns) (body v more)
-    r_body = subst (λ n. R (body plain turns) (items v more (stmt v more n) more [])) (sym same_levels) (r_body_of 64)
+    r_body = subst (λ n. R (body plain turns) (items v more (stmt v more n) more [])) (sym same_levels) (r_body_of most_levels)
 
     -- ---- methods
 

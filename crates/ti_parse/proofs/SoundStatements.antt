@@ -22,6 +22,7 @@ use Rattle.ti_parse.specs.Statements.{is_compound, ends_items, too_deep, item, i
 use Rattle.ti_parse.proofs.Laws.{Free, Tells, as_tells, so_tells, fewer_tells, done_tells, met_tells, refused_tells, over_tells, spent_tells, if_tells, if_head, after_tells, then_tells, then_met, then_turn, map_met, want_tells, last_tells, word_tells, name_here}
 use Rattle.ti_parse.proofs.SoundKinds.{semicolon_is, brace_shut_is, else_is}
 use Rattle.ti_parse.proofs.SoundParts.{ends_open, Shut, BegunIs, whole_tells, typed_tells, declared_tells, start_tells, simple_tells, begun_tells, print_tells, barrier_tells, condition_tells, first_tells, test_tells, update_tells}
+use Rattle.ti_syntax.specs.Spelling.{most_levels}
 
 -- ---- languages
 
@@ -212,4 +213,4 @@ module _ (turns : ℕ) where
 
   -- the items of a method
   pub body_tells : (l : List Token) → Tells turns Items Free l (body plain turns l)
-  body_tells l = all_items_tell turns (stmt plain turns 64) (stmt_tells 64) l
+  body_tells l = all_items_tell turns (stmt plain turns most_levels) (stmt_tells most_levels) l
