@@ -21,10 +21,3 @@ mod work;
 
 pub use command::{Outcome, titan_top};
 pub use compiling::one_answer;
-
-#[cfg(test)]
-mod name_tests;
-#[cfg(test)]
-mod tests;
-#[cfg(test)]
-mod tree_tests;
