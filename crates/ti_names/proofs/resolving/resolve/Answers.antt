@@ -4,7 +4,7 @@ use Rattle.ti_lang.specs.Numbering.{Numbers}
 use Rattle.ti_rules.specs.BrokenNames.{BreaksNames}
 use Rattle.ti_rules.proofs.FirstRefusal.{first_only}
 use Rattle.ti_names.specs.declared.error.NameErr.TheVariants.{Refused}
-use Rattle.ti_names.specs.Numbered.{number_program}
+use Rattle.ti_names.specs.Mirrors.Numbered.{number_program}
 use Rattle.ti_names.proofs.BrokenPlaces.{first_refusal}
 use Rattle.ti_names.proofs.Law.{accepted, unbroken_program, same_program}
 use Rattle.ti_names.proofs.resolving.resolve.Goals as goal

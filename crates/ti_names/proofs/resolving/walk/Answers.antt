@@ -7,7 +7,7 @@ use Rattle.ti_lang.specs.Members.{OwnMethod, methods_of, names_of}
 use Rattle.ti_lang.specs.Scopes.{literals_in, literals_of_text}
 use Rattle.ti_lang.specs.Nodes.{classes_nodes, methods_nodes}
 use Rattle.ti_names.specs.Faults.{least, noted, main_faults, main_number}
-use Rattle.ti_names.specs.Numbered.{number_classes, number_methods}
+use Rattle.ti_names.specs.Mirrors.Numbered.{number_classes, number_methods}
 use Rattle.ti_names.specs.Own.{own_of}
 use Rattle.ti_names.specs.Seen.{text_of}
 use Rattle.ti_names.proofs.Noting.{noted_append}
