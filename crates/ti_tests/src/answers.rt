@@ -2,7 +2,9 @@
 
 use std::alloc::Global;
 use std::test::Fail;
+use ti_lang::program::Program;
 use ti_lex::{LexErr, lex};
+use ti_names::{NameErr, resolve};
 use ti_parse::{ParseErr, parse};
 use ti_rules::Refusal;
 use ti_syntax::tree::Tree;
@@ -32,10 +34,25 @@ impl From<ParseErr> for Stopped {
     }
 }
 
+impl From<NameErr> for Stopped {
+    fn from(error: NameErr) -> Stopped {
+        match error {
+            NameErr::Refused(refusal) => Stopped::Refused(refusal),
+            NameErr::Memory => Stopped::Memory,
+        }
+    }
+}
+
 /// The tree of a text.
 pub fn parsed(alloc: Global, text: &[u8]) -> Result<Tree, Stopped> {
     let tokens = lex(alloc, text)?;
     Ok(parse(alloc, &tokens)?)
+}
+
+/// The program of a text.
+pub fn resolved(alloc: Global, text: &[u8]) -> Result<Program, Stopped> {
+    let tree = parsed(alloc, text)?;
+    Ok(resolve(alloc, &tree)?)
 }
 
 /// A refusal as its rule and its place, such as `X1 1:62`.

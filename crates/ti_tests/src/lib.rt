@@ -8,6 +8,8 @@ mod expressions;
 #[cfg(test)]
 mod grammar;
 #[cfg(test)]
+mod names;
+#[cfg(test)]
 mod programs;
 #[cfg(test)]
 mod sinks_and_sources;

@@ -22,20 +22,50 @@ pub const STATEMENTS: Frame = Frame {
     behind: "\n} }",
 };
 
-/// Puts a piece so many times behind a text.
-fn repeat(text: &mut String, piece: &str, count: usize) -> Result<(), AllocError> {
-    for _ in 0..count {
-        text.push_str(piece)?;
+/// Of statements of `main`, which begin in column 62.
+pub const MAIN: Frame = Frame {
+    front: "class Main { public static single void main(String[] args) { ",
+    behind: " } }",
+};
+
+/// Of classes, behind which stands the class `Main`.
+pub const WITH_MAIN: Frame = Frame {
+    front: "",
+    behind: " class Main { public static single void main(String[] args) {  } }",
+};
+
+/// Puts a piece behind a text, with a number in place of its `$`.
+fn push_numbered(
+    alloc: Global,
+    text: &mut String,
+    piece: &str,
+    number: usize,
+) -> Result<(), AllocError> {
+    for (place, part) in piece.split('$').enumerate() {
+        if place > 0 {
+            let digits = format!(in alloc; "{number}")?;
+            text.push_str(&digits)?;
+        }
+        text.push_str(part)?;
     }
     Ok(())
 }
 
-/// The text that is written so: between two backquotes stand a number, `#`, and what the text has so many times.
+/// Puts a piece so many times behind a text.
+fn repeat(alloc: Global, text: &mut String, piece: &str, count: usize) -> Result<(), AllocError> {
+    for number in 0..count {
+        push_numbered(alloc, text, piece, number)?;
+    }
+    Ok(())
+}
+
+/// The text that is written so: between two backquotes stand a number, `#`, and what the text has so many times, where `$`
+/// stands for 0, 1, 2 and so on.
 pub fn written(alloc: Global, short: &str) -> Result<String, Fail> {
     let mut text = String::new(alloc);
     for part in short.split('`') {
         match part.split_once('#') {
-            Some((count, piece)) => repeat(&mut text, piece, count.parse::<usize>()?)?,
+            Some((count, piece)) => repeat(alloc, &mut text, piece, count.parse::<usize>()?)?,
             None => text.push_str(part)?,
         }
     }
