@@ -3,6 +3,7 @@ pub mod Answers
 pub mod Copies
 pub mod Evaluation
 pub mod Lines
+pub mod Listed
 pub mod Listings
 pub mod MainForm
 pub mod MainMethod
@@ -12,6 +13,5 @@ pub mod Nodes
 pub mod Numbering
 pub mod Processes
 pub mod Program
-pub mod Programs
 pub mod Runs
 pub mod Scopes

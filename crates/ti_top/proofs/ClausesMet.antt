@@ -15,13 +15,13 @@ use Rattle.ti_top.specs.declared.reading.ReadEnd.TheVariants as Read
 use Rattle.ti_top.specs.declared.ending.Ending.{Ending}
 use Rattle.ti_top.specs.declared.ending.Ending.TheVariants.{Done, Refused, Faulted, NoCommand, CantRead, CantWrite, NoMemory}
 use Rattle.ti_top.specs.Job.{Job, job_of}
-use Rattle.ti_top.specs.Reading.{ReadsWhole}
+use Rattle.ti_top.specs.Mirrors.Reading.{ReadsWhole}
 use Rattle.ti_top.specs.Ending.{status_of}
-use Rattle.ti_top.specs.Ended.{Ended}
-use Rattle.ti_top.specs.RunEnds.{fault_entry, EndsWithFault}
-use Rattle.ti_top.specs.Compiling.{IsRefusedAs}
-use Rattle.ti_top.specs.Setting.{run_of}
-use Rattle.ti_top.specs.Work.{RanNothing, Ran, ReadsFile, FileSays, SaysNoCommand, WorkSays}
+use Rattle.ti_top.specs.Mirrors.Ended.{Ended}
+use Rattle.ti_top.specs.Run.{fault_entry, EndsWithFault}
+use Rattle.ti_top.specs.Mirrors.Compiling.{IsRefusedAs}
+use Rattle.ti_top.specs.Run.{run_of}
+use Rattle.ti_top.specs.Mirrors.Work.{RanNothing, Ran, ReadsFile, FileSays, SaysNoCommand, WorkSays}
 use Rattle.ti_top.specs.Call.{Call, IsCommand, file_of, work_of, SourceRose, ErrRose, Yields}
 use Rattle.ti_top.specs.Clauses.{IsReadWhole, ReadsText, IsRefused, RefusesExactly, KeepsRun, WritesLines, WritesOutput, IsAlignedRun, EndsRun, NothingFailed, IsComplete, Says, Meets}
 use Rattle.ti_top.proofs.StatusFrom.{StatusFrom, status_from, not_five, is_done, is_faulted, is_no_memory}

@@ -8,7 +8,7 @@ use Rattle.ti_syntax.specs.declared.token.TokenKind.TheVariants as k
 use Rattle.ti_syntax.specs.Tokenizing.{IsTokenized}
 use Rattle.ti_syntax.specs.Trees.Classes.{TextTree}
 use Rattle.ti_syntax.specs.Spelling.{Misfit, IsGrammarRefusal, fits}
-use Rattle.ti_lang.specs.Programs.{Program}
+use Rattle.ti_lang.specs.Listed.{ListedProgram}
 use Rattle.ti_lang.specs.Program.Classes.{NumberedProgram}
 use Rattle.ti_lang.specs.Numbering.{Numbers}
 use Rattle.ti_rules.specs.declared.rule.Rule.TheVariants.{Y1}
@@ -33,7 +33,7 @@ pub record Answered : Type 0 where
   pub unbroken : (tree : TextTree) (program : NumberedProgram) → Numbers tree program → HasNone (BreaksNames tree)
 
 abbrev Answer : List ℕ → Type 0
-Answer text = ((listing : Program) × HasListing text listing) ⊎ ((refusal : Refusal) × IsRefusal text refusal)
+Answer text = ((listing : ListedProgram) × HasListing text listing) ⊎ ((refusal : Refusal) × IsRefusal text refusal)
 
 -- where a form of the tree stands first that isn't built, if one does
 unbuilt_of : (tree : TextTree) (program : NumberedProgram) → Numbers tree program → (o : Option Place) × IsFirstPlace (IsUnbuilt tree) o

@@ -3,7 +3,7 @@ use Rattle.std.proofs.Common.{◌≡◌, inl, inr, [], arith, sym, ◌∙◌, ap
 use Rattle.std.proofs.lemmas.List.{append-nil}
 use Rattle.ti_top.specs.declared.ending.Ending.{Ending}
 use Rattle.ti_top.specs.declared.ending.Ending.TheVariants.{Done, Refused, Faulted, NoCommand, CantRead, CantWrite, NoMemory}
-use Rattle.ti_top.specs.Ended.{Ended, EndedWhole, EndedCut}
+use Rattle.ti_top.specs.Mirrors.Ended.{Ended, EndedWhole, EndedCut}
 use Rattle.ti_top.specs.Call.{Call, file_of, SinkRose}
 use Rattle.ti_top.proofs.StatusFrom.{is_done, is_cant_write}
 use Rattle.ti_top.specs.Clauses.{Says, WritesErr, line}

@@ -29,9 +29,9 @@ use Rattle.ti_lang.proofs.Standing.{entry_proc, plain, true_false}
 use Rattle.ti_top.specs.declared.fault.Fault.{Fault}
 use Rattle.ti_top.specs.declared.seat.Seat.{Seat}
 use Rattle.ti_top.specs.declared.walker.Walker.{Walker}
-use Rattle.ti_top.specs.Walking.{wait_at, waits, process_of, after_step}
-use Rattle.ti_top.specs.RunEnds.{fault_entry}
-use Rattle.ti_top.specs.Team.{is_able, Seated, Standing, steps_left, all_steps_left, GoesOn, Ends, Moves, Stops, TurnLeaves}
+use Rattle.ti_top.specs.Mirrors.Walking.{wait_at, waits, process_of, after_step}
+use Rattle.ti_top.specs.Run.{fault_entry}
+use Rattle.ti_top.specs.Mirrors.Team.{is_able, Seated, Standing, steps_left, all_steps_left, GoesOn, Ends, Moves, Stops, TurnLeaves}
 
 and_true : (a b : Bool) → (a && b) ≡ true → (a ≡ true) × (b ≡ true)
 and_true true b h = (refl, h)

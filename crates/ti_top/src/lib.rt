@@ -3,12 +3,10 @@
 
 mod command;
 mod compiling;
-mod earliest;
 mod ending;
 mod fault;
 mod flatten;
 mod line;
-mod main_method;
 mod printing;
 mod reading;
 mod run_line;

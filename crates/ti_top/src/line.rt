@@ -1,7 +1,7 @@
 // A line that is formed without taking memory.
 ghost use Rattle.std.specs.Prelude.{◌≡◌, ◌+◌, ◌≤◌, [], ◌++◌, length, decimal};
 ghost use Rattle.std.specs.Fmt.{signed_decimal};
-ghost use Rattle.ti_top.specs.Line.{line_room};
+ghost use Rattle.ti_top.specs.Mirrors.Line.{line_room};
 
 use arrayvec::ArrayVec;
 use itoa::Buffer;
