@@ -4,6 +4,10 @@
 #[cfg(test)]
 mod answers;
 #[cfg(test)]
+mod commands;
+#[cfg(test)]
+mod examples;
+#[cfg(test)]
 mod expressions;
 #[cfg(test)]
 mod grammar;
@@ -11,6 +15,8 @@ mod grammar;
 mod names;
 #[cfg(test)]
 mod programs;
+#[cfg(test)]
+mod rules_and_faults;
 #[cfg(test)]
 mod sinks_and_sources;
 #[cfg(test)]

@@ -34,27 +34,13 @@ pub const WITH_MAIN: Frame = Frame {
     behind: " class Main { public static single void main(String[] args) {  } }",
 };
 
-/// Puts a piece behind a text, with a number in place of its `$`.
-fn push_numbered(
-    alloc: Global,
-    text: &mut String,
-    piece: &str,
-    number: usize,
-) -> Result<(), AllocError> {
-    for (place, part) in piece.split('$').enumerate() {
-        if place > 0 {
-            let digits = format!(in alloc; "{number}")?;
-            text.push_str(&digits)?;
-        }
-        text.push_str(part)?;
-    }
-    Ok(())
-}
-
-/// Puts a piece so many times behind a text.
+/// Puts a piece so many times behind a text, where a `$` in it stands for 0, 1, 2 and so on.
 fn repeat(alloc: Global, text: &mut String, piece: &str, count: usize) -> Result<(), AllocError> {
     for number in 0..count {
-        push_numbered(alloc, text, piece, number)?;
+        match piece.split_once('$') {
+            Some((front, behind)) => text.push_str(&format!(in alloc; "{front}{number}{behind}")?)?,
+            None => text.push_str(piece)?,
+        }
     }
     Ok(())
 }
