@@ -16,14 +16,14 @@ struct Reading {
 struct Writing {
     fails: &'static [u32],
     answers: &'static str,
-    taken: &'static [u8],
+    taken: &'static str,
 }
 
 /// The numbers of the calls that fail, whether a piece was written, and what was taken.
 struct Piece {
     fails: &'static [u32],
     is_written: bool,
-    taken: &'static [u8],
+    taken: &'static str,
 }
 
 const READINGS: &[Reading] = &[
@@ -53,27 +53,27 @@ const WRITINGS: &[Writing] = &[
     Writing {
         fails: &[],
         answers: "[Ok(3), Ok(2), Err(Failed)] Ok(()) Ok(0)",
-        taken: b"abcab",
+        taken: "abcab",
     },
     Writing {
         fails: &[0],
         answers: "[Err(Failed), Ok(3), Ok(2)] Ok(()) Ok(0)",
-        taken: b"abcab",
+        taken: "abcab",
     },
     Writing {
         fails: &[1, 2],
         answers: "[Ok(3), Err(Failed), Err(Failed)] Ok(()) Ok(0)",
-        taken: b"abc",
+        taken: "abc",
     },
     Writing {
         fails: &[3],
         answers: "[Ok(3), Ok(2), Err(Failed)] Err(Failed) Ok(0)",
-        taken: b"abcab",
+        taken: "abcab",
     },
     Writing {
         fails: &[4],
         answers: "[Ok(3), Ok(2), Err(Failed)] Ok(()) Err(Failed)",
-        taken: b"abcab",
+        taken: "abcab",
     },
 ];
 
@@ -81,17 +81,17 @@ const PIECES: &[Piece] = &[
     Piece {
         fails: &[],
         is_written: true,
-        taken: b"abcdefg",
+        taken: "abcdefg",
     },
     Piece {
         fails: &[0],
         is_written: false,
-        taken: b"",
+        taken: "",
     },
     Piece {
         fails: &[2],
         is_written: false,
-        taken: b"abcdef",
+        taken: "abcdef",
     },
 ];
 
@@ -138,7 +138,7 @@ fn writes_in_memory(rt: HostRuntime) -> Result<(), Fail> {
         let empty = sink.write(b"");
         let found = format!(in alloc; "{writes:?} {flush:?} {empty:?}")?;
         assert_eq!(rt; found.as_str(), row.answers);
-        assert_eq!(rt; sink.bytes(), row.taken);
+        assert_eq!(rt; sink.bytes(), row.taken.as_bytes());
     }
     Ok(())
 }
@@ -149,7 +149,7 @@ fn writes_whole_pieces(rt: HostRuntime) -> Result<(), Fail> {
     for row in PIECES {
         let mut sink = MemSink::new(alloc, 3, 9, row.fails.to_vec(alloc)?)?;
         assert_eq!(rt; write_piece(&mut sink, b"abcdefg").is_ok(), row.is_written);
-        assert_eq!(rt; sink.bytes(), row.taken);
+        assert_eq!(rt; sink.bytes(), row.taken.as_bytes());
     }
     Ok(())
 }
