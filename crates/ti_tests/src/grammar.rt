@@ -1,1123 +1,1131 @@
 // Texts that are accepted by the grammar or refused at a place. What is expected was worked out by hand from the grammar.
 
-use crate::answers::{Stopped, parsed, verdict};
+use crate::answers::{Asked, Row, Stopped, parsed, wrong};
 use crate::programs::PROGRAM;
-use crate::texts::{Frame, STATEMENTS, WHOLE, framed};
+use crate::texts::{STATEMENTS, WHOLE};
 use std::test::Fail;
 use ti_base::Place;
 use ti_rules::{Refusal, Rule};
 
-/// A text that is refused, and the rule that it breaks with its place.
-struct Refused {
-    text: &'static str,
-    refusal: &'static str,
-}
-
-/// Texts in a frame.
-struct Group {
-    frame: Frame,
-    accepted: &'static [&'static str],
-    refused: &'static [Refused],
-}
-
 /// Whole texts.
-const TEXTS: &[Refused] = &[
-    Refused {
+const TEXTS: &[Row] = &[
+    Row {
         text: "x",
-        refusal: "G1 1:1",
+        answer: "G1 1:1",
     },
-    Refused {
+    Row {
         text: "int x;",
-        refusal: "G1 1:1",
+        answer: "G1 1:1",
     },
-    Refused {
+    Row {
         text: "{}",
-        refusal: "G1 1:1",
+        answer: "G1 1:1",
     },
-    Refused {
+    Row {
         text: "class",
-        refusal: "G1 1:6",
+        answer: "G1 1:6",
     },
-    Refused {
+    Row {
         text: "class C",
-        refusal: "G1 1:8",
+        answer: "G1 1:8",
     },
-    Refused {
+    Row {
         text: "class C {",
-        refusal: "G1 1:10",
+        answer: "G1 1:10",
     },
-    Refused {
+    Row {
         text: "class Main {",
-        refusal: "G1 1:13",
+        answer: "G1 1:13",
     },
-    Refused {
+    Row {
         text: "class 1 {}",
-        refusal: "G1 1:7",
+        answer: "G1 1:7",
     },
-    Refused {
+    Row {
         text: "class C {} }",
-        refusal: "G1 1:12",
+        answer: "G1 1:12",
     },
-    Refused {
+    Row {
         text: "class C {};",
-        refusal: "G1 1:11",
+        answer: "G1 1:11",
     },
-    Refused {
+    Row {
         text: "class C {} x",
-        refusal: "G1 1:12",
+        answer: "G1 1:12",
     },
-    Refused {
+    Row {
         text: "static class C {}",
-        refusal: "G1 1:1",
+        answer: "G1 1:1",
     },
-    Refused {
+    Row {
         text: "public",
-        refusal: "G1 1:7",
+        answer: "G1 1:7",
     },
-    Refused {
+    Row {
         text: "public C {}",
-        refusal: "G1 1:8",
+        answer: "G1 1:8",
     },
-    Refused {
+    Row {
         text: "class C D {}",
-        refusal: "G1 1:9",
+        answer: "G1 1:9",
     },
-    Refused {
+    Row {
         text: "class C extends D {}",
-        refusal: "G1 1:9",
+        answer: "G1 1:9",
     },
-    Refused {
+    Row {
         text: "class C { int x; } class",
-        refusal: "G1 1:25",
+        answer: "G1 1:25",
     },
-    Refused {
+    Row {
         text: "class C { x }",
-        refusal: "G1 1:13",
+        answer: "G1 1:13",
     },
-    Refused {
+    Row {
         text: "class C { int }",
-        refusal: "G1 1:15",
+        answer: "G1 1:15",
     },
-    Refused {
+    Row {
         text: "class C { int x }",
-        refusal: "G1 1:17",
+        answer: "G1 1:17",
     },
-    Refused {
+    Row {
         text: "class C { int x = 1; }",
-        refusal: "G1 1:17",
+        answer: "G1 1:17",
     },
-    Refused {
+    Row {
         text: "class C { int x, y; }",
-        refusal: "G1 1:16",
+        answer: "G1 1:16",
     },
-    Refused {
+    Row {
         text: "class C { ; }",
-        refusal: "G1 1:11",
+        answer: "G1 1:11",
     },
-    Refused {
+    Row {
         text: "class C { local int x; }",
-        refusal: "G1 1:11",
+        answer: "G1 1:11",
     },
-    Refused {
+    Row {
         text: "class C { int public x; }",
-        refusal: "G1 1:15",
+        answer: "G1 1:15",
     },
-    Refused {
+    Row {
         text: "class C { static }",
-        refusal: "G1 1:18",
+        answer: "G1 1:18",
     },
-    Refused {
+    Row {
         text: "class C { C() {} }",
-        refusal: "G1 1:12",
+        answer: "G1 1:12",
     },
-    Refused {
+    Row {
         text: "class C { class D {} }",
-        refusal: "G1 1:11",
+        answer: "G1 1:11",
     },
-    Refused {
+    Row {
         text: "class C { String s; }",
-        refusal: "G1 1:11",
+        answer: "G1 1:11",
     },
-    Refused {
+    Row {
         text: "class C { Domain<1> d; }",
-        refusal: "G1 1:22",
+        answer: "G1 1:22",
     },
-    Refused {
+    Row {
         text: "class C { SharedRegion r; }",
-        refusal: "G1 1:25",
+        answer: "G1 1:25",
     },
-    Refused {
+    Row {
         text: "class C { Domain d() {} }",
-        refusal: "G1 1:18",
+        answer: "G1 1:18",
     },
-    Refused {
+    Row {
         text: "class C { int println; }",
-        refusal: "G1 1:15",
+        answer: "G1 1:15",
     },
-    Refused {
+    Row {
         text: "class C { int [1d][1d][1d][1d] a; }",
-        refusal: "G1 1:27",
+        answer: "G1 1:27",
     },
-    Refused {
+    Row {
         text: "class C { void x; }",
-        refusal: "G1 1:17",
+        answer: "G1 1:17",
     },
-    Refused {
+    Row {
         text: "class C { void println() {} }",
-        refusal: "G1 1:16",
+        answer: "G1 1:16",
     },
-    Refused {
+    Row {
         text: "class C { void f() }",
-        refusal: "G1 1:20",
+        answer: "G1 1:20",
     },
-    Refused {
+    Row {
         text: "class C { void f(); }",
-        refusal: "G1 1:19",
+        answer: "G1 1:19",
     },
-    Refused {
+    Row {
         text: "class C { void f( {} }",
-        refusal: "G1 1:19",
+        answer: "G1 1:19",
     },
-    Refused {
+    Row {
         text: "class C { void f(int) {} }",
-        refusal: "G1 1:21",
+        answer: "G1 1:21",
     },
-    Refused {
+    Row {
         text: "class C { void f(int x,) {} }",
-        refusal: "G1 1:24",
+        answer: "G1 1:24",
     },
-    Refused {
+    Row {
         text: "class C { void f(int x y) {} }",
-        refusal: "G1 1:24",
+        answer: "G1 1:24",
     },
-    Refused {
+    Row {
         text: "class C { void f(x) {} }",
-        refusal: "G1 1:19",
+        answer: "G1 1:19",
     },
-    Refused {
+    Row {
         text: "class C { void f(String args) {} }",
-        refusal: "G1 1:25",
+        answer: "G1 1:25",
     },
-    Refused {
+    Row {
         text: "class C { void f(String[1d] a) {} }",
-        refusal: "G1 1:25",
+        answer: "G1 1:25",
     },
-    Refused {
+    Row {
         text: "class C { void f(String[] a, int b) {} }",
-        refusal: "G1 1:28",
+        answer: "G1 1:28",
     },
-    Refused {
+    Row {
         text: "class C { void f(int b, String[] a) {} }",
-        refusal: "G1 1:25",
+        answer: "G1 1:25",
     },
-    Refused {
+    Row {
         text: "class C { void f() { }",
-        refusal: "G1 1:23",
+        answer: "G1 1:23",
     },
-    Refused {
+    Row {
         text: "class C { void f() { x = 1;",
-        refusal: "G1 1:28",
+        answer: "G1 1:28",
     },
-    Refused {
+    Row {
         text: "return;",
-        refusal: "G1 1:1",
+        answer: "G1 1:1",
     },
-    Refused {
+    Row {
         text: "class long {}",
-        refusal: "G1 1:7",
+        answer: "G1 1:7",
     },
-    Refused {
+    Row {
         text: "class C { break; }",
-        refusal: "G1 1:11",
+        answer: "G1 1:11",
     },
-    Refused {
+    Row {
         text: "class C { return; }",
-        refusal: "G1 1:11",
+        answer: "G1 1:11",
     },
-    Refused {
+    Row {
         text: "class C { long; }",
-        refusal: "G1 1:15",
+        answer: "G1 1:15",
     },
-    Refused {
+    Row {
         text: "class C { int long; }",
-        refusal: "G1 1:15",
+        answer: "G1 1:15",
     },
-    Refused {
+    Row {
         text: "class C { long f; long() {} }",
-        refusal: "G1 1:23",
+        answer: "G1 1:23",
     },
-    Refused {
+    Row {
         text: "class C { void f(long) {} }",
-        refusal: "G1 1:22",
+        answer: "G1 1:22",
     },
-    Refused {
+    Row {
         text: "class C { void f() {} return; }",
-        refusal: "G1 1:23",
+        answer: "G1 1:23",
     },
-    Refused {
+    Row {
         text: "class C { Point<0> p; }",
-        refusal: "G1 1:17",
+        answer: "G1 1:17",
     },
-    Refused {
+    Row {
         text: "class C { RectDomain<4> r; }",
-        refusal: "G1 1:22",
+        answer: "G1 1:22",
     },
-    Refused {
+    Row {
         text: "class C { int [4d] a; }",
-        refusal: "G1 1:16",
+        answer: "G1 1:16",
     },
-    Refused {
+    Row {
         text: "class C { void f(Domain<0> d) {} }",
-        refusal: "G1 1:25",
+        answer: "G1 1:25",
     },
-    Refused {
+    Row {
         text: "class C { void f(int [1d][2d][3d][1d] a) {} }",
-        refusal: "G1 1:34",
+        answer: "G1 1:34",
     },
 ];
 
 /// Declarations, and right sides.
-const DECLARATIONS: &[Refused] = &[
-    Refused {
+const DECLARATIONS: &[Row] = &[
+    Row {
         text: "int x;",
-        refusal: "G1 2:6",
+        answer: "G1 2:6",
     },
-    Refused {
+    Row {
         text: "int = 1;",
-        refusal: "G1 2:5",
+        answer: "G1 2:5",
     },
-    Refused {
+    Row {
         text: "int x = 1, y = 2;",
-        refusal: "G1 2:10",
+        answer: "G1 2:10",
     },
-    Refused {
+    Row {
         text: "int int = 1;",
-        refusal: "G1 2:5",
+        answer: "G1 2:5",
     },
-    Refused {
+    Row {
         text: "int [1d] [1d] [1d] [1d] a = b;",
-        refusal: "G1 2:20",
+        answer: "G1 2:20",
     },
-    Refused {
+    Row {
         text: "int [] a = b;",
-        refusal: "G1 2:6",
+        answer: "G1 2:6",
     },
-    Refused {
+    Row {
         text: "int [1] a = b;",
-        refusal: "G1 2:6",
+        answer: "G1 2:6",
     },
-    Refused {
+    Row {
         text: "single int x = 1;",
-        refusal: "G1 2:1",
+        answer: "G1 2:1",
     },
-    Refused {
+    Row {
         text: "public int x = 1;",
-        refusal: "G1 2:1",
+        answer: "G1 2:1",
     },
-    Refused {
+    Row {
         text: "Domain<1> [1d] d = e;",
-        refusal: "G1 2:11",
+        answer: "G1 2:11",
     },
-    Refused {
+    Row {
         text: "Point p = q;",
-        refusal: "G1 2:7",
+        answer: "G1 2:7",
     },
-    Refused {
+    Row {
         text: "Point<4> p = q;",
-        refusal: "G1 2:7",
+        answer: "G1 2:7",
     },
-    Refused {
+    Row {
         text: "C x;",
-        refusal: "G1 2:4",
+        answer: "G1 2:4",
     },
-    Refused {
+    Row {
         text: "C local;",
-        refusal: "G1 2:8",
+        answer: "G1 2:8",
     },
-    Refused {
+    Row {
         text: "C [1d];",
-        refusal: "G1 2:7",
+        answer: "G1 2:7",
     },
-    Refused {
+    Row {
         text: "C [1d",
-        refusal: "G1 3:1",
+        answer: "G1 3:1",
     },
-    Refused {
+    Row {
         text: "C [x] y = 1;",
-        refusal: "G1 2:7",
+        answer: "G1 2:7",
     },
-    Refused {
+    Row {
         text: "C<1> x = y;",
-        refusal: "G1 2:2",
+        answer: "G1 2:2",
     },
-    Refused {
+    Row {
         text: "int f() { }",
-        refusal: "G1 2:6",
+        answer: "G1 2:6",
     },
-    Refused {
+    Row {
         text: "void g() {}",
-        refusal: "G1 2:1",
+        answer: "G1 2:1",
     },
-    Refused {
+    Row {
         text: "class D {}",
-        refusal: "G1 2:1",
+        answer: "G1 2:1",
     },
-    Refused {
+    Row {
         text: "x = new;",
-        refusal: "G1 2:8",
+        answer: "G1 2:8",
     },
-    Refused {
+    Row {
         text: "x = new C;",
-        refusal: "G1 2:10",
+        answer: "G1 2:10",
     },
-    Refused {
+    Row {
         text: "x = new C(1);",
-        refusal: "G1 2:11",
+        answer: "G1 2:11",
     },
-    Refused {
+    Row {
         text: "x = new int();",
-        refusal: "G1 2:12",
+        answer: "G1 2:12",
     },
-    Refused {
+    Row {
         text: "x = new Domain<1> [d];",
-        refusal: "G1 2:9",
+        answer: "G1 2:9",
     },
-    Refused {
+    Row {
         text: "x = new SharedRegion;",
-        refusal: "G1 2:21",
+        answer: "G1 2:21",
     },
-    Refused {
+    Row {
         text: "x = new (r) SharedRegion();",
-        refusal: "G1 2:13",
+        answer: "G1 2:13",
     },
-    Refused {
+    Row {
         text: "x = new () C();",
-        refusal: "G1 2:10",
+        answer: "G1 2:10",
     },
-    Refused {
+    Row {
         text: "x = new int [1d];",
-        refusal: "G1 2:14",
+        answer: "G1 2:14",
     },
-    Refused {
+    Row {
         text: "x = new int [0:9] [0:9];",
-        refusal: "G1 2:20",
+        answer: "G1 2:20",
     },
-    Refused {
+    Row {
         text: "x = new int [0:9] [1d] [1d] [1d];",
-        refusal: "G1 2:29",
+        answer: "G1 2:29",
     },
-    Refused {
+    Row {
         text: "x = new int [0:1, 2];",
-        refusal: "G1 2:20",
+        answer: "G1 2:20",
     },
-    Refused {
+    Row {
         text: "x = new int [0:1, 0:1, 0:1, 0:1];",
-        refusal: "G1 2:27",
+        answer: "G1 2:27",
     },
-    Refused {
+    Row {
         text: "x = new int [a, b];",
-        refusal: "G1 2:15",
+        answer: "G1 2:15",
     },
-    Refused {
+    Row {
         text: "x = new int [0:1:2:3];",
-        refusal: "G1 2:19",
+        answer: "G1 2:19",
     },
-    Refused {
+    Row {
         text: "x = broadcast 1;",
-        refusal: "G1 2:16",
+        answer: "G1 2:16",
     },
-    Refused {
+    Row {
         text: "x = broadcast from 0;",
-        refusal: "G1 2:20",
+        answer: "G1 2:20",
     },
-    Refused {
+    Row {
         text: "x = broadcast 1 from;",
-        refusal: "G1 2:21",
+        answer: "G1 2:21",
     },
-    Refused {
+    Row {
         text: "x = (broadcast 1 from 0);",
-        refusal: "G1 2:6",
+        answer: "G1 2:6",
     },
-    Refused {
+    Row {
         text: "f(new C());",
-        refusal: "G1 2:3",
+        answer: "G1 2:3",
     },
-    Refused {
+    Row {
         text: "long;",
-        refusal: "G1 2:5",
+        answer: "G1 2:5",
     },
-    Refused {
+    Row {
         text: "long = 1;",
-        refusal: "G1 2:6",
+        answer: "G1 2:6",
     },
-    Refused {
+    Row {
         text: "int break = 1;",
-        refusal: "G1 2:5",
+        answer: "G1 2:5",
     },
-    Refused {
+    Row {
         text: "long [1d] [1d] [1d] [1d] a = b;",
-        refusal: "G1 2:21",
+        answer: "G1 2:21",
     },
-    Refused {
+    Row {
         text: "int [0d] a = b;",
-        refusal: "G1 2:6",
+        answer: "G1 2:6",
     },
-    Refused {
+    Row {
         text: "int [4d] a = b;",
-        refusal: "G1 2:6",
+        answer: "G1 2:6",
     },
-    Refused {
+    Row {
         text: "C [9d] a = b;",
-        refusal: "G1 2:5",
+        answer: "G1 2:5",
     },
-    Refused {
+    Row {
         text: "Point<0> p = q;",
-        refusal: "G1 2:7",
+        answer: "G1 2:7",
     },
-    Refused {
+    Row {
         text: "Point<-1> p = q;",
-        refusal: "G1 2:7",
+        answer: "G1 2:7",
     },
-    Refused {
+    Row {
         text: "Point<1L> p = q;",
-        refusal: "G1 2:7",
+        answer: "G1 2:7",
     },
-    Refused {
+    Row {
         text: "RectDomain<4> r = q;",
-        refusal: "G1 2:12",
+        answer: "G1 2:12",
     },
-    Refused {
+    Row {
         text: "Domain<9> d = q;",
-        refusal: "G1 2:8",
+        answer: "G1 2:8",
     },
-    Refused {
+    Row {
         text: "x = [1, 2, 3, 4];",
-        refusal: "G1 2:13",
+        answer: "G1 2:13",
     },
-    Refused {
+    Row {
         text: "x = new long();",
-        refusal: "G1 2:13",
+        answer: "G1 2:13",
     },
-    Refused {
+    Row {
         text: "x = new Point<4> [d];",
-        refusal: "G1 2:15",
+        answer: "G1 2:15",
     },
-    Refused {
+    Row {
         text: "x = new int [0:1] [4d];",
-        refusal: "G1 2:20",
+        answer: "G1 2:20",
     },
-    Refused {
+    Row {
         text: "x = new int [0:1] [1d] [1d] [1d];",
-        refusal: "G1 2:29",
+        answer: "G1 2:29",
     },
-    Refused {
+    Row {
         text: "x = return;",
-        refusal: "G1 2:5",
+        answer: "G1 2:5",
     },
-    Refused {
+    Row {
         text: "x = break;",
-        refusal: "G1 2:5",
+        answer: "G1 2:5",
     },
 ];
 
 /// Among them are operands that can't be changed, aren't calls or begin no statement.
-const CHANGES: &[Refused] = &[
-    Refused {
+const CHANGES: &[Row] = &[
+    Row {
         text: "(x) = 2;",
-        refusal: "G1 2:5",
+        answer: "G1 2:5",
     },
-    Refused {
+    Row {
         text: "(a[0]) = 2;",
-        refusal: "G1 2:8",
+        answer: "G1 2:8",
     },
-    Refused {
+    Row {
         text: "(f());",
-        refusal: "G1 2:6",
+        answer: "G1 2:6",
     },
-    Refused {
+    Row {
         text: "f() = 1;",
-        refusal: "G1 2:5",
+        answer: "G1 2:5",
     },
-    Refused {
+    Row {
         text: "f()++;",
-        refusal: "G1 2:4",
+        answer: "G1 2:4",
     },
-    Refused {
+    Row {
         text: "f(); x",
-        refusal: "G1 3:1",
+        answer: "G1 3:1",
     },
-    Refused {
+    Row {
         text: "f() g();",
-        refusal: "G1 2:5",
+        answer: "G1 2:5",
     },
-    Refused {
+    Row {
         text: "this = 1;",
-        refusal: "G1 2:6",
+        answer: "G1 2:6",
     },
-    Refused {
+    Row {
         text: "this;",
-        refusal: "G1 2:5",
+        answer: "G1 2:5",
     },
-    Refused {
+    Row {
         text: "x;",
-        refusal: "G1 2:2",
+        answer: "G1 2:2",
     },
-    Refused {
+    Row {
         text: "x + 1;",
-        refusal: "G1 2:3",
+        answer: "G1 2:3",
     },
-    Refused {
+    Row {
         text: "x == 1;",
-        refusal: "G1 2:3",
+        answer: "G1 2:3",
     },
-    Refused {
+    Row {
         text: "1 = x;",
-        refusal: "G1 2:1",
+        answer: "G1 2:1",
     },
-    Refused {
+    Row {
         text: "1;",
-        refusal: "G1 2:1",
+        answer: "G1 2:1",
     },
-    Refused {
+    Row {
         text: "[1][0] = 2;",
-        refusal: "G1 2:1",
+        answer: "G1 2:1",
     },
-    Refused {
+    Row {
         text: "-f();",
-        refusal: "G1 2:1",
+        answer: "G1 2:1",
     },
-    Refused {
+    Row {
         text: "++x;",
-        refusal: "G1 2:1",
+        answer: "G1 2:1",
     },
-    Refused {
+    Row {
         text: "a.b;",
-        refusal: "G1 2:4",
+        answer: "G1 2:4",
     },
-    Refused {
+    Row {
         text: "a[0];",
-        refusal: "G1 2:5",
+        answer: "G1 2:5",
     },
-    Refused {
+    Row {
         text: "x = y = z;",
-        refusal: "G1 2:7",
+        answer: "G1 2:7",
     },
-    Refused {
+    Row {
         text: "x += new C();",
-        refusal: "G1 2:6",
+        answer: "G1 2:6",
     },
-    Refused {
+    Row {
         text: "x += broadcast 1 from 0;",
-        refusal: "G1 2:6",
+        answer: "G1 2:6",
     },
-    Refused {
+    Row {
         text: "x++ + 1;",
-        refusal: "G1 2:5",
+        answer: "G1 2:5",
     },
-    Refused {
+    Row {
         text: "x++",
-        refusal: "G1 3:1",
+        answer: "G1 3:1",
     },
-    Refused {
+    Row {
         text: "x = ;",
-        refusal: "G1 2:5",
+        answer: "G1 2:5",
     },
-    Refused {
+    Row {
         text: "x = 1",
-        refusal: "G1 3:1",
+        answer: "G1 3:1",
     },
-    Refused {
+    Row {
         text: "println x;",
-        refusal: "G1 2:9",
+        answer: "G1 2:9",
     },
-    Refused {
+    Row {
         text: "println = 1;",
-        refusal: "G1 2:9",
+        answer: "G1 2:9",
     },
-    Refused {
+    Row {
         text: "println(\"a\", \"b\");",
-        refusal: "G1 2:12",
+        answer: "G1 2:12",
     },
-    Refused {
+    Row {
         text: "println(\"a\" + );",
-        refusal: "G1 2:15",
+        answer: "G1 2:15",
     },
-    Refused {
+    Row {
         text: "println(\"a\" + b + c);",
-        refusal: "G1 2:17",
+        answer: "G1 2:17",
     },
-    Refused {
+    Row {
         text: "println(\"a\" - b);",
-        refusal: "G1 2:13",
+        answer: "G1 2:13",
     },
-    Refused {
+    Row {
         text: "println(a + \"b\");",
-        refusal: "G1 2:13",
+        answer: "G1 2:13",
     },
-    Refused {
+    Row {
         text: "println(a b);",
-        refusal: "G1 2:11",
+        answer: "G1 2:11",
     },
-    Refused {
+    Row {
         text: "println(1)",
-        refusal: "G1 3:1",
+        answer: "G1 3:1",
     },
-    Refused {
+    Row {
         text: "System.println(1);",
-        refusal: "G1 2:8",
+        answer: "G1 2:8",
     },
-    Refused {
+    Row {
         text: "System.err.println(1);",
-        refusal: "G1 2:8",
+        answer: "G1 2:8",
     },
-    Refused {
+    Row {
         text: "System.out.print(1);",
-        refusal: "G1 2:12",
+        answer: "G1 2:12",
     },
-    Refused {
+    Row {
         text: "System;",
-        refusal: "G1 2:7",
+        answer: "G1 2:7",
     },
-    Refused {
+    Row {
         text: "Ti.thisProc();",
-        refusal: "G1 2:4",
+        answer: "G1 2:4",
     },
-    Refused {
+    Row {
         text: "Ti.barrier;",
-        refusal: "G1 2:11",
+        answer: "G1 2:11",
     },
-    Refused {
+    Row {
         text: "Ti.barrier(1);",
-        refusal: "G1 2:12",
+        answer: "G1 2:12",
     },
-    Refused {
+    Row {
         text: "Ti.barrier()",
-        refusal: "G1 3:1",
+        answer: "G1 3:1",
     },
-    Refused {
+    Row {
         text: "a[1, 2, 3, 4] = 1;",
-        refusal: "G1 2:10",
+        answer: "G1 2:10",
     },
-    Refused {
+    Row {
         text: "1L;",
-        refusal: "G1 2:1",
+        answer: "G1 2:1",
     },
-    Refused {
+    Row {
         text: "x += 1 L;",
-        refusal: "G1 2:8",
+        answer: "G1 2:8",
     },
-    Refused {
+    Row {
         text: "(long) x;",
-        refusal: "G1 2:2",
+        answer: "G1 2:2",
     },
-    Refused {
+    Row {
         text: "println(return);",
-        refusal: "G1 2:9",
+        answer: "G1 2:9",
     },
-    Refused {
+    Row {
         text: "f(return);",
-        refusal: "G1 2:3",
+        answer: "G1 2:3",
     },
 ];
 
 /// Compound statements, and jumps.
-const COMPOUND: &[Refused] = &[
-    Refused {
+const COMPOUND: &[Row] = &[
+    Row {
         text: "{",
-        refusal: "G1 3:4",
+        answer: "G1 3:4",
     },
-    Refused {
+    Row {
         text: "}",
-        refusal: "G1 3:3",
+        answer: "G1 3:3",
     },
-    Refused {
+    Row {
         text: "else ;",
-        refusal: "G1 2:1",
+        answer: "G1 2:1",
     },
-    Refused {
+    Row {
         text: "if a ;",
-        refusal: "G1 2:4",
+        answer: "G1 2:4",
     },
-    Refused {
+    Row {
         text: "if () ;",
-        refusal: "G1 2:5",
+        answer: "G1 2:5",
     },
-    Refused {
+    Row {
         text: "if (a;",
-        refusal: "G1 2:6",
+        answer: "G1 2:6",
     },
-    Refused {
+    Row {
         text: "if (a)",
-        refusal: "G1 3:1",
+        answer: "G1 3:1",
     },
-    Refused {
+    Row {
         text: "if (a) int x = 1;",
-        refusal: "G1 2:8",
+        answer: "G1 2:8",
     },
-    Refused {
+    Row {
         text: "if (a) C x = d;",
-        refusal: "G1 2:10",
+        answer: "G1 2:10",
     },
-    Refused {
+    Row {
         text: "if (a) ; else",
-        refusal: "G1 3:1",
+        answer: "G1 3:1",
     },
-    Refused {
+    Row {
         text: "if (a) ; ; else ;",
-        refusal: "G1 2:12",
+        answer: "G1 2:12",
     },
-    Refused {
+    Row {
         text: "if (a) else ;",
-        refusal: "G1 2:8",
+        answer: "G1 2:8",
     },
-    Refused {
+    Row {
         text: "while () ;",
-        refusal: "G1 2:8",
+        answer: "G1 2:8",
     },
-    Refused {
+    Row {
         text: "while (a) }",
-        refusal: "G1 2:11",
+        answer: "G1 2:11",
     },
-    Refused {
+    Row {
         text: "for () ;",
-        refusal: "G1 2:6",
+        answer: "G1 2:6",
     },
-    Refused {
+    Row {
         text: "for (;) ;",
-        refusal: "G1 2:7",
+        answer: "G1 2:7",
     },
-    Refused {
+    Row {
         text: "for (;;;) ;",
-        refusal: "G1 2:8",
+        answer: "G1 2:8",
     },
-    Refused {
+    Row {
         text: "for (;; f()) ;",
-        refusal: "G1 2:12",
+        answer: "G1 2:12",
     },
-    Refused {
+    Row {
         text: "for (f(); ; ) ;",
-        refusal: "G1 2:9",
+        answer: "G1 2:9",
     },
-    Refused {
+    Row {
         text: "for (;; int i = 0) ;",
-        refusal: "G1 2:9",
+        answer: "G1 2:9",
     },
-    Refused {
+    Row {
         text: "for (int i = 0, j = 0; ; ) ;",
-        refusal: "G1 2:15",
+        answer: "G1 2:15",
     },
-    Refused {
+    Row {
         text: "for (int i = 0) ;",
-        refusal: "G1 2:15",
+        answer: "G1 2:15",
     },
-    Refused {
+    Row {
         text: "for (x; ; ) ;",
-        refusal: "G1 2:7",
+        answer: "G1 2:7",
     },
-    Refused {
+    Row {
         text: "for (;; i++, j++) ;",
-        refusal: "G1 2:12",
+        answer: "G1 2:12",
     },
-    Refused {
+    Row {
         text: "for (;; (x) = 1) ;",
-        refusal: "G1 2:13",
+        answer: "G1 2:13",
     },
-    Refused {
+    Row {
         text: "for (;; [1][0] = 2) ;",
-        refusal: "G1 2:9",
+        answer: "G1 2:9",
     },
-    Refused {
+    Row {
         text: "foreach (p d) ;",
-        refusal: "G1 2:12",
+        answer: "G1 2:12",
     },
-    Refused {
+    Row {
         text: "foreach (int p in d) ;",
-        refusal: "G1 2:10",
+        answer: "G1 2:10",
     },
-    Refused {
+    Row {
         text: "foreach (p in d",
-        refusal: "G1 3:1",
+        answer: "G1 3:1",
     },
-    Refused {
+    Row {
         text: "foreach (p in) ;",
-        refusal: "G1 2:14",
+        answer: "G1 2:14",
     },
-    Refused {
+    Row {
         text: "foreach (p : d) ;",
-        refusal: "G1 2:12",
+        answer: "G1 2:12",
     },
-    Refused {
+    Row {
         text: "return 1",
-        refusal: "G1 3:1",
+        answer: "G1 3:1",
     },
-    Refused {
+    Row {
         text: "return return;",
-        refusal: "G1 2:8",
+        answer: "G1 2:8",
     },
-    Refused {
+    Row {
         text: "break",
-        refusal: "G1 3:1",
+        answer: "G1 3:1",
     },
-    Refused {
+    Row {
         text: "break x;",
-        refusal: "G1 2:7",
+        answer: "G1 2:7",
     },
-    Refused {
+    Row {
         text: "break 1;",
-        refusal: "G1 2:7",
+        answer: "G1 2:7",
     },
-    Refused {
+    Row {
         text: "break();",
-        refusal: "G1 2:6",
+        answer: "G1 2:6",
     },
-    Refused {
+    Row {
         text: "continue",
-        refusal: "G1 3:1",
+        answer: "G1 3:1",
     },
-    Refused {
+    Row {
         text: "continue x;",
-        refusal: "G1 2:10",
+        answer: "G1 2:10",
     },
-    Refused {
+    Row {
         text: "(break);",
-        refusal: "G1 2:2",
+        answer: "G1 2:2",
     },
-    Refused {
+    Row {
         text: "return",
-        refusal: "G1 3:1",
+        answer: "G1 3:1",
     },
-    Refused {
+    Row {
         text: "return 1 2;",
-        refusal: "G1 2:10",
+        answer: "G1 2:10",
     },
-    Refused {
+    Row {
         text: "return int;",
-        refusal: "G1 2:8",
+        answer: "G1 2:8",
     },
-    Refused {
+    Row {
         text: "return {}",
-        refusal: "G1 2:8",
+        answer: "G1 2:8",
     },
-    Refused {
+    Row {
         text: "return x = 1;",
-        refusal: "G1 2:10",
+        answer: "G1 2:10",
     },
-    Refused {
+    Row {
         text: "return (1;",
-        refusal: "G1 2:10",
+        answer: "G1 2:10",
     },
-    Refused {
+    Row {
         text: "return new C();",
-        refusal: "G1 2:8",
+        answer: "G1 2:8",
     },
-    Refused {
+    Row {
         text: "return broadcast 1 from 0;",
-        refusal: "G1 2:8",
+        answer: "G1 2:8",
     },
-    Refused {
+    Row {
         text: "if (a) break else ;",
-        refusal: "G1 2:14",
+        answer: "G1 2:14",
     },
-    Refused {
+    Row {
         text: "if (return) ;",
-        refusal: "G1 2:5",
+        answer: "G1 2:5",
     },
-    Refused {
+    Row {
         text: "while (break) ;",
-        refusal: "G1 2:8",
+        answer: "G1 2:8",
     },
-    Refused {
+    Row {
         text: "for (break; ; ) ;",
-        refusal: "G1 2:6",
+        answer: "G1 2:6",
     },
-    Refused {
+    Row {
         text: "for (;; continue) ;",
-        refusal: "G1 2:9",
+        answer: "G1 2:9",
     },
-    Refused {
+    Row {
         text: "for (;; return) ;",
-        refusal: "G1 2:9",
+        answer: "G1 2:9",
     },
 ];
 
 /// Compound statements one in the other: a token may stand in 64 of them.
-const NESTED_ACCEPTED: &[&str] = &[
-    "`64#{`;`64#}`",
-    "`64#if (a) `;",
-    "`64#if (a) ; else `;",
-    "`64#while (a) `;",
-    "`64#for (;;) `;",
-    "`64#foreach (p in d) `;",
-    "`64#{`int x = 1; f(); println(); x = 2;`64#}`",
-    "`63#{`{} {} {}`63#}`",
-    "`63#{`if (a) x = 1; else x = 2;`63#}`",
-    "`64#{`return;`64#}`",
-    "`64#while (a) `break;",
-];
-
-/// Compound statements one in the other: a token may stand in 64 of them.
-const NESTED: &[Refused] = &[
-    Refused {
+const NESTED: &[Row] = &[
+    Row {
+        text: "`64#{`;`64#}`",
+        answer: "accepted",
+    },
+    Row {
+        text: "`64#if (a) `;",
+        answer: "accepted",
+    },
+    Row {
+        text: "`64#if (a) ; else `;",
+        answer: "accepted",
+    },
+    Row {
+        text: "`64#while (a) `;",
+        answer: "accepted",
+    },
+    Row {
+        text: "`64#for (;;) `;",
+        answer: "accepted",
+    },
+    Row {
+        text: "`64#foreach (p in d) `;",
+        answer: "accepted",
+    },
+    Row {
+        text: "`64#{`int x = 1; f(); println(); x = 2;`64#}`",
+        answer: "accepted",
+    },
+    Row {
+        text: "`63#{`{} {} {}`63#}`",
+        answer: "accepted",
+    },
+    Row {
+        text: "`63#{`if (a) x = 1; else x = 2;`63#}`",
+        answer: "accepted",
+    },
+    Row {
+        text: "`64#{`return;`64#}`",
+        answer: "accepted",
+    },
+    Row {
+        text: "`64#while (a) `break;",
+        answer: "accepted",
+    },
+    Row {
         text: "`65#{`;`65#}`",
-        refusal: "G2 2:65",
+        answer: "G2 2:65",
     },
-    Refused {
+    Row {
         text: "`65#if (a) `;",
-        refusal: "G2 2:449",
+        answer: "G2 2:449",
     },
-    Refused {
+    Row {
         text: "`65#if (a) ; else `;",
-        refusal: "G2 2:897",
+        answer: "G2 2:897",
     },
-    Refused {
+    Row {
         text: "`65#while (a) `;",
-        refusal: "G2 2:641",
+        answer: "G2 2:641",
     },
-    Refused {
+    Row {
         text: "`65#for (;;) `;",
-        refusal: "G2 2:577",
+        answer: "G2 2:577",
     },
-    Refused {
+    Row {
         text: "`65#foreach (p in d) `;",
-        refusal: "G2 2:1089",
+        answer: "G2 2:1089",
     },
-    Refused {
+    Row {
         text: "`64#{`if (a) ;`64#}`",
-        refusal: "G2 2:65",
+        answer: "G2 2:65",
     },
-    Refused {
+    Row {
         text: "`64#{`else`64#}`",
-        refusal: "G1 2:65",
+        answer: "G1 2:65",
     },
-    Refused {
+    Row {
         text: "`64#{`x = 1; while`64#}`",
-        refusal: "G2 2:72",
+        answer: "G2 2:72",
     },
-    Refused {
+    Row {
         text: "`63#{`if (a) {`63#}`",
-        refusal: "G2 2:71",
+        answer: "G2 2:71",
     },
-    Refused {
+    Row {
         text: "`63#{`if (a) ; else {`63#}`",
-        refusal: "G2 2:78",
+        answer: "G2 2:78",
     },
-    Refused {
+    Row {
         text: "`100000#{`",
-        refusal: "G2 2:65",
+        answer: "G2 2:65",
     },
-    Refused {
+    Row {
         text: "`65#{`return;`65#}`",
-        refusal: "G2 2:65",
+        answer: "G2 2:65",
     },
-    Refused {
+    Row {
         text: "`65#while (a) `break;",
-        refusal: "G2 2:641",
+        answer: "G2 2:641",
     },
 ];
 
 /// Expressions that nest deeply: a token of them may weigh 256.
-const HEAVY_ACCEPTED: &[&str] = &["x = `256#~`0;", "f(`255#~`0);", "return `256#~`0L;"];
-
-/// Expressions that nest deeply: a token of them may weigh 256.
-const HEAVY: &[Refused] = &[
-    Refused {
+const HEAVY: &[Row] = &[
+    Row {
+        text: "x = `256#~`0;",
+        answer: "accepted",
+    },
+    Row {
+        text: "f(`255#~`0);",
+        answer: "accepted",
+    },
+    Row {
+        text: "return `256#~`0L;",
+        answer: "accepted",
+    },
+    Row {
         text: "x = `257#~`0;",
-        refusal: "G2 2:261",
+        answer: "G2 2:261",
     },
-    Refused {
+    Row {
         text: "x = `300#~`",
-        refusal: "G2 2:261",
+        answer: "G2 2:261",
     },
-    Refused {
+    Row {
         text: "x = `256#~`0 (",
-        refusal: "G1 2:263",
+        answer: "G1 2:263",
     },
-    Refused {
+    Row {
         text: "x = = `300#~`0;",
-        refusal: "G1 2:5",
+        answer: "G1 2:5",
     },
-    Refused {
+    Row {
         text: "if (`257#~`a) ;",
-        refusal: "G2 2:261",
+        answer: "G2 2:261",
     },
-    Refused {
+    Row {
         text: "f(`256#~`0);",
-        refusal: "G2 2:258",
+        answer: "G2 2:258",
     },
-    Refused {
+    Row {
         text: "a[`256#~`0] = 1;",
-        refusal: "G2 2:258",
+        answer: "G2 2:258",
     },
-    Refused {
+    Row {
         text: "println(\"a\" + `257#~`0);",
-        refusal: "G2 2:271",
+        answer: "G2 2:271",
     },
-    Refused {
+    Row {
         text: "println`100000#(`",
-        refusal: "G2 2:265",
+        answer: "G2 2:265",
     },
-    Refused {
+    Row {
         text: "return `257#~`0L;",
-        refusal: "G2 2:264",
-    },
-];
-
-const GROUPS: &[Group] = &[
-    Group {
-        frame: WHOLE,
-        accepted: &[],
-        refused: TEXTS,
-    },
-    Group {
-        frame: STATEMENTS,
-        accepted: &[],
-        refused: DECLARATIONS,
-    },
-    Group {
-        frame: STATEMENTS,
-        accepted: &[],
-        refused: CHANGES,
-    },
-    Group {
-        frame: STATEMENTS,
-        accepted: &[],
-        refused: COMPOUND,
-    },
-    Group {
-        frame: STATEMENTS,
-        accepted: NESTED_ACCEPTED,
-        refused: NESTED,
-    },
-    Group {
-        frame: STATEMENTS,
-        accepted: HEAVY_ACCEPTED,
-        refused: HEAVY,
+        answer: "G2 2:264",
     },
 ];
 
 #[test]
-fn texts_are_accepted(rt: HostRuntime) -> Result<(), Fail> {
-    let alloc = rt.alloc();
-    for group in GROUPS {
-        for text in group.accepted {
-            let whole = framed(alloc, group.frame, text)?;
-            let found = verdict(alloc, parsed(alloc, whole.as_bytes()))?;
-            assert_eq!(rt; found.as_str(), "accepted", "{text}");
-        }
-    }
+fn whole_texts_are_refused(rt: HostRuntime) -> Result<(), Fail> {
+    let wrong = wrong(rt.alloc(), Asked::Grammar, WHOLE, TEXTS)?;
+    assert_eq!(rt; wrong.as_str(), "");
     Ok(())
 }
 
 #[test]
-fn texts_are_refused(rt: HostRuntime) -> Result<(), Fail> {
-    let alloc = rt.alloc();
-    for group in GROUPS {
-        for Refused { text, refusal } in group.refused {
-            let whole = framed(alloc, group.frame, text)?;
-            let found = verdict(alloc, parsed(alloc, whole.as_bytes()))?;
-            assert_eq!(rt; found.as_str(), *refusal, "{text}");
-        }
-    }
+fn declarations_are_refused(rt: HostRuntime) -> Result<(), Fail> {
+    let wrong = wrong(rt.alloc(), Asked::Grammar, STATEMENTS, DECLARATIONS)?;
+    assert_eq!(rt; wrong.as_str(), "");
+    Ok(())
+}
+
+#[test]
+fn changes_are_refused(rt: HostRuntime) -> Result<(), Fail> {
+    let wrong = wrong(rt.alloc(), Asked::Grammar, STATEMENTS, CHANGES)?;
+    assert_eq!(rt; wrong.as_str(), "");
+    Ok(())
+}
+
+#[test]
+fn compound_statements_are_refused(rt: HostRuntime) -> Result<(), Fail> {
+    let wrong = wrong(rt.alloc(), Asked::Grammar, STATEMENTS, COMPOUND)?;
+    assert_eq!(rt; wrong.as_str(), "");
+    Ok(())
+}
+
+#[test]
+fn a_token_stands_in_64_compound_statements_at_most(rt: HostRuntime) -> Result<(), Fail> {
+    let wrong = wrong(rt.alloc(), Asked::Grammar, STATEMENTS, NESTED)?;
+    assert_eq!(rt; wrong.as_str(), "");
+    Ok(())
+}
+
+#[test]
+fn a_token_weighs_256_at_most(rt: HostRuntime) -> Result<(), Fail> {
+    let wrong = wrong(rt.alloc(), Asked::Grammar, STATEMENTS, HEAVY)?;
+    assert_eq!(rt; wrong.as_str(), "");
     Ok(())
 }
 

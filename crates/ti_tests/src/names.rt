@@ -4,17 +4,12 @@
 // literals that in the text. A member of another object has the number of its name, where the 11 names of the language come
 // before those of the text.
 
-use crate::answers::{resolved, verdict};
+use crate::answers::{Asked, Row, resolved, wrong};
 use crate::programs::FORMS;
 use crate::texts::{Frame, MAIN, WHOLE, WITH_MAIN, framed};
+use std::alloc::Global;
 use std::test::Fail;
 use ti_lang::program::{Scope, Ty};
-
-/// A text that is refused, and the rule that it breaks with its place.
-struct Refused {
-    text: &'static str,
-    refusal: &'static str,
-}
 
 /// A text, and pieces of its program in their order.
 struct Numbered {
@@ -22,416 +17,420 @@ struct Numbered {
     pieces: &'static [&'static str],
 }
 
-/// Texts in a frame.
-struct Group {
-    frame: Frame,
-    accepted: &'static [&'static str],
-    refused: &'static [Refused],
-    programs: &'static [Numbered],
-}
-
-const ACCEPTED_MAIN: &[&str] = &["break;", "continue; return 1;"];
-
 /// Statements of `main`, which begin in column 62.
-const REFUSED_MAIN: &[Refused] = &[
-    Refused {
+const ANSWERS_MAIN: &[Row] = &[
+    Row {
+        text: "break;",
+        answer: "accepted",
+    },
+    Row {
+        text: "continue; return 1;",
+        answer: "accepted",
+    },
+    Row {
         text: "println(x);",
-        refusal: "N1 1:70",
+        answer: "N1 1:70",
     },
-    Refused {
+    Row {
         text: "println(args);",
-        refusal: "N1 1:70",
+        answer: "N1 1:70",
     },
-    Refused {
+    Row {
         text: "int x = x;",
-        refusal: "N1 1:70",
+        answer: "N1 1:70",
     },
-    Refused {
+    Row {
         text: "int x = 1; { int y = 2; } x = y;",
-        refusal: "N1 1:92",
+        answer: "N1 1:92",
     },
-    Refused {
+    Row {
         text: "for (int i = 0; i < 3; i++) ; println(i);",
-        refusal: "N1 1:100",
+        answer: "N1 1:100",
     },
-    Refused {
+    Row {
         text: "foreach (p in [0:p[1]]) ;",
-        refusal: "N1 1:79",
+        answer: "N1 1:79",
     },
-    Refused {
+    Row {
         text: "foreach (p in [0:3]) ; println(p[1]);",
-        refusal: "N1 1:93",
+        answer: "N1 1:93",
     },
-    Refused {
+    Row {
         text: "x = 1;",
-        refusal: "N1 1:62",
+        answer: "N1 1:62",
     },
-    Refused {
+    Row {
         text: "x++;",
-        refusal: "N1 1:62",
+        answer: "N1 1:62",
     },
-    Refused {
+    Row {
         text: "a[0] = 1;",
-        refusal: "N1 1:62",
+        answer: "N1 1:62",
     },
-    Refused {
+    Row {
         text: "int y = 1; y += z;",
-        refusal: "N1 1:78",
+        answer: "N1 1:78",
     },
-    Refused {
+    Row {
         text: "if (b) ;",
-        refusal: "N1 1:66",
+        answer: "N1 1:66",
     },
-    Refused {
+    Row {
         text: "while (b) ;",
-        refusal: "N1 1:69",
+        answer: "N1 1:69",
     },
-    Refused {
+    Row {
         text: "for (; b; ) ;",
-        refusal: "N1 1:69",
+        answer: "N1 1:69",
     },
-    Refused {
+    Row {
         text: "for (int i = 0; i < 1; j++) ;",
-        refusal: "N1 1:85",
+        answer: "N1 1:85",
     },
-    Refused {
+    Row {
         text: "println(\"s\" + x);",
-        refusal: "N1 1:76",
+        answer: "N1 1:76",
     },
-    Refused {
+    Row {
         text: "int k = broadcast x from 0;",
-        refusal: "N1 1:80",
+        answer: "N1 1:80",
     },
-    Refused {
+    Row {
         text: "int k = broadcast 1 from p;",
-        refusal: "N1 1:87",
+        answer: "N1 1:87",
     },
-    Refused {
+    Row {
         text: "C x = null;",
-        refusal: "N1 1:62",
+        answer: "N1 1:62",
     },
-    Refused {
+    Row {
         text: "int [1d] a = new int [0:n];",
-        refusal: "N1 1:86",
+        answer: "N1 1:86",
     },
-    Refused {
+    Row {
         text: "D [1d] a = null;",
-        refusal: "N1 1:62",
+        answer: "N1 1:62",
     },
-    Refused {
+    Row {
         text: "f();",
-        refusal: "N1 1:62",
+        answer: "N1 1:62",
     },
-    Refused {
+    Row {
         text: "int y = f(1);",
-        refusal: "N1 1:70",
+        answer: "N1 1:70",
     },
-    Refused {
+    Row {
         text: "println(this);",
-        refusal: "N1 1:70",
+        answer: "N1 1:70",
     },
-    Refused {
+    Row {
         text: "int x = 1; int x = 2;",
-        refusal: "N2 1:77",
+        answer: "N2 1:77",
     },
-    Refused {
+    Row {
         text: "int x = 1; { int x = 2; }",
-        refusal: "N2 1:79",
+        answer: "N2 1:79",
     },
-    Refused {
+    Row {
         text: "int p = 1; foreach (p in [0:3]) ;",
-        refusal: "N2 1:82",
+        answer: "N2 1:82",
     },
-    Refused {
+    Row {
         text: "foreach (p in [0:3]) { int p = 1; }",
-        refusal: "N2 1:89",
+        answer: "N2 1:89",
     },
-    Refused {
+    Row {
         text: "foreach (p in [0:3]) foreach (p in [0:3]) ;",
-        refusal: "N2 1:92",
+        answer: "N2 1:92",
     },
-    Refused {
+    Row {
         text: "int i = 0; for (int i = 0; i < 1; i++) ;",
-        refusal: "N2 1:82",
+        answer: "N2 1:82",
     },
-    Refused {
+    Row {
         text: "for (int i = 0; i < 1; i++) { int i = 1; }",
-        refusal: "N2 1:96",
+        answer: "N2 1:96",
     },
-    Refused {
+    Row {
         text: "println(x); int y = 1; int y = 2;",
-        refusal: "N1 1:70",
+        answer: "N1 1:70",
     },
-    Refused {
+    Row {
         text: "int y = 1; int y = 2; println(x);",
-        refusal: "N2 1:77",
+        answer: "N2 1:77",
     },
-    Refused {
+    Row {
         text: "`200#int v$ = 0; `int w = 0;",
-        refusal: "N4 1:2756",
+        answer: "N4 1:2756",
     },
-    Refused {
+    Row {
         text: "`200#int v$ = 0; `foreach (p in [0:1]) ;",
-        refusal: "N4 1:2761",
+        answer: "N4 1:2761",
     },
-    Refused {
+    Row {
         text: "`200#int v$ = 0; `int v7 = 0;",
-        refusal: "N2 1:2756",
+        answer: "N2 1:2756",
     },
-    Refused {
+    Row {
         text: "long x = y;",
-        refusal: "N1 1:71",
+        answer: "N1 1:71",
     },
-    Refused {
+    Row {
         text: "long x = 1; int x = 2;",
-        refusal: "N2 1:78",
+        answer: "N2 1:78",
     },
-    Refused {
+    Row {
         text: "return x;",
-        refusal: "N1 1:69",
+        answer: "N1 1:69",
     },
-    Refused {
+    Row {
         text: "if (true) return x;",
-        refusal: "N1 1:79",
+        answer: "N1 1:79",
     },
-    Refused {
+    Row {
         text: "while (true) { break; println(x); }",
-        refusal: "N1 1:92",
+        answer: "N1 1:92",
     },
-    Refused {
+    Row {
         text: "while (true) { continue; int y = 1; } println(y);",
-        refusal: "N1 1:108",
+        answer: "N1 1:108",
     },
-    Refused {
+    Row {
         text: "return; int x = 1; int x = 2;",
-        refusal: "N2 1:85",
+        answer: "N2 1:85",
     },
-    Refused {
+    Row {
         text: "for (int i = 0; ; ) { break; } i = 1;",
-        refusal: "N1 1:93",
+        answer: "N1 1:93",
     },
-];
-
-const ACCEPTED_WITH_MAIN: &[&str] = &[
-    "class C { int D; }",
-    "class C { int f() { return 1; return 2; } }",
 ];
 
 /// Classes, behind which stands the class `Main`.
-const REFUSED_WITH_MAIN: &[Refused] = &[
-    Refused {
+const ANSWERS_WITH_MAIN: &[Row] = &[
+    Row {
+        text: "class C { int D; }",
+        answer: "accepted",
+    },
+    Row {
+        text: "class C { int f() { return 1; return 2; } }",
+        answer: "accepted",
+    },
+    Row {
         text: "class C { int v; static int g() { return v; } }",
-        refusal: "N1 1:42",
+        answer: "N1 1:42",
     },
-    Refused {
+    Row {
         text: "class C { int v; static C g() { return this; } }",
-        refusal: "N1 1:40",
+        answer: "N1 1:40",
     },
-    Refused {
+    Row {
         text: "class C { void f() { } static void g() { f(); } }",
-        refusal: "N1 1:42",
+        answer: "N1 1:42",
     },
-    Refused {
+    Row {
         text: "class C { D d; }",
-        refusal: "N1 1:11",
+        answer: "N1 1:11",
     },
-    Refused {
+    Row {
         text: "class C { D f() { return null; } }",
-        refusal: "N1 1:11",
+        answer: "N1 1:11",
     },
-    Refused {
+    Row {
         text: "class C { void f(D d) { } }",
-        refusal: "N1 1:18",
+        answer: "N1 1:18",
     },
-    Refused {
+    Row {
         text: "class C { int f(int a) { return b; } }",
-        refusal: "N1 1:33",
+        answer: "N1 1:33",
     },
-    Refused {
+    Row {
         text: "class C { int f() { int a = 1; return a; } int g() { return a; } }",
-        refusal: "N1 1:61",
+        answer: "N1 1:61",
     },
-    Refused {
+    Row {
         text: "class C { void f(int a, int a) { } }",
-        refusal: "N2 1:29",
+        answer: "N2 1:29",
     },
-    Refused {
+    Row {
         text: "class C { void f(int a) { int a = 1; } }",
-        refusal: "N2 1:31",
+        answer: "N2 1:31",
     },
-    Refused {
+    Row {
         text: "class C { int v; boolean v; }",
-        refusal: "N2 1:26",
+        answer: "N2 1:26",
     },
-    Refused {
+    Row {
         text: "class C { void f() { } int f(int a) { return a; } }",
-        refusal: "N2 1:28",
+        answer: "N2 1:28",
     },
-    Refused {
+    Row {
         text: "class C { } class C { }",
-        refusal: "N2 1:19",
+        answer: "N2 1:19",
     },
-    Refused {
+    Row {
         text: "class C { int v; int v; int v; }",
-        refusal: "N2 1:22",
+        answer: "N2 1:22",
     },
-    Refused {
+    Row {
         text: "class C { void f(String[] a) { } }",
-        refusal: "N3 1:16",
+        answer: "N3 1:16",
     },
-    Refused {
+    Row {
         text: "class C { public static single void main(String[] a) { } }",
-        refusal: "N3 1:37",
+        answer: "N3 1:37",
     },
-    Refused {
+    Row {
         text: "class C { void f(int a) { `199#int v$ = 0; `int w = 0; } }",
-        refusal: "N4 1:2707",
+        answer: "N4 1:2707",
     },
-    Refused {
+    Row {
         text: "class C { int f(int a) { if (true) return b; return a; } }",
-        refusal: "N1 1:43",
+        answer: "N1 1:43",
     },
-    Refused {
+    Row {
         text: "class C { static int f() { return v; } int v; }",
-        refusal: "N1 1:35",
+        answer: "N1 1:35",
     },
-    Refused {
+    Row {
         text: "class C { long f(Point<2> p) { return (D local) null; } }",
-        refusal: "N1 1:40",
+        answer: "N1 1:40",
     },
-    Refused {
+    Row {
         text: "class C { long f; int f; }",
-        refusal: "N2 1:23",
+        answer: "N2 1:23",
     },
-];
-
-const ACCEPTED_WHOLE: &[&str] = &[
-    "class Main { public static single void main(String[] args) { return; } }",
-    "class Main { public static single void main(String[] args) { return 1; println(2); } }",
 ];
 
 /// Whole texts.
-const REFUSED_WHOLE: &[Refused] = &[
-    Refused {
-        text: "class C { int v; } class Main { public static single void main(String[] args) { C x = new D(); } }",
-        refusal: "N1 1:91",
+const ANSWERS_WHOLE: &[Row] = &[
+    Row {
+        text: "class Main { public static single void main(String[] args) { return; } }",
+        answer: "accepted",
     },
-    Refused {
+    Row {
+        text: "class Main { public static single void main(String[] args) { return 1; println(2); } }",
+        answer: "accepted",
+    },
+    Row {
+        text: "class C { int v; } class Main { public static single void main(String[] args) { C x = new D(); } }",
+        answer: "N1 1:91",
+    },
+    Row {
         text: "class C { int v; } class Main { public static single void main(String[] args) { C x = new (r) C(); \
         } }",
-        refusal: "N1 1:92",
+        answer: "N1 1:92",
     },
-    Refused {
+    Row {
         text: "class C { int v; } class Main { public static single void main(String[] args) { C [1d] a = new D \
         [0:1]; } }",
-        refusal: "N1 1:96",
+        answer: "N1 1:96",
     },
-    Refused {
+    Row {
         text: "class C { int v; } class Main { public static single void main(String[] args) { C x = (D local) \
         null; } }",
-        refusal: "N1 1:88",
+        answer: "N1 1:88",
     },
-    Refused {
+    Row {
         text: "class C { int v; } class Main { public static single void main(String[] args) { println(C.v); } }",
-        refusal: "N1 1:91",
+        answer: "N1 1:91",
     },
-    Refused {
+    Row {
         text: "class C { int v; } class Main { public static single void main(String[] args) { C.v = 1; } }",
-        refusal: "N1 1:83",
+        answer: "N1 1:83",
     },
-    Refused {
+    Row {
         text: "class C { int v; } class Main { public static single void main(String[] args) { C.f(); } }",
-        refusal: "N1 1:83",
+        answer: "N1 1:83",
     },
-    Refused {
+    Row {
         text: "class C { int v; } class Main { public static single void main(String[] args) { D.f(); } }",
-        refusal: "N1 1:81",
+        answer: "N1 1:81",
     },
-    Refused {
+    Row {
         text: "class C { int v; } class Main { public static single void main(String[] args) { println(D.v); } }",
-        refusal: "N1 1:89",
+        answer: "N1 1:89",
     },
-    Refused {
+    Row {
         text: "class C { int f() { return 1; } } class Main { public static single void main(String[] args) { int \
         x = C.f(); } }",
-        refusal: "N1 1:106",
+        answer: "N1 1:106",
     },
-    Refused {
+    Row {
         text: "class C { void f() { } } class Main { public static single void main(String[] args) { f(); } }",
-        refusal: "N1 1:87",
+        answer: "N1 1:87",
     },
-    Refused {
+    Row {
         text: "class Main { public static single void main(String[] args) { } void f() { int C = 1; println(D.v); \
         } }",
-        refusal: "N1 1:94",
+        answer: "N1 1:94",
     },
-    Refused {
+    Row {
         text: "class Main { public static single void main(String[] args) {  } } class Main { }",
-        refusal: "N2 1:73",
+        answer: "N2 1:73",
     },
-    Refused {
+    Row {
         text: "",
-        refusal: "N3 1:1",
+        answer: "N3 1:1",
     },
-    Refused {
+    Row {
         text: "class C { }",
-        refusal: "N3 1:1",
+        answer: "N3 1:1",
     },
-    Refused {
+    Row {
         text: "class Main { }",
-        refusal: "N3 1:7",
+        answer: "N3 1:7",
     },
-    Refused {
+    Row {
         text: "class Main { int main; }",
-        refusal: "N3 1:7",
+        answer: "N3 1:7",
     },
-    Refused {
+    Row {
         text: "class Main { public static single void main() { } }",
-        refusal: "N3 1:40",
+        answer: "N3 1:40",
     },
-    Refused {
+    Row {
         text: "class Main { public static void main(String[] args) { } }",
-        refusal: "N3 1:33",
+        answer: "N3 1:33",
     },
-    Refused {
+    Row {
         text: "class Main { static single void main(String[] args) { } }",
-        refusal: "N3 1:33",
+        answer: "N3 1:33",
     },
-    Refused {
+    Row {
         text: "class Main { public single void main(String[] args) { } }",
-        refusal: "N3 1:33",
+        answer: "N3 1:33",
     },
-    Refused {
+    Row {
         text: "class Main { public static single final void main(String[] args) { } }",
-        refusal: "N3 1:46",
+        answer: "N3 1:46",
     },
-    Refused {
+    Row {
         text: "class Main { public static static single void main(String[] args) { } }",
-        refusal: "N3 1:47",
+        answer: "N3 1:47",
     },
-    Refused {
+    Row {
         text: "class Main { public static single int main(String[] args) { return 1; } }",
-        refusal: "N3 1:39",
+        answer: "N3 1:39",
     },
-    Refused {
+    Row {
         text: "class Main { public static single void main(int a) { } }",
-        refusal: "N3 1:40",
+        answer: "N3 1:40",
     },
-    Refused {
+    Row {
         text: "class Main { public static single void main(String[] args) { } void f(String[] a) { } }",
-        refusal: "N3 1:69",
+        answer: "N3 1:69",
     },
-    Refused {
+    Row {
         text: "class C { D d; }",
-        refusal: "N3 1:1",
+        answer: "N3 1:1",
     },
-    Refused {
+    Row {
         text: "class C { D d; int d; } class Main { public static single void main(String[] args) { println(x); } }",
-        refusal: "N1 1:11",
+        answer: "N1 1:11",
     },
-    Refused {
+    Row {
         text: "class Main { public static single long main(String[] args) { return 1; } }",
-        refusal: "N3 1:40",
+        answer: "N3 1:40",
     },
 ];
 
@@ -664,53 +663,6 @@ const PROGRAMS_WHOLE: &[Numbered] = &[
     },
 ];
 
-const GROUPS: &[Group] = &[
-    Group {
-        frame: MAIN,
-        accepted: ACCEPTED_MAIN,
-        refused: REFUSED_MAIN,
-        programs: PROGRAMS_MAIN,
-    },
-    Group {
-        frame: WITH_MAIN,
-        accepted: ACCEPTED_WITH_MAIN,
-        refused: REFUSED_WITH_MAIN,
-        programs: PROGRAMS_WITH_MAIN,
-    },
-    Group {
-        frame: WHOLE,
-        accepted: ACCEPTED_WHOLE,
-        refused: REFUSED_WHOLE,
-        programs: PROGRAMS_WHOLE,
-    },
-];
-
-#[test]
-fn texts_are_accepted(rt: HostRuntime) -> Result<(), Fail> {
-    let alloc = rt.alloc();
-    for group in GROUPS {
-        for text in group.accepted {
-            let whole = framed(alloc, group.frame, text)?;
-            let found = verdict(alloc, resolved(alloc, whole.as_bytes()))?;
-            assert_eq!(rt; found.as_str(), "accepted", "{text}");
-        }
-    }
-    Ok(())
-}
-
-#[test]
-fn texts_are_refused(rt: HostRuntime) -> Result<(), Fail> {
-    let alloc = rt.alloc();
-    for group in GROUPS {
-        for Refused { text, refusal } in group.refused {
-            let whole = framed(alloc, group.frame, text)?;
-            let found = verdict(alloc, resolved(alloc, whole.as_bytes()))?;
-            assert_eq!(rt; found.as_str(), *refusal, "{text}");
-        }
-    }
-    Ok(())
-}
-
 /// The first of the pieces that a text doesn't have behind those before it.
 fn first_missing(text: &str, pieces: &'static [&'static str]) -> Option<&'static str> {
     let mut rest = text;
@@ -723,17 +675,60 @@ fn first_missing(text: &str, pieces: &'static [&'static str]) -> Option<&'static
     None
 }
 
-#[test]
-fn names_become_numbers(rt: HostRuntime) -> Result<(), Fail> {
-    let alloc = rt.alloc();
-    for group in GROUPS {
-        for Numbered { text, pieces } in group.programs {
-            let whole = framed(alloc, group.frame, text)?;
-            let program = resolved(alloc, whole.as_bytes())?;
-            let found = format!(in alloc; "{:?}", program.parts)?;
-            assert_eq!(rt; first_missing(&found, pieces), None, "{text}");
+/// The rows of which a piece isn't there, with that piece.
+fn missing(alloc: Global, frame: Frame, rows: &[Numbered]) -> Result<String, Fail> {
+    let mut missing = String::new(alloc);
+    for row in rows {
+        let text = framed(alloc, frame, row.text)?;
+        let program = resolved(alloc, text.as_bytes())?;
+        let found = format!(in alloc; "{:?}", program.parts)?;
+        if let Some(piece) = first_missing(&found, row.pieces) {
+            let line = format!(in alloc; "{} has no {piece}; ", row.text)?;
+            missing.push_str(&line)?;
         }
     }
+    Ok(missing)
+}
+
+#[test]
+fn names_of_statements_of_main_are_judged(rt: HostRuntime) -> Result<(), Fail> {
+    let wrong = wrong(rt.alloc(), Asked::Names, MAIN, ANSWERS_MAIN)?;
+    assert_eq!(rt; wrong.as_str(), "");
+    Ok(())
+}
+
+#[test]
+fn names_of_statements_of_main_become_numbers(rt: HostRuntime) -> Result<(), Fail> {
+    let missing = missing(rt.alloc(), MAIN, PROGRAMS_MAIN)?;
+    assert_eq!(rt; missing.as_str(), "");
+    Ok(())
+}
+
+#[test]
+fn names_of_classes_are_judged(rt: HostRuntime) -> Result<(), Fail> {
+    let wrong = wrong(rt.alloc(), Asked::Names, WITH_MAIN, ANSWERS_WITH_MAIN)?;
+    assert_eq!(rt; wrong.as_str(), "");
+    Ok(())
+}
+
+#[test]
+fn names_of_classes_become_numbers(rt: HostRuntime) -> Result<(), Fail> {
+    let missing = missing(rt.alloc(), WITH_MAIN, PROGRAMS_WITH_MAIN)?;
+    assert_eq!(rt; missing.as_str(), "");
+    Ok(())
+}
+
+#[test]
+fn names_of_whole_texts_are_judged(rt: HostRuntime) -> Result<(), Fail> {
+    let wrong = wrong(rt.alloc(), Asked::Names, WHOLE, ANSWERS_WHOLE)?;
+    assert_eq!(rt; wrong.as_str(), "");
+    Ok(())
+}
+
+#[test]
+fn names_of_whole_texts_become_numbers(rt: HostRuntime) -> Result<(), Fail> {
+    let missing = missing(rt.alloc(), WHOLE, PROGRAMS_WHOLE)?;
+    assert_eq!(rt; missing.as_str(), "");
     Ok(())
 }
 
