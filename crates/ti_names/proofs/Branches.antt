@@ -12,11 +12,12 @@ use Rattle.ti_syntax.specs.Trees.Views.{maybe_of, exp_of, stm_of}
 use Rattle.ti_lang.specs.Program.Expressions.{NumberedExp}
 use Rattle.ti_lang.specs.Program.Statements.{NumberedStm, MaybeNumbered}
 use Rattle.ti_lang.specs.Program.Statements as m
+use Rattle.ti_lang.specs.Program.Types.{Foreach}
 use Rattle.ti_lang.specs.Program.Views.{expression_of, statement_of}
 use Rattle.ti_syntax.specs.Trees.Expressions.{Exp}
 use Rattle.ti_syntax.specs.Trees.Statements.{Stm, MaybeStm}
-use Rattle.ti_lang.specs.Scopes.{Site, literals, literals_of, past, past_maybe, behind, behind_maybe}
-use Rattle.ti_lang.specs.Nodes.{exp_nodes, maybe_nodes, stm_nodes, maybe_stm_nodes}
+use Rattle.ti_lang.specs.Scopes.{Site, declares, literals, literals_of, past, past_maybe, behind, behind_maybe}
+use Rattle.ti_lang.specs.Nodes.{Node, node, VariableName, exp_nodes, maybe_nodes, stm_nodes, maybe_stm_nodes}
 use Rattle.ti_names.specs.Mirrors.Numbered.{number_exp, number_stm, number_maybe_stm}
 use Rattle.ti_names.specs.Seen.{tree_maybe, seen_maybe}
 use Rattle.ti_rules.specs.First.{sooner}
@@ -92,6 +93,12 @@ in_for site at first c update body =
     let d = maybe_stm_nodes inside update in
     let e = stm_nodes (past_maybe inside update) body in
     in_append ((a ++ b) ++ d) e ∙ ap (λ f. sooner f (first_in e)) (in_append (a ++ b) d ∙ ap (λ f. sooner f (first_in d)) (in_append a b))
+
+pub in_foreach : (site : Site) (at name_at : Place) (name : List ℕ) (domain : Exp) (body : Stm) → first_in (stm_nodes site (s.Foreach at name_at name domain body))
+    ≡ sooner (sooner (first_in (node site (VariableName name_at name) ∷ [])) (first_in (exp_nodes site domain))) (first_in (stm_nodes (declares site name Foreach) body))
+in_foreach site at name_at name domain body =
+    let own : Node = node site (VariableName name_at name) in
+    in_append (own ∷ exp_nodes site domain) (stm_nodes (declares site name Foreach) body) ∙ ap (λ f. sooner f (first_in (stm_nodes (declares site name Foreach) body))) (in_append (own ∷ []) (exp_nodes site domain))
 
 pub ruleset statement_bridges = (seen_if, seen_for, held_for, held_if, number_branches, behind_branches, in_branches, in_for)
 

@@ -1,5 +1,5 @@
 -- What counts of several nodes.
-use Rattle.std.proofs.Common.{◌≡◌, ℕ, ◌&&◌, if◌then◌else◌, List, [], ◌∷◌, ◌++◌, flat_map, Option, None, is_some, is_none, refl, ap, sym, ◌∙◌}
+use Rattle.std.proofs.Common.{◌≡◌, ℕ, if◌then◌else◌, List, [], ◌∷◌, ◌++◌, flat_map, Option, None, is_some, is_none, refl, ap, sym, ◌∙◌}
 use Rattle.std.specs.declared.vec.Vec.{Vec}
 use Rattle.std.specs.declared.alloc.Global.{Global}
 use Rattle.std.specs.declared.boxed.Box.{Box}
@@ -10,13 +10,16 @@ use Rattle.ti_syntax.specs.Trees.Expressions.{Exp, Exps, exps, ranges_tree}
 use Rattle.ti_syntax.specs.Trees.Expressions as t
 use Rattle.ti_syntax.specs.Trees.Views.{exp_of, exps_of, ranges_of}
 use Rattle.ti_syntax.proofs.Bridges.{seen_call, seen_point, seen_rect, seen_member, seen_index}
+use Rattle.ti_syntax.specs.Trees.Classes.{TextTree}
+use Rattle.ti_lang.specs.Members.{methods_of}
 use Rattle.ti_lang.specs.Scopes.{Site, own_method_named, class_before_dot}
-use Rattle.ti_lang.specs.Nodes.{Node, node, Expression, exp_nodes, exps_nodes, ranges_nodes}
+use Rattle.ti_lang.specs.Nodes.{Node, node, Expression, exp_nodes, exps_nodes, ranges_nodes, classes_nodes, methods_nodes, nodes_of}
 use Rattle.ti_rules.specs.declared.rule.Rule.TheVariants.{N1}
 use Rattle.ti_rules.specs.declared.refusal.Refusal.{Refusal}
 use Rattle.ti_rules.specs.First.{sooner, first_of, refused_if}
-use Rattle.ti_rules.specs.BrokenNames.{lacks_method, node_refusals}
-use Rattle.ti_rules.proofs.First.{sooner_none, sooner_assoc, first_append, first_append_each, first_alone}
+use Rattle.ti_rules.specs.BrokenNames.{lacks_method, node_refusals, name_refusals}
+use Rattle.ti_rules.specs.MainForm.{main_refusals}
+use Rattle.ti_rules.proofs.First.{sooner_none, sooner_assoc, first_append, first_append_each, first_alone, first_nil}
 use Rattle.ti_names.specs.Found.{first_in}
 
 pub none_sooner : (a : Option Refusal) → sooner None a ≡ a
@@ -79,3 +82,19 @@ in_step found next whole all head rest so is more =
 
 pub in_end : (found whole : Option Refusal) (all : List Node) → sooner found (first_in all) ≡ whole → all ≡ [] → found ≡ whole
 in_end found whole all so is = sym (sooner_none found) ∙ ap (sooner found) (sym in_none) ∙ sym (ap (λ z. sooner found (first_in z)) is) ∙ so
+
+-- the same of a list of refusals
+pub list_step : (found next whole : Option Refusal) (all head rest : List Refusal) → sooner found (first_of all) ≡ whole → all ≡ head ++ rest → next ≡ sooner found (first_of head) → sooner next (first_of rest) ≡ whole
+list_step found next whole all head rest so is more =
+    ap (λ z. sooner z (first_of rest)) more ∙ sooner_assoc found (first_of head) (first_of rest) ∙ ap (sooner found) (sym (first_append head rest)) ∙ sym (ap (λ z. sooner found (first_of z)) is) ∙ so
+
+pub list_end : (found whole : Option Refusal) (all : List Refusal) → sooner found (first_of all) ≡ whole → all ≡ [] → found ≡ whole
+list_end found whole all so is = sym (sooner_none found) ∙ ap (sooner found) (sym first_nil) ∙ sym (ap (λ z. sooner found (first_of z)) is) ∙ so
+
+-- ---- of a text
+
+pub in_text : (text : TextTree) → sooner (sooner (first_in (classes_nodes text 0 text)) (first_in (methods_nodes text 0 0 (methods_of text)))) (first_of (main_refusals text)) ≡ first_of (name_refusals text)
+unfolding first_in
+in_text text =
+    ap (λ z. sooner z (first_of (main_refusals text))) (sym (first_append_each node_refusals (classes_nodes text 0 text) (methods_nodes text 0 0 (methods_of text))))
+    ∙ sym (first_append (flat_map node_refusals (nodes_of text)) (main_refusals text))

@@ -1,5 +1,5 @@
 -- There is a program of a text exactly where it breaks no rule of names, and only one; where it breaks one, there is a refusal.
-use Rattle.std.proofs.Common.{◌≡◌, ◌⊎◌, inl, inr, [], ◌++◌, flat_map, length, Contains, Option, None, Some, refl, sym, subst, ◌∙◌, arith}
+use Rattle.std.proofs.Common.{◌≡◌, ◌⊎◌, inl, inr, [], ◌++◌, flat_map, Contains, Option, None, Some, refl, sym, subst, ◌∙◌, arith}
 use Rattle.ti_syntax.specs.Trees.Classes.{TextTree}
 use Rattle.ti_lang.specs.Program.Classes.{NumberedProgram}
 use Rattle.ti_lang.specs.Nodes.{nodes_of}

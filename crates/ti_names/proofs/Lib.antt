@@ -7,6 +7,8 @@ pub mod Firsts
 pub mod Law
 pub mod Lists
 pub mod MainForms
+pub mod MainPlaces
+pub mod Nested
 pub mod OnlyOne
 pub mod Sites
 pub mod TableLookups

@@ -1,21 +1,19 @@
 -- A text has its `main` exactly where nothing is wrong with it.
-use Rattle.std.proofs.Common.{◌≡◌, ℕ, zero, suc, ◌+◌, ◌==◌, Bool, true, false, cond, not, ◌&&◌, ◌||◌, List, [], ◌∷◌, ◌++◌, map, length, Option, Some, None, slice_get, position, bytes_eq, codes, refl, ap, sym, ◌∙◌, subst, true≢false, arith}
+use Rattle.std.proofs.Common.{◌≡◌, ℕ, zero, suc, ◌+◌, ◌==◌, Bool, true, false, cond, not, ◌&&◌, ◌||◌, List, [], ◌∷◌, ◌++◌, map, length, Option, Some, None, slice_get, position, bytes_eq, codes, refl, ap, sym, ◌∙◌, subst, arith}
 use Rattle.std.specs.List.{list_any, position_from}
 use Rattle.std.specs.Option.{option_map_or, option_and_then, unwrap_or}
 use Rattle.std.proofs.lemmas.Bool.Decides.{nat_tests}
 use Rattle.std.proofs.lemmas.Iterator.Adapters.{position_from-zero}
 use Rattle.ti_base.specs.declared.place.Place.{Place}
-use Rattle.ti_base.specs.Places.{place_after}
 use Rattle.ti_syntax.specs.declared.tree.classes.Modifier.{Modifier}
 use Rattle.ti_syntax.specs.declared.tree.classes.ModifierWord.{ModifierWord}
 use Rattle.ti_syntax.specs.declared.tree.classes.ModifierWord.TheVariants as word
 use Rattle.ti_syntax.specs.Trees.Classes.{ParamsTree, Words, Params, ResultTree, Void, Typed, MethodTree, ClassTree, TextTree}
 use Rattle.ti_lang.specs.MainForm.{HasMainModifiers, IsVoid, IsWords, IsMainForm}
-use Rattle.ti_lang.specs.Members.{class_named, OwnMethod, methods_of, method_named, is_static, is_static_word, is_single, is_single_word}
+use Rattle.ti_lang.specs.Members.{OwnMethod, methods_of, method_named, is_static, is_static_word, is_single, is_single_word}
 use Rattle.ti_lang.specs.Numbering.{HasMain}
 use Rattle.ti_rules.specs.declared.rule.Rule.{Rule}
-use Rattle.ti_rules.specs.declared.rule.Rule.TheVariants.{N3}
-use Rattle.ti_rules.specs.declared.refusal.Refusal.{Refusal}
+use Rattle.ti_rules.specs.declared.rule.Rule.TheVariants.{N2, N3}
 use Rattle.ti_rules.specs.First.{refused_if}
 use Rattle.ti_rules.specs.MainForm.{is_public, is_public_word, is_void, is_words, has_main_form, main_class, main_method, is_another, form_refusals, words_refusals, main_refusals}
 use Rattle.ti_rules.proofs.First.{In, in_contains, contains_in}
@@ -50,11 +48,11 @@ words_of ms = map (λ (x : Modifier). x.word) ms
 module _ (t : ModifierWord → Bool) (w : ModifierWord) (passes : t w ≡ true) (alone : (x : ModifierWord) → t x ≡ true → x ≡ w) where
   any_in : (ms : List Modifier) → list_any (λ (x : Modifier). t x.word) ms ≡ true → In (words_of ms) w
   any_in [] e = cc
-  any_in (m ∷ ms) e = by (t m.word) refl e
+  any_in (m ∷ ms) e = by (t m.word) refl e (any_in ms)
     where
-      by : (b : Bool) → t m.word ≡ b → (b || list_any (λ (x : Modifier). t x.word) ms) ≡ true → In (words_of (m ∷ ms)) w
-      by true is e = In.here (alone m.word is)
-      by false is e = In.there (any_in ms e)
+      by : (b : Bool) → t m.word ≡ b → (b || list_any (λ (x : Modifier). t x.word) ms) ≡ true → (list_any (λ (x : Modifier). t x.word) ms ≡ true → In (words_of ms) w) → In (words_of (m ∷ ms)) w
+      by true is e rest = In.here (alone m.word is)
+      by false is e rest = In.there (rest e)
 
   in_any : (ms : List Modifier) → In (words_of ms) w → list_any (λ (x : Modifier). t x.word) ms ≡ true
   in_any [] i = elim i [ ]
@@ -199,11 +197,12 @@ clean_main text number main =
 -- what stands where a test finds something
 found_from : {A : Type 0} (t : A → Bool) (n : ℕ) (xs : List A) (i : ℕ) → position_from t n xs ≡ Some i → (j : ℕ) × (x : A) × (i ≡ n + j) × (slice_get xs j ≡ Some x)
 found_from t n [] i e = cc
-found_from {A = A} t n (y ∷ ys) i e = by (t y) e
+found_from {A = A} t n (y ∷ ys) i e = by (t y) e (found_from t (n + 1) ys i)
   where
-    by : (b : Bool) → cond b (Some n) (position_from t (n + 1) ys) ≡ Some i → (j : ℕ) × (x : A) × (i ≡ n + j) × (slice_get (y ∷ ys) j ≡ Some x)
-    by true is = let same : n ≡ i = cc in (0, y, omega (arith, same), refl)
-    by false is = let f = found_from t (n + 1) ys i is in (suc f.0, f.1, omega (arith, f.2), f.3)
+    by : (b : Bool) → cond b (Some n) (position_from t (n + 1) ys) ≡ Some i → (position_from t (n + 1) ys ≡ Some i → (j : ℕ) × (x : A) × (i ≡ n + 1 + j) × (slice_get ys j ≡ Some x))
+        → (j : ℕ) × (x : A) × (i ≡ n + j) × (slice_get (y ∷ ys) j ≡ Some x)
+    by true is rest = let same : n ≡ i = cc in (0, y, omega (arith, same), refl)
+    by false is rest = let f = rest is in (suc f.0, f.1, omega (arith, f.2), f.3)
 
 found_at : {A : Type 0} (t : A → Bool) (xs : List A) (i : ℕ) → position t xs ≡ Some i → (x : A) × (slice_get xs i ≡ Some x)
 found_at t xs i e =
@@ -222,7 +221,7 @@ main_of_clean text none = by (main_class text) refl (empty_left (form_refusals t
         let zero_k : 0 + k ≡ k = omega arith in
         let apart : is_another (main_method text) (0 + k) ≡ false =
         ap (λ b. b && is_another (main_method text) (0 + k)) (sym (words_test_of other.method.params is)) ∙ words_none (main_method text) 0 (methods_of text) words k other at in
-        let same : Some n ≡ Some (0 + k) = sym f ∙ same_number (main_method text) (0 + k) other.method.place (ap (λ b. refused_if b _ other.method.place) apart) in
+        let same : Some n ≡ Some (0 + k) = sym f ∙ same_number (main_method text) (0 + k) other.method.place (ap (λ b. refused_if b N2 other.method.place) apart) in
         let number : n ≡ 0 + k = cc in
         sym (number ∙ zero_k)
 

@@ -8,7 +8,7 @@ use Rattle.ti_syntax.specs.Trees.Classes.{FieldTree, ParamTree, ParamsTree, Resu
 use Rattle.ti_syntax.specs.Trees.Classes as c
 use Rattle.ti_lang.specs.Members.{class_named, fields_in, field_named, OwnMethod, methods_of, method_named}
 use Rattle.ti_lang.specs.Scopes.{Site, class_site, declares, typed_as, literals_in, method_site, body_site}
-use Rattle.ti_lang.specs.Nodes.{type_nodes, result_nodes, param_list_nodes, params_nodes, stms_nodes, fields_nodes, classes_nodes, method_nodes, methods_nodes, nodes_of, node, VariableName, ClassName, FieldName, MethodName}
+use Rattle.ti_lang.specs.Nodes.{type_nodes, result_nodes, param_list_nodes, params_nodes, fields_nodes, classes_nodes, method_nodes, methods_nodes, nodes_of, node, VariableName, ClassName, FieldName, MethodName}
 use Rattle.ti_lang.specs.Numbering.{NumbersFields, NumbersClasses, NumbersResult, NumbersParamList, NumbersParams, NumbersMethod, NumbersMethods, HasMain, Numbers}
 use Rattle.ti_rules.specs.declared.rule.Rule.TheVariants.{N2}
 use Rattle.ti_rules.specs.First.{refused_if}

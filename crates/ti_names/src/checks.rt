@@ -108,6 +108,7 @@ impl<'t, 'a> Site<'t, 'a> {
     // ---- expressions
 
     #[cycle(check_expr)]
+    #[tactic(auto, using(crate::proofs::Firsts::none_sooner))]
     fn check_exps(&self, xs: &[tree::Expr]) -> Option<Refusal>
         ensures { result ≡ first_in (exps_nodes (site_of self.now) (exps (map exp_of xs.now))) }
     {
@@ -133,6 +134,7 @@ impl<'t, 'a> Site<'t, 'a> {
     }
 
     #[cycle(check_expr)]
+    #[tactic(auto, using(crate::proofs::Firsts::none_sooner))]
     fn check_ranges(&self, ranges: &[tree::Range]) -> Option<Refusal>
         ensures { result ≡ first_in (ranges_nodes (site_of self.now) (ranges_tree (map range_of ranges.now))) }
     {

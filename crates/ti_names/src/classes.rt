@@ -64,6 +64,7 @@ impl<'t, 'a> Site<'t, 'a> {
         sooner(twice, self.check_type(&field.ty))
     }
 
+    #[tactic(auto, using(crate::proofs::Firsts::none_sooner))]
     fn check_fields(&self, members: &[tree::Member]) -> Result<Option<Refusal>, Memory>
         ensures { IfOk result (λ r. r ≡ first_in (fields_nodes (site_of self.now) 0 (fields_in (map member_of members.now)))) }
     {
@@ -120,6 +121,7 @@ fn check_class(
 }
 
 /// What is wrong with the classes of a text, without their methods.
+#[tactic(auto, using(crate::proofs::Firsts::none_sooner))]
 pub fn check_classes(
     alloc: Global,
     tables: &Tables<'_>,

@@ -1,11 +1,11 @@
 // The form of `main`.
 
-ghost use Rattle.std.specs.Prelude.{◌≡◌, map, IfOk};
+ghost use Rattle.std.specs.Prelude.{◌≡◌, ◌&&◌, map, IfOk};
 ghost use Rattle.ti_syntax.specs.Trees.Text.{tree_of};
 ghost use Rattle.ti_syntax.specs.Trees.Views.{method_of, params_of, result_of};
 ghost use Rattle.ti_lang.specs.Members.{methods_of};
 ghost use Rattle.ti_rules.specs.First.{first_of};
-ghost use Rattle.ti_rules.specs.MainForm.{is_public_word, is_public, is_void, is_words, has_main_form, main_class, main_method, form_refusals, words_refusals, main_refusals};
+ghost use Rattle.ti_rules.specs.MainForm.{is_public_word, is_public, is_void, is_words, is_another, has_main_form, main_class, main_method, form_refusals, words_refusals, main_refusals};
 ghost use Rattle.ti_names.specs.Own.{own_of};
 ghost use Rattle.ti_names.specs.Seen.{text_of};
 
@@ -69,6 +69,7 @@ pub fn main_method(tables: &Tables<'_>) -> Option<u32>
 }
 
 /// Whether there is a `main`, of the required form.
+#[tactic(auto, using(ti_rules::proofs::First::first_nil))]
 fn check_form(
     tree: &Tree,
     methods: &[Own<'_>],
@@ -93,15 +94,23 @@ fn check_form(
     }
 }
 
+/// Whether the method of a number has a parameter `String[] x` and is another than `main`.
+fn is_words_elsewhere(own: Own<'_>, main: Option<u32>, number: u32) -> bool
+    ensures { result ≡ (is_words (own_of own.entry).method.params && is_another main number) }
+{
+    is_words(&own.method.params) && is_another(main, number)
+}
+
 /// Whether another method than `main` has a parameter `String[] x`.
+#[tactic(auto, using(crate::proofs::Firsts::none_sooner))]
 fn check_words(methods: &[Own<'_>], main: Option<u32>) -> Result<Option<Refusal>, Memory>
     ensures { IfOk result (λ r. r ≡ first_of (words_refusals main 0 (map own_of methods.now))) }
 {
     let mut found = None;
     let mut number = 0;
     for own in methods {
-        let broken = is_words(&own.method.params) && is_another(main, number);
-        found = sooner(found, refused_if(broken, Rule::N3, own.method.place));
+        let elsewhere = is_words_elsewhere(*own, main, number);
+        found = sooner(found, refused_if(elsewhere, Rule::N3, own.method.place));
         number = next(number)?;
     }
     Ok(found)

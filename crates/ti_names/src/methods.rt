@@ -54,6 +54,7 @@ impl<'t, 'a> Site<'t, 'a> {
         })
     }
 
+    #[tactic(auto, using(crate::proofs::Firsts::none_sooner))]
     fn param_list(&mut self, params: &'a [tree::Param]) -> Result<Resolved<Vec<Param>>, Memory>
         ensures part { IfOk result (λ r. map numbered_param_of r.part.items ≡ number_param_list (text_of self.old.tables.now) (map param_of params.now)) }
         ensures refusal { IfOk result (λ r. r.refusal ≡ first_in (param_list_nodes (site_of self.old) (map param_of params.now))) }
@@ -166,6 +167,7 @@ fn method<'a>(
 }
 
 /// The methods of a text.
+#[tactic(auto, using(crate::proofs::Firsts::none_sooner))]
 pub fn methods<'a>(
     alloc: Global,
     tables: &Tables<'a>,

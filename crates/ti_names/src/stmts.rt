@@ -151,6 +151,7 @@ impl<'t, 'a> Site<'t, 'a> {
 
     /// Statements, behind which their variables are still in scope.
     #[cycle(walk_stmt)]
+    #[tactic(auto, using(crate::proofs::Firsts::none_sooner))]
     pub fn stms(&mut self, xs: &'a [tree::Stmt]) -> Result<Resolved<Vec<Stmt>>, Memory>
         ensures part { IfOk result (λ r. map statement_of r.part.items ≡ number_list (site_of self.old) (map stm_of xs.now)) }
         ensures refusal { IfOk result (λ r. r.refusal ≡ first_in (stms_nodes (site_of self.old) (stms (map stm_of xs.now)))) }

@@ -10,7 +10,7 @@ use Rattle.ti_syntax.specs.Trees.Statements.{DimsTree, InitTree, PrintTree, Stm,
 use Rattle.ti_syntax.specs.Trees.Statements as s
 use Rattle.ti_syntax.specs.Trees.Classes.{FieldTree, ParamTree, ParamsTree, ResultTree, ClassTree, TextTree}
 use Rattle.ti_syntax.specs.Trees.Classes as c
-use Rattle.ti_lang.specs.Program.Types.{NumberedType, VariableUse, Foreach}
+use Rattle.ti_lang.specs.Program.Types.{VariableUse, Foreach}
 use Rattle.ti_lang.specs.Program.Expressions.{NumberedExp, NumberedExps, NumberedRange, NumberedRanges}
 use Rattle.ti_lang.specs.Program.Expressions as n
 use Rattle.ti_lang.specs.Program.Statements.{NumberedDims, NumberedInit, NumberedPrint, NumberedStm, MaybeNumbered, NumberedStms}
