@@ -1,5 +1,5 @@
 -- The program of a tree without unbuilt forms has a listing.
-use Rattle.std.proofs.Common.{◌≡◌, ℕ, zero, suc, Bool, true, false, if◌then◌else◌, List, [], ◌∷◌, ◌++◌, Option, None, Some, is_some, slice_get, refl, sym, ap, ◌∙◌, subst}
+use Rattle.std.proofs.Common.{◌≡◌, ℕ, zero, suc, Bool, true, false, if◌then◌else◌, List, [], ◌∷◌, ◌++◌, Option, None, Some, is_some, slice_get, refl, ap, ◌∙◌, subst}
 use Rattle.std.specs.List.{flat_map}
 use Rattle.std.specs.Option.{option_map}
 use Rattle.ti_base.specs.declared.place.Place.{Place}
@@ -15,7 +15,7 @@ use Rattle.ti_lang.specs.Members.{OwnMethod, methods_in, methods_of}
 use Rattle.ti_lang.specs.Scopes.{Site, method_site}
 use Rattle.ti_lang.specs.Numbering.{NumbersExp, NumbersPrint, NumbersStm, NumbersStms, NumbersMethod, NumbersMethods, Numbers}
 use Rattle.ti_lang.specs.Listings.{operand_of, listed_print, listed, all_listed, IsListing}
-use Rattle.ti_rules.specs.Unbuilt.{unbuilt_value, unbuilt_print, unbuilt_statement, unbuilt_row, first_apart, is_main_method, unbuilt_in_method, unbuilt_member, is_main_class, unbuilt_in_class, unbuilt_class, class_place, member_place, unbuilt_places}
+use Rattle.ti_rules.specs.Unbuilt.{unbuilt_value, unbuilt_print, unbuilt_statement, unbuilt_row, first_apart, is_main_method, unbuilt_in_method, unbuilt_member, is_main_class, unbuilt_in_class, class_place, member_place, unbuilt_places}
 use Rattle.ti_top.specs.Mirrors.Flattening.{IsBuilt}
 use Rattle.ti_top.proofs.ListedBodies.{built_both}
 

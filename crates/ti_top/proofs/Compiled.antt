@@ -4,13 +4,13 @@ use Rattle.std.specs.declared.vec.Vec.{Vec}
 use Rattle.std.specs.declared.alloc.Global.{Global}
 use Rattle.ti_base.specs.declared.place.Place.{Place}
 use Rattle.ti_syntax.specs.declared.token.Token.{Token}
-use Rattle.ti_syntax.specs.declared.tree.classes.Tree.{Tree}
+use Rattle.ti_syntax.specs.declared.tree.text.Tree.{Tree}
 use Rattle.ti_lang.specs.declared.listing.Listing.{Listing}
 use Rattle.ti_lang.specs.Listed.{ListedProgram, listed_program}
 use Rattle.ti_lang.specs.Program.Classes.{NumberedProgram}
 use Rattle.ti_lang.specs.Numbering.{Numbers}
 use Rattle.ti_lang.specs.Listings.{IsListing}
-use Rattle.ti_syntax.specs.Trees.Views.{tree_of}
+use Rattle.ti_syntax.specs.Trees.Text.{tree_of}
 use Rattle.ti_rules.specs.declared.rule.Rule.{Rule}
 use Rattle.ti_rules.specs.declared.refusal.Refusal.{Refusal}
 use Rattle.ti_rules.specs.RefusalOf.{IsTreeRefusal, of_names as of_names_first, IsAccepted, HasTokens, HasTree, rule_of_misfit, IsRefusal, of_bytes, of_tokens, of_tree, HasProgram, HasListing}

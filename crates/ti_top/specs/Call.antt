@@ -56,6 +56,6 @@ ErrRose c = Rose c.err.faults c.err_after.faults
 abbrev pub SinkRose : Call → Type 0
 SinkRose c = OutRose c ⊎ ErrRose c
 
--- where the words or the text ask for a status, one of these may stand in its place: memory was wanting, or a sink failed
+-- where the words or the text ask for a status, one of these may stand in its place: it ran out of memory, or a sink failed
 abbrev pub Yields : Call → Type 0
 Yields c = (c.status ≡ 6) ⊎ ((c.status ≡ 5) × SinkRose c)

@@ -56,7 +56,7 @@ pub record IsRefused (job : Job) (c : Call) (refusal : Refusal) : Type 0 where
 -- has a program.
 pub record RefusesExactly (job : Job) (c : Call) : Type 0 where
   pub only_where : c.status ≡ 1 → (refusal : Refusal) × IsRefused job c refusal
-  -- memory may be wanting, a sink or a reading may fail
+  -- it may run out of memory, and a sink or a reading may fail
   pub everywhere : (refusal : Refusal) → IsRefused job c refusal → (c.status ≡ 1) ⊎ (Yields c ⊎ ((c.status ≡ 4) × SourceRose c))
   pub no_history : (refusal : Refusal) → IsRefusal c.text refusal → c.history ≡ []
   pub no_output : (refusal : Refusal) → IsRefusal c.text refusal → c.out_after.taken ≡ c.out.taken
@@ -149,7 +149,7 @@ pub record WritesErr (c : Call) : Type 0 where
   pub five : c.status ≡ 5 → (ErrRose c → ⊥) → c.err.tells ≡ true → GrewBy c.err c.err_after (line c CantWrite)
   pub cut : c.status ≡ 5 → ErrRose c → c.err.tells ≡ true → GrewByFront c.err c.err_after (line c CantWrite) ⊎ TellsFront c
 
--- nothing failed: no count of faults rose, the file is there, and memory was not wanting
+-- nothing failed: no count of faults rose, the file is there, and it didn't run out of memory
 pub record NothingFailed (job : Job) (c : Call) : Type 0 where
   pub source : SourceRose c → ⊥
   pub out : OutRose c → ⊥

@@ -30,7 +30,7 @@ abbrev pub procs_of : List ℕ → Option ℕ
 procs_of word =
     if is_number word && nat_le 1 (number_of word) && nat_le (number_of word) most_procs then Some (number_of word) else None
 
--- the job of so many processes and a file, or nothing where one of them is wanting
+-- the job of so many processes and a file, or nothing where one of them is missing
 abbrev pub job_with : Option ℕ → List ℕ → Option Job
 job_with None file = None
 job_with (Some procs) file = if is_file file then Some (record { procs = procs; file = file }) else None

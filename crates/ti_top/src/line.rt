@@ -22,6 +22,7 @@ impl Model for Line {
 }
 
 impl Line {
+    /// An empty line.
     pub fn new() -> Self
         ensures { result ≡ [] }
     {
@@ -30,6 +31,7 @@ impl Line {
         }
     }
 
+    /// The bytes of the line.
     pub fn as_slice(&self) -> &[u8]
         ensures { result.now ≡ self.now }
     {

@@ -46,6 +46,7 @@ impl RunLine {
         Ok(RunLine { bytes })
     }
 
+    /// The bytes of the line.
     pub fn as_slice(&self) -> &[u8]
         ensures { result.now ≡ self.now.taken }
     {

@@ -1,6 +1,7 @@
 // Running a list of statements on one thread.
 ghost use Rattle.std.specs.Prelude.{◌≡◌, ◌⊎◌, ℕ, ◌+◌, ◌*◌, ◌^◌, ◌<◌, ◌≤◌, [], true, length, vec_len, position, IfOk};
 ghost use Rattle.ti_base.specs.declared.entry.Answer.TheVariants.{Done};
+ghost use Rattle.ti_lang.specs.Processes.{most_procs};
 ghost use Rattle.ti_lang.specs.Runs.{IsSolo, entry_of as entry_spec};
 ghost use Rattle.ti_top.specs.Mirrors.Walking.{setting_of};
 ghost use Rattle.ti_top.specs.Mirrors.Team.{Standing, TurnLeaves, is_able};
@@ -82,7 +83,7 @@ fn turn(
     history: &mut Vec<Entry>,
     lowest: usize,
 ) -> Result<Option<Fault>, Memory>
-    requires procs { procs ≤ 32 }
+    requires procs { procs ≤ most_procs }
     requires standing { Standing (setting_of listing.now procs FUEL) history.old.items seats.old.items }
     requires lowest { position (is_able FUEL seats.old.items) seats.old.items ≡ Some lowest }
     ensures { TurnLeaves (setting_of listing.now procs FUEL) history.old.items seats.old.items history.new.items seats.new.items result }
@@ -103,7 +104,7 @@ fn turn(
 /// The first fault ends the run. Out of memory, it ends early and keeps the entries so far.
 pub fn run(alloc: Global, listing: &Listing, procs: u32) -> RunEnd
     requires some { 1 ≤ procs }
-    requires procs { procs ≤ 32 }
+    requires procs { procs ≤ most_procs }
     ensures solo { IsSolo (setting_of listing.now procs FUEL) result.history.items }
     ensures end { RunEnds (setting_of listing.now procs FUEL) result.history.items result.how }
 {

@@ -1,7 +1,7 @@
 // What is done before the line on err.
 ghost use Rattle.std.specs.Prelude.{◌≡◌, ◌≤◌, []};
 ghost use Rattle.ti_lang.specs.Listed.{listed_program};
-ghost use Rattle.ti_top.specs.declared.words.TheConstants.{MOST_PROCS};
+ghost use Rattle.ti_lang.specs.Processes.{most_procs};
 ghost use Rattle.ti_top.specs.Mirrors.Line.{HasRoom};
 ghost use Rattle.ti_top.specs.Mirrors.Work.{ending_of, RunSays, TextSays, WorkSays};
 
@@ -45,8 +45,8 @@ impl Written {
     }
 }
 
-// Runs a program and writes its lines, for which there is room. Where the run is out of memory, the lines
-// of the entries so far are written.
+// Runs a program and writes its lines, for which there is room. Where the run runs out of memory, the
+// lines of the entries so far are written.
 fn run_program<K: Sink>(
     alloc: Global,
     procs: u32,
@@ -55,7 +55,7 @@ fn run_program<K: Sink>(
     out: &mut K,
 ) -> Written
     requires some { 1 ≤ procs }
-    requires procs { procs ≤ MOST_PROCS }
+    requires procs { procs ≤ most_procs }
     requires room { HasRoom listing.now.literals.items line.old }
     ensures { RunSays (listed_program listing.now) procs (K.state out.old) (K.state out.new) result.history.items result.ending }
 {
@@ -86,7 +86,7 @@ fn run_ending(how: How, lines: Result<(), Failed>) -> Ending
 // Compiles and runs a text that was read whole. Room for its lines is taken before the run.
 fn run_text<K: Sink>(alloc: Global, procs: u32, text: &[u8], out: &mut K) -> Written
     requires some { 1 ≤ procs }
-    requires procs { procs ≤ MOST_PROCS }
+    requires procs { procs ≤ most_procs }
     ensures { TextSays result.ending procs text.now (K.state out.old) (K.state out.new) result.history.items }
 {
     match compile(alloc, text) {
@@ -107,7 +107,7 @@ pub fn work<S: Source, K: Sink>(
     out: &mut K,
 ) -> Worked
     requires some { 1 ≤ command.procs }
-    requires procs { command.procs ≤ MOST_PROCS }
+    requires procs { command.procs ≤ most_procs }
     ensures { WorkSays (record { procs = command.entry.procs; file = command.entry.file.now }) result.ending (record {
       source = S.state source.old;
       source_after = S.state source.new;

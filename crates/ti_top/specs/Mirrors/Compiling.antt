@@ -25,7 +25,7 @@ pub record IsRefusedAs (text : List ℕ) (refusal : Refusal) : Type 0 where
   pub is : IsRefusal text refusal
   pub no_program : (program : ListedProgram) → HasListing text program → ⊥
 
--- the program of the text or its refusal; memory may be wanting at any time
+-- the program of the text or its refusal; it may run out of memory at any time
 abbrev pub Compiles : List ℕ → Result Listing CompileErr → Type 0
 Compiles text (Ok listing) = HasListingAlone text (listed_program listing)
 Compiles text (Err (Refused refusal)) = IsRefusedAs text refusal

@@ -1,13 +1,13 @@
 -- Nobody has to believe this: it mirrors code, and only contracts of private functions speak of it.
 -- Where the processes of a run stand after its entries.
-use Rattle.std.specs.Prelude.{◌≡◌, ℕ, ◌+◌, ◌-◌, ◌*◌, ◌<◌, ◌≤◌, nat_le, Bool, true, false, not, ◌&&◌, ◌||◌, is_none, if◌then◌else◌, List, length, map, count_by, sum_by, slice_index_or, Option, None, Some, Result, Ok, Err}
+use Rattle.std.specs.Prelude.{◌≡◌, ℕ, ◌+◌, ◌-◌, ◌*◌, ◌<◌, ◌≤◌, nat_le, Bool, true, false, not, ◌&&◌, ◌||◌, is_none, if◌then◌else◌, List, length, count_by, sum_by, slice_index_or, Option, None, Some, Result, Ok, Err}
 use Rattle.std.specs.List.{list_any, list_all}
 use Rattle.ti_base.specs.declared.entry.Entry.{Entry}
 use Rattle.ti_base.specs.declared.entry.Next.{Next}
 use Rattle.ti_base.specs.declared.entry.Next.TheVariants as next
 use Rattle.ti_lang.specs.Processes.{Setting, begin}
 use Rattle.ti_lang.specs.NextStep.{After}
-use Rattle.ti_lang.specs.Runs.{is_end, is_arrival, is_departure, entries_of, has_fault, IsSolo}
+use Rattle.ti_lang.specs.Runs.{is_end, is_arrival, is_departure, answers_in, entries_of, has_fault, IsSolo}
 use Rattle.ti_top.specs.declared.fault.Fault.{Fault}
 use Rattle.ti_top.specs.declared.seat.Seat.{Seat}
 use Rattle.ti_top.specs.Run.{EndsWithFault}
@@ -21,7 +21,7 @@ is_able fuel seats seat = not seat.ended && (is_none seat.walker.wait || nat_le 
 pub record Seated (s : Setting) (i : ℕ) (own : List Entry) (seat : Seat) : Type 0 where
   pub number : seat.walker.number ≡ i
   pub ended : list_any (λ e. is_end e.act) own ≡ seat.ended
-  pub world : seat.ended ≡ false → After (begin s i) (map (λ e. e.answer) own) (process_of s seat.walker)
+  pub world : After (begin s i) (answers_in own) (process_of s seat.walker)
   pub arrived : count_by (λ e. is_arrival e.act) own ≡ seat.arrivals
   pub departed : count_by (λ e. is_departure e.act) own + waits seat.walker.wait ≡ seat.arrivals
   pub within : seat.walker.at ≤ length s.program.statements

@@ -19,8 +19,7 @@ use Rattle.ti_top.specs.Mirrors.Compiling.{HasListingAlone, IsRefusedAs}
 use Rattle.ti_top.specs.Job.{Job}
 use Rattle.ti_top.specs.Call.{Call}
 use Rattle.ti_top.specs.Mirrors.Reading.{ReadsWhole}
-use Rattle.ti_top.specs.Run.{EndsWithFault}
-use Rattle.ti_top.specs.Run.{run_of}
+use Rattle.ti_top.specs.Run.{run_of, EndsWithFault}
 
 -- the source and out before and after, what was read, and the entries of the run
 pub record Work : Type 0 where

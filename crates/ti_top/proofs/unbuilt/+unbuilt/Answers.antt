@@ -1,4 +1,4 @@
-use Rattle.std.proofs.Common.{◌≡◌, List, map, ap, sym, ◌∙◌}
+use Rattle.std.proofs.Common.{List, map, ap, sym, ◌∙◌}
 use Rattle.std.specs.List.{flat_map}
 use Rattle.ti_syntax.specs.declared.tree.stmts.Stmt.{Stmt}
 use Rattle.ti_syntax.specs.Trees.Views.{stm_of}

@@ -13,9 +13,9 @@ pub classes-preserved : goal.classes-preserved
 classes-preserved c =
     let x = c.class-item.result in
     let is_first : c.if-not-passed.is_main ≡ (not c.classes.passed && is_main_class (class_of x)) =
-        elim c.if-not-passed.branch [ then-not-passed w ↦ rw (w.is_main-is, w.is_spelled-is_main.ensures, w.if-not-passed.true) refl | else-not-passed w ↦ rw (w.is_main-is, w.if-not-passed.false) refl ] in
+    elim c.if-not-passed.branch [ then-not-passed w ↦ rw (w.is_main-is, w.is_spelled-is_main.ensures, w.if-not-passed.true) refl | else-not-passed w ↦ rw (w.is_main-is, w.if-not-passed.false) refl ] in
     let later : c.if-passed.passed ≡ (c.classes.passed || c.if-not-passed.is_main) =
-        elim c.if-passed.branch [ then-passed w ↦ rw (w.passed-is, w.if-passed.true) refl | else-passed w ↦ rw (w.passed-is, w.if-passed.false) refl ] in
+    elim c.if-passed.branch [ then-passed w ↦ rw (w.passed-is, w.if-passed.true) refl | else-passed w ↦ rw (w.passed-is, w.if-passed.false) refl ] in
     c.classes.invariant
     ∙ apart_step class_of is_main_class unbuilt_in_class unbuilt_class c.args.classes.now c.classes.class-index x c.classes.passed c.if-not-passed.is_main c.if-passed.passed c.classes.found c.judged_class.result c.sooner-found.result
     c.classes-test.true c.class-item.is is_first later c.judged_class.ensures c.sooner-found.ensures

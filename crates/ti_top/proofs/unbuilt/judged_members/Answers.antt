@@ -13,9 +13,9 @@ pub members-preserved : goal.members-preserved
 members-preserved c =
     let x = c.member-item.result in
     let is_first : c.if-not-passed.is_main ≡ (not c.members.passed && is_main_method (member_of x)) =
-        elim c.if-not-passed.branch [ then-not-passed w ↦ rw (w.is_main-is, w.is_main_method-is_main.ensures, w.if-not-passed.true) refl | else-not-passed w ↦ rw (w.is_main-is, w.if-not-passed.false) refl ] in
+    elim c.if-not-passed.branch [ then-not-passed w ↦ rw (w.is_main-is, w.is_main_method-is_main.ensures, w.if-not-passed.true) refl | else-not-passed w ↦ rw (w.is_main-is, w.if-not-passed.false) refl ] in
     let later : c.if-passed.passed ≡ (c.members.passed || c.if-not-passed.is_main) =
-        elim c.if-passed.branch [ then-passed w ↦ rw (w.passed-is, w.if-passed.true) refl | else-passed w ↦ rw (w.passed-is, w.if-passed.false) refl ] in
+    elim c.if-passed.branch [ then-passed w ↦ rw (w.passed-is, w.if-passed.true) refl | else-passed w ↦ rw (w.passed-is, w.if-passed.false) refl ] in
     c.members.invariant
     ∙ apart_step member_of is_main_method unbuilt_in_method unbuilt_member c.args.members.now c.members.member-index x c.members.passed c.if-not-passed.is_main c.if-passed.passed c.members.found c.judged_member.result c.sooner-found.result
     c.members-test.true c.member-item.is is_first later c.judged_member.ensures c.sooner-found.ensures
