@@ -21,6 +21,3 @@ pub use piece::write_piece;
 pub use sink::Sink;
 pub use source::{Failed, Source};
 pub use streams::StdSink;
-
-#[cfg(test)]
-mod tests;

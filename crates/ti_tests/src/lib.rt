@@ -1,0 +1,27 @@
+//! Tests of titan's crates, and nothing else: so no other crate is proved twice.
+#![tactic(auto)]
+
+#[cfg(test)]
+mod answers;
+#[cfg(test)]
+mod commands;
+#[cfg(test)]
+mod examples;
+#[cfg(test)]
+mod expressions;
+#[cfg(test)]
+mod grammar;
+#[cfg(test)]
+mod names;
+#[cfg(test)]
+mod programs;
+#[cfg(test)]
+mod rules_and_faults;
+#[cfg(test)]
+mod sinks_and_sources;
+#[cfg(test)]
+mod texts;
+#[cfg(test)]
+mod tokens;
+#[cfg(test)]
+mod trees;
