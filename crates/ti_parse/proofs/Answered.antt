@@ -10,14 +10,13 @@ use Rattle.ti_syntax.specs.Spelling.{Spells, BeginsText, IsTooDeep, IsShallow, M
 use Rattle.ti_syntax.specs.Spelling.Classes.{AllClasses}
 use Rattle.ti_syntax.specs.Spelling.Loads.{classes_loads}
 use Rattle.ti_parse_expr.specs.Answers.{EndsAtEnd}
-use Rattle.ti_parse_expr.specs.Input.{At, Over, Spent, Outcome, Parser, and_then, kind, place, sees}
-use Rattle.ti_parse_expr.specs.Full.{limited, rest_of}
+use Rattle.ti_parse_expr.specs.Mirrors.Input.{At, Over, Spent, Outcome, Parser, and_then, kind, place, sees}
+use Rattle.ti_parse_expr.specs.Mirrors.Full.{limited, rest_of}
 use Rattle.ti_parse_expr.proofs.Law.{Says, Said, append_nil, token}
 use Rattle.ti_parse_expr.proofs.Local.{Near, Same}
-use Rattle.ti_parse_expr.proofs.Cut.{Cut, Alike}
 use Rattle.ti_parse_expr.proofs.Answered.{inside}
-use Rattle.ti_parse.specs.Way.{plain, careful}
-use Rattle.ti_parse.specs.Classes.{classes, ended, text}
+use Rattle.ti_parse.specs.Mirrors.Way.{plain}
+use Rattle.ti_parse.specs.Mirrors.Classes.{classes, ended, text}
 use Rattle.ti_parse.proofs.Ends.{classes_no_end}
 use Rattle.ti_parse.proofs.Limited.{StopsIn, stops_in, above_there, never_refused}
 
@@ -58,8 +57,7 @@ record Judged (list : List Token) (out : Outcome TextTree) : Type 0 where
 module _ (says : (turns : ℕ) (l : List Token) → Said turns AllClasses (λ r. sees k.End r ≡ true) l (classes plain turns turns [] l))
     (reads : (l : List Token) (xs : List ClassTree) (s : AllClasses l xs) (turns : ℕ) (r : List Token) → kind r ≡ k.End → length (l ++ r) < turns
     → classes plain turns turns [] (l ++ r) ≡ limited (classes_loads s) (l ++ r) (Ok (xs, r)))
-    (near : (t : Token) (w v : List Token) (turns more : ℕ) → turns ≤ more → Near t w v (classes plain turns turns []) (classes plain more more []))
-    (cut : (turns : ℕ) → Cut (text plain turns) (text careful turns)) where
+    (near : (t : Token) (w v : List Token) (turns more : ℕ) → turns ≤ more → Near t w v (classes plain turns turns []) (classes plain more more [])) where
   -- ---- a token that reading left; whatever stands behind it, reading leaves it again
 
   left_again : (n m : ℕ) → n ≤ m → (f rest more : List Token) (t : Token) (tree : TextTree) → reading n (f ++ t ∷ rest) ≡ Ok (tree, t ∷ rest) → reading m (f ++ t ∷ more) ≡ Ok (tree, t ∷ more)
@@ -182,36 +180,23 @@ module _ (says : (turns : ℕ) (l : List Token) → Said turns AllClasses (λ r.
     unfolding text
     plain_answers = says_so (reading n list) refl (says n list).says
 
-    -- the last token was never taken
-    alike : (o o2 : Outcome TextTree) → Judged list o → Alike o o2 → Judged list o2
-    alike o (Ok p) j (is, some) = subst (Judged list) is j
-    alike o (Err (At r)) j (is, some) = subst (Judged list) is j
-    alike o (Err (Over r)) j (is, some) = subst (Judged list) is j
-    alike (Ok p) (Err Spent) j passed = absurd (omega (arith, j.left, passed))
-    alike (Err (At r)) (Err Spent) j passed = absurd (omega (arith, j.left, passed))
-    alike (Err (Over r)) (Err Spent) j passed = absurd (omega (arith, j.left, passed))
-    alike (Err Spent) (Err Spent) j passed = absurd j.decides
-
-    text_answers : Judged list (text careful n list)
-    text_answers = alike (text plain n list) (text careful n list) plain_answers ((cut n).alike list (omega (arith, ap length closed.2, length-append closed.0 (closed.1 ∷ []))))
-
-    answers_as : (o : Outcome TextTree) → text careful n list ≡ o → Judged list o
-    answers_as o is = subst (Judged list) is text_answers
+    answers_as : (o : Outcome TextTree) → text plain n list ≡ o → Judged list o
+    answers_as o is = subst (Judged list) is plain_answers
 
     -- a tree is that of the list, and no token is too deep
-    pub ok_answer : (tree : TextTree) (r : List Token) → text careful n list ≡ Ok (tree, r) → Spells list tree × IsShallow list
+    pub ok_answer : (tree : TextTree) (r : List Token) → text plain n list ≡ Ok (tree, r) → Spells list tree × IsShallow list
     ok_answer tree r is = (answers_as (Ok (tree, r)) is).decides
 
     -- some token is left, which is the first that is unexpected
-    pub refused_answer : (r : List Token) → text careful n list ≡ Err (At r) → (0 < length r) × IsGrammarRefusal list (Some (Unexpected, place r))
+    pub refused_answer : (r : List Token) → text plain n list ≡ Err (At r) → (0 < length r) × IsGrammarRefusal list (Some (Unexpected, place r))
     refused_answer r is = let j : Judged list (Err (At r)) = answers_as (Err (At r)) is in (j.left, j.decides)
 
     -- some token is left, which is the first that is too deep
-    pub deep_answer : (r : List Token) → text careful n list ≡ Err (Over r) → (0 < length r) × IsGrammarRefusal list (Some (TooDeep, place r))
+    pub deep_answer : (r : List Token) → text plain n list ≡ Err (Over r) → (0 < length r) × IsGrammarRefusal list (Some (TooDeep, place r))
     deep_answer r is = let j : Judged list (Err (Over r)) = answers_as (Err (Over r)) is in (j.left, j.decides)
 
-    -- turns suffice, and the last token is never taken
-    pub never_spent : text careful n list ≡ Err Spent → ⊥
+    -- turns suffice
+    pub never_spent : text plain n list ≡ Err Spent → ⊥
     never_spent is = (answers_as (Err Spent) is).decides
 
     refusal_by : (o : Outcome TextTree) → Judged list o → (a : Option (Misfit × Place)) × IsGrammarRefusal list a

@@ -5,7 +5,7 @@ use Rattle.ti_syntax.specs.declared.token.Token.{Token}
 use Rattle.ti_syntax.specs.declared.token.TokenKind.{TokenKind}
 use Rattle.ti_syntax.specs.declared.token.TokenKind.TheVariants as k
 use Rattle.ti_syntax.specs.Tokens.{same_kind}
-use Rattle.ti_parse_expr.specs.Input.{At, Over, Spent, Outcome, Parser, and_then, kind, place, take_token, expect_by, expect_word_by, named_by, sees, spells}
+use Rattle.ti_parse_expr.specs.Mirrors.Input.{At, Over, Spent, Outcome, Parser, and_then, kind, place, take_token, expect, expect_word, named_by, sees, spells}
 use Rattle.ti_parse_expr.proofs.Law.{BeginsIn, Said, Any, then_said, after_said, as_said, done_said, refused_said, over_said, spent_said, token, append_nil}
 use Rattle.ti_parse_expr.proofs.Phrases.{spells_is}
 
@@ -173,49 +173,49 @@ want_by q p next t ts false is = let (w, x, s) = (next (token q) [] refl).some i
 
 -- a token of a kind, where its place is used
 pub want_here : {A : Type 0} {n : ℕ} {U : List Token → A → Type 0} {Q : A → List Token → Type 0} {l : List Token} (q : TokenKind) → ((a : TokenKind) → same_kind a q ≡ true → a ≡ q) → same_kind k.End q ≡ false
-    → (p : Place → Parser A) → ((t : Token) (ts : List Token) → t.kind ≡ q → Tells n (λ g y. U (t ∷ g) y) Q ts (p t.place ts)) → Tells n U Q l (and_then (expect_by take_token q l) (λ _. p (place l)))
+    → (p : Place → Parser A) → ((t : Token) (ts : List Token) → t.kind ≡ q → Tells n (λ g y. U (t ∷ g) y) Q ts (p t.place ts)) → Tells n U Q l (and_then (expect q l) (λ _. p (place l)))
 want_here {n = n} {U = U} {Q = Q} {l = l} q is_q not_end p next = go l
   where
-    go : (l : List Token) → Tells n U Q l (and_then (expect_by take_token q l) (λ _. p (place l)))
+    go : (l : List Token) → Tells n U Q l (and_then (expect q l) (λ _. p (place l)))
     go [] = let (w, x, s) = (next (token q) [] refl).some in rw not_end (refused_tells (token q ∷ w, x, s))
     go (t ∷ ts) = want_by q p next t ts (same_kind t.kind q) (is_q t.kind)
 
 pub want_tells : {A : Type 0} {n : ℕ} {U : List Token → A → Type 0} {Q : A → List Token → Type 0} {l : List Token} (q : TokenKind) → ((a : TokenKind) → same_kind a q ≡ true → a ≡ q) → same_kind k.End q ≡ false
-    → (p : Unit {0} → Parser A) → ((t : Token) (ts : List Token) → t.kind ≡ q → Tells n (λ g y. U (t ∷ g) y) Q ts (p tt ts)) → Tells n U Q l (and_then (expect_by take_token q l) p)
+    → (p : Unit {0} → Parser A) → ((t : Token) (ts : List Token) → t.kind ≡ q → Tells n (λ g y. U (t ∷ g) y) Q ts (p tt ts)) → Tells n U Q l (and_then (expect q l) p)
 want_tells q is_q not_end p next = want_here q is_q not_end (λ _. p tt) next
 
 -- a last token that is wanted
 pub last_tells : {A : Type 0} {n : ℕ} {U : List Token → A → Type 0} {l : List Token} (q : TokenKind) → ((a : TokenKind) → same_kind a q ≡ true → a ≡ q) → same_kind k.End q ≡ false → (x : A)
-    → ((t : Token) → t.kind ≡ q → U (t ∷ []) x) → Tells n U Free l (and_then (expect_by take_token q l) (λ _ j. Ok (x, j)))
+    → ((t : Token) → t.kind ≡ q → U (t ∷ []) x) → Tells n U Free l (and_then (expect q l) (λ _ j. Ok (x, j)))
 last_tells q is_q not_end x made = want_tells q is_q not_end (λ _ j. Ok (x, j)) (λ t ts h. done_tells (made t h))
 
 -- a name that is spelled so
 pub word_here : {A : Type 0} {n : ℕ} {U : List Token → A → Type 0} {Q : A → List Token → Type 0} {l : List Token} (word : List ℕ) (p : Place → Parser A)
-    → ((t : Token) (ts : List Token) → t.kind ≡ k.Name word → Tells n (λ g y. U (t ∷ g) y) Q ts (p t.place ts)) → Tells n U Q l (and_then (expect_word_by take_token word l) (λ _. p (place l)))
+    → ((t : Token) (ts : List Token) → t.kind ≡ k.Name word → Tells n (λ g y. U (t ∷ g) y) Q ts (p t.place ts)) → Tells n U Q l (and_then (expect_word word l) (λ _. p (place l)))
 word_here {n = n} {U = U} {Q = Q} {l = l} word p next = go l
   where
-    go : (l : List Token) → Tells n U Q l (and_then (expect_word_by take_token word l) (λ _. p (place l)))
+    go : (l : List Token) → Tells n U Q l (and_then (expect_word word l) (λ _. p (place l)))
     go [] = let (w, x, s) = (next (token (k.Name word)) [] refl).some in refused_tells (token (k.Name word) ∷ w, x, s)
     go (t ∷ ts) = want_by (k.Name word) p next t ts (spells word t.kind) (spells_is word t.kind)
 
 pub word_tells : {A : Type 0} {n : ℕ} {U : List Token → A → Type 0} {Q : A → List Token → Type 0} {l : List Token} (word : List ℕ) (p : Unit {0} → Parser A)
-    → ((t : Token) (ts : List Token) → t.kind ≡ k.Name word → Tells n (λ g y. U (t ∷ g) y) Q ts (p tt ts)) → Tells n U Q l (and_then (expect_word_by take_token word l) p)
+    → ((t : Token) (ts : List Token) → t.kind ≡ k.Name word → Tells n (λ g y. U (t ∷ g) y) Q ts (p tt ts)) → Tells n U Q l (and_then (expect_word word l) p)
 word_tells word p next = word_here word (λ _. p tt) next
 
 -- any name
 name_by : {A : Type 0} {n : ℕ} {U : List Token → A → Type 0} {Q : A → List Token → Type 0} (p : Place → List ℕ → Parser A)
     → ((t : Token) (name : List ℕ) (ts : List Token) → t.kind ≡ k.Name name → Tells n (λ g y. U (t ∷ g) y) Q ts (p t.place name ts)) → BeginsIn U []
-    → (t : Token) (ts : List Token) (q : TokenKind) → t.kind ≡ q → Tells n U Q (t ∷ ts) (and_then (named_by take_token q (t ∷ ts)) (p t.place))
+    → (t : Token) (ts : List Token) (q : TokenKind) → t.kind ≡ q → Tells n U Q (t ∷ ts) (and_then (named_by q (t ∷ ts)) (p t.place))
 name_by p next some t ts (k.Name name) is = after_tells (next t name ts is)
 name_by p next some t ts _ is = refused_tells some
 
 pub name_here : {A : Type 0} {n : ℕ} {U : List Token → A → Type 0} {Q : A → List Token → Type 0} {l : List Token} (p : Place → List ℕ → Parser A)
-    → ((t : Token) (name : List ℕ) (ts : List Token) → t.kind ≡ k.Name name → Tells n (λ g y. U (t ∷ g) y) Q ts (p t.place name ts)) → Tells n U Q l (and_then (named_by take_token (kind l) l) (p (place l)))
+    → ((t : Token) (name : List ℕ) (ts : List Token) → t.kind ≡ k.Name name → Tells n (λ g y. U (t ∷ g) y) Q ts (p t.place name ts)) → Tells n U Q l (and_then (named_by (kind l) l) (p (place l)))
 name_here {n = n} {U = U} {Q = Q} {l = l} p next = go l
   where
     some : BeginsIn U []
     some = let (w, x, s) = (next (token (k.Name [])) [] [] refl).some in (token (k.Name []) ∷ w, x, s)
 
-    go : (l : List Token) → Tells n U Q l (and_then (named_by take_token (kind l) l) (p (place l)))
+    go : (l : List Token) → Tells n U Q l (and_then (named_by (kind l) l) (p (place l)))
     go [] = refused_tells some
     go (t ∷ ts) = name_by p next some t ts t.kind refl

@@ -18,3 +18,4 @@ pub mod SoundKinds
 pub mod SoundParts
 pub mod SoundStatements
 pub mod Unique
+pub mod Only

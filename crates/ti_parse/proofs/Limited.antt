@@ -4,8 +4,8 @@ use borrow.Author.Tests.{ltb-true, ltb-false}
 use Rattle.ti_syntax.specs.declared.token.Token.{Token}
 use Rattle.ti_syntax.specs.Spelling.Loads.{Load, Free, Level, Weight}
 use Rattle.ti_syntax.specs.Spelling.{IsAbove, most_levels, most_weight}
-use Rattle.ti_parse_expr.specs.Input.{At, Over, Outcome, next}
-use Rattle.ti_parse_expr.specs.Full.{is_above, limited, rest_of}
+use Rattle.ti_parse_expr.specs.Mirrors.Input.{At, Over, Outcome, next}
+use Rattle.ti_parse_expr.specs.Mirrors.Full.{is_above, limited, rest_of}
 
 above_is : (x : Load) → is_above x ≡ true → IsAbove (Some x)
 above_is Free h = cc

@@ -11,8 +11,8 @@ use Rattle.ti_syntax.specs.Trees.Expressions.{Exp}
 use Rattle.ti_syntax.specs.Spelling.Expressions.{Whole}
 use Rattle.ti_syntax.specs.Spelling.Loads.{Load, Free, free, weights}
 use Rattle.ti_parse_expr.specs.declared.parse.Form.TheVariants as form
-use Rattle.ti_parse_expr.specs.Input.{At, Over, Outcome, Parser, and_then, kind, sees, spells, expect_by, expect_word_by, take_token, name_with, named_by}
-use Rattle.ti_parse_expr.specs.Full.{Limits, above, limited_to, full_to}
+use Rattle.ti_parse_expr.specs.Mirrors.Input.{At, Over, Outcome, Parser, and_then, kind, sees, spells, expect, expect_word, take_token, any_name, named_by}
+use Rattle.ti_parse_expr.specs.Mirrors.Full.{Limits, above, limited_to, full_to}
 use Rattle.ti_parse_expr.proofs.Law.{append_nil}
 use Rattle.ti_parse_expr.proofs.Follows.{IsCloser}
 use Rattle.ti_parse_expr.proofs.FullLaws.{full_reads, limited_fits, limited_then}
@@ -112,7 +112,7 @@ same_self q = eq-eqb (code q) (code q) refl
 
 -- The next token is of the kind that is wanted, or the word, or a name. What is read then may know the list that began with it.
 pub want : {A : Type 0} {limits : Limits} {turns : ℕ} {loads : List Load} {t : Token} {ts r : List Token} {x : A} (q : TokenKind) (f : List Token → Unit {0} → Parser A) → t.kind ≡ q
-    → IsRead limits turns (λ i. f (t ∷ i) tt i) loads ts r x → IsRead limits turns (λ i. and_then (expect_by take_token q i) (f i)) (Free ∷ loads) (t ∷ ts) r x
+    → IsRead limits turns (λ i. f (t ∷ i) tt i) loads ts r x → IsRead limits turns (λ i. and_then (expect q i) (f i)) (Free ∷ loads) (t ∷ ts) r x
 want {t = t} {ts = ts} {r = r} q f h rest = record {
   loaded = one_loaded rest.loaded;
   reads = λ lt.
@@ -121,7 +121,7 @@ want {t = t} {ts = ts} {r = r} q f h rest = record {
 }
 
 pub want_word : {A : Type 0} {limits : Limits} {turns : ℕ} {loads : List Load} {t : Token} {ts r : List Token} {x : A} (word : List ℕ) (f : List Token → Unit {0} → Parser A) → bytes_eq word word ≡ true → t.kind ≡ k.Name word
-    → IsRead limits turns (λ i. f (t ∷ i) tt i) loads ts r x → IsRead limits turns (λ i. and_then (expect_word_by take_token word i) (f i)) (Free ∷ loads) (t ∷ ts) r x
+    → IsRead limits turns (λ i. f (t ∷ i) tt i) loads ts r x → IsRead limits turns (λ i. and_then (expect_word word i) (f i)) (Free ∷ loads) (t ∷ ts) r x
 want_word {t = t} {ts = ts} {r = r} word f same h rest = record {
   loaded = one_loaded rest.loaded;
   reads = λ lt.
@@ -130,10 +130,10 @@ want_word {t = t} {ts = ts} {r = r} word f same h rest = record {
 }
 
 pub name_took : {A : Type 0} {limits : Limits} {turns : ℕ} {loads : List Load} {t : Token} {ts r : List Token} {x : A} {name : List ℕ} (f : List Token → List ℕ → Parser A) → t.kind ≡ k.Name name
-    → IsRead limits turns (λ i. f (t ∷ i) name i) loads ts r x → IsRead limits turns (λ i. and_then (name_with take_token i) (f i)) (Free ∷ loads) (t ∷ ts) r x
+    → IsRead limits turns (λ i. f (t ∷ i) name i) loads ts r x → IsRead limits turns (λ i. and_then (any_name i) (f i)) (Free ∷ loads) (t ∷ ts) r x
 name_took {t = t} {ts = ts} {r = r} f h rest = record {
   loaded = one_loaded rest.loaded;
-  reads = λ lt. ap (λ q. and_then (named_by take_token q (t ∷ (ts ++ r))) (f (t ∷ (ts ++ r)))) h ∙ rest.reads (omega (arith, lt));
+  reads = λ lt. ap (λ q. and_then (named_by q (t ∷ (ts ++ r))) (f (t ∷ (ts ++ r)))) h ∙ rest.reads (omega (arith, lt));
 }
 
 -- ---- by the kind of the next token

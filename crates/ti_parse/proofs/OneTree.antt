@@ -5,10 +5,10 @@ use Rattle.ti_syntax.specs.declared.token.Token.{Token}
 use Rattle.ti_syntax.specs.Trees.Classes.{TextTree}
 use Rattle.ti_syntax.specs.Spelling.{Spells}
 use Rattle.ti_syntax.specs.Spelling.Loads.{Load, Free, Level, Weight, classes_loads}
-use Rattle.ti_parse_expr.specs.Input.{Over, Outcome, Parser, next}
-use Rattle.ti_parse_expr.specs.Full.{Limits, limited_to}
-use Rattle.ti_parse.specs.Way.{up_to}
-use Rattle.ti_parse.specs.Classes.{classes}
+use Rattle.ti_parse_expr.specs.Mirrors.Input.{Over, Outcome, Parser, next}
+use Rattle.ti_parse_expr.specs.Mirrors.Full.{Limits, limited_to}
+use Rattle.ti_parse.specs.Mirrors.Way.{up_to}
+use Rattle.ti_parse.specs.Mirrors.Classes.{classes}
 use Rattle.ti_parse.proofs.ReadsClasses.{classes_read}
 
 -- the same limit on levels and on weights

@@ -17,13 +17,13 @@ use Rattle.ti_syntax.specs.Spelling.Types as types
 use Rattle.ti_syntax.specs.Spelling.Classes.{ParamList, Parameters, Method, Modified, Member, Members, ClassModified, Class, AllClasses}
 use Rattle.ti_syntax.specs.Spelling.Classes as grammar
 use Rattle.ti_syntax.specs.Spelling.Loads.{free, method_loads, member_loads, members_loads, class_loads, classes_loads}
-use Rattle.ti_parse_expr.specs.Input.{and_then, kind, sees}
-use Rattle.ti_parse_expr.specs.Full.{Limits, limited_to}
+use Rattle.ti_parse_expr.specs.Mirrors.Input.{and_then, kind, sees}
+use Rattle.ti_parse_expr.specs.Mirrors.Full.{Limits, limited_to}
 use Rattle.ti_parse_expr.proofs.Law.{append_nil}
-use Rattle.ti_parse.specs.Way.{up_to}
-use Rattle.ti_parse.specs.Parts.{is_wide, wide, field, typed}
-use Rattle.ti_parse.specs.Classes as spec
-use Rattle.ti_parse.specs.Classes.{more_params, words, params, method, method_named, field_or_method, member_from, modifiers, member, members, class_from, class, classes}
+use Rattle.ti_parse.specs.Mirrors.Way.{up_to}
+use Rattle.ti_parse.specs.Mirrors.Parts.{is_wide, wide, field, typed}
+use Rattle.ti_parse.specs.Mirrors.Classes as spec
+use Rattle.ti_parse.specs.Mirrors.Classes.{more_params, words, params, method, method_named, field_or_method, member_from, modifiers, member, members, class_from, class, classes}
 use Rattle.ti_parse.proofs.Lengths.{free_loaded, items_loaded, members_loaded}
 use Rattle.ti_parse.proofs.Limits.{IsRead, bounded_reads, same_reads, result_reads, then_reads, done_reads, made_reads, took, want, name_took, by_kind, test_reads, sees_reads, free_reads, free_both}
 use Rattle.ti_parse.proofs.ReadsTypes.{begins_base, front_field, name_ends, field_reads, wide_reads, wide_is_wide, typed_reads}

@@ -22,15 +22,15 @@ use Rattle.ti_syntax.specs.Spelling.Statements.{Region, Dims, Initial, Printer, 
 use Rattle.ti_syntax.specs.Spelling.Statements as grammar
 use Rattle.ti_syntax.specs.Spelling.Loads.{Load, Free, free, weights, region_loads, range_loads, ranges_loads, dims_loads, initial_loads, printed_loads, condition_loads, optional_loads}
 use Rattle.ti_parse_expr.specs.declared.parse.Form.TheVariants as form
-use Rattle.ti_parse_expr.specs.Input.{Parser, and_then, kind, sees, take_token}
-use Rattle.ti_parse_expr.specs.Types.{base, qualifiers, grids}
-use Rattle.ti_parse_expr.specs.Full.{Limits, full_to}
+use Rattle.ti_parse_expr.specs.Mirrors.Input.{Parser, and_then, kind, sees, take_token}
+use Rattle.ti_parse_expr.specs.Mirrors.Types.{base, qualifiers, grids}
+use Rattle.ti_parse_expr.specs.Mirrors.Full.{Limits, full_to}
 use Rattle.ti_parse_expr.proofs.Follows.{test_reads as same_test, IsCloser, paren_closes, colon_closes, comma_closes, bracket_closes}
 use Rattle.ti_parse_expr.proofs.Fronts.{begins, front_whole}
 use Rattle.ti_parse_expr.proofs.CompleteTypes.{base_reads, grids_read, qualifiers_read}
-use Rattle.ti_parse.specs.Way.{up_to}
-use Rattle.ti_parse.specs.Parts as spec
-use Rattle.ti_parse.specs.Parts.{region, range_from, more_ranges, dims, new_grid, new_named, made, new_thing, broadcast, initial, declared, printer, printed_text, printed, condition, optional}
+use Rattle.ti_parse.specs.Mirrors.Way.{up_to}
+use Rattle.ti_parse.specs.Mirrors.Parts as spec
+use Rattle.ti_parse.specs.Mirrors.Parts.{region, range_from, more_ranges, dims, new_grid, new_named, made, new_thing, broadcast, initial, declared, printer, printed_text, printed, condition, optional}
 use Rattle.ti_parse.proofs.Limits.{IsRead, same_reads, result_reads, then_reads, done_reads, last_reads, made_reads, regroup_reads, took, want, want_word, name_took, by_kind, test_reads, sees_reads, free_reads, ends, whole, mul}
 
 -- ---- what can follow
@@ -161,17 +161,17 @@ module _ (limits : Limits) (turns : ℕ) where
       → IsRead limits turns (new_grid (up_to limits) turns at owner begin) (free q ++ Free ∷ (dims_loads s ++ Free ∷ free g)) (q ++ o ∷ (d ++ c ∷ g)) r (tree.NewGrid at owner (record { base = begin; qualifiers = qs; grids = gs }) o.place x)
   unfolding new_grid
   new_grid_reads at owner begin o c r qs ho s hc gs few stop =
-      then_reads _ (free_reads (qualifiers take_token turns []) (λ lt. qualifiers_read qs turns [] _ (ap qualifier_of ho) lt))
+      then_reads _ (free_reads (qualifiers turns []) (λ lt. qualifiers_read qs turns [] _ (ap qualifier_of ho) lt))
       (want k.LeftBracket _ ho (then_reads _ (dims_reads s _ hc) (want k.RightBracket _ hc
-      (made_reads _ (free_reads (grids take_token turns 2 []) (λ lt. grids_read gs turns 2 [] r (record { qualifier = stop.qualifier; bracket = stop.bracket }) few lt)) refl))))
+      (made_reads _ (free_reads (grids turns 2 []) (λ lt. grids_read gs turns 2 [] r (record { qualifier = stop.qualifier; bracket = stop.bracket }) few lt)) refl))))
 
   object_reads : {name : List ℕ} (at : Place) (owner : Option Exp) (t o c : Token) (r : List Token) → t.kind ≡ k.Name name → o.kind ≡ k.LeftParen → c.kind ≡ k.RightParen
       → IsRead limits turns (made (up_to limits) turns at owner) (free (t ∷ o ∷ c ∷ [])) (t ∷ o ∷ c ∷ []) r (tree.NewObject at owner t.place name)
   unfolding made new_named
   object_reads at owner t o c r ht ho hc = by_kind (spec.made_by (up_to limits) turns at owner) ht (took (sees_reads k.LeftParen _ _ ho (took (want k.RightParen _ hc done_reads))))
 
-  base_part : {l : List Token} {x : Base} → Based l x → (r : List Token) → IsRead limits turns (base take_token) (free l) l r x
-  base_part s r = free_reads (base take_token) (λ _. base_reads s r)
+  base_part : {l : List Token} {x : Base} → Based l x → (r : List Token) → IsRead limits turns (base) (free l) l r x
+  base_part s r = free_reads (base) (λ _. base_reads s r)
 
   grid_reads : {a q d g : List Token} {begin : Base} {qs : List Qualifier} {gs : List GridTree} {x : DimsTree} (at : Place) (owner : Option Exp) (o c : Token) (r : List Token)
       → Based a begin → Qualified q qs → o.kind ≡ k.LeftBracket → (s : Dims d x) → c.kind ≡ k.RightBracket → Gridded g gs → length gs ≤ 2 → EndsRight (kind r)

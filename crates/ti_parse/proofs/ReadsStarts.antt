@@ -18,16 +18,16 @@ use Rattle.ti_syntax.specs.Spelling.Expressions as expressions
 use Rattle.ti_syntax.specs.Spelling.Statements.{Start, Initial, Declared, Changed, First, Update, starts, starts_so}
 use Rattle.ti_syntax.specs.Spelling.Statements as grammar
 use Rattle.ti_syntax.specs.Spelling.Loads.{Load, Free, free, weights, initial_loads, declared_loads, changed_loads, first_loads, update_loads}
-use Rattle.ti_parse_expr.specs.Input.{Parser, Outcome, and_then, kind, next, sees}
-use Rattle.ti_parse_expr.specs.Expr.{Operand, is_dim}
-use Rattle.ti_parse_expr.specs.Full.{Limits, operand_to}
+use Rattle.ti_parse_expr.specs.Mirrors.Input.{Parser, Outcome, and_then, kind, next, sees}
+use Rattle.ti_parse_expr.specs.Mirrors.Exprs.{Operand, is_dim}
+use Rattle.ti_parse_expr.specs.Mirrors.Full.{Limits, operand_to}
 use Rattle.ti_parse_expr.proofs.Phrases.{binds_small}
 use Rattle.ti_parse_expr.proofs.Follows.{test_reads as same_test, then_ok, and_then_assoc, goes, is_name}
 use Rattle.ti_parse_expr.proofs.Fronts.{begins, front_whole, not_dim}
 use Rattle.ti_parse_expr.proofs.FullLaws.{operand_reads, behind_name_is, behind_bracket_is}
-use Rattle.ti_parse.specs.Way.{up_to}
-use Rattle.ti_parse.specs.Parts as spec
-use Rattle.ti_parse.specs.Parts.{Begun, Declares, Starts, begins_declaration, typed, begun, begun_bracket, declared, changed, change, first, update}
+use Rattle.ti_parse.specs.Mirrors.Way.{up_to}
+use Rattle.ti_parse.specs.Mirrors.Parts as spec
+use Rattle.ti_parse.specs.Mirrors.Parts.{Begun, Declares, Starts, begins_declaration, typed, begun, begun_bracket, declared, changed, change, first, update}
 use Rattle.ti_parse.proofs.Limits.{IsRead, same_reads, then_reads, done_reads, last_reads, made_reads, regroup_reads, took, by_kind, test_reads, sees_reads, free_then, whole}
 use Rattle.ti_parse.proofs.Lengths.{weights_loaded}
 use Rattle.ti_parse.proofs.ReadsTypes.{name_ends, typed_reads, begun_declares}

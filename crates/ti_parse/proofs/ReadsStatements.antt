@@ -16,15 +16,15 @@ use Rattle.ti_syntax.specs.Spelling.Expressions.{Whole, Call}
 use Rattle.ti_syntax.specs.Spelling.Statements.{Start, Declared, Changed, Printer, Printed, Condition, First, Optional, Update, Stated, Items, starts}
 use Rattle.ti_syntax.specs.Spelling.Statements as grammar
 use Rattle.ti_syntax.specs.Spelling.Loads.{Load, Free, Level, free, weights, changed_loads, printed_loads, condition_loads, first_loads, optional_loads, update_loads, declared_loads, stated_loads, items_loads}
-use Rattle.ti_parse_expr.specs.Input.{Parser, and_then, kind, sees, expect_by, take_token}
-use Rattle.ti_parse_expr.specs.Full.{Limits, operand_to}
+use Rattle.ti_parse_expr.specs.Mirrors.Input.{Parser, and_then, kind, sees, expect, take_token}
+use Rattle.ti_parse_expr.specs.Mirrors.Full.{Limits, operand_to}
 use Rattle.ti_parse_expr.proofs.Follows.{test_reads as same_test, then_ok, is_name, paren_closes}
 use Rattle.ti_parse_expr.proofs.Law.{append_nil}
-use Rattle.ti_parse.specs.Way.{up_to}
-use Rattle.ti_parse.specs.Parts as parts
-use Rattle.ti_parse.specs.Parts.{begins_declaration, typed, declared, simple, print, barrier, break_out, continue_on, return_from}
-use Rattle.ti_parse.specs.Statements as spec
-use Rattle.ti_parse.specs.Statements.{is_compound, item, items, block, conditional, while_loop, for_loop, foreach_loop, compound, small, stmt}
+use Rattle.ti_parse.specs.Mirrors.Way.{up_to}
+use Rattle.ti_parse.specs.Mirrors.Parts as parts
+use Rattle.ti_parse.specs.Mirrors.Parts.{begins_declaration, typed, declared, simple, print, barrier, break_out, continue_on, return_from}
+use Rattle.ti_parse.specs.Mirrors.Statements as spec
+use Rattle.ti_parse.specs.Mirrors.Statements.{is_compound, item, items, block, conditional, while_loop, for_loop, foreach_loop, compound, small, stmt}
 use Rattle.ti_parse.proofs.Lengths.{Loaded, stated_loaded, items_loaded}
 use Rattle.ti_parse.proofs.Limits.{IsRead, bounded_reads, same_reads, result_reads, then_reads, done_reads, last_reads, made_reads, ungroup_reads, load_took, took, over_reads, want, want_word, name_took, test_reads, sees_reads, ends, whole}
 use Rattle.ti_parse.proofs.ReadsParts.{semicolon_ends, paren_ends, printer_reads, printed_reads, condition_reads, optional_part}
@@ -120,7 +120,7 @@ module _ (limits : Limits) (allows : 0 < limits.weight) (turns : ℕ) where
 
   change_reads : {p : Parser Stm} {l : List Token} {x : Stm} → StartsWith limits p (simple (up_to limits) turns) → (d : Changed l x) (t : Token) → t.kind ≡ k.Semicolon → (r : List Token) → IsRead limits turns p (changed_loads d ++ Free ∷ []) (l ++ t ∷ []) r x
   unfolding simple
-  change_reads begin d t h r = changed_reads limits allows turns begin (λ x i. and_then (expect_by take_token k.Semicolon i) (λ _ i. Ok (x, i))) (λ target i. refl) d (semicolon_ends h) (want k.Semicolon _ h done_reads)
+  change_reads begin d t h r = changed_reads limits allows turns begin (λ x i. and_then (expect k.Semicolon i) (λ _ i. Ok (x, i))) (λ target i. refl) d (semicolon_ends h) (want k.Semicolon _ h done_reads)
 
   call_reads : {p : Parser Stm} {l : List Token} {x : Exp} → StartsWith limits p (simple (up_to limits) turns) → Start Call l x → (t : Token) → t.kind ≡ k.Semicolon → (r : List Token) → IsRead limits turns p (weights l ++ Free ∷ []) (l ++ t ∷ []) r (tree.Call x)
   call_reads begin s t h r = start_reads limits allows turns begin s (call_ends h) (call_part _ t r h)
@@ -211,7 +211,7 @@ module _ (limits : Limits) (allows : 0 < limits.weight) (turns : ℕ) where
   -- ---- items
 
   item_type : (inner : Parser Stm) (q : TokenKind) (i : List Token) → begins_declaration q ≡ true
-      → spec.item_by (up_to limits) turns inner q i ≡ and_then (typed (up_to limits) turns i) (λ ty i. and_then (declared (up_to limits) turns ty i) (λ x i. and_then (expect_by take_token k.Semicolon i) (λ _ i. Ok (x, i))))
+      → spec.item_by (up_to limits) turns inner q i ≡ and_then (typed (up_to limits) turns i) (λ ty i. and_then (declared (up_to limits) turns ty i) (λ x i. and_then (expect k.Semicolon i) (λ _ i. Ok (x, i))))
   item_type inner k.KeywordInt i h = refl
   item_type inner k.KeywordLong i h = refl
   item_type inner k.KeywordBoolean i h = refl
@@ -221,7 +221,7 @@ module _ (limits : Limits) (allows : 0 < limits.weight) (turns : ℕ) where
   item_type inner k.KeywordSharedRegion i h = refl
   item_type inner _ i h = cc
 
-  item_declares : (inner : Parser Stm) → DeclaresWith turns (item (up_to limits) turns inner) (λ ty i. and_then (declared (up_to limits) turns ty i) (λ x i. and_then (expect_by take_token k.Semicolon i) (λ _ i. Ok (x, i))))
+  item_declares : (inner : Parser Stm) → DeclaresWith turns (item (up_to limits) turns inner) (λ ty i. and_then (declared (up_to limits) turns ty i) (λ x i. and_then (expect k.Semicolon i) (λ _ i. Ok (x, i))))
   unfolding item
   item_declares inner = declares_with limits allows turns _ (λ t ts r name ty h is. ap (λ q. spec.item_by (up_to limits) turns inner q (t ∷ ts)) h ∙ then_ok _ is) (λ i h. item_type inner (kind i) i h)
 
@@ -342,7 +342,7 @@ module _ (limits : Limits) (allows : 0 < limits.weight) (turns : ℕ) where
         let same = append_assoc l (t ∷ []) m in
         ungroup_reads (declared_loads d) (Free ∷ []) (items_loads level xs) l (t ∷ []) m
         (items_turn (stmt (up_to limits) turns levels) n found rest (ap (λ z. sees k.RightBrace (z ++ r)) same ∙ not_end (kind ((l ++ t ∷ m) ++ r)) (ap (λ z. begins_item (kind z)) (append_assoc l (t ∷ m) r) ∙ declared_front d (t ∷ (m ++ r))))
-        (declared_reads limits allows turns (item_declares (stmt (up_to limits) turns levels)) (λ x i. and_then (expect_by take_token k.Semicolon i) (λ _ i. Ok (x, i))) (λ ty i. refl) d (semicolon_ends h2) (want k.Semicolon _ h2 done_reads))
+        (declared_reads limits allows turns (item_declares (stmt (up_to limits) turns levels)) (λ x i. and_then (expect k.Semicolon i) (λ _ i. Ok (x, i))) (λ ty i. refl) d (semicolon_ends h2) (want k.Semicolon _ h2 done_reads))
         (items_reads xs levels level all n (found ++ x ∷ []) (omega (arith, length-append l (t ∷ m))) r h))
     items_reads (grammar.statement x xs) levels level all zero found lt r h = absurd (omega arith)
     items_reads (grammar.statement {l = l} {m = m} {x = y} {xs = rest} x xs) levels level all (suc n) found lt r h =

@@ -13,14 +13,14 @@ use Rattle.ti_syntax.specs.Trees.Types.{GridTree, TypeTree}
 use Rattle.ti_syntax.specs.Spelling.Operators.{qualifier_of}
 use Rattle.ti_syntax.specs.Spelling.Types.{Based, Qualified, Gridded, FieldType, WideType, Typed}
 use Rattle.ti_syntax.specs.Spelling.Types as types
-use Rattle.ti_parse_expr.specs.Input.{and_then, kind, take_token}
-use Rattle.ti_parse_expr.specs.Full.{Limits}
-use Rattle.ti_parse_expr.specs.Types.{arity, base, qualifiers, grid, grids, field_type}
-use Rattle.ti_parse_expr.specs.Expr.{is_dim}
+use Rattle.ti_parse_expr.specs.Mirrors.Input.{and_then, kind, take_token}
+use Rattle.ti_parse_expr.specs.Mirrors.Full.{Limits}
+use Rattle.ti_parse_expr.specs.Mirrors.Types.{arity, base, qualifiers, grid, grids, field_type}
+use Rattle.ti_parse_expr.specs.Mirrors.Exprs.{is_dim}
 use Rattle.ti_parse_expr.proofs.Follows.{then_ok, test_reads}
 use Rattle.ti_parse_expr.proofs.CompleteTypes.{arity_reads, base_reads, EndsType, field_type_reads, grid_reads, grids_read, qualifiers_read, gridded_front}
-use Rattle.ti_parse.specs.Way.{up_to}
-use Rattle.ti_parse.specs.Parts.{Declares, is_wide, wide, wide_by, field, typed, begun, begun_by, begun_bracket}
+use Rattle.ti_parse.specs.Mirrors.Way.{up_to}
+use Rattle.ti_parse.specs.Mirrors.Parts.{Declares, is_wide, wide, wide_by, field, typed, begun, begun_by, begun_bracket}
 
 -- ---- what types begin with
 
@@ -61,15 +61,15 @@ module _ (limits : Limits) (turns : ℕ) where
   pub field_reads : {l : List Token} {ty : TypeTree} → FieldType l ty → (r : List Token) → EndsType r → length l < turns → field (up_to limits) turns (l ++ r) ≡ Ok (ty, r)
   unfolding field
   field_reads (types.field_type {a = a} {l = l} {m = m} {b = begin} s q g few) r ends lt =
-      ap (λ z. and_then (base take_token z) (field_type take_token turns)) (append_assoc a (l ++ m) r)
-      ∙ then_ok (field_type take_token turns) (base_reads s ((l ++ m) ++ r))
+      ap (λ z. and_then (base z) (field_type turns)) (append_assoc a (l ++ m) r)
+      ∙ then_ok (field_type turns) (base_reads s ((l ++ m) ++ r))
       ∙ field_type_reads q g few turns begin r ends (omega (arith, length-append a (l ++ m)))
 
   pub wide_reads : {l : List Token} {ty : TypeTree} → WideType l ty → (r : List Token) → qualifier_of (kind r) ≡ None → length l < turns → wide (up_to limits) turns (l ++ r) ≡ Ok (ty, r)
   unfolding wide
   wide_reads (types.domain {l = l} {m = m} t h s q) r free lt =
       ap (λ z. wide_by (up_to limits) turns z (t ∷ ((l ++ m) ++ r))) h
-      ∙ ap (λ z. and_then (arity take_token z) (λ n i. and_then (qualifiers take_token turns [] i) (λ qs i. Ok (record { base = b.Domain t.place n; qualifiers = qs; grids = [] }, i)))) (append_assoc l m r)
+      ∙ ap (λ z. and_then (arity z) (λ n i. and_then (qualifiers turns [] i) (λ qs i. Ok (record { base = b.Domain t.place n; qualifiers = qs; grids = [] }, i)))) (append_assoc l m r)
       ∙ then_ok _ (arity_reads s (m ++ r))
       ∙ then_ok (λ qs i. Ok (record { base = b.Domain t.place _; qualifiers = qs; grids = [] }, i)) (qualifiers_read q turns [] r free (omega (arith, length-append l m)))
   wide_reads (types.shared_region {l = l} t h q) r free lt =
@@ -83,7 +83,7 @@ module _ (limits : Limits) (turns : ℕ) where
   -- ---- a type behind the name that it begins with
 
   begun_qualified : (at : Place) (name : List ℕ) (i : List Token) (q : TokenKind) (word : QualifierWord) → qualifier_of q ≡ Some word
-      → begun_by (up_to limits) turns at name q i ≡ and_then (field_type take_token turns (b.Named at name) i) (λ ty i. Ok (Declares ty, i))
+      → begun_by (up_to limits) turns at name q i ≡ and_then (field_type turns (b.Named at name) i) (λ ty i. Ok (Declares ty, i))
   begun_qualified at name i k.KeywordSingle word h = refl
   begun_qualified at name i k.KeywordLocal word h = refl
   begun_qualified at name i _ word h = cc
@@ -96,8 +96,8 @@ module _ (limits : Limits) (turns : ℕ) where
       let one : GridTree = record { dim = n; qualifiers = qs } in
       let long = length-append l m in
       test_reads (is_dim t.kind) true _ _ (t ∷ c ∷ ((l ++ m) ++ r)) (ap is_dim ht)
-      ∙ ap (λ z. and_then (grid take_token turns (t ∷ c ∷ z)) (λ g i. and_then (grids take_token turns 2 (g ∷ []) i) (λ gs i. Ok (Declares (record { base = b.Named at name; qualifiers = []; grids = gs }), i)))) (append_assoc l m r)
-      ∙ then_ok (λ g i. and_then (grids take_token turns 2 (g ∷ []) i) (λ gs i. Ok (Declares (record { base = b.Named at name; qualifiers = []; grids = gs }), i))) (grid_reads s turns t c n (m ++ r) ht low high hc (gridded_front g r ends.qualifier) (omega arith))
+      ∙ ap (λ z. and_then (grid turns (t ∷ c ∷ z)) (λ g i. and_then (grids turns 2 (g ∷ []) i) (λ gs i. Ok (Declares (record { base = b.Named at name; qualifiers = []; grids = gs }), i)))) (append_assoc l m r)
+      ∙ then_ok (λ g i. and_then (grids turns 2 (g ∷ []) i) (λ gs i. Ok (Declares (record { base = b.Named at name; qualifiers = []; grids = gs }), i))) (grid_reads s turns t c n (m ++ r) ht low high hc (gridded_front g r ends.qualifier) (omega arith))
       ∙ then_ok (λ gs i. Ok (Declares (record { base = b.Named at name; qualifiers = []; grids = gs }), i)) (grids_read g turns 2 (one ∷ []) r ends few (omega arith))
 
   pub begun_declares : {l m : List Token} {qs : List Qualifier} {gs : List GridTree} {next : List ℕ} → Qualified l qs → Gridded m gs → length gs ≤ 3 → (at : Place) (name : List ℕ) (r : List Token) → kind r ≡ k.Name next → length (l ++ m) < turns

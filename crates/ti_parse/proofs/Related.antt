@@ -24,102 +24,102 @@ use Rattle.ti_syntax.specs.Spelling.Expressions.{Ending, Target}
 use Rattle.ti_syntax.specs.Spelling.Statements.{starts}
 use Rattle.ti_parse_expr.specs.declared.parse.Form.{Form}
 use Rattle.ti_parse_expr.specs.declared.parse.Form.TheVariants as form
-use Rattle.ti_parse_expr.specs.Input.{At, Over, Spent, Parser, ◌>>=◌, ◌>>◌, pure, refuse, and_then, kind, place, here, sees, spells, expect_by, expect_word_by, take_token, name_with, named_by}
-use Rattle.ti_parse_expr.specs.Types.{arity, base as type_base, qualifiers, grid, grids, field_type}
-use Rattle.ti_parse_expr.specs.Expr.{Operand, is_dim}
-use Rattle.ti_parse_expr.specs.Full.{full, full_operand, full_behind_name, full_behind_bracket}
+use Rattle.ti_parse_expr.specs.Mirrors.Input.{At, Over, Spent, Parser, ◌>>=◌, ◌>>◌, pure, refuse, and_then, kind, place, here, sees, spells, expect, expect_word, take_token, any_name, named_by}
+use Rattle.ti_parse_expr.specs.Mirrors.Types.{arity, base as type_base, qualifiers, grid, grids, field_type}
+use Rattle.ti_parse_expr.specs.Mirrors.Exprs.{Operand, is_dim}
+use Rattle.ti_parse_expr.specs.Mirrors.Full.{full, full_operand, full_behind_name, full_behind_bracket}
 use Rattle.ti_parse_expr.proofs.Related as expr
-use Rattle.ti_parse.specs.Way.{Way, plain}
-use Rattle.ti_parse.specs.Parts as parts
-use Rattle.ti_parse.specs.Parts.{is_wide, begins_declaration, is_call, Begun, Declares, Starts, class_type, wide, field, typed, range_from, more_ranges, dims, region, new_grid, new_named, made, new_thing, broadcast, initial, declared, changed, simple, change, begun_bracket, begun, printer, printed_text, printed, print, barrier, break_out, continue_on, return_from, condition, first, optional, update}
-use Rattle.ti_parse.specs.Statements as statements
-use Rattle.ti_parse.specs.Statements.{is_compound, item, items, block, conditional, while_loop, for_loop, foreach_loop, compound, small, stmt, body}
-use Rattle.ti_parse.specs.Classes as texts
-use Rattle.ti_parse.specs.Classes.{more_params, words, params, method, method_named, field_or_method, member_from, modifiers, member, members, class_from, class, classes}
+use Rattle.ti_parse.specs.Mirrors.Way.{Way, plain}
+use Rattle.ti_parse.specs.Mirrors.Parts as parts
+use Rattle.ti_parse.specs.Mirrors.Parts.{is_wide, begins_declaration, is_call, Begun, Declares, Starts, class_type, wide, field, typed, range_from, more_ranges, dims, region, new_grid, new_named, made, new_thing, broadcast, initial, declared, changed, simple, change, begun_bracket, begun, printer, printed_text, printed, print, barrier, break_out, continue_on, return_from, condition, first, optional, update}
+use Rattle.ti_parse.specs.Mirrors.Statements as statements
+use Rattle.ti_parse.specs.Mirrors.Statements.{is_compound, item, items, block, conditional, while_loop, for_loop, foreach_loop, compound, small, stmt, body}
+use Rattle.ti_parse.specs.Mirrors.Classes as texts
+use Rattle.ti_parse.specs.Mirrors.Classes.{more_params, words, params, method, method_named, field_or_method, member_from, modifiers, member, members, class_from, class, classes}
 use Rattle.ti_syntax.specs.Spelling.{most_levels}
 
 -- ---- what is read behind a place
 
 abbrev domain_at : Way → ℕ → Place → Parser TypeTree
-domain_at w turns at = (do w.take; n ← arity w.take; qs ← qualifiers w.take turns []; pure (record { base = b.Domain at n; qualifiers = qs; grids = [] }))
+domain_at w turns at = (do take_token; n ← arity; qs ← qualifiers turns []; pure (record { base = b.Domain at n; qualifiers = qs; grids = [] }))
 
 abbrev shared_region_at : Way → ℕ → Place → Parser TypeTree
-shared_region_at w turns at = (do w.take; qs ← qualifiers w.take turns []; pure (record { base = b.SharedRegion at; qualifiers = qs; grids = [] }))
+shared_region_at w turns at = (do take_token; qs ← qualifiers turns []; pure (record { base = b.SharedRegion at; qualifiers = qs; grids = [] }))
 
 abbrev new_grid_at : Way → ℕ → Place → Option Exp → Base → List Qualifier → Place → Parser InitTree
 new_grid_at w turns at owner begin qs dims_at = do
-  expect_by w.take k.LeftBracket
+  expect k.LeftBracket
   d ← dims w turns
-  expect_by w.take k.RightBracket
-  gs ← grids w.take turns 2 []
+  expect k.RightBracket
+  gs ← grids turns 2 []
   pure (s.NewGrid at owner (record { base = begin; qualifiers = qs; grids = gs }) dims_at d)
 
 abbrev made_at : Way → ℕ → Place → Option Exp → List ℕ → Place → Parser InitTree
-made_at w turns at owner name name_at = (do w.take; new_named w turns at owner name_at name)
+made_at w turns at owner name name_at = (do take_token; new_named w turns at owner name_at name)
 
 abbrev new_at : Way → ℕ → Place → Parser InitTree
-new_at w turns at = (do w.take; new_thing w turns at)
+new_at w turns at = (do take_token; new_thing w turns at)
 
 abbrev broadcast_at : Way → ℕ → Place → Parser InitTree
-broadcast_at w turns at = (do w.take; broadcast w turns at)
+broadcast_at w turns at = (do take_token; broadcast w turns at)
 
 abbrev declared_at : Way → ℕ → TypeTree → Place → Parser Stm
 declared_at w turns ty at = do
-  name ← name_with w.take
-  expect_by w.take k.Assign
+  name ← any_name
+  expect k.Assign
   value ← initial w turns
   pure (s.Declare at ty name value)
 
 abbrev update_at : Way → Exp → BinaryOperator → Place → Parser Stm
-update_at w target op at = (do w.take; x ← w.full form.Whole; pure (s.Update at op target x))
+update_at w target op at = (do take_token; x ← w.full form.Whole; pure (s.Update at op target x))
 
 abbrev step_at : Way → Exp → StepOperator → Place → Parser Stm
-step_at w target op at = (do w.take; pure (s.Step at op target))
+step_at w target op at = (do take_token; pure (s.Step at op target))
 
 abbrev assign_at : Way → ℕ → Exp → Place → Parser Stm
-assign_at w turns target at = (do w.take; value ← initial w turns; pure (s.Assign at target value))
+assign_at w turns target at = (do take_token; value ← initial w turns; pure (s.Assign at target value))
 
 abbrev bracket_at : Way → ℕ → Place → List ℕ → Place → Parser Begun
-bracket_at w turns at name z = (do w.take; begun_bracket w turns at name z)
+bracket_at w turns at name z = (do take_token; begun_bracket w turns at name z)
 
 abbrev println_at : Way → Place → Parser Place
-println_at w at = (do expect_by w.take k.KeywordPrintln; pure at)
+println_at w at = (do expect k.KeywordPrintln; pure at)
 
 abbrev barrier_at : Way → Place → Parser Stm
 barrier_at w at = do
-  expect_word_by w.take (codes "barrier")
-  expect_by w.take k.LeftParen
-  expect_by w.take k.RightParen
-  expect_by w.take k.Semicolon
+  expect_word (codes "barrier")
+  expect k.LeftParen
+  expect k.RightParen
+  expect k.Semicolon
   pure (s.Barrier at)
 
 abbrev break_at : Way → Place → Parser Stm
-break_at w at = (do w.take; expect_by w.take k.Semicolon; pure (s.Break at))
+break_at w at = (do take_token; expect k.Semicolon; pure (s.Break at))
 
 abbrev continue_at : Way → Place → Parser Stm
-continue_at w at = (do w.take; expect_by w.take k.Semicolon; pure (s.Continue at))
+continue_at w at = (do take_token; expect k.Semicolon; pure (s.Continue at))
 
 abbrev return_at : Way → ℕ → Place → Parser Stm
-return_at w turns at = (do w.take; value ← optional w turns; expect_by w.take k.Semicolon; pure (s.Return at value))
+return_at w turns at = (do take_token; value ← optional w turns; expect k.Semicolon; pure (s.Return at value))
 
 abbrev first_at : Way → ℕ → List ℕ → Place → Parser MaybeStm
-first_at w turns name at = (do w.take; x ← begun w turns at name; first ← parts.first_of w turns x; pure (s.SomeStm first))
+first_at w turns name at = (do take_token; x ← begun w turns at name; first ← parts.first_of w turns x; pure (s.SomeStm first))
 
 abbrev first_other : Way → ℕ → TokenKind → Parser MaybeStm
 first_other w turns q = (do first ← (if begins_declaration q then typed w turns >>= declared w turns else change w turns); pure (s.SomeStm first))
 
 abbrev item_at : Way → ℕ → Parser Stm → List ℕ → Place → Parser Stm
-item_at w turns one name at = (do w.take; x ← begun w turns at name; statements.named_item w turns one x)
+item_at w turns one name at = (do take_token; x ← begun w turns at name; statements.named_item w turns one x)
 
 abbrev item_other : Way → ℕ → Parser Stm → TokenKind → Parser Stm
-item_other w turns one q = if begins_declaration q then (do ty ← typed w turns; x ← declared w turns ty; expect_by w.take k.Semicolon; pure x) else one
+item_other w turns one q = if begins_declaration q then (do ty ← typed w turns; x ← declared w turns ty; expect k.Semicolon; pure x) else one
 
 abbrev foreach_at : Way → Parser Stm → Place → Place → Parser Stm
 foreach_at w one at name_at = do
-  name ← name_with w.take
-  expect_word_by w.take (codes "in")
+  name ← any_name
+  expect_word (codes "in")
   domain ← w.full form.Whole
-  expect_by w.take k.RightParen
+  expect k.RightParen
   x ← one
   pure (s.Foreach at name_at name domain x)
 
@@ -127,51 +127,51 @@ abbrev small_other : Way → ℕ → TokenKind → Parser Stm
 small_other w turns q = if starts q then w.operand >>= simple w turns else refuse
 
 abbrev stmt_at : Way → ℕ → Parser Stm → TokenKind → Place → Parser Stm
-stmt_at w turns one q at = if is_compound q then w.take >> compound w turns one at q else small w turns
+stmt_at w turns one q at = if is_compound q then take_token >> compound w turns one at q else small w turns
 
 abbrev param_at : Way → (List ParamTree → Parser (List ParamTree)) → List ParamTree → TypeTree → Place → Parser (List ParamTree)
 param_at w next found ty at = do
-  name ← name_with w.take
+  name ← any_name
   is_more ← (λ i. Ok (sees k.Comma i, i))
-  if is_more then w.take >> next (found ++ record { ty = ty; place = at; name = name } ∷ []) else pure (found ++ record { ty = ty; place = at; name = name } ∷ [])
+  if is_more then take_token >> next (found ++ record { ty = ty; place = at; name = name } ∷ []) else pure (found ++ record { ty = ty; place = at; name = name } ∷ [])
 
 abbrev words_at : Way → Place → Parser ParamsTree
-words_at w at = (do name ← name_with w.take; pure (c.Words at name))
+words_at w at = (do name ← any_name; pure (c.Words at name))
 
 abbrev method_at : Way → List Modifier → ResultTree → Place → List ℕ → ParamsTree → List Stm → Place → Parser MemberTree
 method_at w ms result at name ps xs end_at = do
-  expect_by w.take k.RightBrace
+  expect k.RightBrace
   pure (c.MethodMember (record { modifiers = ms; result = result; place = at; name = name; params = ps; body = xs; end = end_at }))
 
 abbrev method_named_at : Way → ℕ → List Modifier → ResultTree → Place → Parser MemberTree
-method_named_at w turns ms result at = (do name ← name_with w.take; method w turns ms result at name)
+method_named_at w turns ms result at = (do name ← any_name; method w turns ms result at name)
 
 abbrev field_or_method_at : Way → ℕ → List Modifier → TypeTree → Place → Parser MemberTree
 field_or_method_at w turns ms ty at = do
-  name ← name_with w.take
+  name ← any_name
   is_field ← (λ i. Ok (sees k.Semicolon i, i))
-  if is_field then w.take >> pure (c.FieldMember (record { modifiers = ms; ty = ty; place = at; name = name })) else method w turns ms (c.Typed ty) at name
+  if is_field then take_token >> pure (c.FieldMember (record { modifiers = ms; ty = ty; place = at; name = name })) else method w turns ms (c.Typed ty) at name
 
 abbrev void_at : Way → ℕ → List Modifier → Place → Parser MemberTree
-void_at w turns ms at = (do w.take; method_named w turns ms (c.Void at))
+void_at w turns ms at = (do take_token; method_named w turns ms (c.Void at))
 
 abbrev modifier_at : Way → (List Modifier → Parser (List Modifier)) → List Modifier → ModifierWord → Place → Parser (List Modifier)
-modifier_at w next found word at = (do w.take; next (found ++ record { word = word; place = at } ∷ []))
+modifier_at w next found word at = (do take_token; next (found ++ record { word = word; place = at } ∷ []))
 
 abbrev class_named_at : Way → ℕ → List Modifier → Place → Place → Parser ClassTree
 class_named_at w turns ms word at = do
-  name ← name_with w.take
-  expect_by w.take k.LeftBrace
+  name ← any_name
+  expect k.LeftBrace
   xs ← members w turns turns []
-  expect_by w.take k.RightBrace
+  expect k.RightBrace
   pure (record { modifiers = ms; word = word; place = at; name = name; members = xs })
 
 abbrev class_at : Way → ℕ → List Modifier → Place → Parser ClassTree
-class_at w turns ms word = (do expect_by w.take k.KeywordClass; at ← here; class_named_at w turns ms word at)
+class_at w turns ms word = (do expect k.KeywordClass; at ← here; class_named_at w turns ms word at)
 
 -- Q is the relation, T relates the turns that are left, and v is the second way
 module _ (Q : (A : Type 0) → Parser A → Parser A → Type 0) (T : ℕ → ℕ → Type 0) (v : Way) (same_levels : v.levels ≡ most_levels) (q_pure : (A : Type 0) (x : A) → Q A (λ i. Ok (x, i)) (λ i. Ok (x, i)))
-    (q_refuse : (A : Type 0) → Q A (λ i. Err (At i)) (λ i. Err (At i))) (q_over : (A : Type 0) → Q A (λ i. Err (Over i)) (λ i. Err (Over i))) (q_take : Q (Unit {0}) take_token v.take)
+    (q_refuse : (A : Type 0) → Q A (λ i. Err (At i)) (λ i. Err (At i))) (q_over : (A : Type 0) → Q A (λ i. Err (Over i)) (λ i. Err (Over i))) (q_take : Q (Unit {0}) take_token take_token)
     (q_full : (form : Form) → Q Exp (full form) (v.full form)) (q_operand : Q Operand full_operand v.operand)
     (q_behind_name : (at : Place) (name : List ℕ) → Q Operand (full_behind_name at name) (v.behind_name at name))
     (q_behind_bracket : (bracket at : Place) (name : List ℕ) → Q Operand (full_behind_bracket bracket at name) (v.behind_bracket bracket at name))
@@ -192,7 +192,7 @@ module _ (Q : (A : Type 0) → Parser A → Parser A → Type 0) (T : ℕ → �
   r_over : {A : Type 0} → R {A = A} (λ i. Err (Over i)) (λ i. Err (Over i))
   r_over {A = A} = q_over A
 
-  r_take : R take_token v.take
+  r_take : R take_token take_token
   r_take = q_take
 
   r_whole : R (full form.Whole) (v.full form.Whole)
@@ -225,46 +225,46 @@ module _ (Q : (A : Type 0) → Parser A → Parser A → Type 0) (T : ℕ → �
       → R (λ i. if◌then◌else◌ {A = Parser A} (sees q i) p1 p2 i) (λ i. if◌then◌else◌ {A = Parser A} (sees q i) q1 q2 i)
   r_sees q n1 n2 = r_test (λ a. same_kind a q) n1 n2
 
-  abbrev take_if : Parser (Unit {0}) → Bool → Parser (Unit {0})
-  take_if take_one c i = if c then take_one i else Err (At i)
+  abbrev take_if : Bool → Parser (Unit {0})
+  take_if c i = if c then take_token i else Err (At i)
 
-  r_take_if : (c : Bool) → R (take_if take_token c) (take_if v.take c)
+  r_take_if : (c : Bool) → R (take_if c) (take_if c)
   r_take_if true = r_take
   r_take_if false = r_refuse
 
-  r_expect : (q : TokenKind) → R (expect_by take_token q) (expect_by v.take q)
-  r_expect q = r_kind (λ a. take_if take_token (same_kind a q)) (λ a. take_if v.take (same_kind a q)) (λ a. r_take_if (same_kind a q))
+  r_expect : (q : TokenKind) → R (expect q) (expect q)
+  r_expect q = r_kind (λ a. take_if (same_kind a q)) (λ a. take_if (same_kind a q)) (λ a. r_take_if (same_kind a q))
 
-  r_expect_word : (word : List ℕ) → R (expect_word_by take_token word) (expect_word_by v.take word)
-  r_expect_word word = r_kind (λ a. take_if take_token (spells word a)) (λ a. take_if v.take (spells word a)) (λ a. r_take_if (spells word a))
+  r_expect_word : (word : List ℕ) → R (expect_word word) (expect_word word)
+  r_expect_word word = r_kind (λ a. take_if (spells word a)) (λ a. take_if (spells word a)) (λ a. r_take_if (spells word a))
 
-  r_name_by : (q : TokenKind) → R (named_by take_token q) (named_by v.take q)
+  r_name_by : (q : TokenKind) → R (named_by q) (named_by q)
   r_name_by (k.Name name) = r_then r_take (λ _. r_pure name)
   r_name_by _ = r_refuse
 
-  r_name : R (name_with take_token) (name_with v.take)
-  r_name = r_kind (named_by take_token) (named_by v.take) r_name_by
+  r_name : R (any_name) (any_name)
+  r_name = r_kind (named_by) (named_by) r_name_by
 
   -- ---- types
 
-  r_arity : R (arity take_token) (arity v.take)
-  r_arity = expr.r_arity Q T v.take q_pure q_refuse q_take q_then q_kind q_place q_spent t_none t_less
+  r_arity : R (arity) (arity)
+  r_arity = expr.r_arity Q T q_pure q_refuse q_take q_then q_kind q_place q_spent t_none t_less
 
-  r_base : R (type_base take_token) (type_base v.take)
-  r_base = expr.r_base Q T v.take q_pure q_refuse q_take q_then q_kind q_place q_spent t_none t_less
+  r_base : R (type_base) (type_base)
+  r_base = expr.r_base Q T q_pure q_refuse q_take q_then q_kind q_place q_spent t_none t_less
 
   module _ (turns more : ℕ) (most : T turns more) where
-    r_qualifiers : (found : List Qualifier) → R (qualifiers take_token turns found) (qualifiers v.take more found)
-    r_qualifiers found = expr.r_qualifiers Q T v.take q_pure q_refuse q_take q_then q_kind q_place q_spent t_none t_less turns more most found
+    r_qualifiers : (found : List Qualifier) → R (qualifiers turns found) (qualifiers more found)
+    r_qualifiers found = expr.r_qualifiers Q T q_pure q_refuse q_take q_then q_kind q_place q_spent t_none t_less turns more most found
 
-    r_grid : R (grid take_token turns) (grid v.take more)
-    r_grid = expr.r_grid Q T v.take q_pure q_refuse q_take q_then q_kind q_place q_spent t_none t_less turns more most
+    r_grid : R (grid turns) (grid more)
+    r_grid = expr.r_grid Q T q_pure q_refuse q_take q_then q_kind q_place q_spent t_none t_less turns more most
 
-    r_grids : (n : ℕ) (found : List GridTree) → R (grids take_token turns n found) (grids v.take more n found)
-    r_grids n found = expr.r_grids Q T v.take q_pure q_refuse q_take q_then q_kind q_place q_spent t_none t_less turns more most n found
+    r_grids : (n : ℕ) (found : List GridTree) → R (grids turns n found) (grids more n found)
+    r_grids n found = expr.r_grids Q T q_pure q_refuse q_take q_then q_kind q_place q_spent t_none t_less turns more most n found
 
-    r_field_type : (begin : Base) → R (field_type take_token turns begin) (field_type v.take more begin)
-    r_field_type begin = expr.r_field_type Q T v.take q_pure q_refuse q_take q_then q_kind q_place q_spent t_none t_less turns more most begin
+    r_field_type : (begin : Base) → R (field_type turns begin) (field_type more begin)
+    r_field_type begin = expr.r_field_type Q T q_pure q_refuse q_take q_then q_kind q_place q_spent t_none t_less turns more most begin
 
     r_wide_by : (q : TokenKind) → R (parts.wide_by plain turns q) (parts.wide_by v more q)
     r_wide_by k.KeywordDomain = r_place (domain_at plain turns) (domain_at v more) (λ at. r_then r_take (λ _. r_then r_arity (λ n. r_then (r_qualifiers []) (λ qs. r_pure (record { base = b.Domain at n; qualifiers = qs; grids = [] })))))
@@ -312,7 +312,7 @@ module _ (Q : (A : Type 0) → Parser A → Parser A → Type 0) (T : ℕ → �
     unfolding new_named
     r_new_named at owner name_at name = r_sees k.LeftParen (r_then r_take (λ _. r_then (r_expect k.RightParen) (λ _. r_pure (s.NewObject at owner name_at name)))) (r_new_grid at owner (b.Named name_at name))
 
-    r_made_other : (at : Place) (owner : Option Exp) → R (λ i. and_then (type_base take_token i) (new_grid plain turns at owner)) (λ i. and_then (type_base v.take i) (new_grid v more at owner))
+    r_made_other : (at : Place) (owner : Option Exp) → R (λ i. and_then (type_base i) (new_grid plain turns at owner)) (λ i. and_then (type_base i) (new_grid v more at owner))
     r_made_other at owner = r_then r_base (r_new_grid at owner)
 
     r_made_by : (at : Place) (owner : Option Exp) (q : TokenKind) → R (parts.made_by plain turns at owner q) (parts.made_by v more at owner q)

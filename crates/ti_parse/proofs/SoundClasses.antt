@@ -17,13 +17,13 @@ use Rattle.ti_syntax.specs.Spelling.Types.{FieldType, Typed}
 use Rattle.ti_syntax.specs.Spelling.Types as types
 use Rattle.ti_syntax.specs.Spelling.Classes.{ParamList, Parameters, Method, Modified, Member, Members, ClassModified, Class, AllClasses}
 use Rattle.ti_syntax.specs.Spelling.Classes as grammar
-use Rattle.ti_parse_expr.specs.Input.{Outcome, Parser, ◌>>=◌, ◌>>◌, pure, here, and_then, sees, expect_by, name_with, take_token}
+use Rattle.ti_parse_expr.specs.Mirrors.Input.{Outcome, Parser, ◌>>=◌, ◌>>◌, pure, here, and_then, sees, expect, any_name, take_token}
 use Rattle.ti_parse_expr.proofs.TokenKinds.{paren_is, close_is, bracket_is, shut_is, comma_is}
 use Rattle.ti_parse_expr.proofs.Law.{BeginsIn, Said, token, append_nil}
-use Rattle.ti_parse.specs.Way.{plain}
-use Rattle.ti_parse.specs.Parts.{is_wide}
-use Rattle.ti_parse.specs.Classes as spec
-use Rattle.ti_parse.specs.Classes.{more_params, words, params, method, method_named, field_or_method, member_from, modifiers, member, members, class_from, class, classes}
+use Rattle.ti_parse.specs.Mirrors.Way.{plain}
+use Rattle.ti_parse.specs.Mirrors.Parts.{is_wide}
+use Rattle.ti_parse.specs.Mirrors.Classes as spec
+use Rattle.ti_parse.specs.Mirrors.Classes.{more_params, words, params, method, method_named, field_or_method, member_from, modifiers, member, members, class_from, class, classes}
 use Rattle.ti_parse.proofs.Laws.{Free, Tells, said_of, as_tells, fewer_tells, done_tells, met_tells, spent_tells, if_tells, if_sees, after_tells, after_turn, then_tells, then_turn, map_tells, want_here, want_tells, last_tells, name_here}
 use Rattle.ti_parse.proofs.SoundKinds.{semicolon_is, brace_is, brace_shut_is, class_is}
 use Rattle.ti_parse.proofs.SoundParts.{wide_tells, field_tells, typed_tells}
@@ -198,9 +198,9 @@ module _ (turns : ℕ) where
   unfolding class_from
   class_from_tells a ms sm l =
       want_here k.KeywordClass class_is refl
-      (λ word. here >>= (λ at. name_with take_token >>= (λ name. expect_by take_token k.LeftBrace >> (members plain turns turns [] >>= (λ xs. expect_by take_token k.RightBrace >> pure (class_tree ms word at name xs))))))
+      (λ word. here >>= (λ at. any_name >>= (λ name. expect k.LeftBrace >> (members plain turns turns [] >>= (λ xs. expect k.RightBrace >> pure (class_tree ms word at name xs))))))
       (λ c l2 hc. name_here
-      (λ at name. expect_by take_token k.LeftBrace >> (members plain turns turns [] >>= (λ xs. expect_by take_token k.RightBrace >> pure (class_tree ms c.place at name xs))))
+      (λ at name. expect k.LeftBrace >> (members plain turns turns [] >>= (λ xs. expect k.RightBrace >> pure (class_tree ms c.place at name xs))))
       (λ t name l3 ht. want_tells k.LeftBrace brace_is refl _ (λ o l4 ho. then_tells _ (all_tell (members_tell turns (omega arith) [] l4)) (λ f r xs s.
       last_tells k.RightBrace brace_shut_is refl (class_tree ms c.place t.place name xs) (λ e he. grammar.class c t o e sm hc ht ho s he)))))
 

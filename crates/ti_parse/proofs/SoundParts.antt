@@ -22,18 +22,18 @@ use Rattle.ti_syntax.specs.Spelling.Expressions as exprs
 use Rattle.ti_syntax.specs.Spelling.Statements.{starts, starts_so, Start, Region, Dims, Initial, Declared, Changed, Printer, Printed, Condition, First, Optional, Update, Stated}
 use Rattle.ti_syntax.specs.Spelling.Statements as grammar
 use Rattle.ti_parse_expr.specs.declared.parse.Form.TheVariants as form
-use Rattle.ti_parse_expr.specs.Input.{At, Over, Spent, Outcome, Parser, ◌>>=◌, ◌>>◌, pure, and_then, kind, sees, expect_by, take_token}
-use Rattle.ti_parse_expr.specs.Types.{arity, base, qualifiers, grid, grids, field_type}
-use Rattle.ti_parse_expr.specs.Expr.{Operand, is_dim}
-use Rattle.ti_parse_expr.specs.Full.{usual, full, full_operand, full_behind_name, full_behind_bracket}
+use Rattle.ti_parse_expr.specs.Mirrors.Input.{At, Over, Spent, Outcome, Parser, ◌>>=◌, ◌>>◌, pure, and_then, kind, sees, expect, take_token}
+use Rattle.ti_parse_expr.specs.Mirrors.Types.{arity, base, qualifiers, grid, grids, field_type}
+use Rattle.ti_parse_expr.specs.Mirrors.Exprs.{Operand, is_dim}
+use Rattle.ti_parse_expr.specs.Mirrors.Full.{usual, full, full_operand, full_behind_name, full_behind_bracket}
 use Rattle.ti_parse_expr.proofs.TokenKinds.{paren_is, close_is, bracket_is, shut_is, comma_is, dot_is, colon_is}
 use Rattle.ti_parse_expr.proofs.Law.{BeginsIn, Said, Any, as_said, token, ended}
 use Rattle.ti_parse_expr.proofs.SoundTypes.{arity_says, base_says, some_base, all_qualifiers_say, any_qualifiers, field_type_says, grid_says, grids_say, gridded_append, GridRest, MoreGrids}
 use Rattle.ti_parse_expr.proofs.Phrases.{Post, ranges_snoc, postfixed_some}
 use Rattle.ti_parse_expr.proofs.Sound.{whole_int}
-use Rattle.ti_parse.specs.Way.{plain}
-use Rattle.ti_parse.specs.Parts as spec
-use Rattle.ti_parse.specs.Parts.{is_wide, begins_declaration, Begun, Declares, Starts, wide, field, typed, range_from, more_ranges, dims, region, new_grid, new_named, made, new_thing, broadcast, initial, declared, changed, simple, change, begun_bracket, begun, printer, printed_text, printed, print, barrier, break_out, continue_on, return_from, condition, first, optional, update}
+use Rattle.ti_parse.specs.Mirrors.Way.{plain}
+use Rattle.ti_parse.specs.Mirrors.Parts as spec
+use Rattle.ti_parse.specs.Mirrors.Parts.{is_wide, begins_declaration, Begun, Declares, Starts, wide, field, typed, range_from, more_ranges, dims, region, new_grid, new_named, made, new_thing, broadcast, initial, declared, changed, simple, change, begun_bracket, begun, printer, printed_text, printed, print, barrier, break_out, continue_on, return_from, condition, first, optional, update}
 use Rattle.ti_parse.proofs.Laws.{Free, Tells, told, as_tells, done_tells, refused_tells, if_tells, if_sees, after_tells, then_tells, map_tells, want_here, want_tells, last_tells, word_here, word_tells, name_here}
 use Rattle.ti_parse.proofs.SoundKinds.{assign_is, plus_is, semicolon_is, println_is}
 use Rattle.ti_parse_expr.proofs.FullLaws.{full_says, operand_says, behind_name_is, behind_bracket_is}
@@ -84,17 +84,17 @@ module _ (turns : ℕ) where
   mul_tells : (l : List Token) → Tells turns (Whole 10) Free l (full form.Mul l)
   mul_tells l = told (zero_token ∷ [], zero_tree, whole_int 10) (full_says form.Mul l)
 
-  arity_tells : (l : List Token) → Tells turns Arity Free l (arity take_token l)
+  arity_tells : (l : List Token) → Tells turns Arity Free l (arity l)
   arity_tells l = told some_arity (arity_says l)
 
-  qualifiers_tell : (l : List Token) → Tells turns Qualified Free l (qualifiers take_token turns [] l)
+  qualifiers_tell : (l : List Token) → Tells turns Qualified Free l (qualifiers turns [] l)
   qualifiers_tell l = told ([], [], types.none) (all_qualifiers_say turns l)
 
-  base_tells : (l : List Token) → Tells turns Based Free l (base take_token l)
+  base_tells : (l : List Token) → Tells turns Based Free l (base l)
   base_tells l = told some_base (base_says l)
 
   -- at most so many grids
-  grids_tell : (n : ℕ) (l : List Token) → Tells turns (λ f gs. Gridded f gs × (length gs ≤ n)) Free l (grids take_token turns n [] l)
+  grids_tell : (n : ℕ) (l : List Token) → Tells turns (λ f gs. Gridded f gs × (length gs ≤ n)) Free l (grids turns n [] l)
   grids_tell n l =
       told ([], [], (types.none, omega arith))
       (as_said {m = turns} (omega arith) (λ f gs (ys, is, s, few). (subst (Gridded f) (sym is) s, omega (arith, few, ap length is))) (λ _ _. tt) (grids_say turns n [] l))
@@ -112,7 +112,7 @@ module _ (turns : ℕ) where
   wide_tells (t ∷ ts) = wide_by_tells t ts t.kind refl
 
   -- the type of a field behind what it begins with, the tokens a
-  field_behind : (a : List Token) (x : Base) → Based a x → (l : List Token) → Tells turns (λ f ty. FieldType (a ++ f) ty) Free l (field_type take_token turns x l)
+  field_behind : (a : List Token) (x : Base) → Based a x → (l : List Token) → Tells turns (λ f ty. FieldType (a ++ f) ty) Free l (field_type turns x l)
   field_behind a x s l =
       told ([], record { base = x; qualifiers = []; grids = [] }, base_alone s)
       (as_said {m = turns} (omega arith) (λ f ty (q, is, any). q) (λ _ _. tt) (field_type_says turns a x (λ _. Unit {0}) s l (any_qualifiers turns l)))
@@ -169,7 +169,7 @@ module _ (turns : ℕ) where
   new_grid_tells n l a owner x hn placed based i =
       then_tells _ (qualifiers_tell i) (λ q r qs sq.
       want_here k.LeftBracket bracket_is refl
-      (λ at. dims plain turns >>= (λ d. expect_by take_token k.RightBracket >> (grids take_token turns 2 [] >>= (λ gs. pure (tree.NewGrid n.place owner (record { base = x; qualifiers = qs; grids = gs }) at d)))))
+      (λ at. dims plain turns >>= (λ d. expect k.RightBracket >> (grids turns 2 [] >>= (λ gs. pure (tree.NewGrid n.place owner (record { base = x; qualifiers = qs; grids = gs }) at d)))))
       (λ o us ho. then_tells _ (dims_tell us) (λ d r2 spread sd. want_tells k.RightBracket shut_is refl _
       (λ c vs hc. map_tells _ (λ g gs (sg, few). grammar.new_grid n o c hn placed based sq ho sd hc sg few) (grids_tell 2 vs)))))
 
@@ -183,7 +183,7 @@ module _ (turns : ℕ) where
 
   -- behind `new` and the region
   made_base : (n : Token) (l : List Token) (owner : Option Exp) → n.kind ≡ k.KeywordNew → Region l owner → (i : List Token)
-      → Tells turns (λ f y. Initial (n ∷ (l ++ f)) y) Free i (and_then (base take_token i) (new_grid plain turns n.place owner))
+      → Tells turns (λ f y. Initial (n ∷ (l ++ f)) y) Free i (and_then (base i) (new_grid plain turns n.place owner))
   made_base n l owner hn placed i = then_tells _ (base_tells i) (λ f r x s. new_grid_tells n l f owner x hn placed s r)
 
   made_by_tells : (n : Token) (l : List Token) (owner : Option Exp) → n.kind ≡ k.KeywordNew → Region l owner → (t : Token) (ts : List Token) (q : TokenKind) → t.kind ≡ q
@@ -231,7 +231,7 @@ module _ (turns : ℕ) where
   pub declared_tells : (a : List Token) (ty : TypeTree) → Typed a ty → (l : List Token) → Tells turns (λ f x. Declared (a ++ f) x) Free l (declared plain turns ty l)
   unfolding declared
   declared_tells a ty s l =
-      name_here (λ at name. expect_by take_token k.Assign >> (initial plain turns >>= (λ value. pure (tree.Declare at ty name value))))
+      name_here (λ at name. expect k.Assign >> (initial plain turns >>= (λ value. pure (tree.Declare at ty name value))))
       (λ t name ts ht. want_tells k.Assign assign_is refl _ (λ c us hc. map_tells _ (λ f x q. grammar.declared t c s ht hc q) (initial_tells us)))
 
 -- ---- what begins a statement
@@ -357,7 +357,7 @@ module _ (turns : ℕ) where
 
   -- grids behind the name t and the bracket o
   begun_grid : (t o : Token) (name : List ℕ) → t.kind ≡ k.Name name → o.kind ≡ k.LeftBracket → (l : List Token)
-      → Tells turns (λ f x. BegunIs (t ∷ o ∷ f) x) Free l (and_then (grid take_token turns l) (λ g i. and_then (grids take_token turns 2 (g ∷ []) i) (λ gs j. Ok (Declares (grid_of_name t name gs), j))))
+      → Tells turns (λ f x. BegunIs (t ∷ o ∷ f) x) Free l (and_then (grid turns l) (λ g i. and_then (grids turns 2 (g ∷ []) i) (λ gs j. Ok (Declares (grid_of_name t name gs), j))))
   begun_grid t o name ht ho l =
       then_tells _ (told some (grid_says turns o ho l)) (λ f r g s. map_tells _ (λ h gs (ys, is, q, few). named_grid t o name ht (f ++ h) g ys gs (gridded_append s q) is few) (told (no_more g) (grids_say turns 2 (g ∷ []) r)))
     where
@@ -371,7 +371,7 @@ module _ (turns : ℕ) where
   unfolding begun_bracket
   begun_bracket_tells t o name ht ho l = by (is_dim (kind l))
     where
-      by : (is_grid : Bool) → Tells turns BegunIs Free (t ∷ o ∷ l) ((if◌then◌else◌ {A = Parser Begun} is_grid (λ i. and_then (grid take_token turns i) (λ g i. and_then (grids take_token turns 2 (g ∷ []) i) (λ gs j. Ok (Declares (grid_of_name t name gs), j)))) (λ i. and_then (full_behind_bracket o.place t.place name i) (λ x j. Ok (Starts x, j)))) l)
+      by : (is_grid : Bool) → Tells turns BegunIs Free (t ∷ o ∷ l) ((if◌then◌else◌ {A = Parser Begun} is_grid (λ i. and_then (grid turns i) (λ g i. and_then (grids turns 2 (g ∷ []) i) (λ gs j. Ok (Declares (grid_of_name t name gs), j)))) (λ i. and_then (full_behind_bracket o.place t.place name i) (λ x j. Ok (Starts x, j)))) l)
       by true = after_tells (after_tells (begun_grid t o name ht ho l))
       by false = start_behind t name ht (o ∷ l) (full_behind_bracket o.place t.place name l) (behind_bracket_is usual (omega arith) t o l name ht ho)
 
@@ -429,7 +429,7 @@ module _ (turns : ℕ) where
   unfolding barrier
   barrier_tells i hi l =
       want_tells k.Dot dot_is refl _ (λ d us hd.
-      word_here (codes "barrier") (λ at. expect_by take_token k.LeftParen >> (expect_by take_token k.RightParen >> (expect_by take_token k.Semicolon >> pure (tree.Barrier at)))) (λ w vs hw.
+      word_here (codes "barrier") (λ at. expect k.LeftParen >> (expect k.RightParen >> (expect k.Semicolon >> pure (tree.Barrier at)))) (λ w vs hw.
       want_tells k.LeftParen paren_is refl _ (λ o ws ho. want_tells k.RightParen close_is refl _ (λ c xs hc. last_tells k.Semicolon semicolon_is refl (tree.Barrier w.place) (λ t ht. (grammar.barrier i d w o c t hi hd hw ho hc ht, refl))))))
 
   -- ---- jumps, where their words are the first tokens

@@ -11,14 +11,14 @@ use Rattle.ti_syntax.specs.Spelling.Types.{Typed}
 use Rattle.ti_syntax.specs.Spelling.Statements.{starts, Declared, Stated, Items}
 use Rattle.ti_syntax.specs.Spelling.Statements as grammar
 use Rattle.ti_parse_expr.specs.declared.parse.Form.TheVariants as form
-use Rattle.ti_parse_expr.specs.Input.{Outcome, Parser, ◌>>=◌, ◌>>◌, pure, refuse, and_then, kind, sees, expect_by, expect_word_by, take_token}
-use Rattle.ti_parse_expr.specs.Full.{full, full_operand}
+use Rattle.ti_parse_expr.specs.Mirrors.Input.{Outcome, Parser, ◌>>=◌, ◌>>◌, pure, refuse, and_then, kind, sees, expect, expect_word, take_token}
+use Rattle.ti_parse_expr.specs.Mirrors.Full.{full, full_operand}
 use Rattle.ti_parse_expr.proofs.TokenKinds.{paren_is, close_is}
 use Rattle.ti_parse_expr.proofs.Law.{BeginsIn, token, append_nil, ended}
-use Rattle.ti_parse.specs.Way.{plain}
-use Rattle.ti_parse.specs.Parts.{begins_declaration, Begun, Declares, Starts, typed, declared, simple}
-use Rattle.ti_parse.specs.Statements as spec
-use Rattle.ti_parse.specs.Statements.{is_compound, too_deep, item, items, block, conditional, while_loop, for_loop, foreach_loop, small, stmt, body}
+use Rattle.ti_parse.specs.Mirrors.Way.{plain}
+use Rattle.ti_parse.specs.Mirrors.Parts.{begins_declaration, Begun, Declares, Starts, typed, declared, simple}
+use Rattle.ti_parse.specs.Mirrors.Statements as spec
+use Rattle.ti_parse.specs.Mirrors.Statements.{is_compound, too_deep, item, items, block, conditional, while_loop, for_loop, foreach_loop, small, stmt, body}
 use Rattle.ti_parse.proofs.Laws.{Free, Tells, as_tells, so_tells, fewer_tells, done_tells, met_tells, refused_tells, over_tells, spent_tells, if_tells, if_head, after_tells, then_tells, then_met, then_turn, map_met, want_tells, last_tells, word_tells, name_here}
 use Rattle.ti_parse.proofs.SoundKinds.{semicolon_is, brace_shut_is, else_is}
 use Rattle.ti_parse.proofs.SoundParts.{ends_open, Shut, BegunIs, whole_tells, typed_tells, declared_tells, start_tells, simple_tells, begun_tells, print_tells, barrier_tells, break_tells, continue_tells, return_tells, condition_tells, first_tells, optional_tells, update_tells}
@@ -91,7 +91,7 @@ shut_before_else f x r ts d s free is h =
 module _ (turns : ℕ) (stmt : Parser Stm) (stmt_tells : (l : List Token) → Tells turns Statement NoElse l (stmt l)) where
   -- behind the type, the tokens a
   declared_closed : (a : List Token) (ty : TypeTree) → Typed a ty → (l : List Token)
-      → Tells turns (λ f x. ItemIs (a ++ f) x) Free l (and_then (declared plain turns ty l) (λ x i. and_then (expect_by take_token k.Semicolon i) (λ _ j. Ok (x, j))))
+      → Tells turns (λ f x. ItemIs (a ++ f) x) Free l (and_then (declared plain turns ty l) (λ x i. and_then (expect k.Semicolon i) (λ _ j. Ok (x, j))))
   declared_closed a ty s l =
       then_tells _ (declared_tells turns a ty s l) (λ f r x q. last_tells k.Semicolon semicolon_is refl x (λ t h. subst (λ z. ItemIs z x) (append_assoc a f (t ∷ [])) (declaration t q h)))
 
@@ -100,7 +100,7 @@ module _ (turns : ℕ) (stmt : Parser Stm) (stmt_tells : (l : List Token) → Te
   named_item_tells a (Starts x) s l = as_tells (λ f y (q, h). statement q) (simple_tells turns a x s l)
 
   item_unnamed : (l : List Token) (declares : Bool)
-      → Tells turns ItemIs Free l ((if◌then◌else◌ {A = Parser Stm} declares (λ i. and_then (typed plain turns i) (λ ty i. and_then (declared plain turns ty i) (λ x i. and_then (expect_by take_token k.Semicolon i) (λ _ j. Ok (x, j))))) stmt) l)
+      → Tells turns ItemIs Free l ((if◌then◌else◌ {A = Parser Stm} declares (λ i. and_then (typed plain turns i) (λ ty i. and_then (declared plain turns ty i) (λ x i. and_then (expect k.Semicolon i) (λ _ j. Ok (x, j))))) stmt) l)
   item_unnamed l true = then_tells _ (typed_tells turns l) (λ f r ty s. declared_closed f ty s r)
   item_unnamed l false = as_tells (λ f x s. statement s) (so_tells (λ f r x s _. tt) (stmt_tells l))
 
@@ -158,7 +158,7 @@ module _ (turns : ℕ) (stmt : Parser Stm) (stmt_tells : (l : List Token) → Te
   unfolding foreach_loop
   foreach_tells w hw l =
       want_tells k.LeftParen paren_is refl _ (λ o l2 ho.
-      name_here (λ at name. expect_word_by take_token (codes "in") >> (full form.Whole >>= (λ domain. expect_by take_token k.RightParen >> (stmt >>= (λ x. pure (tree.Foreach w.place at name domain x))))))
+      name_here (λ at name. expect_word (codes "in") >> (full form.Whole >>= (λ domain. expect k.RightParen >> (stmt >>= (λ x. pure (tree.Foreach w.place at name domain x))))))
       (λ t name l3 ht. word_tells (codes "in") _ (λ i l4 hi. then_tells _ (whole_tells turns l4) (λ f l5 domain s.
       want_tells k.RightParen close_is refl _ (λ c l6 hc.
       map_met _ (λ x _. refl) (λ g x q. grammar.foreach w o t i c hw ho ht hi s hc q) (λ x v no_else. no_else) (stmt_tells l6))))))

@@ -4,7 +4,7 @@ use Rattle.ti_base.specs.declared.place.Place.{Place}
 use Rattle.ti_syntax.specs.declared.token.Token.{Token}
 use Rattle.ti_syntax.specs.Trees.Classes.{TextTree}
 use Rattle.ti_syntax.specs.Spelling.{Spells, BeginsText, IsShallow, Misfit, ShowsMisfit, unexpected, too_deep, IsGrammarRefusal, fits, refused}
-use Rattle.ti_parse_expr.proofs.Readings.{Apart, apart}
+use Rattle.ti_parse_expr.proofs.Apart.{Apart, apart}
 
 -- what begins a text has fronts that begin it too
 front_begins : (f : List Token) (t : Token) (v more : List Token) (tree : TextTree) (list : List Token) → list ≡ f ++ t ∷ v → Spells (list ++ more) tree → BeginsText (f ++ t ∷ [])

@@ -1,11 +1,11 @@
-// Classes and their members, by one token of sight.
+// Classes and their members.
 
 ghost use Rattle.std.specs.Prelude.{[], ◌≡◌};
 ghost use Rattle.ti_syntax.specs.Trees.Views.{class_of, member_of, params_of, result_of, type_of};
-ghost use Rattle.ti_parse.specs.Classes as spec;
-ghost use Rattle.ti_parse.specs.Seen.{classes_of, members_of, modifiers_of, param_list_of, word_of};
-ghost use Rattle.ti_parse.specs.Way.{careful};
-ghost use Rattle.ti_parse_expr.specs.Input.{ReadsAs};
+ghost use Rattle.ti_parse.specs.Mirrors.Classes as spec;
+ghost use Rattle.ti_parse.specs.Mirrors.Seen.{classes_of, members_of, modifiers_of, param_list_of, word_of};
+ghost use Rattle.ti_parse.specs.Mirrors.Way.{plain};
+ghost use Rattle.ti_parse_expr.specs.Mirrors.Input.{ReadsAs};
 
 use crate::reader::Reader;
 use crate::words::{Modified, modifier_of};
@@ -20,9 +20,9 @@ impl Reader {
     // ---- methods
 
     /// One or more parameters.
-    #[tactic(auto, unfolding(crate::specs::Classes::more_params))]
+    #[tactic(auto, unfolding(crate::specs::Mirrors::Classes::more_params))]
     fn more_params(self, tokens: &mut Tokens<'_>) -> Result<Vec<Param>, Stop>
-        ensures { ReadsAs param_list_of (spec.more_params careful self.turns self.turns [] tokens.old) result tokens.new }
+        ensures { ReadsAs param_list_of (spec.more_params plain self.turns self.turns [] tokens.old) result tokens.new }
     {
         let mut found = Vec::new(self.alloc);
         for _turn in 0..self.turns {
@@ -33,15 +33,15 @@ impl Reader {
             if !tokens.sees(TokenKind::Comma) {
                 return Ok(found);
             }
-            tokens.take()?;
+            tokens.take();
         }
         Err(Stop::Spent)
     }
 
     /// The one parameter that begins with `String`, after that word.
-    #[tactic(auto, unfolding(crate::specs::Classes::words))]
+    #[tactic(auto, unfolding(crate::specs::Mirrors::Classes::words))]
     fn words(self, tokens: &mut Tokens<'_>) -> Result<Params, Stop>
-        ensures { ReadsAs params_of (spec.words careful self.turns tokens.old) result tokens.new }
+        ensures { ReadsAs params_of (spec.words plain self.turns tokens.old) result tokens.new }
     {
         tokens.expect(TokenKind::LeftBracket)?;
         tokens.expect(TokenKind::RightBracket)?;
@@ -51,14 +51,14 @@ impl Reader {
     }
 
     /// What stands between the parentheses of a method.
-    #[tactic(auto, unfolding(crate::specs::Classes::params))]
+    #[tactic(auto, unfolding(crate::specs::Mirrors::Classes::params))]
     fn params(self, tokens: &mut Tokens<'_>) -> Result<Params, Stop>
-        ensures { ReadsAs params_of (spec.params careful self.turns tokens.old) result tokens.new }
+        ensures { ReadsAs params_of (spec.params plain self.turns tokens.old) result tokens.new }
     {
         match tokens.peek() {
             TokenKind::RightParen => Ok(Params::Typed(Vec::new(self.alloc))),
             TokenKind::KeywordString => {
-                tokens.take()?;
+                tokens.take();
                 self.words(tokens)
             }
             _ => Ok(Params::Typed(self.more_params(tokens)?)),
@@ -66,7 +66,7 @@ impl Reader {
     }
 
     /// A method, after its name.
-    #[tactic(auto, unfolding(crate::specs::Classes::method))]
+    #[tactic(auto, unfolding(crate::specs::Mirrors::Classes::method))]
     fn method(
         self,
         tokens: &mut Tokens<'_>,
@@ -75,7 +75,7 @@ impl Reader {
         place: Place,
         name: Spelled,
     ) -> Result<Member, Stop>
-        ensures { ReadsAs member_of (spec.method careful self.turns modifiers.items (result_of result_type) place name tokens.old) result tokens.new }
+        ensures { ReadsAs member_of (spec.method plain self.turns modifiers.items (result_of result_type) place name tokens.old) result tokens.new }
     {
         tokens.expect(TokenKind::LeftParen)?;
         let params = self.params(tokens)?;
@@ -98,14 +98,14 @@ impl Reader {
     // ---- members
 
     /// A method, after its result.
-    #[tactic(auto, unfolding(crate::specs::Classes::method_named))]
+    #[tactic(auto, unfolding(crate::specs::Mirrors::Classes::method_named))]
     fn method_named(
         self,
         tokens: &mut Tokens<'_>,
         modifiers: Vec<Modifier>,
         result_type: ResultType,
     ) -> Result<Member, Stop>
-        ensures { ReadsAs member_of (spec.method_named careful self.turns modifiers.items (result_of result_type) tokens.old) result tokens.new }
+        ensures { ReadsAs member_of (spec.method_named plain self.turns modifiers.items (result_of result_type) tokens.old) result tokens.new }
     {
         let place = tokens.place();
         let name = tokens.name(self.alloc)?;
@@ -113,21 +113,21 @@ impl Reader {
     }
 
     /// A field or a method, after the type.
-    #[tactic(auto, unfolding(crate::specs::Classes::field_or_method))]
+    #[tactic(auto, unfolding(crate::specs::Mirrors::Classes::field_or_method))]
     fn field_or_method(
         self,
         tokens: &mut Tokens<'_>,
         modifiers: Vec<Modifier>,
         ty: TypeName,
     ) -> Result<Member, Stop>
-        ensures { ReadsAs member_of (spec.field_or_method careful self.turns modifiers.items (type_of ty) tokens.old) result tokens.new }
+        ensures { ReadsAs member_of (spec.field_or_method plain self.turns modifiers.items (type_of ty) tokens.old) result tokens.new }
     {
         let place = tokens.place();
         let name = tokens.name(self.alloc)?;
         if !tokens.sees(TokenKind::Semicolon) {
             return self.method(tokens, modifiers, ResultType::Typed(ty), place, name);
         }
-        tokens.take()?;
+        tokens.take();
         Ok(Member::Field(Field {
             modifiers,
             ty,
@@ -137,14 +137,14 @@ impl Reader {
     }
 
     /// A member, after its modifiers.
-    #[tactic(auto, unfolding(crate::specs::Classes::member_from))]
+    #[tactic(auto, unfolding(crate::specs::Mirrors::Classes::member_from))]
     fn member_from(self, tokens: &mut Tokens<'_>, modifiers: Vec<Modifier>) -> Result<Member, Stop>
-        ensures { ReadsAs member_of (spec.member_from careful self.turns modifiers.items tokens.old) result tokens.new }
+        ensures { ReadsAs member_of (spec.member_from plain self.turns modifiers.items tokens.old) result tokens.new }
     {
         match tokens.peek() {
             TokenKind::KeywordVoid => {
                 let place = tokens.place();
-                tokens.take()?;
+                tokens.take();
                 self.method_named(tokens, modifiers, ResultType::Void(place))
             }
             TokenKind::KeywordDomain | TokenKind::KeywordSharedRegion => {
@@ -159,9 +159,9 @@ impl Reader {
     }
 
     /// As many modifiers as there are.
-    #[tactic(auto, unfolding(crate::specs::Classes::modifiers))]
+    #[tactic(auto, unfolding(crate::specs::Mirrors::Classes::modifiers))]
     fn modifiers(self, tokens: &mut Tokens<'_>, modified: Modified) -> Result<Vec<Modifier>, Stop>
-        ensures { ReadsAs modifiers_of (spec.modifiers careful self.turns (word_of modified) self.turns [] tokens.old) result tokens.new }
+        ensures { ReadsAs modifiers_of (spec.modifiers plain self.turns (word_of modified) self.turns [] tokens.old) result tokens.new }
     {
         let mut found = Vec::new(self.alloc);
         for _turn in 0..self.turns {
@@ -169,24 +169,24 @@ impl Reader {
                 return Ok(found);
             };
             let place = tokens.place();
-            tokens.take()?;
+            tokens.take();
             found.push(Modifier { word, place })?;
         }
         Err(Stop::Spent)
     }
 
-    #[tactic(auto, unfolding(crate::specs::Classes::member))]
+    #[tactic(auto, unfolding(crate::specs::Mirrors::Classes::member))]
     fn member(self, tokens: &mut Tokens<'_>) -> Result<Member, Stop>
-        ensures { ReadsAs member_of (spec.member careful self.turns tokens.old) result tokens.new }
+        ensures { ReadsAs member_of (spec.member plain self.turns tokens.old) result tokens.new }
     {
         let modifiers = self.modifiers(tokens, Modified::Member)?;
         self.member_from(tokens, modifiers)
     }
 
     /// As many members as there are in front of a `}`.
-    #[tactic(auto, unfolding(crate::specs::Classes::members))]
+    #[tactic(auto, unfolding(crate::specs::Mirrors::Classes::members))]
     fn members(self, tokens: &mut Tokens<'_>) -> Result<Vec<Member>, Stop>
-        ensures { ReadsAs members_of (spec.members careful self.turns self.turns [] tokens.old) result tokens.new }
+        ensures { ReadsAs members_of (spec.members plain self.turns self.turns [] tokens.old) result tokens.new }
     {
         let mut found = Vec::new(self.alloc);
         for _turn in 0..self.turns {
@@ -201,9 +201,9 @@ impl Reader {
     // ---- classes
 
     /// A class, after its modifiers.
-    #[tactic(auto, unfolding(crate::specs::Classes::class_from))]
+    #[tactic(auto, unfolding(crate::specs::Mirrors::Classes::class_from))]
     fn class_from(self, tokens: &mut Tokens<'_>, modifiers: Vec<Modifier>) -> Result<Class, Stop>
-        ensures { ReadsAs class_of (spec.class_from careful self.turns modifiers.items tokens.old) result tokens.new }
+        ensures { ReadsAs class_of (spec.class_from plain self.turns modifiers.items tokens.old) result tokens.new }
     {
         let word = tokens.place();
         tokens.expect(TokenKind::KeywordClass)?;
@@ -221,18 +221,18 @@ impl Reader {
         })
     }
 
-    #[tactic(auto, unfolding(crate::specs::Classes::class))]
+    #[tactic(auto, unfolding(crate::specs::Mirrors::Classes::class))]
     fn class(self, tokens: &mut Tokens<'_>) -> Result<Class, Stop>
-        ensures { ReadsAs class_of (spec.class careful self.turns tokens.old) result tokens.new }
+        ensures { ReadsAs class_of (spec.class plain self.turns tokens.old) result tokens.new }
     {
         let modifiers = self.modifiers(tokens, Modified::Class)?;
         self.class_from(tokens, modifiers)
     }
 
     /// As many classes as there are in front of the end.
-    #[tactic(auto, unfolding(crate::specs::Classes::classes))]
+    #[tactic(auto, unfolding(crate::specs::Mirrors::Classes::classes))]
     pub fn classes(self, tokens: &mut Tokens<'_>) -> Result<Vec<Class>, Stop>
-        ensures { ReadsAs classes_of (spec.classes careful self.turns self.turns [] tokens.old) result tokens.new }
+        ensures { ReadsAs classes_of (spec.classes plain self.turns self.turns [] tokens.old) result tokens.new }
     {
         let mut found = Vec::new(self.alloc);
         for _turn in 0..self.turns {

@@ -1,10 +1,10 @@
-// Right sides of declarations and assignments, by one token of sight.
+// Right sides of declarations and assignments.
 
 ghost use Rattle.std.specs.Prelude.{[], ◌∷◌, ◌≡◌};
 ghost use Rattle.ti_syntax.specs.Trees.Views.{dims_of, exp_of, init_of, maybe_of, range_of, ranges_of};
-ghost use Rattle.ti_parse.specs.Parts as spec;
-ghost use Rattle.ti_parse.specs.Way.{careful};
-ghost use Rattle.ti_parse_expr.specs.Input.{ReadsAs};
+ghost use Rattle.ti_parse.specs.Mirrors.Parts as spec;
+ghost use Rattle.ti_parse.specs.Mirrors.Way.{plain};
+ghost use Rattle.ti_parse_expr.specs.Mirrors.Input.{ReadsAs};
 ghost use Rattle.ti_parse_expr.specs.declared.parse.Form.TheVariants as form;
 
 use crate::reader::Reader;
@@ -18,42 +18,49 @@ use ti_parse_expr::{Form, Stop, Tokens};
 impl Reader {
     /// Any full expression.
     pub fn expr(self, tokens: &mut Tokens<'_>) -> Result<Expr, Stop>
-        ensures { ReadsAs exp_of (careful.full form.Whole tokens.old) result tokens.new }
+        ensures { ReadsAs exp_of (plain.full form.Whole tokens.old) result tokens.new }
     {
         full(self.alloc, tokens, Form::Whole)
     }
 
     /// A range, after its lower bound.
-    #[tactic(auto, unfolding(crate::specs::Parts::range_from))]
+    #[tactic(auto, unfolding(crate::specs::Mirrors::Parts::range_from))]
     fn range_from(self, tokens: &mut Tokens<'_>, low: Expr) -> Result<Range, Stop>
-        ensures { ReadsAs range_of (spec.range_from careful self.turns (exp_of low) tokens.old) result tokens.new }
+        ensures { ReadsAs range_of (spec.range_from plain self.turns (exp_of low) tokens.old) result tokens.new }
     {
         tokens.expect(TokenKind::Colon)?;
         let high = self.expr(tokens)?;
+        self.range_behind(tokens, low, high)
+    }
+
+    /// A range, after both bounds.
+    fn range_behind(self, tokens: &mut Tokens<'_>, low: Expr, high: Expr) -> Result<Range, Stop>
+        ensures { ReadsAs range_of (spec.range_behind plain self.turns (exp_of low) (exp_of high) tokens.old) result tokens.new }
+    {
         if !tokens.sees(TokenKind::Colon) {
             return Ok(Range::Plain { low, high });
         }
-        tokens.take()?;
+        tokens.take();
         let step = self.expr(tokens)?;
         Ok(Range::Stepped { low, high, step })
     }
 
     /// At most so many more ranges.
-    #[tactic(auto, unfolding(crate::specs::Parts::more_ranges))]
+    #[tactic(auto, unfolding(crate::specs::Mirrors::Parts::more_ranges))]
     fn more_ranges(
         self,
         tokens: &mut Tokens<'_>,
         room: usize,
         found: Vec<Range>,
     ) -> Result<Vec<Range>, Stop>
-        ensures { ReadsAs ranges_of (spec.more_ranges careful self.turns room (ranges_of found) tokens.old) result tokens.new }
+        ensures { ReadsAs ranges_of (spec.more_ranges plain self.turns room (ranges_of found) tokens.old) result tokens.new }
     {
         let mut found = found;
         for _turn in 0..room {
             if !tokens.sees(TokenKind::Comma) {
                 return Ok(found);
             }
-            tokens.take()?;
+            tokens.take();
             let low = self.expr(tokens)?;
             found.push(self.range_from(tokens, low)?)?;
         }
@@ -61,9 +68,9 @@ impl Reader {
     }
 
     /// A domain, or one to three ranges.
-    #[tactic(auto, unfolding(crate::specs::Parts::dims))]
+    #[tactic(auto, unfolding(crate::specs::Mirrors::Parts::dims))]
     fn dims(self, tokens: &mut Tokens<'_>) -> Result<Dims, Stop>
-        ensures { ReadsAs dims_of (spec.dims careful self.turns tokens.old) result tokens.new }
+        ensures { ReadsAs dims_of (spec.dims plain self.turns tokens.old) result tokens.new }
     {
         let first = self.expr(tokens)?;
         if !tokens.sees(TokenKind::Colon) {
@@ -75,21 +82,21 @@ impl Reader {
     }
 
     /// The region of `new`.
-    #[tactic(auto, unfolding(crate::specs::Parts::region))]
+    #[tactic(auto, unfolding(crate::specs::Mirrors::Parts::region))]
     fn region(self, tokens: &mut Tokens<'_>) -> Result<Option<Expr>, Stop>
-        ensures { ReadsAs (maybe_of exp_of) (spec.region careful self.turns tokens.old) result tokens.new }
+        ensures { ReadsAs (maybe_of exp_of) (spec.region plain self.turns tokens.old) result tokens.new }
     {
         if !tokens.sees(TokenKind::LeftParen) {
             return Ok(None);
         }
-        tokens.take()?;
+        tokens.take();
         let region = self.expr(tokens)?;
         tokens.expect(TokenKind::RightParen)?;
         Ok(Some(region))
     }
 
     /// A new grid, after the base of its elements.
-    #[tactic(auto, unfolding(crate::specs::Parts::new_grid))]
+    #[tactic(auto, unfolding(crate::specs::Mirrors::Parts::new_grid))]
     fn new_grid(
         self,
         tokens: &mut Tokens<'_>,
@@ -97,7 +104,7 @@ impl Reader {
         region: Option<Expr>,
         base: Base,
     ) -> Result<Init, Stop>
-        ensures { ReadsAs init_of (spec.new_grid careful self.turns place (maybe_of exp_of region) base tokens.old) result tokens.new }
+        ensures { ReadsAs init_of (spec.new_grid plain self.turns place (maybe_of exp_of region) base tokens.old) result tokens.new }
     {
         let qualifiers = qualifiers(self.alloc, tokens, self.turns)?;
         let bracket = tokens.place();
@@ -120,7 +127,7 @@ impl Reader {
     }
 
     /// A new object or grid, after the name of a class.
-    #[tactic(auto, unfolding(crate::specs::Parts::new_named))]
+    #[tactic(auto, unfolding(crate::specs::Mirrors::Parts::new_named))]
     fn new_named(
         self,
         tokens: &mut Tokens<'_>,
@@ -129,12 +136,12 @@ impl Reader {
         name_place: Place,
         name: Spelled,
     ) -> Result<Init, Stop>
-        ensures { ReadsAs init_of (spec.new_named careful self.turns place (maybe_of exp_of region) name_place name tokens.old) result tokens.new }
+        ensures { ReadsAs init_of (spec.new_named plain self.turns place (maybe_of exp_of region) name_place name tokens.old) result tokens.new }
     {
         if !tokens.sees(TokenKind::LeftParen) {
             return self.new_grid(tokens, place, region, Base::Named(name_place, name));
         }
-        tokens.take()?;
+        tokens.take();
         tokens.expect(TokenKind::RightParen)?;
         Ok(Init::NewObject {
             place,
@@ -145,15 +152,15 @@ impl Reader {
     }
 
     /// A new object or grid, after its region.
-    #[tactic(auto, unfolding(crate::specs::Parts::made))]
+    #[tactic(auto, unfolding(crate::specs::Mirrors::Parts::made))]
     fn made(self, tokens: &mut Tokens<'_>, place: Place, region: Option<Expr>) -> Result<Init, Stop>
-        ensures { ReadsAs init_of (spec.made careful self.turns place (maybe_of exp_of region) tokens.old) result tokens.new }
+        ensures { ReadsAs init_of (spec.made plain self.turns place (maybe_of exp_of region) tokens.old) result tokens.new }
     {
         match tokens.peek() {
             TokenKind::Name(name) => {
                 let name_place = tokens.place();
                 let name = name.copy(self.alloc)?;
-                tokens.take()?;
+                tokens.take();
                 self.new_named(tokens, place, region, name_place, name)
             }
             _ => {
@@ -164,13 +171,13 @@ impl Reader {
     }
 
     /// What stands behind `new`.
-    #[tactic(auto, unfolding(crate::specs::Parts::new_thing))]
+    #[tactic(auto, unfolding(crate::specs::Mirrors::Parts::new_thing))]
     fn new_thing(self, tokens: &mut Tokens<'_>, place: Place) -> Result<Init, Stop>
-        ensures { ReadsAs init_of (spec.new_thing careful self.turns place tokens.old) result tokens.new }
+        ensures { ReadsAs init_of (spec.new_thing plain self.turns place tokens.old) result tokens.new }
     {
         match tokens.peek() {
             TokenKind::KeywordSharedRegion => {
-                tokens.take()?;
+                tokens.take();
                 tokens.expect(TokenKind::LeftParen)?;
                 tokens.expect(TokenKind::RightParen)?;
                 Ok(Init::NewRegion(place))
@@ -183,9 +190,9 @@ impl Reader {
     }
 
     /// What stands behind `broadcast`.
-    #[tactic(auto, unfolding(crate::specs::Parts::broadcast))]
+    #[tactic(auto, unfolding(crate::specs::Mirrors::Parts::broadcast))]
     fn broadcast(self, tokens: &mut Tokens<'_>, place: Place) -> Result<Init, Stop>
-        ensures { ReadsAs init_of (spec.broadcast careful self.turns place tokens.old) result tokens.new }
+        ensures { ReadsAs init_of (spec.broadcast plain self.turns place tokens.old) result tokens.new }
     {
         let value = self.expr(tokens)?;
         tokens.expect_word(b"from")?;
@@ -194,18 +201,18 @@ impl Reader {
     }
 
     /// A right side.
-    #[tactic(auto, unfolding(crate::specs::Parts::initial))]
+    #[tactic(auto, unfolding(crate::specs::Mirrors::Parts::initial))]
     pub fn initial(self, tokens: &mut Tokens<'_>) -> Result<Init, Stop>
-        ensures { ReadsAs init_of (spec.initial careful self.turns tokens.old) result tokens.new }
+        ensures { ReadsAs init_of (spec.initial plain self.turns tokens.old) result tokens.new }
     {
         let place = tokens.place();
         match tokens.peek() {
             TokenKind::KeywordNew => {
-                tokens.take()?;
+                tokens.take();
                 self.new_thing(tokens, place)
             }
             TokenKind::KeywordBroadcast => {
-                tokens.take()?;
+                tokens.take();
                 self.broadcast(tokens, place)
             }
             _ => Ok(Init::Value(self.expr(tokens)?)),

@@ -1,19 +1,19 @@
-// Statements with no others in them, by one token of sight.
+// Statements with no others in them.
 
 ghost use Rattle.std.specs.Prelude.{◌≡◌, false};
 ghost use Rattle.ti_syntax.specs.Trees.Views.{exp_of, print_of, stm_of, type_of};
 ghost use Rattle.ti_syntax.specs.Spelling.Expressions.{Target};
-ghost use Rattle.ti_parse.specs.Parts as spec;
+ghost use Rattle.ti_parse.specs.Mirrors.Parts as spec;
 ghost use Rattle.ti_syntax.specs.declared.token.TokenKind.TheVariants.{KeywordPrintln, Semicolon};
-ghost use Rattle.ti_parse.specs.Seen.{Keeps, begun_of, before_semicolon};
-ghost use Rattle.ti_parse.specs.Way.{careful};
-ghost use Rattle.ti_parse_expr.specs.Input.{Reads, ReadsAs, expect_by, take_within};
-ghost use Rattle.ti_parse_expr.specs.Seen.{operand_of};
+ghost use Rattle.ti_parse.specs.Mirrors.Seen.{Keeps, begun_of, before_semicolon};
+ghost use Rattle.ti_parse.specs.Mirrors.Way.{plain};
+ghost use Rattle.ti_parse_expr.specs.Mirrors.Input.{Reads, ReadsAs, expect};
+ghost use Rattle.ti_parse_expr.specs.Mirrors.Seen.{operand_of};
 
 use crate::reader::Reader;
 use crate::words::{is_dim, starts, step_of, update_of};
 use ti_base::Place;
-use ti_syntax::tree::{Base, Expr, Printed, Stmt, TypeName};
+use ti_syntax::tree::{Base, BinaryOperator, Expr, Printed, Stmt, TypeName};
 use ti_syntax::{Spelled, TokenKind};
 use ti_parse_expr::full::{full, full_behind_bracket, full_behind_name, full_operand};
 use ti_parse_expr::operators::qualifier_of;
@@ -21,7 +21,7 @@ use ti_parse_expr::types::{field_type, grid, grids};
 use ti_parse_expr::{Ending, Form, Operand, Stop, Tokens};
 
 /// What begins with a name.
-#[derive(Debug, Drop)]
+#[derive(Drop)]
 pub enum Begun {
     /// A declaration of this type.
     Declares(TypeName),
@@ -31,7 +31,7 @@ pub enum Begun {
 
 /// What was read, if a semicolon follows it.
 fn with_semicolon<T: Drop>(tokens: &mut Tokens<'_>, read: T) -> Result<T, Stop>
-    ensures { Keeps read (expect_by take_within Semicolon tokens.old) result tokens.new }
+    ensures { Keeps read (expect Semicolon tokens.old) result tokens.new }
 {
     match tokens.expect(TokenKind::Semicolon) {
         Ok(()) => Ok(read),
@@ -43,9 +43,9 @@ impl Reader {
     // ---- declarations, changes and calls
 
     /// A declaration, after its type.
-    #[tactic(auto, unfolding(crate::specs::Parts::declared))]
+    #[tactic(auto, unfolding(crate::specs::Mirrors::Parts::declared))]
     pub fn declared(self, tokens: &mut Tokens<'_>, ty: TypeName) -> Result<Stmt, Stop>
-        ensures { ReadsAs stm_of (spec.declared careful self.turns (type_of ty) tokens.old) result tokens.new }
+        ensures { ReadsAs stm_of (spec.declared plain self.turns (type_of ty) tokens.old) result tokens.new }
     {
         let place = tokens.place();
         let name = tokens.name(self.alloc)?;
@@ -61,39 +61,64 @@ impl Reader {
 
     /// A declaration with its semicolon, after its type.
     pub fn declared_alone(self, tokens: &mut Tokens<'_>, ty: TypeName) -> Result<Stmt, Stop>
-        ensures { ReadsAs stm_of (before_semicolon (spec.declared careful self.turns (type_of ty)) tokens.old) result tokens.new }
+        ensures { ReadsAs stm_of (before_semicolon (spec.declared plain self.turns (type_of ty)) tokens.old) result tokens.new }
     {
         let declared = self.declared(tokens, ty)?;
         with_semicolon(tokens, declared)
     }
 
+    /// An assignment, after its `=`.
+    fn assigned(
+        self,
+        tokens: &mut Tokens<'_>,
+        place: Place,
+        target: Expr,
+    ) -> Result<Stmt, Stop>
+        ensures { ReadsAs stm_of (spec.assigned plain self.turns place (exp_of target) tokens.old) result tokens.new }
+    {
+        let value = Box::new(self.alloc, self.initial(tokens)?)?;
+        Ok(Stmt::Assign {
+            place,
+            target,
+            value,
+        })
+    }
+
+    /// An update, after its operator.
+    fn updated(
+        self,
+        tokens: &mut Tokens<'_>,
+        place: Place,
+        operator: BinaryOperator,
+        target: Expr,
+    ) -> Result<Stmt, Stop>
+        ensures { ReadsAs stm_of (spec.updated plain self.turns place operator (exp_of target) tokens.old) result tokens.new }
+    {
+        let value = self.expr(tokens)?;
+        Ok(Stmt::Update {
+            place,
+            operator,
+            target,
+            value,
+        })
+    }
+
     /// A change, after its target.
     fn changed_target(self, tokens: &mut Tokens<'_>, target: Expr) -> Result<Stmt, Stop>
-        ensures { ReadsAs stm_of (spec.changed_if careful self.turns (exp_of target) Target tokens.old) result tokens.new }
+        ensures { ReadsAs stm_of (spec.changed_if plain self.turns (exp_of target) Target tokens.old) result tokens.new }
     {
         let place = tokens.place();
         if tokens.sees(TokenKind::Assign) {
-            tokens.take()?;
-            let value = Box::new(self.alloc, self.initial(tokens)?)?;
-            return Ok(Stmt::Assign {
-                place,
-                target,
-                value,
-            });
+            tokens.take();
+            return self.assigned(tokens, place, target);
         }
-        if let Some(op) = update_of(tokens.peek()) {
-            tokens.take()?;
-            let value = self.expr(tokens)?;
-            return Ok(Stmt::Update {
-                place,
-                operator: op,
-                target,
-                value,
-            });
+        if let Some(operator) = update_of(tokens.peek()) {
+            tokens.take();
+            return self.updated(tokens, place, operator, target);
         }
         match step_of(tokens.peek()) {
             Some(op) => {
-                tokens.take()?;
+                tokens.take();
                 Ok(Stmt::Step {
                     place,
                     operator: op,
@@ -105,9 +130,9 @@ impl Reader {
     }
 
     /// A change, after the operand that it begins with.
-    #[tactic(auto, unfolding(crate::specs::Parts::changed))]
+    #[tactic(auto, unfolding(crate::specs::Mirrors::Parts::changed))]
     pub fn changed(self, tokens: &mut Tokens<'_>, operand: Operand) -> Result<Stmt, Stop>
-        ensures { ReadsAs stm_of (spec.changed careful self.turns (operand_of operand) tokens.old) result tokens.new }
+        ensures { ReadsAs stm_of (spec.changed plain self.turns (operand_of operand) tokens.old) result tokens.new }
     {
         match operand.ending {
             Ending::Target => self.changed_target(tokens, operand.expr),
@@ -117,28 +142,28 @@ impl Reader {
 
     /// A change with its semicolon, after the operand that it begins with.
     fn changed_alone(self, tokens: &mut Tokens<'_>, operand: Operand) -> Result<Stmt, Stop>
-        ensures { ReadsAs stm_of (spec.simple_if careful self.turns (operand_of operand) false tokens.old) result tokens.new }
+        ensures { ReadsAs stm_of (spec.simple_if plain self.turns (operand_of operand) false tokens.old) result tokens.new }
     {
         let changed = self.changed(tokens, operand)?;
         with_semicolon(tokens, changed)
     }
 
     /// A call or a change with its semicolon, after the operand that it begins with.
-    #[tactic(auto, unfolding(crate::specs::Parts::simple))]
+    #[tactic(auto, unfolding(crate::specs::Mirrors::Parts::simple))]
     pub fn simple(self, tokens: &mut Tokens<'_>, operand: Operand) -> Result<Stmt, Stop>
-        ensures { ReadsAs stm_of (spec.simple careful self.turns (operand_of operand) tokens.old) result tokens.new }
+        ensures { ReadsAs stm_of (spec.simple plain self.turns (operand_of operand) tokens.old) result tokens.new }
     {
         if matches!(operand.ending, Ending::Call) && tokens.sees(TokenKind::Semicolon) {
-            tokens.take()?;
+            tokens.take();
             return Ok(Stmt::Call(operand.expr));
         }
         self.changed_alone(tokens, operand)
     }
 
     /// A change.
-    #[tactic(auto, unfolding(crate::specs::Parts::change))]
+    #[tactic(auto, unfolding(crate::specs::Mirrors::Parts::change))]
     pub fn change(self, tokens: &mut Tokens<'_>) -> Result<Stmt, Stop>
-        ensures { ReadsAs stm_of (spec.change careful self.turns tokens.old) result tokens.new }
+        ensures { ReadsAs stm_of (spec.change plain self.turns tokens.old) result tokens.new }
     {
         if !starts(tokens.peek()) {
             return Err(Stop::Refused);
@@ -150,7 +175,7 @@ impl Reader {
     // ---- what begins with a name
 
     /// What begins with a name and a `[`, after both.
-    #[tactic(auto, unfolding(crate::specs::Parts::begun_bracket))]
+    #[tactic(auto, unfolding(crate::specs::Mirrors::Parts::begun_bracket))]
     fn begun_bracket(
         self,
         tokens: &mut Tokens<'_>,
@@ -158,7 +183,7 @@ impl Reader {
         name: Spelled,
         bracket: Place,
     ) -> Result<Begun, Stop>
-        ensures { ReadsAs begun_of (spec.begun_bracket careful self.turns place name bracket tokens.old) result tokens.new }
+        ensures { ReadsAs begun_of (spec.begun_bracket plain self.turns place name bracket tokens.old) result tokens.new }
     {
         if !is_dim(tokens.peek()) {
             let operand = full_behind_bracket(self.alloc, tokens, bracket, place, name)?;
@@ -175,9 +200,9 @@ impl Reader {
     }
 
     /// What begins with a name, after it.
-    #[tactic(auto, unfolding(crate::specs::Parts::begun))]
+    #[tactic(auto, unfolding(crate::specs::Mirrors::Parts::begun))]
     pub fn begun(self, tokens: &mut Tokens<'_>, place: Place, name: Spelled) -> Result<Begun, Stop>
-        ensures { ReadsAs begun_of (spec.begun careful self.turns place name tokens.old) result tokens.new }
+        ensures { ReadsAs begun_of (spec.begun plain self.turns place name tokens.old) result tokens.new }
     {
         match tokens.peek() {
             TokenKind::Name(_) => Ok(Begun::Declares(TypeName {
@@ -187,7 +212,7 @@ impl Reader {
             })),
             TokenKind::LeftBracket => {
                 let bracket = tokens.place();
-                tokens.take()?;
+                tokens.take();
                 self.begun_bracket(tokens, place, name, bracket)
             }
             kind => {
@@ -206,7 +231,7 @@ impl Reader {
 
     /// `println`, with its place.
     fn println(self, tokens: &mut Tokens<'_>) -> Result<Place, Stop>
-        ensures { Reads (spec.printer_by careful self.turns KeywordPrintln tokens.old) result tokens.new }
+        ensures { Reads (spec.printer_by plain self.turns KeywordPrintln tokens.old) result tokens.new }
     {
         let place = tokens.place();
         tokens.expect(TokenKind::KeywordPrintln)?;
@@ -214,13 +239,13 @@ impl Reader {
     }
 
     /// The place of `println`, which may stand behind `System.out.`.
-    #[tactic(auto, unfolding(crate::specs::Parts::printer))]
+    #[tactic(auto, unfolding(crate::specs::Mirrors::Parts::printer))]
     fn printer(self, tokens: &mut Tokens<'_>) -> Result<Place, Stop>
-        ensures { Reads (spec.printer careful self.turns tokens.old) result tokens.new }
+        ensures { Reads (spec.printer plain self.turns tokens.old) result tokens.new }
     {
         match tokens.peek() {
             TokenKind::KeywordSystem => {
-                tokens.take()?;
+                tokens.take();
                 tokens.expect(TokenKind::Dot)?;
                 tokens.expect_word(b"out")?;
                 tokens.expect(TokenKind::Dot)?;
@@ -231,28 +256,28 @@ impl Reader {
     }
 
     /// What is printed, after a string literal.
-    #[tactic(auto, unfolding(crate::specs::Parts::printed_text))]
+    #[tactic(auto, unfolding(crate::specs::Mirrors::Parts::printed_text))]
     fn printed_text(self, tokens: &mut Tokens<'_>, text: Spelled) -> Result<Printed, Stop>
-        ensures { ReadsAs print_of (spec.printed_text careful self.turns text tokens.old) result tokens.new }
+        ensures { ReadsAs print_of (spec.printed_text plain self.turns text tokens.old) result tokens.new }
     {
         if !tokens.sees(TokenKind::Plus) {
             return Ok(Printed::Text(text));
         }
-        tokens.take()?;
+        tokens.take();
         let value = full(self.alloc, tokens, Form::Mul)?;
         Ok(Printed::TextAndValue(text, value))
     }
 
     /// What stands between the parentheses of a print.
-    #[tactic(auto, unfolding(crate::specs::Parts::printed))]
+    #[tactic(auto, unfolding(crate::specs::Mirrors::Parts::printed))]
     fn printed(self, tokens: &mut Tokens<'_>) -> Result<Printed, Stop>
-        ensures { ReadsAs print_of (spec.printed careful self.turns tokens.old) result tokens.new }
+        ensures { ReadsAs print_of (spec.printed plain self.turns tokens.old) result tokens.new }
     {
         match tokens.peek() {
             TokenKind::RightParen => Ok(Printed::Nothing),
             TokenKind::Str(text) => {
                 let text = text.copy(self.alloc)?;
-                tokens.take()?;
+                tokens.take();
                 self.printed_text(tokens, text)
             }
             _ => Ok(Printed::Value(self.expr(tokens)?)),
@@ -260,9 +285,9 @@ impl Reader {
     }
 
     /// A print.
-    #[tactic(auto, unfolding(crate::specs::Parts::print))]
+    #[tactic(auto, unfolding(crate::specs::Mirrors::Parts::print))]
     pub fn print(self, tokens: &mut Tokens<'_>) -> Result<Stmt, Stop>
-        ensures { ReadsAs stm_of (spec.print careful self.turns tokens.old) result tokens.new }
+        ensures { ReadsAs stm_of (spec.print plain self.turns tokens.old) result tokens.new }
     {
         let place = self.printer(tokens)?;
         tokens.expect(TokenKind::LeftParen)?;
@@ -273,9 +298,9 @@ impl Reader {
     }
 
     /// A barrier, after `Ti`.
-    #[tactic(auto, unfolding(crate::specs::Parts::barrier))]
+    #[tactic(auto, unfolding(crate::specs::Mirrors::Parts::barrier))]
     pub fn barrier(self, tokens: &mut Tokens<'_>) -> Result<Stmt, Stop>
-        ensures { ReadsAs stm_of (spec.barrier careful self.turns tokens.old) result tokens.new }
+        ensures { ReadsAs stm_of (spec.barrier plain self.turns tokens.old) result tokens.new }
     {
         tokens.expect(TokenKind::Dot)?;
         let place = tokens.place();
@@ -289,34 +314,34 @@ impl Reader {
     // ---- jumps, from their words on
 
     /// `break;`
-    #[tactic(auto, unfolding(crate::specs::Parts::break_out))]
+    #[tactic(auto, unfolding(crate::specs::Mirrors::Parts::break_out))]
     pub fn break_out(self, tokens: &mut Tokens<'_>) -> Result<Stmt, Stop>
-        ensures { ReadsAs stm_of (spec.break_out careful self.turns tokens.old) result tokens.new }
+        ensures { ReadsAs stm_of (spec.break_out plain self.turns tokens.old) result tokens.new }
     {
         let place = tokens.place();
-        tokens.take()?;
+        tokens.take();
         tokens.expect(TokenKind::Semicolon)?;
         Ok(Stmt::Break(place))
     }
 
     /// `continue;`
-    #[tactic(auto, unfolding(crate::specs::Parts::continue_on))]
+    #[tactic(auto, unfolding(crate::specs::Mirrors::Parts::continue_on))]
     pub fn continue_on(self, tokens: &mut Tokens<'_>) -> Result<Stmt, Stop>
-        ensures { ReadsAs stm_of (spec.continue_on careful self.turns tokens.old) result tokens.new }
+        ensures { ReadsAs stm_of (spec.continue_on plain self.turns tokens.old) result tokens.new }
     {
         let place = tokens.place();
-        tokens.take()?;
+        tokens.take();
         tokens.expect(TokenKind::Semicolon)?;
         Ok(Stmt::Continue(place))
     }
 
     /// `return;` or `return e;`
-    #[tactic(auto, unfolding(crate::specs::Parts::return_from))]
+    #[tactic(auto, unfolding(crate::specs::Mirrors::Parts::return_from))]
     pub fn return_from(self, tokens: &mut Tokens<'_>) -> Result<Stmt, Stop>
-        ensures { ReadsAs stm_of (spec.return_from careful self.turns tokens.old) result tokens.new }
+        ensures { ReadsAs stm_of (spec.return_from plain self.turns tokens.old) result tokens.new }
     {
         let place = tokens.place();
-        tokens.take()?;
+        tokens.take();
         let value = self.optional(tokens)?;
         tokens.expect(TokenKind::Semicolon)?;
         Ok(Stmt::Return(place, value))

@@ -1,20 +1,19 @@
-// Statements, by one token of sight. The rules take the reader of the statements inside as a parameter, so that each is
-// proved by itself.
+// Statements. The rules take the reader of the statements inside as a parameter, so that each is proved by itself.
 
 ghost use Rattle.std.specs.Prelude.{[], ◌≡◌};
-ghost use Rattle.ti_syntax.specs.Trees.Views.{stm_of, stms_of};
-ghost use Rattle.ti_parse.specs.Nests.{Nests};
-ghost use Rattle.ti_parse.specs.Seen.{begun_of, boxed_stm};
-ghost use Rattle.ti_parse.specs.Statements as spec;
-ghost use Rattle.ti_parse.specs.Way.{careful};
-ghost use Rattle.ti_parse_expr.specs.Input.{ReadsAs};
+ghost use Rattle.ti_syntax.specs.Trees.Views.{exp_of, stm_of, stms_of};
+ghost use Rattle.ti_parse.specs.Mirrors.Nests.{Nests};
+ghost use Rattle.ti_parse.specs.Mirrors.Seen.{begun_of, boxed_stm};
+ghost use Rattle.ti_parse.specs.Mirrors.Statements as spec;
+ghost use Rattle.ti_parse.specs.Mirrors.Way.{plain};
+ghost use Rattle.ti_parse_expr.specs.Mirrors.Input.{ReadsAs};
 
 use crate::reader::Reader;
 use crate::simple::Begun;
 use crate::words::{begins_declaration, is_compound, starts};
 use ti_base::Place;
 use ti_syntax::TokenKind;
-use ti_syntax::tree::Stmt;
+use ti_syntax::tree::{Expr, Stmt};
 use ti_parse_expr::full::full_operand;
 use ti_parse_expr::{Stop, Tokens};
 
@@ -33,14 +32,14 @@ pub struct Statements<F> {
 impl<F: Fn(Reader, &mut Tokens<'_>, u32) -> Result<Stmt, Stop>> Statements<F> {
     fn stmt(&self, tokens: &mut Tokens<'_>) -> Result<Stmt, Stop>
         requires { Nests self.now.reader self.now.levels (F.pre self.now.stmt) (F.post self.now.stmt) }
-        ensures { ReadsAs stm_of (spec.stmt careful self.now.reader.turns self.now.levels tokens.old) result tokens.new }
+        ensures { ReadsAs stm_of (spec.stmt plain self.now.reader.turns self.now.levels tokens.old) result tokens.new }
     {
         (self.stmt)(self.reader, tokens, self.levels)
     }
 
     fn boxed_stmt(&self, tokens: &mut Tokens<'_>) -> Result<Box<Stmt>, Stop>
         requires { Nests self.now.reader self.now.levels (F.pre self.now.stmt) (F.post self.now.stmt) }
-        ensures { ReadsAs boxed_stm (spec.stmt careful self.now.reader.turns self.now.levels tokens.old) result tokens.new }
+        ensures { ReadsAs boxed_stm (spec.stmt plain self.now.reader.turns self.now.levels tokens.old) result tokens.new }
     {
         Ok(Box::new(self.reader.alloc, self.stmt(tokens)?)?)
     }
@@ -50,7 +49,7 @@ impl<F: Fn(Reader, &mut Tokens<'_>, u32) -> Result<Stmt, Stop>> Statements<F> {
     /// An item, after what it begins with.
     fn named_item(&self, tokens: &mut Tokens<'_>, begun: Begun) -> Result<Stmt, Stop>
         requires { Nests self.now.reader self.now.levels (F.pre self.now.stmt) (F.post self.now.stmt) }
-        ensures { ReadsAs stm_of (spec.named_item careful self.now.reader.turns (spec.stmt careful self.now.reader.turns self.now.levels) (begun_of begun) tokens.old) result tokens.new }
+        ensures { ReadsAs stm_of (spec.named_item plain self.now.reader.turns (spec.stmt plain self.now.reader.turns self.now.levels) (begun_of begun) tokens.old) result tokens.new }
     {
         match begun {
             Begun::Declares(ty) => self.reader.declared_alone(tokens, ty),
@@ -59,16 +58,16 @@ impl<F: Fn(Reader, &mut Tokens<'_>, u32) -> Result<Stmt, Stop>> Statements<F> {
     }
 
     /// A declaration or a statement.
-    #[tactic(auto, unfolding(crate::specs::Statements::item))]
+    #[tactic(auto, unfolding(crate::specs::Mirrors::Statements::item))]
     fn item(&self, tokens: &mut Tokens<'_>) -> Result<Stmt, Stop>
         requires { Nests self.now.reader self.now.levels (F.pre self.now.stmt) (F.post self.now.stmt) }
-        ensures { ReadsAs stm_of (spec.item careful self.now.reader.turns (spec.stmt careful self.now.reader.turns self.now.levels) tokens.old) result tokens.new }
+        ensures { ReadsAs stm_of (spec.item plain self.now.reader.turns (spec.stmt plain self.now.reader.turns self.now.levels) tokens.old) result tokens.new }
     {
         match tokens.peek() {
             TokenKind::Name(name) => {
                 let place = tokens.place();
                 let name = name.copy(self.reader.alloc)?;
-                tokens.take()?;
+                tokens.take();
                 let begun = self.reader.begun(tokens, place, name)?;
                 self.named_item(tokens, begun)
             }
@@ -83,10 +82,10 @@ impl<F: Fn(Reader, &mut Tokens<'_>, u32) -> Result<Stmt, Stop>> Statements<F> {
     }
 
     /// As many items as there are.
-    #[tactic(auto, unfolding(crate::specs::Statements::items))]
+    #[tactic(auto, unfolding(crate::specs::Mirrors::Statements::items))]
     pub fn items(&self, tokens: &mut Tokens<'_>) -> Result<Vec<Stmt>, Stop>
         requires { Nests self.now.reader self.now.levels (F.pre self.now.stmt) (F.post self.now.stmt) }
-        ensures { ReadsAs stms_of (spec.items careful self.now.reader.turns (spec.stmt careful self.now.reader.turns self.now.levels) self.now.reader.turns [] tokens.old) result tokens.new }
+        ensures { ReadsAs stms_of (spec.items plain self.now.reader.turns (spec.stmt plain self.now.reader.turns self.now.levels) self.now.reader.turns [] tokens.old) result tokens.new }
     {
         let mut found = Vec::new(self.reader.alloc);
         for _turn in 0..self.reader.turns {
@@ -101,10 +100,10 @@ impl<F: Fn(Reader, &mut Tokens<'_>, u32) -> Result<Stmt, Stop>> Statements<F> {
     // ---- compound statements
 
     /// A block, after its `{`.
-    #[tactic(auto, unfolding(crate::specs::Statements::block), using(ti_syntax::proofs::Bridges::bridges))]
+    #[tactic(auto, unfolding(crate::specs::Mirrors::Statements::block), using(ti_syntax::proofs::Bridges::bridges))]
     fn block(&self, tokens: &mut Tokens<'_>) -> Result<Stmt, Stop>
         requires { Nests self.now.reader self.now.levels (F.pre self.now.stmt) (F.post self.now.stmt) }
-        ensures { ReadsAs stm_of (spec.block careful self.now.reader.turns (spec.stmt careful self.now.reader.turns self.now.levels) tokens.old) result tokens.new }
+        ensures { ReadsAs stm_of (spec.block plain self.now.reader.turns (spec.stmt plain self.now.reader.turns self.now.levels) tokens.old) result tokens.new }
     {
         let body = self.items(tokens)?;
         tokens.expect(TokenKind::RightBrace)?;
@@ -112,13 +111,27 @@ impl<F: Fn(Reader, &mut Tokens<'_>, u32) -> Result<Stmt, Stop>> Statements<F> {
     }
 
     /// What stands behind `if`.
-    #[tactic(auto, unfolding(crate::specs::Statements::conditional))]
+    #[tactic(auto, unfolding(crate::specs::Mirrors::Statements::conditional))]
     fn conditional(&self, tokens: &mut Tokens<'_>, place: Place) -> Result<Stmt, Stop>
         requires { Nests self.now.reader self.now.levels (F.pre self.now.stmt) (F.post self.now.stmt) }
-        ensures { ReadsAs stm_of (spec.conditional careful self.now.reader.turns (spec.stmt careful self.now.reader.turns self.now.levels) place tokens.old) result tokens.new }
+        ensures { ReadsAs stm_of (spec.conditional plain self.now.reader.turns (spec.stmt plain self.now.reader.turns self.now.levels) place tokens.old) result tokens.new }
     {
         let condition = self.reader.condition(tokens)?;
         let then = self.boxed_stmt(tokens)?;
+        self.conditional_behind(tokens, place, condition, then)
+    }
+
+    /// An `if`, after its first statement.
+    fn conditional_behind(
+        &self,
+        tokens: &mut Tokens<'_>,
+        place: Place,
+        condition: Expr,
+        then: Box<Stmt>,
+    ) -> Result<Stmt, Stop>
+        requires { Nests self.now.reader self.now.levels (F.pre self.now.stmt) (F.post self.now.stmt) }
+        ensures { ReadsAs stm_of (spec.conditional_behind plain self.now.reader.turns (spec.stmt plain self.now.reader.turns self.now.levels) place (exp_of condition) (boxed_stm then) tokens.old) result tokens.new }
+    {
         if !tokens.sees(TokenKind::KeywordElse) {
             return Ok(Stmt::If {
                 place,
@@ -127,7 +140,7 @@ impl<F: Fn(Reader, &mut Tokens<'_>, u32) -> Result<Stmt, Stop>> Statements<F> {
                 otherwise: None,
             });
         }
-        tokens.take()?;
+        tokens.take();
         let otherwise = Some(self.boxed_stmt(tokens)?);
         Ok(Stmt::If {
             place,
@@ -138,10 +151,10 @@ impl<F: Fn(Reader, &mut Tokens<'_>, u32) -> Result<Stmt, Stop>> Statements<F> {
     }
 
     /// What stands behind `while`.
-    #[tactic(auto, unfolding(crate::specs::Statements::while_loop))]
+    #[tactic(auto, unfolding(crate::specs::Mirrors::Statements::while_loop))]
     fn while_loop(&self, tokens: &mut Tokens<'_>, place: Place) -> Result<Stmt, Stop>
         requires { Nests self.now.reader self.now.levels (F.pre self.now.stmt) (F.post self.now.stmt) }
-        ensures { ReadsAs stm_of (spec.while_loop careful self.now.reader.turns (spec.stmt careful self.now.reader.turns self.now.levels) place tokens.old) result tokens.new }
+        ensures { ReadsAs stm_of (spec.while_loop plain self.now.reader.turns (spec.stmt plain self.now.reader.turns self.now.levels) place tokens.old) result tokens.new }
     {
         let condition = self.reader.condition(tokens)?;
         let body = self.boxed_stmt(tokens)?;
@@ -153,10 +166,10 @@ impl<F: Fn(Reader, &mut Tokens<'_>, u32) -> Result<Stmt, Stop>> Statements<F> {
     }
 
     /// What stands behind `for`.
-    #[tactic(auto, unfolding(crate::specs::Statements::for_loop))]
+    #[tactic(auto, unfolding(crate::specs::Mirrors::Statements::for_loop))]
     fn for_loop(&self, tokens: &mut Tokens<'_>, place: Place) -> Result<Stmt, Stop>
         requires { Nests self.now.reader self.now.levels (F.pre self.now.stmt) (F.post self.now.stmt) }
-        ensures { ReadsAs stm_of (spec.for_loop careful self.now.reader.turns (spec.stmt careful self.now.reader.turns self.now.levels) place tokens.old) result tokens.new }
+        ensures { ReadsAs stm_of (spec.for_loop plain self.now.reader.turns (spec.stmt plain self.now.reader.turns self.now.levels) place tokens.old) result tokens.new }
     {
         tokens.expect(TokenKind::LeftParen)?;
         let first = self.reader.first(tokens)?;
@@ -176,10 +189,10 @@ impl<F: Fn(Reader, &mut Tokens<'_>, u32) -> Result<Stmt, Stop>> Statements<F> {
     }
 
     /// What stands behind `foreach`.
-    #[tactic(auto, unfolding(crate::specs::Statements::foreach_loop))]
+    #[tactic(auto, unfolding(crate::specs::Mirrors::Statements::foreach_loop))]
     fn foreach_loop(&self, tokens: &mut Tokens<'_>, place: Place) -> Result<Stmt, Stop>
         requires { Nests self.now.reader self.now.levels (F.pre self.now.stmt) (F.post self.now.stmt) }
-        ensures { ReadsAs stm_of (spec.foreach_loop careful self.now.reader.turns (spec.stmt careful self.now.reader.turns self.now.levels) place tokens.old) result tokens.new }
+        ensures { ReadsAs stm_of (spec.foreach_loop plain self.now.reader.turns (spec.stmt plain self.now.reader.turns self.now.levels) place tokens.old) result tokens.new }
     {
         tokens.expect(TokenKind::LeftParen)?;
         let name_place = tokens.place();
@@ -205,7 +218,7 @@ impl<F: Fn(Reader, &mut Tokens<'_>, u32) -> Result<Stmt, Stop>> Statements<F> {
         kind: &TokenKind,
     ) -> Result<Stmt, Stop>
         requires { Nests self.now.reader self.now.levels (F.pre self.now.stmt) (F.post self.now.stmt) }
-        ensures { ReadsAs stm_of (spec.compound careful self.now.reader.turns (spec.stmt careful self.now.reader.turns self.now.levels) place kind.now tokens.old) result tokens.new }
+        ensures { ReadsAs stm_of (spec.compound plain self.now.reader.turns (spec.stmt plain self.now.reader.turns self.now.levels) place kind.now tokens.old) result tokens.new }
     {
         match kind {
             TokenKind::LeftBrace => self.block(tokens),
@@ -219,18 +232,18 @@ impl<F: Fn(Reader, &mut Tokens<'_>, u32) -> Result<Stmt, Stop>> Statements<F> {
 
 impl Reader {
     /// A statement that isn't compound.
-    #[tactic(auto, unfolding(crate::specs::Statements::small))]
+    #[tactic(auto, unfolding(crate::specs::Mirrors::Statements::small))]
     fn small(self, tokens: &mut Tokens<'_>) -> Result<Stmt, Stop>
-        ensures { ReadsAs stm_of (spec.small careful self.turns tokens.old) result tokens.new }
+        ensures { ReadsAs stm_of (spec.small plain self.turns tokens.old) result tokens.new }
     {
         match tokens.peek() {
             TokenKind::Semicolon => {
-                tokens.take()?;
+                tokens.take();
                 Ok(Stmt::Empty)
             }
             TokenKind::KeywordPrintln | TokenKind::KeywordSystem => self.print(tokens),
             TokenKind::KeywordTi => {
-                tokens.take()?;
+                tokens.take();
                 self.barrier(tokens)
             }
             TokenKind::KeywordBreak => self.break_out(tokens),
@@ -248,7 +261,7 @@ impl Reader {
 
     /// The items of a method.
     pub fn body(self, tokens: &mut Tokens<'_>) -> Result<Vec<Stmt>, Stop>
-        ensures { ReadsAs stms_of (spec.body careful self.turns tokens.old) result tokens.new }
+        ensures { ReadsAs stms_of (spec.body plain self.turns tokens.old) result tokens.new }
     {
         Statements {
             reader: self,
@@ -260,9 +273,9 @@ impl Reader {
 }
 
 /// A statement where so many levels of compound ones may still begin.
-#[tactic(auto, unfolding(crate::specs::Statements::stmt))]
+#[tactic(auto, unfolding(crate::specs::Mirrors::Statements::stmt))]
 pub fn stmt(reader: Reader, tokens: &mut Tokens<'_>, levels: u32) -> Result<Stmt, Stop>
-    ensures { ReadsAs stm_of (spec.stmt careful reader.turns levels tokens.old) result tokens.new }
+    ensures { ReadsAs stm_of (spec.stmt plain reader.turns levels tokens.old) result tokens.new }
 {
     let kind = tokens.peek();
     if !is_compound(kind) {
@@ -272,7 +285,7 @@ pub fn stmt(reader: Reader, tokens: &mut Tokens<'_>, levels: u32) -> Result<Stmt
         return Err(Stop::TooDeep);
     }
     let place = tokens.place();
-    tokens.take()?;
+    tokens.take();
     Statements {
         reader,
         levels: levels - 1,

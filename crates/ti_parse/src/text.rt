@@ -1,33 +1,33 @@
 // The tree of a text.
 
-ghost use Rattle.std.specs.Prelude.{◌≡◌, List, Option};
+ghost use Rattle.std.specs.Prelude.{◌≡◌, List, Option, Some};
 ghost use Rattle.ti_base.specs.declared.place.Place.{Place as PlaceSeen};
 ghost use Rattle.ti_syntax.specs.declared.token.Token.{Token as TokenSeen};
 ghost use Rattle.ti_syntax.specs.Trees.Classes.{TextTree};
 ghost use Rattle.ti_syntax.specs.Trees.Views.{text_tree_of};
-ghost use Rattle.ti_syntax.specs.Spelling.{Spells, Misfit, IsGrammarRefusal};
-ghost use Rattle.ti_parse.specs.Answer.{Parsed};
-ghost use Rattle.ti_parse.specs.Classes as spec;
-ghost use Rattle.ti_parse.specs.Way.{careful};
+ghost use Rattle.ti_syntax.specs.Spelling.{Spells, IsShallow, Misfit, IsGrammarRefusal};
+ghost use Rattle.ti_parse.specs.Answer.{GivesOnly, Parsed, RefusesOnly};
+ghost use Rattle.ti_parse.specs.Mirrors.Classes as spec;
+ghost use Rattle.ti_parse.specs.Mirrors.Way.{plain};
 ghost use Rattle.ti_parse_expr.specs.Answers.{EndsAtEnd};
-ghost use Rattle.ti_parse_expr.specs.Input.{ReadsAs};
+ghost use Rattle.ti_parse_expr.specs.Mirrors.Input.{ReadsAs};
 
 use crate::reader::Reader;
 use std::alloc::Global;
 use ti_base::Place;
-use ti_syntax::Token;
+use ti_syntax::{Token, TokenKind};
 use ti_syntax::tree::{Class, Tree};
 use ti_parse_expr::{ParseErr, Stop, Tokens};
 use ti_rules::{Refusal, Rule};
 
 /// The classes up to the end, which nothing follows.
-#[tactic(auto, unfolding(crate::specs::Classes::text))]
+#[tactic(auto, unfolding(crate::specs::Mirrors::Classes::text))]
 fn read_text(alloc: Global, tokens: &mut Tokens<'_>, turns: usize) -> Result<Vec<Class>, Stop>
-    ensures { ReadsAs text_tree_of (spec.text careful turns tokens.old) result tokens.new }
+    ensures { ReadsAs text_tree_of (spec.text plain turns tokens.old) result tokens.new }
 {
     let classes = Reader { alloc, turns }.classes(tokens)?;
     if tokens.left() > 1 {
-        tokens.take()?;
+        tokens.take();
         return Err(Stop::Refused);
     }
     Ok(classes)
@@ -39,15 +39,13 @@ fn refused(rule: Rule, place: Place) -> ParseErr
     ParseErr::Refused(Refusal { rule, place })
 }
 
-/// The tree that a list of tokens spells.
-///
-/// Refused with G1 at the first token such that the tokens up to and including it begin no text, or with G2 at the first
-/// token before that whose level is above 64 or whose weight is above 256. Otherwise only memory may be wanting.
-pub fn parse(alloc: Global, toks: &[Token]) -> Result<Tree, ParseErr>
+/// What `parse` answers.
+fn read_tree(alloc: Global, toks: &[Token]) -> Result<Tree, ParseErr>
     requires { EndsAtEnd toks.now }
     ensures { Parsed toks.now result }
 {
-    let mut tokens = Tokens::new(toks);
+    let end = TokenKind::End;
+    let mut tokens = Tokens::new(toks, &end);
     match read_text(alloc, &mut tokens, toks.len() + 1) {
         Ok(classes) => Ok(Tree { classes }),
         Err(Stop::Memory) => Err(ParseErr::Memory),
@@ -55,6 +53,20 @@ pub fn parse(alloc: Global, toks: &[Token]) -> Result<Tree, ParseErr>
         Err(Stop::TooDeep) => Err(refused(Rule::G2, tokens.place())),
         Err(Stop::Spent) => unreachable!(),
     }
+}
+
+/// The tree that a list of tokens spells.
+///
+/// Refused with G1 at the first token such that the tokens up to and including it begin no text, or with G2 at the first
+/// token before that whose level or weight is above its limit. Otherwise it may only be out of memory.
+pub fn parse(alloc: Global, toks: &[Token]) -> Result<Tree, ParseErr>
+    requires { EndsAtEnd toks.now }
+    ensures answer { Parsed toks.now result }
+    // Nothing else is answered to tokens that have a tree, or a refusal.
+    ensures only_tree { (tree : TextTree) → Spells toks.now tree → IsShallow toks.now → GivesOnly result tree }
+    ensures only_refusal { (misfit : Misfit) (place : PlaceSeen) → IsGrammarRefusal toks.now (Some (misfit, place)) → RefusesOnly result misfit place }
+{
+    read_tree(alloc, toks)
 }
 
 /// That a list of tokens is at most one tree, and that each list that ends with the end token has one answer on what is

@@ -1,10 +1,10 @@
-// Types, by one token of sight.
+// Types, with one token of lookahead.
 
 ghost use Rattle.std.specs.Prelude.{[], ◌≡◌};
 ghost use Rattle.ti_syntax.specs.Trees.Views.{type_of};
-ghost use Rattle.ti_parse.specs.Parts as spec;
-ghost use Rattle.ti_parse.specs.Way.{careful};
-ghost use Rattle.ti_parse_expr.specs.Input.{ReadsAs};
+ghost use Rattle.ti_parse.specs.Mirrors.Parts as spec;
+ghost use Rattle.ti_parse.specs.Mirrors.Way.{plain};
+ghost use Rattle.ti_parse_expr.specs.Mirrors.Input.{ReadsAs};
 
 use crate::reader::Reader;
 use crate::words::is_wide;
@@ -15,18 +15,18 @@ use ti_parse_expr::{Stop, Tokens};
 
 impl Reader {
     /// A type that no field and no element has.
-    #[tactic(auto, unfolding(crate::specs::Parts::wide))]
+    #[tactic(auto, unfolding(crate::specs::Mirrors::Parts::wide))]
     pub fn wide(self, tokens: &mut Tokens<'_>) -> Result<TypeName, Stop>
-        ensures { ReadsAs type_of (spec.wide careful self.turns tokens.old) result tokens.new }
+        ensures { ReadsAs type_of (spec.wide plain self.turns tokens.old) result tokens.new }
     {
         let place = tokens.place();
         let base = match tokens.peek() {
             TokenKind::KeywordDomain => {
-                tokens.take()?;
+                tokens.take();
                 Base::Domain(place, arity(tokens)?)
             }
             TokenKind::KeywordSharedRegion => {
-                tokens.take()?;
+                tokens.take();
                 Base::SharedRegion(place)
             }
             _ => return Err(Stop::Refused),
@@ -40,18 +40,18 @@ impl Reader {
     }
 
     /// The type of a field.
-    #[tactic(auto, unfolding(crate::specs::Parts::field))]
+    #[tactic(auto, unfolding(crate::specs::Mirrors::Parts::field))]
     pub fn field(self, tokens: &mut Tokens<'_>) -> Result<TypeName, Stop>
-        ensures { ReadsAs type_of (spec.field careful self.turns tokens.old) result tokens.new }
+        ensures { ReadsAs type_of (spec.field plain self.turns tokens.old) result tokens.new }
     {
         let base = base(self.alloc, tokens)?;
         field_type(self.alloc, tokens, self.turns, base)
     }
 
     /// Any type.
-    #[tactic(auto, unfolding(crate::specs::Parts::typed))]
+    #[tactic(auto, unfolding(crate::specs::Mirrors::Parts::typed))]
     pub fn typed(self, tokens: &mut Tokens<'_>) -> Result<TypeName, Stop>
-        ensures { ReadsAs type_of (spec.typed careful self.turns tokens.old) result tokens.new }
+        ensures { ReadsAs type_of (spec.typed plain self.turns tokens.old) result tokens.new }
     {
         if is_wide(tokens.peek()) {
             self.wide(tokens)

@@ -3,10 +3,10 @@
 ghost use Rattle.std.specs.Prelude.{◌≡◌};
 ghost use Rattle.ti_syntax.specs.Spelling.Operators as operators;
 ghost use Rattle.ti_syntax.specs.Spelling.Statements.{starts as starts_spec};
-ghost use Rattle.ti_parse.specs.Parts as parts;
-ghost use Rattle.ti_parse.specs.Seen.{word_of};
-ghost use Rattle.ti_parse.specs.Statements as statements;
-ghost use Rattle.ti_parse_expr.specs.Expr.{is_dim as is_dim_spec};
+ghost use Rattle.ti_parse.specs.Mirrors.Parts as parts;
+ghost use Rattle.ti_parse.specs.Mirrors.Seen.{word_of};
+ghost use Rattle.ti_parse.specs.Mirrors.Statements as statements;
+ghost use Rattle.ti_parse_expr.specs.Mirrors.Exprs.{is_dim as is_dim_spec};
 
 use ti_syntax::TokenKind;
 use ti_syntax::tree::{BinaryOperator, ModifierWord, StepOperator};

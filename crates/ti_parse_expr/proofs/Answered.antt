@@ -1,4 +1,4 @@
--- What reading the front of a list, whose last token stays, says of the whole list.
+-- What reading the front of a list says of the whole list.
 use Rattle.std.proofs.Common.{◌≡◌, ◌⊎◌, inl, inr, ℕ, suc, ◌+◌, ◌-◌, ◌<◌, ◌≤◌, List, [], ◌∷◌, ◌++◌, length, Ok, Err, refl, sym, ap, ◌∙◌, subst, append_assoc, arith, length-append, true, if◌then◌else◌, take}
 use Rattle.ti_syntax.specs.declared.token.Token.{Token}
 use Rattle.ti_syntax.specs.declared.token.TokenKind.TheVariants as k
@@ -8,18 +8,18 @@ use Rattle.ti_parse_expr.specs.declared.parse.Form.{Form}
 use Rattle.ti_parse_expr.specs.declared.parse.Form.TheVariants as form
 use Rattle.ti_parse_expr.specs.Answers.{Phrase, BeginsPhrase, IsLight, IsPhrase, IsNoPhrase, IsTooHeavy}
 use Rattle.ti_syntax.specs.Spelling.{most_weight}
-use Rattle.ti_parse_expr.specs.Input.{At, Over, Spent, Outcome, place, take_token, take_within}
-use Rattle.ti_parse_expr.specs.Reach.{IsCut, ends_expression}
-use Rattle.ti_parse_expr.specs.Expr.{phrase}
+use Rattle.ti_parse_expr.specs.Mirrors.Input.{At, Over, Spent, Outcome, place, take_token}
+use Rattle.ti_parse_expr.specs.Mirrors.Reach.{IsCut, ends_expression}
+use Rattle.ti_parse_expr.specs.Mirrors.Full.{rest_of}
+use Rattle.ti_parse_expr.specs.Mirrors.Exprs.{phrase}
 use Rattle.ti_parse_expr.proofs.Law.{Says, Any, append_nil, token}
 use Rattle.ti_parse_expr.proofs.Phrases.{whole_some, postfixed_some}
 use Rattle.ti_parse_expr.proofs.Follows.{Stops, closer_stops, end_closes}
 use Rattle.ti_parse_expr.proofs.Local.{Same}
-use Rattle.ti_parse_expr.proofs.Cut.{Alike, Passed}
 use Rattle.ti_parse_expr.proofs.Shallow.{IsShallow, phrase_shallow}
 use Rattle.ti_parse_expr.proofs.Weights.{nothing, take_seam, light_front, light_whole}
 use Rattle.ti_parse_expr.proofs.Ends.{ends, ends-append, end_of, phrase_ends}
-use Rattle.ti_parse_expr.proofs.Forms.{level_of, phrase_says, phrase_reads, phrase_near, phrase_cut, phrase_stops}
+use Rattle.ti_parse_expr.proofs.Forms.{level_of, phrase_says, phrase_reads, phrase_near, phrase_stops}
 
 -- ---- lists
 
@@ -48,7 +48,7 @@ phrase_some form.Postfix l x (ending, s) = postfixed_some s
 abbrev last : List Token
 last = token k.End ∷ []
 
-reads_before_end : (f : Form) (m : ℕ) (l : List Token) (x : Exp) → Phrase f l x → length (l ++ last) < m → phrase take_token m f (l ++ last) ≡ Ok (x, last)
+reads_before_end : (f : Form) (m : ℕ) (l : List Token) (x : Exp) → Phrase f l x → length (l ++ last) < m → phrase m f (l ++ last) ≡ Ok (x, last)
 reads_before_end f m l x s lt = phrase_reads f m l last x s (closer_stops k.End (token k.End) [] (level_of f) l end_closes (level_some f) refl) lt
 
 abbrev tree_or : Exp → Outcome Exp → Exp
@@ -70,33 +70,33 @@ left_in (Err Spent) = 0
 -- ---- reading stopped at t, with a tree or refused: then no phrase goes on with t
 
 module _ (form : Form) (n : ℕ) (f rest : List Token) (t : Token) where
-  stays : (more : List Token) (y : Exp) → Phrase form ((f ++ t ∷ []) ++ more) y → Same t rest (more ++ last) (phrase take_token n form (f ++ t ∷ rest)) (Ok (y, last))
+  stays : (more : List Token) (y : Exp) → Phrase form ((f ++ t ∷ []) ++ more) y → Same t rest (more ++ last) (phrase n form (f ++ t ∷ rest)) (Ok (y, last))
   stays more y s =
       let m : ℕ = n + suc (length (f ++ t ∷ (more ++ last))) in
       let e : ((f ++ t ∷ []) ++ more) ++ last ≡ f ++ t ∷ (more ++ last) = append_assoc (f ++ t ∷ []) more last ∙ append_assoc f (t ∷ []) (more ++ last) in
-      let is : phrase take_token m form (f ++ t ∷ (more ++ last)) ≡ Ok (y, last) = ap (phrase take_token m form) (sym e) ∙ reads_before_end form m ((f ++ t ∷ []) ++ more) y s (omega (arith, ap length e)) in
-      subst (Same t rest (more ++ last) (phrase take_token n form (f ++ t ∷ rest))) is ((phrase_near t rest (more ++ last) form n m (omega arith)).same f)
+      let is : phrase m form (f ++ t ∷ (more ++ last)) ≡ Ok (y, last) = ap (phrase m form) (sym e) ∙ reads_before_end form m ((f ++ t ∷ []) ++ more) y s (omega (arith, ap length e)) in
+      subst (Same t rest (more ++ last) (phrase n form (f ++ t ∷ rest))) is ((phrase_near t rest (more ++ last) form n m (omega arith)).same f)
 
   -- nothing goes on where reading stopped
-  pub no_more_ok : (x : Exp) → phrase take_token n form (f ++ t ∷ rest) ≡ Ok (x, t ∷ rest) → BeginsPhrase form (f ++ t ∷ []) → ⊥
+  pub no_more_ok : (x : Exp) → phrase n form (f ++ t ∷ rest) ≡ Ok (x, t ∷ rest) → BeginsPhrase form (f ++ t ∷ []) → ⊥
   no_more_ok x is (more, y, s) =
       let same : Same t rest (more ++ last) (Ok (x, t ∷ rest)) (Ok (y, last)) = subst (λ o. Same t rest (more ++ last) o (Ok (y, last))) is (stays more y s) in
       omega (arith, ap left_in (same [] refl), length-append more last)
 
-  pub no_more_refused : phrase take_token n form (f ++ t ∷ rest) ≡ Err (At (t ∷ rest)) → BeginsPhrase form (f ++ t ∷ []) → ⊥
+  pub no_more_refused : phrase n form (f ++ t ∷ rest) ≡ Err (At (t ∷ rest)) → BeginsPhrase form (f ++ t ∷ []) → ⊥
   no_more_refused is (more, y, s) =
       let same : Same t rest (more ++ last) (Err (At (t ∷ rest))) (Ok (y, last)) = subst (λ o. Same t rest (more ++ last) o (Ok (y, last))) is (stays more y s) in
       omega (arith, ap left_in (same [] refl))
 
-  not_both : (x : Exp) (r : List Token) → phrase take_token n form (f ++ t ∷ rest) ≡ Ok (x, r) → phrase take_token n form (f ++ t ∷ rest) ≡ Err (At (t ∷ rest)) → ⊥
+  not_both : (x : Exp) (r : List Token) → phrase n form (f ++ t ∷ rest) ≡ Ok (x, r) → phrase n form (f ++ t ∷ rest) ≡ Err (At (t ∷ rest)) → ⊥
   not_both x r a b = let c : ◌≡◌ {A = Outcome Exp} (Ok (x, r)) (Err (At (t ∷ rest))) = sym a ∙ b in cc
 
-  no_phrase_by : length (f ++ t ∷ rest) < n → phrase take_token n form (f ++ t ∷ rest) ≡ Err (At (t ∷ rest)) → (x : Exp) → Phrase form f x → Stops (level_of form) f (t ∷ rest) ⊎ BeginsPhrase form (f ++ t ∷ []) → ⊥
+  no_phrase_by : length (f ++ t ∷ rest) < n → phrase n form (f ++ t ∷ rest) ≡ Err (At (t ∷ rest)) → (x : Exp) → Phrase form f x → Stops (level_of form) f (t ∷ rest) ⊎ BeginsPhrase form (f ++ t ∷ []) → ⊥
   no_phrase_by lt is x s (inl stops) = not_both x (t ∷ rest) (phrase_reads form n f (t ∷ rest) x s stops lt) is
   no_phrase_by lt is x s (inr begins) = no_more_refused is begins
 
   -- what was refused is no phrase
-  no_phrase : length (f ++ t ∷ rest) < n → phrase take_token n form (f ++ t ∷ rest) ≡ Err (At (t ∷ rest)) → (x : Exp) → Phrase form f x → ⊥
+  no_phrase : length (f ++ t ∷ rest) < n → phrase n form (f ++ t ∷ rest) ≡ Err (At (t ∷ rest)) → (x : Exp) → Phrase form f x → ⊥
   no_phrase lt is x s = no_phrase_by lt is x s (phrase_stops form f x s t rest)
 
 -- ---- the answers
@@ -108,8 +108,8 @@ pub record SaysOk (form : Form) (weight : ℕ) (list cut : List Token) (x : Exp)
   pub small : weight + weigh (take (length cut - length r) cut) ≤ most_weight
 
 module _ (form : Form) (weight : ℕ) (l c : List Token) (cut : IsCut weight l c) where
-  abbrev read : Outcome Exp
-  read = phrase take_token (length c + 1) form c
+  abbrev pub read : Outcome Exp
+  read = phrase (length c + 1) form c
 
   abbrev PhraseSays : Outcome Exp → Type 0
   PhraseSays o = Says (length c + 1) (Phrase form) Any c o
@@ -129,9 +129,9 @@ module _ (form : Form) (weight : ℕ) (l c : List Token) (cut : IsCut weight l c
   there : (f rest : List Token) (t : Token) → c ≡ f ++ t ∷ rest → l ≡ f ++ t ∷ (rest ++ cut.rest)
   there f rest t is = behind ∙ ap (λ z. z ++ cut.rest) is ∙ append_assoc f (t ∷ rest) cut.rest
 
-  ok_by : (r : List Token) (x : Exp) → read ≡ Ok (x, r) → 0 < length r → SaysOk form weight l c x r
-  ok_by [] x is some = absurd (omega (arith, some))
-  ok_by (t ∷ rest) x is some =
+  pub ok_answer : (r : List Token) (x : Exp) → read ≡ Ok (x, r) → 0 < length r → SaysOk form weight l c x r
+  ok_answer [] x is some = absurd (omega (arith, some))
+  ok_answer (t ∷ rest) x is some =
       let (f, e, s, q) : PhraseSays (Ok (x, t ∷ rest)) = read_says (Ok (x, t ∷ rest)) is in
       let n = ap length e in
       let n2 = length-append f (t ∷ rest) in
@@ -146,7 +146,7 @@ module _ (form : Form) (weight : ℕ) (l c : List Token) (cut : IsCut weight l c
             rest = rest ++ cut.rest;
             is = there f rest t e;
             begins = ([], x, subst (λ z. Phrase form z x) (sym (append_nil f)) s);
-            longest = no_more_ok form (length c + 1) f rest t x (subst (λ z. phrase take_token (length c + 1) form z ≡ Ok (x, t ∷ rest)) e is);
+            longest = no_more_ok form (length c + 1) f rest t x (subst (λ z. phrase (length c + 1) form z ≡ Ok (x, t ∷ rest)) e is);
           };
           light = light;
           phrase = s;
@@ -157,12 +157,12 @@ module _ (form : Form) (weight : ℕ) (l c : List Token) (cut : IsCut weight l c
         small = subst (λ z. weight + weigh z ≤ most_weight) (sym run) (light_whole weight f (phrase_some form f x s) light);
       }
 
-  refused_by : (r : List Token) → read ≡ Err (At r) → 0 < length r → IsNoPhrase form weight l (place r)
-  refused_by [] is some = absurd (omega (arith, some))
-  refused_by (t ∷ rest) is some =
+  pub refused_answer : (r : List Token) → read ≡ Err (At r) → 0 < length r → IsNoPhrase form weight l (place r)
+  refused_answer [] is some = absurd (omega (arith, some))
+  refused_answer (t ∷ rest) is some =
       let refused : Outcome Exp = Err (At (t ∷ rest)) in
       let (f, e, b) : PhraseSays refused = read_says refused is in
-      let at : phrase take_token (length c + 1) form (f ++ t ∷ rest) ≡ Err (At (t ∷ rest)) = subst (λ z. phrase take_token (length c + 1) form z ≡ Err (At (t ∷ rest))) e is in record {
+      let at : phrase (length c + 1) form (f ++ t ∷ rest) ≡ Err (At (t ∷ rest)) = subst (λ z. phrase (length c + 1) form z ≡ Err (At (t ∷ rest))) e is in record {
         run = f;
         after = t;
         is_run = record { rest = rest ++ cut.rest; is = there f rest t e; begins = b; longest = no_more_refused form (length c + 1) f rest t at };
@@ -171,12 +171,12 @@ module _ (form : Form) (weight : ℕ) (l c : List Token) (cut : IsCut weight l c
         at = refl;
       }
 
-  over_never : (r : List Token) → read ≡ Err (Over r) → ⊥
-  over_never r is =
+  pub never_deep : (r : List Token) → read ≡ Err (Over r) → ⊥
+  never_deep r is =
       let shallow : IsShallow read = phrase_shallow form (length c + 1) c in
       subst IsShallow is shallow
 
-  begins_all : (o : Outcome Exp) → read ≡ o → Passed o → BeginsPhrase form c
+  begins_all : (o : Outcome Exp) → read ≡ o → length (rest_of o) ≡ 0 → BeginsPhrase form c
   begins_all (Ok p) is h =
       let (f, e, s, q) : PhraseSays (Ok (p.0, p.1)) = read_says (Ok (p.0, p.1)) is in
       let all : c ≡ f = e ∙ ap (λ z. f ++ z) (nothing p.1 h) ∙ append_nil f in
@@ -184,7 +184,7 @@ module _ (form : Form) (weight : ℕ) (l c : List Token) (cut : IsCut weight l c
   begins_all (Err (At r)) is h =
       let (f, e, b) : PhraseSays (Err (At r)) = read_says (Err (At r)) is in
       subst (BeginsPhrase form) (sym (e ∙ ap (λ z. f ++ z) (nothing r h) ∙ append_nil f)) b
-  begins_all (Err (Over r)) is h = absurd (over_never r is)
+  begins_all (Err (Over r)) is h = absurd (never_deep r is)
   begins_all (Err Spent) is h =
       let few : length c + 1 ≤ length c = read_says (Err Spent) is in
       absurd (omega (arith, few))
@@ -199,23 +199,12 @@ module _ (form : Form) (weight : ℕ) (l c : List Token) (cut : IsCut weight l c
   heavy_by : BeginsPhrase form c → IsTooHeavy form weight l cut.last.place
   heavy_by begins = record { front = cut.front; heavy = cut.last; rest = cut.rest; is = cut.is; begins = subst (BeginsPhrase form) cut.made begins; light = cut.light; above = is_heavy begins cut.stops; at = refl }
 
-  abbrev pub read_front : Outcome Exp
-  read_front = phrase take_within (length c + 1) form c
-
   pub some_cut : 0 < length c
   some_cut = omega (arith, ap length cut.made, length-append cut.front (cut.last ∷ []))
 
-  alike_front : (o : Outcome Exp) → read_front ≡ o → Alike read o
-  alike_front o is = subst (Alike read) is ((phrase_cut form (length c + 1)).alike c some_cut)
+  -- all was taken
+  pub heavy_answer : (o : Outcome Exp) → read ≡ o → length (rest_of o) ≡ 0 → IsTooHeavy form weight l cut.last.place
+  heavy_answer o is none = heavy_by (begins_all o is none)
 
-  pub ok_answer : (r : List Token) (x : Exp) → read_front ≡ Ok (x, r) → SaysOk form weight l c x r
-  ok_answer r x is = let (plain, some) = alike_front (Ok (x, r)) is in ok_by r x plain some
-
-  pub refused_answer : (r : List Token) → read_front ≡ Err (At r) → IsNoPhrase form weight l (place r)
-  refused_answer r is = let (plain, some) = alike_front (Err (At r)) is in refused_by r plain some
-
-  pub never_deep : (r : List Token) → read_front ≡ Err (Over r) → ⊥
-  never_deep r is = let (plain, some) = alike_front (Err (Over r)) is in over_never r plain
-
-  pub heavy_answer : read_front ≡ Err Spent → IsTooHeavy form weight l cut.last.place
-  heavy_answer is = heavy_by (begins_all read refl (alike_front (Err Spent) is))
+  pub never_spent : read ≡ Err Spent → ⊥
+  never_spent is = let few : length c + 1 ≤ length c = read_says (Err Spent) is in omega (arith, few)

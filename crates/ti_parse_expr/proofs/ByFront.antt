@@ -1,48 +1,60 @@
 -- What is answered for a list from an answer for its front is what the reader within the limit gives.
-use Rattle.std.proofs.Common.{◌≡◌, ℕ, suc, ◌+◌, ◌-◌, List, length, drop, Result, Ok, Err, refl, sym, ap, ◌∙◌, subst, true, false, Bool, nat_lt, if◌then◌else◌}
+use Rattle.std.proofs.Common.{◌≡◌, ℕ, suc, ◌+◌, ◌-◌, ◌<◌, List, length, drop, Result, Ok, Err, refl, sym, ap, ◌∙◌, subst, true, false, Bool, if◌then◌else◌}
 use denote.Ref.{MutBor}
-use borrow.Author.Tests.{ltb-true, ltb-false}
 use Rattle.ti_syntax.specs.declared.token.Token.{Token}
-use Rattle.ti_syntax.specs.Spelling.Weights.{weigh}
 use Rattle.ti_parse_expr.specs.declared.stop.Stop.{Stop}
 use Rattle.ti_parse_expr.specs.declared.stop.Stop.TheVariants as stop
-use Rattle.ti_parse_expr.specs.Input.{At, Over, Spent, Outcome, Parser, ReadsAs}
-use Rattle.ti_parse_expr.specs.Full.{widened, within}
-use Rattle.ti_parse_expr.specs.ByFront.{Widens, ByFront}
-use Rattle.ti_syntax.specs.Spelling.{most_weight}
+use Rattle.ti_parse_expr.specs.Mirrors.Input.{At, Over, Spent, Outcome, Parser, ReadsAs}
+use Rattle.ti_parse_expr.specs.Mirrors.Full.{passed, widened, within}
+use Rattle.ti_parse_expr.specs.Mirrors.ByFront.{is_final, Widens, final, passes, moves, ByFront}
 
 module _ {T B : Type 0} (view : T → B) (weight : ℕ) (list front : List Token) where
-  spent_reads : (o : Outcome B) (left new : List Token) (result : Result T Stop) → o ≡ Err Spent → Widens weight list front (Err stop.Spent) left result new
-      → (heavy : Bool) → nat_lt most_weight (weight + weigh front) ≡ heavy → ReadsAs view (widened weight list front o) result new
-  spent_reads o left new result is (deep, spent) true h =
-      let (same, at) = deep (ltb-true most_weight (weight + weigh front) h) in
-      let e : widened weight list front o ≡ Err (Over new) =
-      ap (widened weight list front) is ∙ ap (λ b. if b then Err (Over (drop (length front - 1) list)) else Err Spent) h ∙ ap (λ z. Err (Over z)) (sym at) in
-      subst (λ z. ReadsAs view (widened weight list front o) z new) (sym same) e
-  spent_reads o left new result is (deep, spent) false h =
-      let e : widened weight list front o ≡ Err Spent = ap (widened weight list front) is ∙ ap (λ b. if b then Err (Over (drop (length front - 1) list)) else Err Spent) h in
-      subst (λ z. ReadsAs view (widened weight list front o) z new) (sym (spent (ltb-false most_weight (weight + weigh front) h))) e
+  abbrev over : Outcome B
+  over = Err (Over (drop (length front - 1) list))
+
+  -- where the front was passed, whatever the answer
+  over_reads : (o : Outcome B) (new : List Token) → widened weight list front o ≡ over → new ≡ drop (length front - 1) list → ReadsAs view (widened weight list front o) (Err stop.TooDeep) new
+  over_reads o new is at = is ∙ ap (λ z. Err (Over z)) (sym at)
+
+  passed_if : (left : List Token) (other out : Outcome B) (c : Bool) → passed weight front (length left) ≡ c → out ≡ (if passed weight front (length left) then over else other) → out ≡ (if c then over else other)
+  passed_if left other out c h is = is ∙ ap (λ b. if b then over else other) h
+
+  moved : (o : Outcome B) (answer : Result T Stop) (left new : List Token) → ReadsAs view o answer left → is_final answer ≡ false → passed weight front (length left) ≡ false → new ≡ drop (length front - length left) list
+      → ReadsAs view (widened weight list front o) answer new
+  moved o (Ok x) left new is not h at = passed_if left (Ok (view x, drop (length front - length left) list)) (widened weight list front o) false h (ap (widened weight list front) is) ∙ ap (λ z. Ok (view x, z)) (sym at)
+  moved o (Err stop.Refused) left new is not h at = passed_if left (Err (At (drop (length front - length left) list))) (widened weight list front o) false h (ap (widened weight list front) is) ∙ ap (λ z. Err (At z)) (sym at)
+  moved o (Err stop.TooDeep) left new is not h at = passed_if left (Err (Over (drop (length front - length left) list))) (widened weight list front o) false h (ap (widened weight list front) is) ∙ ap (λ z. Err (Over z)) (sym at)
+  moved o (Err stop.Memory) left new is not h at = cc
+  moved o (Err stop.Spent) left new is not h at = cc
+
+  over_all : (o : Outcome B) (answer : Result T Stop) (left : List Token) → ReadsAs view o answer left → is_final answer ≡ false → passed weight front (length left) ≡ true → widened weight list front o ≡ over
+  over_all o (Ok x) left is not h = passed_if left (Ok (view x, drop (length front - length left) list)) (widened weight list front o) true h (ap (widened weight list front) is)
+  over_all o (Err stop.Refused) left is not h = passed_if left (Err (At (drop (length front - length left) list))) (widened weight list front o) true h (ap (widened weight list front) is)
+  over_all o (Err stop.TooDeep) left is not h = passed_if left (Err (Over (drop (length front - length left) list))) (widened weight list front o) true h (ap (widened weight list front) is)
+  over_all o (Err stop.Memory) left is not h = cc
+  over_all o (Err stop.Spent) left is not h = cc
+
+  final_reads : (o : Outcome B) (answer : Result T Stop) (left new : List Token) → ReadsAs view o answer left → is_final answer ≡ true → ReadsAs view (widened weight list front o) answer new
+  final_reads o (Ok x) left new is holds = cc
+  final_reads o (Err stop.Refused) left new is holds = cc
+  final_reads o (Err stop.TooDeep) left new is holds = cc
+  final_reads o (Err stop.Memory) left new is holds = tt
+  final_reads o (Err stop.Spent) left new is holds = ap (widened weight list front) is
 
   widens_reads : (o : Outcome B) (answer : Result T Stop) (left new : List Token) (result : Result T Stop) → ReadsAs view o answer left → Widens weight list front answer left result new
       → ReadsAs view (widened weight list front o) result new
-  widens_reads o (Ok x) left new result is (same, at) =
-      let e : widened weight list front o ≡ Ok (view x, new) = ap (widened weight list front) is ∙ ap (λ z. Ok (view x, z)) (sym at) in
-      subst (λ z. ReadsAs view (widened weight list front o) z new) (sym same) e
-  widens_reads o (Err stop.Refused) left new result is (same, at) =
-      let e : widened weight list front o ≡ Err (At new) = ap (widened weight list front) is ∙ ap (λ z. Err (At z)) (sym at) in
-      subst (λ z. ReadsAs view (widened weight list front o) z new) (sym same) e
-  widens_reads o (Err stop.TooDeep) left new result is (same, at) =
-      let e : widened weight list front o ≡ Err (Over new) = ap (widened weight list front) is ∙ ap (λ z. Err (Over z)) (sym at) in
-      subst (λ z. ReadsAs view (widened weight list front o) z new) (sym same) e
-  widens_reads o (Err stop.Spent) left new result is widens = spent_reads o left new result is widens (nat_lt most_weight (weight + weigh front)) refl
-  widens_reads o (Err stop.Memory) left new result is same = subst (λ z. ReadsAs view (widened weight list front o) z new) (sym same) tt
+  widens_reads o answer left new _ is (final holds) = final_reads o answer left new is holds
+  widens_reads o answer left new _ is (passes not holds at) = over_reads o new (over_all o answer left is not holds) at
+  widens_reads o answer left new _ is (moves not kept at) = moved o answer left new is not kept at
 
 -- where each answer of the function value is what a parser reads
-pub front_reads : {T B : Type 0} (view : T → B) (weight : ℕ) (p : ℕ → Parser B) (post : MutBor (List Token) → ℕ → Result T Stop → MutBor (List Token) → Type 0) (list : List Token) (result : Result T Stop) (new : List Token)
-    → ((before after : MutBor (List Token)) (n : ℕ) (r : Result T Stop) → post before n r after → ReadsAs view (p n before.now) r after.now) → ByFront weight post list result new
-    → ReadsAs view (within weight p list) result new
-front_reads view weight p post list result new reads made =
+pub front_reads : {T B : Type 0} (view : T → B) (weight : ℕ) (p : ℕ → Parser B) (post : MutBor (List Token) → ℕ → Result T Stop → MutBor (List Token) → Type 0) (list : List Token) (result : Result T Stop) (new : List Token) (out : Outcome B)
+    → within weight p list ≡ out → ((before after : MutBor (List Token)) (n : ℕ) (r : Result T Stop) → post before n r after → ReadsAs view (p n before.now) r after.now) → ByFront weight post list result new
+    → ReadsAs view out result new
+front_reads view weight p post list result new out same reads made =
     let there : ReadsAs view (p (suc (length made.before.now)) made.before.now) made.answer made.after.now =
     subst (λ n. ReadsAs view (p n made.before.now) made.answer made.after.now) made.enough (reads made.before made.after made.turns made.answer made.answers) in
+    let front : ReadsAs view (within weight p list) result new =
     subst (λ z. ReadsAs view (widened weight list z (p (suc (length z)) z)) result new) made.is_front
-    (widens_reads view weight list made.before.now (p (suc (length made.before.now)) made.before.now) made.answer made.after.now new result there made.widens)
+    (widens_reads view weight list made.before.now (p (suc (length made.before.now)) made.before.now) made.answer made.after.now new result there made.widens) in
+    subst (λ o. ReadsAs view o result new) same front

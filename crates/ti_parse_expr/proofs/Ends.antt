@@ -18,7 +18,7 @@ use Rattle.ti_syntax.specs.Spelling.Expressions as grammar
 use Rattle.ti_parse_expr.specs.Answers.{Phrase}
 use Rattle.ti_parse_expr.specs.declared.parse.Form.{Form}
 use Rattle.ti_parse_expr.specs.declared.parse.Form.TheVariants as form
-use Rattle.ti_parse_expr.specs.Reach.{ends_expression}
+use Rattle.ti_parse_expr.specs.Mirrors.Reach.{ends_expression}
 
 -- how many tokens end an expression
 abbrev pub end_of : TokenKind → ℕ

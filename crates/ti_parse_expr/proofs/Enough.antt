@@ -1,7 +1,7 @@
 -- Where reading comes to an end, more turns change nothing.
 use Rattle.std.proofs.Common.{◌≡◌, ℕ, suc, zero, ◌≤◌, List, Ok, Err, refl, ap, ◌∙◌, arith}
 use Rattle.ti_syntax.specs.declared.token.Token.{Token}
-use Rattle.ti_parse_expr.specs.Input.{At, Over, Spent, Outcome, Parser, and_then, kind, place, take_token}
+use Rattle.ti_parse_expr.specs.Mirrors.Input.{At, Over, Spent, Outcome, Parser, and_then, kind, place, take_token}
 use Rattle.ti_parse_expr.proofs.Related.{Readers, readers_related}
 
 -- there were enough turns
@@ -35,7 +35,7 @@ no_fewer m h = omega (arith, h)
 one_less : (m m2 : ℕ) → suc m ≤ suc m2 → m ≤ m2
 one_less m m2 h = omega (arith, h)
 
-pub readers_enough : (turns more : ℕ) → turns ≤ more → Readers (λ A p q. Enough {A = A} p q) take_token turns more
+pub readers_enough : (turns more : ℕ) → turns ≤ more → Readers (λ A p q. Enough {A = A} p q) turns more
 readers_enough turns more le =
-    readers_related (λ A p q. Enough {A = A} p q) (λ n m. n ≤ m) take_token (λ A x. enough_pure x) (λ A. record { same = λ l ended. refl }) (record { same = λ l ended. refl }) (λ A B p q f g first next. enough_then first next)
+    readers_related (λ A p q. Enough {A = A} p q) (λ n m. n ≤ m) (λ A x. enough_pure x) (λ A. record { same = λ l ended. refl }) (record { same = λ l ended. refl }) (λ A B p q f g first next. enough_then first next)
     (λ A f g each. by kind f g each) (λ A f g each. by place f g each) (λ A q m h is. record { same = λ l ended. absurd ended }) no_fewer one_less turns more le (omega (arith, le))

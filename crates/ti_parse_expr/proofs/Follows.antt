@@ -6,7 +6,7 @@ use Rattle.ti_syntax.specs.declared.token.TokenKind.TheVariants as k
 use Rattle.ti_syntax.specs.declared.tree.exprs.BinaryOperator.{BinaryOperator}
 use Rattle.ti_syntax.specs.Tokens.{same_kind}
 use Rattle.ti_syntax.specs.Spelling.Operators.{infix_of}
-use Rattle.ti_parse_expr.specs.Input.{At, Outcome, Parser, and_then, kind, sees, expect_by, take_token}
+use Rattle.ti_parse_expr.specs.Mirrors.Input.{At, Outcome, Parser, and_then, kind, sees, expect, take_token}
 use Rattle.ti_parse_expr.proofs.Phrases.{binds}
 
 pub then_ok : {A B : Type 0} {out : Outcome A} {x : A} {r : List Token} (k : A → Parser B) → out ≡ Ok (x, r) → and_then out k ≡ k x r
@@ -24,7 +24,7 @@ first_of_two (Err e) k y s h = cc
 pub test_reads : {A : Type 0} (b c : Bool) (p q : Parser A) (l : List Token) → b ≡ c → if◌then◌else◌ {A = Parser A} b p q l ≡ if◌then◌else◌ {A = Parser A} c p q l
 test_reads b c p q l h = ap (λ z. if◌then◌else◌ {A = Parser _} z p q l) h
 
-pub expect_reads : (q : TokenKind) (c : Token) (r : List Token) → same_kind q q ≡ true → c.kind ≡ q → expect_by take_token q (c ∷ r) ≡ Ok (tt, r)
+pub expect_reads : (q : TokenKind) (c : Token) (r : List Token) → same_kind q q ≡ true → c.kind ≡ q → expect q (c ∷ r) ≡ Ok (tt, r)
 expect_reads q c r same h =
     ap (λ a. if same_kind a q then Ok (tt, r) else Err (At (c ∷ r))) h ∙ ap (λ b. if b then Ok (tt, r) else Err (At (c ∷ r))) same
 

@@ -6,28 +6,27 @@ use Rattle.ti_syntax.specs.Spelling.Expressions.{Ending, Postfixed}
 use Rattle.ti_parse_expr.specs.declared.parse.Form.{Form}
 use Rattle.ti_parse_expr.specs.declared.parse.Form.TheVariants as form
 use Rattle.ti_parse_expr.specs.Answers.{Phrase, BeginsPhrase}
-use Rattle.ti_parse_expr.specs.Input.{and_then, take_token, take_within}
-use Rattle.ti_parse_expr.specs.Expr.{phrase, operand, expr}
+use Rattle.ti_parse_expr.specs.Mirrors.Input.{and_then, take_token}
+use Rattle.ti_parse_expr.specs.Mirrors.Exprs.{phrase, operand, expr}
 use Rattle.ti_parse_expr.proofs.Law.{BeginsIn, Said, Any, then_said, as_said, done_said, ended}
 use Rattle.ti_parse_expr.proofs.Phrases.{Post, binds_small}
 use Rattle.ti_parse_expr.proofs.Sound.{expr_says, operand_says}
 use Rattle.ti_parse_expr.proofs.Follows.{then_ok, Stops}
 use Rattle.ti_parse_expr.proofs.Complete.{expr_reads, no_dimension, postfixed_law, postfix_stops}
 use Rattle.ti_parse_expr.proofs.Local.{Near, near_then, near_pure, readers_near}
-use Rattle.ti_parse_expr.proofs.Cut.{Cut, cut_then, cut_pure, readers_cut}
 use Rattle.ti_parse_expr.proofs.Enough.{Enough, enough_then, enough_pure, readers_enough}
 use Rattle.ti_parse_expr.proofs.GoesOn.{AnyPostfix, Halts, postfix_goes, whole_stops}
 
 -- ---- soundness
 
 -- the tree of an operand alone
-postfix_says : (turns : ℕ) (l : List Token) → Said turns AnyPostfix Any l (and_then (operand take_token turns (expr take_token turns) l) (λ y j. Ok (y.0, j)))
+postfix_says : (turns : ℕ) (l : List Token) → Said turns AnyPostfix Any l (and_then (operand turns (expr turns) l) (λ y j. Ok (y.0, j)))
 postfix_says turns l =
     then_said {m = turns} {S = Post} {Q = Any} (λ f x s. omega arith) (λ f y s. ([], y.0, (y.1, ended (Postfixed y.1) f y.0 s))) _
-    (as_said {m = suc turns} (omega arith) (λ g y s. s) (λ _ _. tt) (operand_says turns (expr take_token turns) (expr_says turns) l))
+    (as_said {m = suc turns} (omega arith) (λ g y s. s) (λ _ _. tt) (operand_says turns (expr turns) (expr_says turns) l))
     (λ f r y s _. done_said (y.1, ended (Postfixed y.1) f y.0 s) tt)
 
-pub phrase_says : (f : Form) (turns : ℕ) (l : List Token) → Said turns (Phrase f) Any l (phrase take_token turns f l)
+pub phrase_says : (f : Form) (turns : ℕ) (l : List Token) → Said turns (Phrase f) Any l (phrase turns f l)
 phrase_says form.Whole turns l = as_said {m = turns} (omega arith) (λ g y s. s) (λ _ _. tt) (expr_says turns 1 (omega arith) (omega arith) l)
 phrase_says form.Mul turns l = as_said {m = turns} (omega arith) (λ g y s. s) (λ _ _. tt) (expr_says turns 10 (omega arith) (omega arith) l)
 phrase_says form.Postfix turns l = postfix_says turns l
@@ -40,29 +39,24 @@ level_of form.Whole = 1
 level_of form.Mul = 10
 level_of form.Postfix = 11
 
-pub postfix_reads : (turns : ℕ) (ending : Ending) (l r : List Token) (x : Exp) → Postfixed ending l x → Stops 11 l r → length (l ++ r) < turns → operand take_token turns (expr take_token turns) (l ++ r) ≡ Ok ((x, ending), r)
+pub postfix_reads : (turns : ℕ) (ending : Ending) (l r : List Token) (x : Exp) → Postfixed ending l x → Stops 11 l r → length (l ++ r) < turns → operand turns (expr turns) (l ++ r) ≡ Ok ((x, ending), r)
 postfix_reads turns ending l r x s stops lt =
-    let loop = postfixed_law turns (expr take_token turns) (expr_reads turns) (no_dimension turns) s r stops.call (omega arith) in
-    loop.operand ∙ postfix_stops turns (expr take_token turns) (expr_reads turns) loop.left (x, ending) r stops.operand (omega (arith, loop.enough))
+    let loop = postfixed_law turns (expr turns) (expr_reads turns) (no_dimension turns) s r stops.call (omega arith) in
+    loop.operand ∙ postfix_stops turns (expr turns) (expr_reads turns) loop.left (x, ending) r stops.operand (omega (arith, loop.enough))
 
-pub phrase_reads : (f : Form) (turns : ℕ) (l r : List Token) (x : Exp) → Phrase f l x → Stops (level_of f) l r → length (l ++ r) < turns → phrase take_token turns f (l ++ r) ≡ Ok (x, r)
+pub phrase_reads : (f : Form) (turns : ℕ) (l r : List Token) (x : Exp) → Phrase f l x → Stops (level_of f) l r → length (l ++ r) < turns → phrase turns f (l ++ r) ≡ Ok (x, r)
 phrase_reads form.Whole turns l r x s stops lt = expr_reads turns 1 l r x (omega arith) (omega arith) s stops lt
 phrase_reads form.Mul turns l r x s stops lt = expr_reads turns 10 l r x (omega arith) (omega arith) s stops lt
 phrase_reads form.Postfix turns l r x (ending, s) stops lt = then_ok (λ y j. Ok (y.0, j)) (postfix_reads turns ending l r x s stops lt)
 
--- ---- locality, the last token that stays, and more turns
+-- ---- locality, and more turns
 
-pub phrase_near : (t : Token) (w v : List Token) (f : Form) (turns more : ℕ) → turns ≤ more → Near t w v (phrase take_token turns f) (phrase take_token more f)
+pub phrase_near : (t : Token) (w v : List Token) (f : Form) (turns more : ℕ) → turns ≤ more → Near t w v (phrase turns f) (phrase more f)
 phrase_near t w v form.Whole turns more le = (readers_near t w v turns more le).expr 1
 phrase_near t w v form.Mul turns more le = (readers_near t w v turns more le).expr 10
 phrase_near t w v form.Postfix turns more le = near_then t w v (readers_near t w v turns more le).operand (λ y. near_pure t w v y.0)
 
-pub phrase_cut : (f : Form) (turns : ℕ) → Cut (phrase take_token turns f) (phrase take_within turns f)
-phrase_cut form.Whole turns = (readers_cut turns).expr 1
-phrase_cut form.Mul turns = (readers_cut turns).expr 10
-phrase_cut form.Postfix turns = cut_then (readers_cut turns).operand (λ y. cut_pure y.0)
-
-pub phrase_enough : (f : Form) (turns more : ℕ) → turns ≤ more → Enough (phrase take_token turns f) (phrase take_token more f)
+pub phrase_enough : (f : Form) (turns more : ℕ) → turns ≤ more → Enough (phrase turns f) (phrase more f)
 phrase_enough form.Whole turns more le = (readers_enough turns more le).expr 1
 phrase_enough form.Mul turns more le = (readers_enough turns more le).expr 10
 phrase_enough form.Postfix turns more le = enough_then (readers_enough turns more le).operand (λ y. enough_pure y.0)

@@ -9,8 +9,8 @@ use Rattle.ti_syntax.specs.Tokens.{same_kind}
 use Rattle.ti_syntax.specs.Spelling.Operators.{prefix_of}
 use Rattle.ti_syntax.specs.Spelling.Expressions.{Ending, Whole, Prefixed, Postfixed, Args, Listed, Ranges, Range}
 use Rattle.ti_syntax.specs.Spelling.Expressions as grammar
-use Rattle.ti_parse_expr.specs.Input.{kind, sees}
-use Rattle.ti_parse_expr.specs.Expr.{begins_type, is_dim}
+use Rattle.ti_parse_expr.specs.Mirrors.Input.{kind, sees}
+use Rattle.ti_parse_expr.specs.Mirrors.Exprs.{begins_type, is_dim}
 
 abbrev pub begins : TokenKind → Bool
 begins k.Minus = true

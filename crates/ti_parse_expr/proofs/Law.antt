@@ -4,7 +4,7 @@ use Rattle.ti_syntax.specs.declared.token.Token.{Token}
 use Rattle.ti_syntax.specs.declared.token.TokenKind.{TokenKind}
 use Rattle.ti_syntax.specs.declared.token.TokenKind.TheVariants as k
 use Rattle.ti_syntax.specs.Tokens.{same_kind}
-use Rattle.ti_parse_expr.specs.Input.{At, Over, Spent, Outcome, Parser, and_then, take_token, expect_by}
+use Rattle.ti_parse_expr.specs.Mirrors.Input.{At, Over, Spent, Outcome, Parser, and_then, take_token, expect}
 
 -- a phrase begins so
 abbrev pub BeginsIn : {A : Type 0} → (List Token → A → Type 0) → List Token → Type 0
@@ -107,16 +107,16 @@ want_by q U R is_q le (w, y, s) t ts k next_said false h = refused_said (token q
 
 pub want_said : {A : Type 0} {n m : ℕ} {U : List Token → A → Type 0} {R : List Token → Type 0} {l : List Token} (q : TokenKind) → ((a : TokenKind) → same_kind a q ≡ true → a ≡ q) → same_kind k.End q ≡ false
     → n ≤ suc m → BeginsIn U (token q ∷ []) → (k : Unit {0} → Parser A) → ((t : Token) (ts : List Token) → t.kind ≡ q → Said m (λ g y. U (t ∷ g) y) R ts (k tt ts))
-    → Said n U R l (and_then (expect_by take_token q l) k)
+    → Said n U R l (and_then (expect q l) k)
 want_said {n = n} {m = m} {U = U} {R = R} {l = l} q is_q not_end le (w, y, s) k next_said = go l
   where
-    go : (l : List Token) → Said n U R l (and_then (expect_by take_token q l) k)
+    go : (l : List Token) → Said n U R l (and_then (expect q l) k)
     go [] = rw not_end (refused_said (token q ∷ w, y, s))
     go (t ∷ ts) = want_by q U R is_q le (w, y, s) t ts k (next_said t ts) (same_kind t.kind q) refl
 
 -- a last token that is wanted
 pub last_said : {A : Type 0} {n : ℕ} {U : List Token → A → Type 0} {l : List Token} (q : TokenKind) → ((a : TokenKind) → same_kind a q ≡ true → a ≡ q) → same_kind k.End q ≡ false → (x : A)
-    → ((t : Token) → t.kind ≡ q → U (t ∷ []) x) → Said n U Any l (and_then (expect_by take_token q l) (λ _ j. Ok (x, j)))
+    → ((t : Token) → t.kind ≡ q → U (t ∷ []) x) → Said n U Any l (and_then (expect q l) (λ _ j. Ok (x, j)))
 last_said {n = n} q is_q not_end x made = want_said {m = n} q is_q not_end (omega arith) ([], x, made (token q) refl) (λ _ j. Ok (x, j)) (λ t ts h. done_said (made t h) tt)
 
 pub append_nil : {A : Type 0} (a : List A) → a ++ [] ≡ a

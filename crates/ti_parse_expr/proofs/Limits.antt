@@ -6,8 +6,8 @@ use Rattle.ti_syntax.specs.declared.token.Token.{Token}
 use Rattle.ti_syntax.specs.Spelling.Loads.{Load, Weight, weights_behind, weights}
 use Rattle.ti_syntax.specs.Spelling.Weights.{counts, arity_behind, weigh_behind}
 use Rattle.ti_syntax.specs.Spelling.{most_weight}
-use Rattle.ti_parse_expr.specs.Input.{Halt, Over, Outcome, Parser, and_then, next}
-use Rattle.ti_parse_expr.specs.Full.{Limits, usual, above, is_above, limited_to, limited, rest_of}
+use Rattle.ti_parse_expr.specs.Mirrors.Input.{Halt, Over, Outcome, Parser, and_then, next}
+use Rattle.ti_parse_expr.specs.Mirrors.Full.{Limits, usual, above, is_above, limited_to, limited, rest_of}
 
 pub weights_behind_long : (n w : ℕ) (l : List Token) → length (weights_behind n w l) ≡ length l
 weights_behind_long n w [] = refl

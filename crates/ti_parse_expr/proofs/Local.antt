@@ -1,7 +1,7 @@
 -- Reading looks no further than the token that it refuses: what stands behind that token doesn't matter, nor do more turns.
 use Rattle.std.proofs.Common.{◌≡◌, ℕ, zero, suc, ◌≤◌, List, [], ◌∷◌, ◌++◌, length, Ok, Err, refl, sym, ap, ◌∙◌, subst, append_assoc, arith, length-append}
 use Rattle.ti_syntax.specs.declared.token.Token.{Token}
-use Rattle.ti_parse_expr.specs.Input.{At, Over, Spent, Outcome, Parser, and_then, kind, place, take_token}
+use Rattle.ti_parse_expr.specs.Mirrors.Input.{At, Over, Spent, Outcome, Parser, and_then, kind, place, take_token}
 use Rattle.ti_parse_expr.proofs.Related.{Readers, readers_related}
 
 pub cancel : (a b r : List Token) → a ++ r ≡ b ++ r → a ≡ b
@@ -114,7 +114,7 @@ module _ (t : Token) (w v : List Token) where
   one_less : (m m2 : ℕ) → suc m ≤ suc m2 → m ≤ m2
   one_less m m2 h = omega (arith, h)
 
-  pub readers_near : (turns more : ℕ) → turns ≤ more → Readers (λ A p q. Near {A = A} p q) take_token turns more
+  pub readers_near : (turns more : ℕ) → turns ≤ more → Readers (λ A p q. Near {A = A} p q) turns more
   readers_near turns more le =
-      readers_related (λ A p q. Near {A = A} p q) (λ n m. n ≤ m) take_token (λ A x. near_pure x) (λ A. near_refuse) near_take (λ A B p q f g first next. near_then first next) (λ A f g each. near_by kind {f = f} {g = g} kind_alike each)
+      readers_related (λ A p q. Near {A = A} p q) (λ n m. n ≤ m) (λ A x. near_pure x) (λ A. near_refuse) near_take (λ A B p q f g first next. near_then first next) (λ A f g each. near_by kind {f = f} {g = g} kind_alike each)
       (λ A f g each. near_by place {f = f} {g = g} place_alike each) (λ A q m h is. near_spent) no_fewer one_less turns more le (omega (arith, le))

@@ -11,8 +11,8 @@ use Rattle.ti_syntax.specs.Trees.Expressions as e
 use Rattle.ti_syntax.specs.Spelling.Operators.{infix_of, strength}
 use Rattle.ti_syntax.specs.Spelling.Expressions.{Ending, Target, Call, Other, Whole, Prefixed, Postfixed, Args, Listed, Ranges, Range}
 use Rattle.ti_syntax.specs.Spelling.Expressions as grammar
-use Rattle.ti_parse_expr.specs.Input.{spells}
-use Rattle.ti_parse_expr.specs.Expr.{Operand}
+use Rattle.ti_parse_expr.specs.Mirrors.Input.{spells}
+use Rattle.ti_parse_expr.specs.Mirrors.Exprs.{Operand}
 
 -- ---- operators
 

@@ -3,8 +3,8 @@ use Rattle.std.proofs.Common.{◌≡◌, ℕ, zero, suc, List, Ok, Err, refl, ar
 use Rattle.ti_syntax.specs.declared.token.Token.{Token}
 use Rattle.ti_parse_expr.specs.declared.parse.Form.{Form}
 use Rattle.ti_parse_expr.specs.declared.parse.Form.TheVariants as form
-use Rattle.ti_parse_expr.specs.Input.{At, Over, Spent, Outcome, Parser, and_then, kind, place, take_token}
-use Rattle.ti_parse_expr.specs.Expr.{operand, expr, phrase}
+use Rattle.ti_parse_expr.specs.Mirrors.Input.{At, Over, Spent, Outcome, Parser, and_then, kind, place, take_token}
+use Rattle.ti_parse_expr.specs.Mirrors.Exprs.{operand, expr, phrase}
 use Rattle.ti_parse_expr.proofs.Related.{Readers, readers_related}
 
 -- this outcome isn't that a token is too deep
@@ -35,12 +35,12 @@ none_more m h = omega (arith, h)
 one_less : (m m2 : ℕ) → ◌≡◌ {A = ℕ} (suc m) (suc m2) → m ≡ m2
 one_less m m2 h = omega (arith, h)
 
-readers_shallow : (turns : ℕ) → Readers (λ A p q. Shallow {A = A} p q) take_token turns turns
+readers_shallow : (turns : ℕ) → Readers (λ A p q. Shallow {A = A} p q) turns turns
 readers_shallow turns =
-    readers_related (λ A p q. Shallow {A = A} p q) (λ n m. n ≡ m) take_token (λ A x. record { is = λ l. tt }) (λ A. record { is = λ l. tt }) (record { is = λ l. tt }) (λ A B p q f g first next. both p q f g first next)
+    readers_related (λ A p q. Shallow {A = A} p q) (λ n m. n ≡ m) (λ A x. record { is = λ l. tt }) (λ A. record { is = λ l. tt }) (record { is = λ l. tt }) (λ A B p q f g first next. both p q f g first next)
     (λ A f g each. by kind f g each) (λ A f g each. by place f g each) (λ A q m h is. record { is = λ l. tt }) none_more one_less turns turns refl refl
 
-pub phrase_shallow : (f : Form) (turns : ℕ) (l : List Token) → IsShallow (phrase take_token turns f l)
+pub phrase_shallow : (f : Form) (turns : ℕ) (l : List Token) → IsShallow (phrase turns f l)
 phrase_shallow form.Whole turns l = ((readers_shallow turns).expr 1).is l
 phrase_shallow form.Mul turns l = ((readers_shallow turns).expr 10).is l
-phrase_shallow form.Postfix turns l = then_shallow (operand take_token turns (expr take_token turns) l) (λ y j. Ok (y.0, j)) ((readers_shallow turns).operand.is l) (λ x r. tt)
+phrase_shallow form.Postfix turns l = then_shallow (operand turns (expr turns) l) (λ y j. Ok (y.0, j)) ((readers_shallow turns).operand.is l) (λ x r. tt)

@@ -13,10 +13,10 @@ use Rattle.ti_syntax.specs.Tokens.{same_kind}
 use Rattle.ti_syntax.specs.Spelling.Operators.{qualifier_of}
 use Rattle.ti_syntax.specs.Spelling.Types.{Arity, Based, Qualified, Gridded, FieldType, is_name_alone}
 use Rattle.ti_syntax.specs.Spelling.Types as grammar
-use Rattle.ti_parse_expr.specs.Input.{Parser, and_then, expect_by, take_token}
-use Rattle.ti_parse_expr.specs.Types as spec
-use Rattle.ti_parse_expr.specs.Types.{dim_of, dimension, arity, base, qualifiers, grid, grids, field_type}
-use Rattle.ti_parse_expr.specs.Expr.{begins_type}
+use Rattle.ti_parse_expr.specs.Mirrors.Input.{Parser, and_then, expect, take_token}
+use Rattle.ti_parse_expr.specs.Mirrors.Types as spec
+use Rattle.ti_parse_expr.specs.Mirrors.Types.{dim_of, dimension, arity, base, qualifiers, grid, grids, field_type}
+use Rattle.ti_parse_expr.specs.Mirrors.Exprs.{begins_type}
 use Rattle.ti_parse_expr.proofs.TokenKinds.{less_is, greater_is, bracket_is, shut_is}
 use Rattle.ti_parse_expr.proofs.Law.{BeginsIn, Said, Any, then_said, after_said, as_said, done_said, want_said, last_said, refused_said, spent_said, if_said, append_nil, ended, token}
 
@@ -38,28 +38,28 @@ arity_begins : (o : Token) → o.kind ≡ k.Less → BeginsIn (λ f n. Arity (o 
 arity_begins o ho = (token (k.Int (pos 1)) ∷ token k.Greater ∷ [], 1, grammar.arity o (token (k.Int (pos 1))) (token k.Greater) ho refl (omega arith) (omega arith) refl)
 
 abbrev rest_of_arity : ℕ → Parser ℕ
-rest_of_arity n i = and_then (expect_by take_token k.Greater i) (λ _ j. Ok (n, j))
+rest_of_arity n i = and_then (expect k.Greater i) (λ _ j. Ok (n, j))
 
 dimension_if_says : {m : ℕ} (o t : Token) (ts : List Token) (z : ℤ) (d : Option ℕ) → o.kind ≡ k.Less → t.kind ≡ k.Int z → dim_of z ≡ d
-    → Said m (λ f n. Arity (o ∷ f) n) Any (t ∷ ts) (and_then (spec.dimension_if take_token d (t ∷ ts)) rest_of_arity)
+    → Said m (λ f n. Arity (o ∷ f) n) Any (t ∷ ts) (and_then (spec.dimension_if d (t ∷ ts)) rest_of_arity)
 dimension_if_says o t ts z None ho ht is = refused_said (arity_begins o ho)
 dimension_if_says {m = m} o t ts z (Some n) ho ht is =
     let (same, low, high) = dim_is z n is in
     after_said {m = m} (omega arith) (last_said k.Greater greater_is refl n (λ c hc. grammar.arity o t c ho (ht ∙ ap k.Int same) low high hc))
 
 dimension_by_says : {m : ℕ} (o t : Token) (ts : List Token) (q : TokenKind) → o.kind ≡ k.Less → t.kind ≡ q
-    → Said m (λ f n. Arity (o ∷ f) n) Any (t ∷ ts) (and_then (spec.dimension_by take_token q (t ∷ ts)) rest_of_arity)
+    → Said m (λ f n. Arity (o ∷ f) n) Any (t ∷ ts) (and_then (spec.dimension_by q (t ∷ ts)) rest_of_arity)
 dimension_by_says o t ts (k.Int z) ho h = dimension_if_says o t ts z (dim_of z) ho h refl
 dimension_by_says o t ts _ ho h = refused_said (arity_begins o ho)
 
-number_says : {m : ℕ} (o : Token) (l : List Token) → o.kind ≡ k.Less → Said m (λ f n. Arity (o ∷ f) n) Any l (and_then (dimension take_token l) rest_of_arity)
+number_says : {m : ℕ} (o : Token) (l : List Token) → o.kind ≡ k.Less → Said m (λ f n. Arity (o ∷ f) n) Any l (and_then (dimension l) rest_of_arity)
 number_says o [] ho = refused_said (arity_begins o ho)
 number_says o (t ∷ ts) ho = dimension_by_says o t ts t.kind ho refl
 
 some_arity : BeginsIn Arity []
 some_arity = let (w, n, s) = arity_begins (token k.Less) refl in (token k.Less ∷ w, n, s)
 
-pub arity_says : {m : ℕ} (l : List Token) → Said m Arity Any l (arity take_token l)
+pub arity_says : {m : ℕ} (l : List Token) → Said m Arity Any l (arity l)
 unfolding arity
 arity_says {m = m} l =
     let (w, n, s) = arity_begins (token k.Less) refl in
@@ -71,12 +71,12 @@ pub some_base : BeginsIn Based []
 some_base = (token k.KeywordInt ∷ [], b.Int (token k.KeywordInt).place, grammar.int (token k.KeywordInt) refl)
 
 with_arity : {m : ℕ} (t : Token) (ts : List Token) (make : ℕ → Base) → ((f : List Token) (n : ℕ) → Arity f n → Based (t ∷ f) (make n))
-    → Said m (λ f x. Based (t ∷ f) x) Any ts (and_then (arity take_token ts) (λ n i. Ok (make n, i)))
+    → Said m (λ f x. Based (t ∷ f) x) Any ts (and_then (arity ts) (λ n i. Ok (make n, i)))
 with_arity {m = m} t ts make made =
     then_said {m = m} {Q = Any} (λ f x s. omega arith) (λ f n s. ([], make n, ended (λ g x. Based (t ∷ g) x) f (make n) (made f n s))) _ (arity_says {m = m} ts)
     (λ f r n s _. done_said (ended (λ g x. Based (t ∷ g) x) f (make n) (made f n s)) tt)
 
-base_by_says : {m : ℕ} (t : Token) (ts : List Token) (q : TokenKind) → t.kind ≡ q → Said m Based Any (t ∷ ts) (spec.base_by take_token q (t ∷ ts))
+base_by_says : {m : ℕ} (t : Token) (ts : List Token) (q : TokenKind) → t.kind ≡ q → Said m Based Any (t ∷ ts) (spec.base_by q (t ∷ ts))
 base_by_says {m = m} t ts k.KeywordInt h = after_said {m = m} (omega arith) (done_said (grammar.int t h) tt)
 base_by_says {m = m} t ts k.KeywordLong h = after_said {m = m} (omega arith) (done_said (grammar.long t h) tt)
 base_by_says {m = m} t ts k.KeywordBoolean h = after_said {m = m} (omega arith) (done_said (grammar.boolean t h) tt)
@@ -85,7 +85,7 @@ base_by_says {m = m} t ts k.KeywordRectDomain h = after_said {m = m} (omega arit
 base_by_says {m = m} t ts (k.Name name) h = after_said {m = m} (omega arith) (done_said (grammar.named t h) tt)
 base_by_says t ts _ h = refused_said some_base
 
-pub base_says : {m : ℕ} (l : List Token) → Said m Based Any l (base take_token l)
+pub base_says : {m : ℕ} (l : List Token) → Said m Based Any l (base l)
 unfolding base
 base_says [] = refused_said some_base
 base_says (t ∷ ts) = base_by_says t ts t.kind refl
@@ -99,21 +99,21 @@ MoreQualifiers found f r = (ys : List Qualifier) × (r ≡ found ++ ys) × Quali
 no_more : (found : List Qualifier) → MoreQualifiers found [] found
 no_more found = ([], sym (append_nil found), grammar.none)
 
-qualifiers_if_says : (m : ℕ) (found : List Qualifier) (rec : (found : List Qualifier) (l : List Token) → Said m (MoreQualifiers found) Any l (qualifiers take_token m found l)) (t : Token) (ts : List Token)
-    (q : Option QualifierWord) → qualifier_of t.kind ≡ q → Said (suc m) (MoreQualifiers found) Any (t ∷ ts) (spec.qualifiers_if take_token (qualifiers take_token m) found q (t ∷ ts))
+qualifiers_if_says : (m : ℕ) (found : List Qualifier) (rec : (found : List Qualifier) (l : List Token) → Said m (MoreQualifiers found) Any l (qualifiers m found l)) (t : Token) (ts : List Token)
+    (q : Option QualifierWord) → qualifier_of t.kind ≡ q → Said (suc m) (MoreQualifiers found) Any (t ∷ ts) (spec.qualifiers_if (qualifiers m) found q (t ∷ ts))
 qualifiers_if_says m found rec t ts None is = done_said (no_more found) tt
 qualifiers_if_says m found rec t ts (Some word) is =
     let one : Qualifier = record { word = word; place = t.place } in
     after_said {m = m} (omega arith) (as_said {m = m} (omega arith) (λ g y (ys, e, s). (one ∷ ys, e ∙ append_assoc found (one ∷ []) ys, grammar.more t is s)) (λ _ _. tt) (rec (found ++ one ∷ []) ts))
 
-pub qualifiers_say : (m : ℕ) (found : List Qualifier) (l : List Token) → Said m (MoreQualifiers found) Any l (qualifiers take_token m found l)
+pub qualifiers_say : (m : ℕ) (found : List Qualifier) (l : List Token) → Said m (MoreQualifiers found) Any l (qualifiers m found l)
 unfolding qualifiers
 qualifiers_say zero found l = spent_said
 qualifiers_say (suc m) found [] = done_said (no_more found) tt
 qualifiers_say (suc m) found (t ∷ ts) = qualifiers_if_says m found (qualifiers_say m) t ts (qualifier_of t.kind) refl
 
 -- all of them
-pub all_qualifiers_say : (m : ℕ) (l : List Token) → Said m Qualified Any l (qualifiers take_token m [] l)
+pub all_qualifiers_say : (m : ℕ) (l : List Token) → Said m Qualified Any l (qualifiers m [] l)
 all_qualifiers_say m l = as_said {m = m} (omega arith) (λ g y (ys, e, s). subst (Qualified g) (sym e) s) (λ _ _. tt) (qualifiers_say m [] l)
 
 -- ---- grids
@@ -131,10 +131,10 @@ grid_made o t c n f qs ho ht low high hc s = grammar.more o t c ho ht low high h
 
 module _ (turns : ℕ) where
   abbrev rest_of_grid : ℕ → Parser GridTree
-  rest_of_grid n i = and_then (expect_by take_token k.RightBracket i) (λ _ i. and_then (qualifiers take_token turns [] i) (λ qs j. Ok (record { dim = n; qualifiers = qs }, j)))
+  rest_of_grid n i = and_then (expect k.RightBracket i) (λ _ i. and_then (qualifiers turns [] i) (λ qs j. Ok (record { dim = n; qualifiers = qs }, j)))
 
   grid_dimension_if_says : (o t : Token) (ts : List Token) (d : ℕ) (q : Option ℕ) → o.kind ≡ k.LeftBracket → t.kind ≡ k.Dim d → dim_of (pos d) ≡ q
-      → Said turns (GridRest o) Any (t ∷ ts) (and_then (spec.dimension_if take_token q (t ∷ ts)) rest_of_grid)
+      → Said turns (GridRest o) Any (t ∷ ts) (and_then (spec.dimension_if q (t ∷ ts)) rest_of_grid)
   grid_dimension_if_says o t ts d None ho ht is = refused_said (grid_some o ho)
   grid_dimension_if_says o t ts d (Some n) ho hd is =
       let (same, low, high) = dim_is_by d n (nat_le 1 d) (nat_le d 3) refl refl is in
@@ -145,11 +145,11 @@ module _ (turns : ℕ) where
       (λ c us hc. then_said {m = turns} {S = Qualified} {Q = Any} (λ f x s. omega arith) (λ f qs s. ([], record { dim = n; qualifiers = qs }, grid_made o t c n f qs ho ht more few hc s)) _ (all_qualifiers_say turns us)
       (λ f r qs s _. done_said (grid_made o t c n f qs ho ht more few hc s) tt)))
 
-  grid_dimension_by_says : (o t : Token) (ts : List Token) (q : TokenKind) → o.kind ≡ k.LeftBracket → t.kind ≡ q → Said turns (GridRest o) Any (t ∷ ts) (and_then (spec.grid_dimension_by take_token q (t ∷ ts)) rest_of_grid)
+  grid_dimension_by_says : (o t : Token) (ts : List Token) (q : TokenKind) → o.kind ≡ k.LeftBracket → t.kind ≡ q → Said turns (GridRest o) Any (t ∷ ts) (and_then (spec.grid_dimension_by q (t ∷ ts)) rest_of_grid)
   grid_dimension_by_says o t ts (k.Dim d) ho ht = grid_dimension_if_says o t ts d (dim_of (pos d)) ho ht refl
   grid_dimension_by_says o t ts _ ho h = refused_said (grid_some o ho)
 
-  pub grid_says : (o : Token) → o.kind ≡ k.LeftBracket → (l : List Token) → Said turns (GridRest o) Any l (grid take_token turns l)
+  pub grid_says : (o : Token) → o.kind ≡ k.LeftBracket → (l : List Token) → Said turns (GridRest o) Any l (grid turns l)
   unfolding grid
   grid_says o ho [] = refused_said (grid_some o ho)
   grid_says o ho (t ∷ ts) = grid_dimension_by_says o t ts t.kind ho refl
@@ -170,13 +170,13 @@ one_more_grid : (n : ℕ) (found : List GridTree) (t : Token) (f : List Token) (
 one_more_grid n found t f g s = (g ∷ [], refl, ended (λ z x. Gridded (t ∷ z) x) f (g ∷ []) s, omega arith)
 
 module _ (turns : ℕ) where
-  grids_more : (n : ℕ) (found : List GridTree) (rec : (found : List GridTree) (l : List Token) → Said turns (MoreGrids n found) Any l (grids take_token turns n found l)) (t : Token) → t.kind ≡ k.LeftBracket → (ts : List Token)
-      → Said turns (λ f r. MoreGrids (suc n) found (t ∷ f) r) Any ts (and_then (grid take_token turns ts) (λ g. grids take_token turns n (found ++ g ∷ [])))
+  grids_more : (n : ℕ) (found : List GridTree) (rec : (found : List GridTree) (l : List Token) → Said turns (MoreGrids n found) Any l (grids turns n found l)) (t : Token) → t.kind ≡ k.LeftBracket → (ts : List Token)
+      → Said turns (λ f r. MoreGrids (suc n) found (t ∷ f) r) Any ts (and_then (grid turns ts) (λ g. grids turns n (found ++ g ∷ [])))
   grids_more n found rec t ht ts =
       then_said {m = turns} {S = GridRest t} {Q = Any} (λ f g s. omega arith) (λ f g s. ([], found ++ g ∷ [], one_more_grid n found t f g s)) _ (grid_says turns t ht ts)
       (λ f r g s _. as_said {m = turns} (omega arith) (λ h y (ys, e, q, few). (g ∷ ys, e ∙ append_assoc found (g ∷ []) ys, gridded_append s q, omega (arith, few))) (λ _ _. tt) (rec (found ++ g ∷ []) r))
 
-  pub grids_say : (n : ℕ) (found : List GridTree) (l : List Token) → Said turns (MoreGrids n found) Any l (grids take_token turns n found l)
+  pub grids_say : (n : ℕ) (found : List GridTree) (l : List Token) → Said turns (MoreGrids n found) Any l (grids turns n found l)
   unfolding grids
   grids_say zero found l = done_said (no_more_grids 0 found) tt
   grids_say (suc n) found [] = done_said (no_more_grids (suc n) found) tt
@@ -185,8 +185,8 @@ module _ (turns : ℕ) where
       (λ _. done_said (no_more_grids (suc n) found) tt)
 
   -- the type of a field, which begins with the tokens a, where the qualifiers are so
-  pub field_type_says : (a : List Token) (begin : Base) (P : List Qualifier → Type 0) → Based a begin → (l : List Token) → Said turns (λ f qs. Qualified f qs × P qs) Any l (qualifiers take_token turns [] l)
-      → Said turns (λ f ty. FieldType (a ++ f) ty × (ty.base ≡ begin) × P ty.qualifiers) Any l (field_type take_token turns begin l)
+  pub field_type_says : (a : List Token) (begin : Base) (P : List Qualifier → Type 0) → Based a begin → (l : List Token) → Said turns (λ f qs. Qualified f qs × P qs) Any l (qualifiers turns [] l)
+      → Said turns (λ f ty. FieldType (a ++ f) ty × (ty.base ≡ begin) × P ty.qualifiers) Any l (field_type turns begin l)
   unfolding field_type
   field_type_says a begin P s l said =
       then_said {m = turns} {S = λ f qs. Qualified f qs × P qs} {Q = Any} (λ f x q. omega arith)
@@ -196,18 +196,18 @@ module _ (turns : ℕ) where
       (λ g r2 gs (ys, e, p, few) _. done_said (grammar.field_type s q (ended Gridded g gs (subst (Gridded g) (sym e) p)) (omega (arith, few, ap length e)), refl, holds) tt))
 
   -- qualifiers, whatever they are
-  pub any_qualifiers : (l : List Token) → Said turns (λ f qs. Qualified f qs × Unit {0}) Any l (qualifiers take_token turns [] l)
+  pub any_qualifiers : (l : List Token) → Said turns (λ f qs. Qualified f qs × Unit {0}) Any l (qualifiers turns [] l)
   any_qualifiers l = as_said {m = turns} (omega arith) (λ g y s. (s, tt)) (λ _ _. tt) (all_qualifiers_say turns l)
 
 -- at a qualifier there is one
 qualified_if : (m : ℕ) (t : Token) (ts : List Token) (word : QualifierWord) → qualifier_of t.kind ≡ Some word → (q : Option QualifierWord) → qualifier_of t.kind ≡ q
-    → Said (suc m) (λ f qs. Qualified f qs × (0 < length qs)) Any (t ∷ ts) (spec.qualifiers_if take_token (qualifiers take_token m) [] q (t ∷ ts))
+    → Said (suc m) (λ f qs. Qualified f qs × (0 < length qs)) Any (t ∷ ts) (spec.qualifiers_if (qualifiers m) [] q (t ∷ ts))
 qualified_if m t ts word is None other = let wrong : None ≡ Some word = sym other ∙ is in cc
 qualified_if m t ts word is (Some w) other =
     let one : Qualifier = record { word = w; place = t.place } in
     after_said {m = m} (omega arith) (as_said {m = m} (omega arith) (λ g y (ys, e, s). (subst (λ z. Qualified (t ∷ g) z) (sym e) (grammar.more t other s), omega (arith, ap length e))) (λ _ _. tt) (qualifiers_say m (one ∷ []) ts))
 
-pub qualified_says : (m : ℕ) (t : Token) (ts : List Token) (word : QualifierWord) → qualifier_of t.kind ≡ Some word → Said m (λ f qs. Qualified f qs × (0 < length qs)) Any (t ∷ ts) (qualifiers take_token m [] (t ∷ ts))
+pub qualified_says : (m : ℕ) (t : Token) (ts : List Token) (word : QualifierWord) → qualifier_of t.kind ≡ Some word → Said m (λ f qs. Qualified f qs × (0 < length qs)) Any (t ∷ ts) (qualifiers m [] (t ∷ ts))
 unfolding qualifiers
 qualified_says zero t ts word is = spent_said
 qualified_says (suc m) t ts word is = qualified_if m t ts word is (qualifier_of t.kind) refl
@@ -234,12 +234,12 @@ gridded_not_alone _ qs g gs = refl
 
 -- a word that begins a type but no expression
 reserved_arity : {m : ℕ} (t : Token) (ts : List Token) (make : ℕ → Base) → ((n : ℕ) → is_named (make n) ≡ false) → ((f : List Token) (n : ℕ) → Arity f n → Based (t ∷ f) (make n))
-    → Said m (λ f x. Based (t ∷ f) x × (is_named x ≡ false)) Any ts (and_then (arity take_token ts) (λ n i. Ok (make n, i)))
+    → Said m (λ f x. Based (t ∷ f) x × (is_named x ≡ false)) Any ts (and_then (arity ts) (λ n i. Ok (make n, i)))
 reserved_arity {m = m} t ts make plain made =
     then_said {m = m} {Q = Any} (λ f x s. omega arith) (λ f n s. ([], make n, (ended (λ g x. Based (t ∷ g) x) f (make n) (made f n s), plain n))) _ (arity_says {m = m} ts)
     (λ f r n s _. done_said (ended (λ g x. Based (t ∷ g) x) f (make n) (made f n s), plain n) tt)
 
-reserved_by : {m : ℕ} (t : Token) (ts : List Token) (q : TokenKind) → t.kind ≡ q → begins_type q ≡ true → Said m (λ f x. Based f x × (is_named x ≡ false)) Any (t ∷ ts) (spec.base_by take_token q (t ∷ ts))
+reserved_by : {m : ℕ} (t : Token) (ts : List Token) (q : TokenKind) → t.kind ≡ q → begins_type q ≡ true → Said m (λ f x. Based f x × (is_named x ≡ false)) Any (t ∷ ts) (spec.base_by q (t ∷ ts))
 reserved_by {m = m} t ts k.KeywordInt h r = after_said {m = m} (omega arith) (done_said (grammar.int t h, refl) tt)
 reserved_by {m = m} t ts k.KeywordLong h r = after_said {m = m} (omega arith) (done_said (grammar.long t h, refl) tt)
 reserved_by {m = m} t ts k.KeywordBoolean h r = after_said {m = m} (omega arith) (done_said (grammar.boolean t h, refl) tt)
@@ -247,6 +247,6 @@ reserved_by {m = m} t ts k.KeywordPoint h r = after_said {m = m} (omega arith) (
 reserved_by {m = m} t ts k.KeywordRectDomain h r = after_said {m = m} (omega arith) (reserved_arity t ts (b.RectDomain t.place) (λ n. refl) (λ f n s. grammar.rect_domain t h s))
 reserved_by t ts _ h r = cc
 
-pub reserved_says : {m : ℕ} (t : Token) (ts : List Token) → begins_type t.kind ≡ true → Said m (λ f x. Based f x × (is_named x ≡ false)) Any (t ∷ ts) (base take_token (t ∷ ts))
+pub reserved_says : {m : ℕ} (t : Token) (ts : List Token) → begins_type t.kind ≡ true → Said m (λ f x. Based f x × (is_named x ≡ false)) Any (t ∷ ts) (base (t ∷ ts))
 unfolding base
 reserved_says t ts r = reserved_by t ts t.kind refl r

@@ -7,7 +7,7 @@ use Rattle.ti_syntax.specs.Spelling.Weights.{counts, arity_behind, weigh, weigh_
 use Rattle.ti_parse_expr.specs.Answers.{EndsAtEnd, IsLight}
 use Rattle.ti_syntax.specs.Spelling.{most_weight}
 use Rattle.ti_parse_expr.proofs.Follows.{last_kind, last_append}
-use Rattle.ti_parse_expr.specs.Reach.{ends_expression, weighed, onward, reach, reach_by, IsCut}
+use Rattle.ti_parse_expr.specs.Mirrors.Reach.{ends_expression, weighed, onward, reach, reach_by, IsCut}
 
 -- ---- lists
 
@@ -133,8 +133,13 @@ weigh_last (suc n) (x ∷ f) t = weigh_last n f t
 pub front_some : (weight : ℕ) (l front : List Token) → IsFront weight l front → 0 < length front
 front_some weight l front is = omega (arith, ap length is.made, length-append is.before (is.last ∷ []))
 
-pub front_light : (weight : ℕ) (l front : List Token) → IsFront weight l front → weight + weigh front ≤ most_weight + 1
+front_light : (weight : ℕ) (l front : List Token) → IsFront weight l front → weight + weigh front ≤ most_weight + 1
 front_light weight l front is = omega (arith, ap weigh is.made, weigh_last 0 is.before is.last, is.light)
+
+pub front_small : (weight : ℕ) (l : List Token) → weight ≤ most_weight → weight + weigh (take (reach 0 (most_weight - weight) l) l) ≤ most_weight + 1
+unfolding reach
+front_small weight [] small = omega (arith, small)
+front_small weight (t ∷ l) small = front_light weight (t ∷ l) (take (reach 0 (most_weight - weight) (t ∷ l)) (t ∷ l)) (front_is weight (t ∷ l) small (omega arith))
 
 cut_stops : (l before rest : List Token) (last : Token) (heavy : Type 0) → EndsAtEnd l → l ≡ before ++ last ∷ rest → (rest ≡ []) ⊎ ((ends_expression last.kind ≡ true) ⊎ heavy) → (ends_expression last.kind ≡ true) ⊎ heavy
 cut_stops l before rest last heavy (fr, la, ends, h) is (inl none) =

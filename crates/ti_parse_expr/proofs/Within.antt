@@ -1,22 +1,22 @@
 -- Readers within the limit on weights: what they say, how far they look, and that the front of a list is enough for them.
-use Rattle.std.proofs.Common.{◌≡◌, ◌⊎◌, inl, inr, ℕ, suc, ◌+◌, ◌-◌, ◌<◌, ◌≤◌, List, [], ◌∷◌, ◌++◌, length, take, drop, Ok, Err, refl, sym, ap, ◌∙◌, subst, append_assoc, arith, length-append, true, false, Bool, nat_lt, if◌then◌else◌}
+use Rattle.std.proofs.Common.{◌≡◌, ◌⊎◌, inl, inr, ℕ, suc, ◌+◌, ◌-◌, ◌<◌, ◌≤◌, List, [], ◌∷◌, ◌++◌, length, take, drop, Ok, Err, refl, sym, ap, ◌∙◌, subst, append_assoc, arith, length-append, true, false, Bool, nat_lt, ◌&&◌, if◌then◌else◌}
 use Rattle.std.proofs.Math.Seq.{drop-append_seam}
 use borrow.Author.Tests.{ltb-true, ltb-false}
+use Rattle.std.proofs.lemmas.Bool.{lt-ltb}
 use Rattle.ti_syntax.specs.declared.token.Token.{Token}
 use Rattle.ti_syntax.specs.declared.token.TokenKind.TheVariants as k
 use Rattle.ti_syntax.specs.Spelling.Loads.{Load, Weight, weights_behind}
 use Rattle.ti_syntax.specs.Spelling.Weights.{counts, arity_behind, weigh}
 use Rattle.ti_syntax.specs.Spelling.{most_weight}
-use Rattle.ti_parse_expr.specs.Input.{At, Over, Spent, Outcome, Parser}
-use Rattle.ti_parse_expr.specs.Reach.{ends_expression}
-use Rattle.ti_parse_expr.specs.Full as spec
-use Rattle.ti_parse_expr.specs.Full.{Limits, usual, limited_to, limited, rest_of, taken, front_of, widened}
+use Rattle.ti_parse_expr.specs.Mirrors.Input.{At, Over, Spent, Outcome, Parser}
+use Rattle.ti_parse_expr.specs.Mirrors.Reach.{ends_expression, reach}
+use Rattle.ti_parse_expr.specs.Mirrors.Full as spec
+use Rattle.ti_parse_expr.specs.Mirrors.Full.{Limits, usual, limited_to, limited, rest_of, taken, front_of, passed, widened}
 use Rattle.ti_parse_expr.proofs.Law.{BeginsIn, Says, Said, Any, append_nil, token}
 use Rattle.ti_parse_expr.proofs.Local.{Suffix, Same, Near, cancel}
-use Rattle.ti_parse_expr.proofs.Cut.{Shrinks, Passed, Alike, Cut}
 use Rattle.ti_parse_expr.proofs.Enough.{Ended, Enough}
 use Rattle.ti_parse_expr.proofs.Ends.{ends, ends-append, end_of}
-use Rattle.ti_parse_expr.proofs.Weights.{nothing, take_seam, IsFront, front_is, front_some, weigh_front}
+use Rattle.ti_parse_expr.proofs.Weights.{nothing, take_seam, IsFront, front_is, weigh_front}
 use Rattle.ti_parse_expr.proofs.Limits.{weights_behind_long, weights_front, limited_fits, below, limited_light, limited_heavy, limited_short, Loaded, all_light, heavy, loaded}
 
 -- ---- lists
@@ -251,12 +251,11 @@ module _ {A : Type 0} (weight : ℕ) (small : weight ≤ most_weight) where
 
 -- ---- readers
 
--- a reader that is given its number of turns, the reader of fronts whose last token stays, and what they read
-pub record Reader {A : Type 0} (S : List Token → A → Type 0) (raw cut : ℕ → Parser A) : Type 0 where
+-- a reader that is given its number of turns, and what it reads
+pub record Reader {A : Type 0} (S : List Token → A → Type 0) (raw : ℕ → Parser A) : Type 0 where
   pub says : (n : ℕ) (l : List Token) → Said n S Any l (raw n l)
   pub near : (t : Token) (w v : List Token) (n m : ℕ) → n ≤ m → Near t w v (raw n) (raw m)
   pub enough : (n m : ℕ) → n ≤ m → Enough (raw n) (raw m)
-  pub cuts : (n : ℕ) → Cut (raw n) (cut n)
   pub goes_on : (l : List Token) (x : A) → S l x → ends l ≡ 0
 
 ended_by : {A : Type 0} (S : List Token → A → Type 0) (n : ℕ) (l : List Token) (o : Outcome A) → length l < n → Says n S Any l o → Ended o
@@ -265,37 +264,45 @@ ended_by S n l (Err (At r)) lt says = tt
 ended_by S n l (Err (Over r)) lt says = tt
 ended_by S n l (Err Spent) lt few = absurd (omega (arith, few, lt))
 
-suffix_shrinks : {A : Type 0} (l : List Token) (o : Outcome A) → Suffix l o → Shrinks l o
-suffix_shrinks l (Ok p) (f, e) = omega (arith, ap length e, length-append f p.1)
-suffix_shrinks l (Err (At r)) (f, e) = omega (arith, ap length e, length-append f r)
-suffix_shrinks l (Err (Over r)) (f, e) = omega (arith, ap length e, length-append f r)
-suffix_shrinks l (Err Spent) h = tt
+-- an outcome that leaves nothing
+put_nothing : {A : Type 0} (o : Outcome A) → Ended o → rest_of o ≡ [] → put [] o ≡ o
+put_nothing (Ok p) ended h = ap (λ z. Ok (p.0, z)) (sym h)
+put_nothing (Err (At r)) ended h = ap (λ z. Err (At z)) (sym h)
+put_nothing (Err (Over r)) ended h = ap (λ z. Err (Over z)) (sym h)
+put_nothing (Err Spent) ended h = absurd ended
 
-passed_rest : {A : Type 0} (o : Outcome A) → Ended o → Passed o → length (rest_of o) ≡ 0
-passed_rest (Ok p) ended passed = passed
-passed_rest (Err (At r)) ended passed = passed
-passed_rest (Err (Over r)) ended passed = passed
-passed_rest (Err Spent) ended passed = absurd ended
+-- ---- whether all of a front was taken and its last token weighs too much
 
-alike_put : {A : Type 0} (x o : Outcome A) (r : List Token) → Ended o → 0 < length r → x ≡ put r o → Alike x (put r o)
-alike_put x (Ok p) r ended some e = (e, some)
-alike_put x (Err (At q)) r ended some e = (e, some)
-alike_put x (Err (Over q)) r ended some e = (e, some)
-alike_put x (Err Spent) r ended some e = absurd ended
+passed_heavy : (weight : ℕ) (front left : List Token) → length left ≡ 0 → most_weight < weight + weigh front → passed weight front (length left) ≡ true
+passed_heavy weight front left none above = rw (lt-ltb (length left) 1 (omega (arith, none)), lt-ltb most_weight (weight + weigh front) above) refl
 
-widened_put : {A : Type 0} (weight : ℕ) (l front : List Token) (o : Outcome A) → Ended o → widened weight l front o ≡ put (drop (length front - length (rest_of o)) l) o
-widened_put weight l front (Ok p) ended = refl
-widened_put weight l front (Err (At r)) ended = refl
-widened_put weight l front (Err (Over r)) ended = refl
-widened_put weight l front (Err Spent) ended = absurd ended
+not_both : (a b : Bool) (n v : ℕ) → nat_lt n 1 ≡ a → nat_lt most_weight v ≡ b → (n ≡ 0 → most_weight < v → ⊥) → (a && b) ≡ false
+not_both true true n v h h2 never = let one : n < 1 = ltb-true n 1 h in absurd (never (omega (arith, one)) (ltb-true most_weight v h2))
+not_both true false n v h h2 never = refl
+not_both false b n v h h2 never = refl
 
--- what holds of a reader within the limit, and of the same for the front of a list
+passed_not : (weight : ℕ) (front left : List Token) → (length left ≡ 0 → most_weight < weight + weigh front → ⊥) → passed weight front (length left) ≡ false
+passed_not weight front left never = not_both (nat_lt (length left) 1) (nat_lt most_weight (weight + weigh front)) (length left) (weight + weigh front) refl refl never
+
+widened_put : {A : Type 0} (weight : ℕ) (l front : List Token) (o : Outcome A) → Ended o → passed weight front (length (rest_of o)) ≡ false → widened weight l front o ≡ put (drop (length front - length (rest_of o)) l) o
+widened_put {A = A} weight l front (Ok p) ended h = ap (λ b. if◌then◌else◌ {A = Outcome A} b (Err (Over (drop (length front - 1) l))) (Ok (p.0, drop (length front - length p.1) l))) h
+widened_put {A = A} weight l front (Err (At r)) ended h = ap (λ b. if◌then◌else◌ {A = Outcome A} b (Err (Over (drop (length front - 1) l))) (Err (At (drop (length front - length r) l)))) h
+widened_put {A = A} weight l front (Err (Over r)) ended h = ap (λ b. if◌then◌else◌ {A = Outcome A} b (Err (Over (drop (length front - 1) l))) (Err (Over (drop (length front - length r) l)))) h
+widened_put weight l front (Err Spent) ended h = absurd ended
+
+widened_over : {A : Type 0} (weight : ℕ) (l front : List Token) (o : Outcome A) → Ended o → passed weight front (length (rest_of o)) ≡ true → widened weight l front o ≡ Err (Over (drop (length front - 1) l))
+widened_over {A = A} weight l front (Ok p) ended h = ap (λ b. if◌then◌else◌ {A = Outcome A} b (Err (Over (drop (length front - 1) l))) (Ok (p.0, drop (length front - length p.1) l))) h
+widened_over {A = A} weight l front (Err (At r)) ended h = ap (λ b. if◌then◌else◌ {A = Outcome A} b (Err (Over (drop (length front - 1) l))) (Err (At (drop (length front - length r) l)))) h
+widened_over {A = A} weight l front (Err (Over r)) ended h = ap (λ b. if◌then◌else◌ {A = Outcome A} b (Err (Over (drop (length front - 1) l))) (Err (Over (drop (length front - length r) l)))) h
+widened_over weight l front (Err Spent) ended h = absurd ended
+
+-- what holds of a reader within the limit, and that reading a front is the same
 pub record Laws {A : Type 0} (S : List Token → A → Type 0) (p q : Parser A) : Type 0 where
   pub says : (n : ℕ) (l : List Token) → Said n S Any l (p l)
   pub near : (t : Token) (w v : List Token) → Near t w v p p
-  pub cut : Cut p q
+  pub same : (l : List Token) → q l ≡ p l
 
-module _ {A : Type 0} (S : List Token → A → Type 0) (raw cut : ℕ → Parser A) (reader : Reader S raw cut) (weight : ℕ) (small : weight ≤ most_weight) (turns : List Token → ℕ) (many : (l : List Token) → length l < turns l) where
+module _ {A : Type 0} (S : List Token → A → Type 0) (raw : ℕ → Parser A) (reader : Reader S raw) (weight : ℕ) (small : weight ≤ most_weight) (turns : List Token → ℕ) (many : (l : List Token) → length l < turns l) where
   -- the reader within the limit
   abbrev reads : Parser A
   reads l = held weight l (raw (turns l) l)
@@ -329,6 +336,22 @@ module _ {A : Type 0} (S : List Token → A → Type 0) (raw cut : ℕ → Parse
 
   -- ---- the front is enough
 
+  -- where the front is the list, and all of it was taken and is light
+  all_same : (l front : List Token) → l ≡ front → rest_of (raw (suc (length front)) front) ≡ [] → weight + weigh front ≤ most_weight → reads l ≡ widened weight l front (raw (suc (length front)) front)
+  all_same l front same none light =
+      let n : ℕ = suc (length front) in
+      let o : Outcome A = raw n front in
+      let read : raw (turns l) l ≡ o = ap (raw (turns l)) same ∙ same_turns (turns l) n front (omega (arith, many l, ap length same)) (omega arith) in
+      let nothing_left : rest_of (raw (turns l) l) ≡ [] = ap rest_of read ∙ none in
+      let all : l ≡ l ++ rest_of (raw (turns l) l) = sym (append_nil l) ∙ ap (λ z. l ++ z) (sym nothing_left) in
+      let whole_light : weight + weigh l ≤ most_weight = subst (λ z. weight + weigh z ≤ most_weight) (sym same) light in
+      let e : reads l ≡ o = held_light weight l l (raw (turns l) l) all whole_light ∙ read in
+      let end : Ended o = ended n front (omega arith) in
+      let no : passed weight front (length (rest_of o)) ≡ false = passed_not weight front (rest_of o) (λ z above. omega (arith, light, above)) in
+      let few : length front - length (rest_of o) ≡ length l = omega (arith, ap length none, ap length same) in
+      let there : drop (length front - length (rest_of o)) l ≡ [] = ap (λ m. drop m l) few ∙ ap (drop (length l)) (sym (append_nil l)) ∙ drop_seam l [] (length l) refl in
+      e ∙ sym (widened_put weight l front o end no ∙ ap (λ z. put z o) there ∙ put_nothing o end none)
+
   module _ (l front : List Token) (at : IsFront weight l front) where
     abbrev of_front : Outcome A
     of_front = raw (suc (length front)) front
@@ -349,8 +372,8 @@ module _ {A : Type 0} (S : List Token → A → Type 0) (raw cut : ℕ → Parse
     to_front = same_at at.last at.rest [] at.before l front (turns l) (suc (length front)) at.is at.made (many l) (omega arith)
 
     -- a token of the front stays
-    stays_alike : (g c : List Token) → front ≡ g ++ rest_of of_front → at.before ≡ g ++ c → rest_of of_front ≡ c ++ at.last ∷ [] → Alike (reads l) (widened weight l front of_front)
-    stays_alike g c all is rest =
+    stays_same : (g c : List Token) → front ≡ g ++ rest_of of_front → at.before ≡ g ++ c → rest_of of_front ≡ c ++ at.last ∷ [] → reads l ≡ widened weight l front of_front
+    stays_same g c all is rest =
         let r : List Token = c ++ at.last ∷ at.rest in
         let moved : of_list ≡ put r of_front = same_put at.last [] at.rest of_front of_list front_ended to_list c rest in
         let left : rest_of of_list ≡ r = ap rest_of moved ∙ rest_put r of_front front_ended in
@@ -359,39 +382,31 @@ module _ {A : Type 0} (S : List Token → A → Type 0) (raw cut : ℕ → Parse
         let e : reads l ≡ put r of_front = held_light weight l g of_list (whole_list ∙ ap (λ z. g ++ z) (sym left)) light ∙ moved in
         let few : length front - length (rest_of of_front) ≡ length g = omega (arith, ap length all, length-append g (rest_of of_front)) in
         let there : drop (length front - length (rest_of of_front)) l ≡ r = ap (drop (length front - length (rest_of of_front))) whole_list ∙ drop_seam g r (length front - length (rest_of of_front)) few in
-        let wide : widened weight l front of_front ≡ put r of_front = widened_put weight l front of_front front_ended ∙ ap (λ z. put z of_front) there in
-        subst (Alike (reads l)) (sym wide) (alike_put (reads l) of_front r front_ended (omega (arith, length-append c (at.last ∷ at.rest))) e)
+        let no : passed weight front (length (rest_of of_front)) ≡ false = passed_not weight front (rest_of of_front) (λ none above. omega (arith, none, ap length rest, length-append c (at.last ∷ []))) in
+        e ∙ sym (widened_put weight l front of_front front_ended no ∙ ap (λ z. put z of_front) there)
 
-    front_by : (g : List Token) → front ≡ g ++ rest_of of_front → 0 < length (rest_of of_front) → Split g (rest_of of_front) at.before at.last [] → Alike (reads l) (widened weight l front of_front)
-    front_by g all some (stays c is rest) = stays_alike g c all is rest
-    front_by g all some (passes h is none) = absurd (omega (arith, some, ap length none, length-append h (rest_of of_front)))
-
-    front_alike : 0 < length (rest_of of_front) → Alike (reads l) (widened weight l front of_front)
-    front_alike some =
-        let (g, all) = front_taken front of_front ((reader.near at.last [] [] (suc (length front)) (suc (length front)) (omega arith)).suffix front) in
-        front_by g all some (split g (rest_of of_front) at.before at.last [] (sym all ∙ at.made))
-
-    -- the last token of the front would have been taken, and weighs too much
-    heavy_by : Passed of_front → most_weight < weight + weigh front → (g : List Token) → l ≡ g ++ rest_of of_list → Split g (rest_of of_list) at.before at.last at.rest → reads l ≡ Err (Over (at.last ∷ at.rest))
-    heavy_by passed above g all (stays c is rest) =
+    -- the last token of the front was taken, and weighs too much
+    heavy_by : rest_of of_front ≡ [] → most_weight < weight + weigh front → (g : List Token) → l ≡ g ++ rest_of of_list → Split g (rest_of of_list) at.before at.last at.rest → reads l ≡ Err (Over (at.last ∷ at.rest))
+    heavy_by none above g all (stays c is rest) =
         let e : rest_of of_front ≡ c ++ at.last ∷ [] = ap rest_of (same_put at.last at.rest [] of_list of_front list_ended to_front c rest) ∙ rest_put (c ++ at.last ∷ []) of_list list_ended in
-        absurd (omega (arith, passed_rest of_front front_ended passed, ap length e, length-append c (at.last ∷ [])))
-    heavy_by passed above g all (passes h is rest) =
+        absurd (omega (arith, ap length none, ap length e, length-append c (at.last ∷ [])))
+    heavy_by none above g all (passes h is rest) =
         held_heavy weight l g of_list all at.before at.last h is at.light (omega (arith, above, ap weigh at.made)) ∙ ap (λ z. Err (Over (at.last ∷ z))) (sym rest)
 
-    heavy_alike : Passed of_front → most_weight < weight + weigh front → Alike (reads l) (Err (Over (drop (length front - 1) l)))
-    heavy_alike passed above =
+    heavy_same : rest_of of_front ≡ [] → most_weight < weight + weigh front → reads l ≡ widened weight l front of_front
+    heavy_same none above =
         let (g, all) = front_taken l of_list (rest_part l) in
         let one : length front - 1 ≡ length at.before = omega (arith, ap length at.made, length-append at.before (at.last ∷ [])) in
         let there : drop (length front - 1) l ≡ at.last ∷ at.rest = ap (drop (length front - 1)) at.is ∙ drop_seam at.before (at.last ∷ at.rest) (length front - 1) one in
-        (heavy_by passed above g all (split g (rest_of of_list) at.before at.last at.rest (sym all ∙ at.is)) ∙ ap (λ z. Err (Over z)) (sym there), omega (arith, ap length there))
+        heavy_by none above g all (split g (rest_of of_list) at.before at.last at.rest (sym all ∙ at.is)) ∙ ap (λ z. Err (Over z)) (sym there)
+        ∙ sym (widened_over weight l front of_front front_ended (passed_heavy weight front (rest_of of_front) (ap length none) above))
 
     -- or doesn't
-    begins_front : Passed of_front → BeginsIn S front
-    begins_front passed =
+    begins_front : rest_of of_front ≡ [] → BeginsIn S front
+    begins_front none =
         let n = suc (length front) in
         let (f, all, begins) = begun weight small S n n front (omega arith) of_front (reader.says n front).says in
-        let e : front ≡ f = all ∙ ap (λ z. f ++ z) (nothing (rest_of of_front) (passed_rest of_front front_ended passed)) ∙ append_nil f in
+        let e : front ≡ f = all ∙ ap (λ z. f ++ z) none ∙ append_nil f in
         subst (BeginsIn S) (sym e) begins
 
     no_end : BeginsIn S front → ends_expression at.last.kind ≡ true → ⊥
@@ -399,38 +414,36 @@ module _ {A : Type 0} (S : List Token → A → Type 0) (raw cut : ℕ → Parse
         let one : end_of at.last.kind ≡ 1 = ap (λ z. if z then 1 else 0) ends_it in
         omega (arith, reader.goes_on (front ++ w) x s, ends-append front w, ap ends at.made, ends-append at.before (at.last ∷ []), one)
 
-    all_light_passed : Passed of_front → weight + weigh front ≤ most_weight → at.rest ≡ [] → Passed (reads l)
-    all_light_passed passed light none =
-        let same : l ≡ front = at.is ∙ ap (λ z. at.before ++ at.last ∷ z) none ∙ sym at.made in
-        let (g, all) = front_taken l of_list (rest_part l) in
-        let few : weight + weigh g ≤ most_weight = omega (arith, light, ap weigh (sym same ∙ all), weigh_front 0 g (rest_of of_list)) in
-        let read : of_list ≡ of_front = ap (raw (turns l)) same ∙ same_turns (turns l) (suc (length front)) front (omega (arith, many l, ap length same)) (omega arith) in
-        subst Passed (sym (held_light weight l g of_list all few ∙ read)) passed
+    light_same : rest_of of_front ≡ [] → weight + weigh front ≤ most_weight → (at.rest ≡ []) ⊎ ((ends_expression at.last.kind ≡ true) ⊎ (most_weight < weight + weigh (at.before ++ at.last ∷ []))) → reads l ≡ widened weight l front of_front
+    light_same none light (inl end) = all_same l front (at.is ∙ ap (λ z. at.before ++ at.last ∷ z) end ∙ sym at.made) none light
+    light_same none light (inr (inl ends_it)) = absurd (no_end (begins_front none) ends_it)
+    light_same none light (inr (inr above)) = absurd (omega (arith, light, above, ap weigh at.made))
 
-    light_passed : Passed of_front → weight + weigh front ≤ most_weight → (at.rest ≡ []) ⊎ ((ends_expression at.last.kind ≡ true) ⊎ (most_weight < weight + weigh (at.before ++ at.last ∷ []))) → Passed (reads l)
-    light_passed passed light (inl none) = all_light_passed passed light none
-    light_passed passed light (inr (inl ends_it)) = absurd (no_end (begins_front passed) ends_it)
-    light_passed passed light (inr (inr above)) = absurd (omega (arith, light, above, ap weigh at.made))
+    taken_same : rest_of of_front ≡ [] → (c : Bool) → nat_lt most_weight (weight + weigh front) ≡ c → reads l ≡ widened weight l front of_front
+    taken_same none true h = heavy_same none (ltb-true most_weight (weight + weigh front) h)
+    taken_same none false h = light_same none (ltb-false most_weight (weight + weigh front) h) at.stops
 
-    spent_if : Passed of_front → (c : Bool) → nat_lt most_weight (weight + weigh front) ≡ c → Alike (reads l) (if c then Err (Over (drop (length front - 1) l)) else Err Spent)
-    spent_if passed true h = heavy_alike passed (ltb-true most_weight (weight + weigh front) h)
-    spent_if passed false h = light_passed passed (ltb-false most_weight (weight + weigh front) h) at.stops
+    front_by : (g : List Token) → front ≡ g ++ rest_of of_front → Split g (rest_of of_front) at.before at.last [] → reads l ≡ widened weight l front of_front
+    front_by g all (stays c is rest) = stays_same g c all is rest
+    front_by g all (passes h is none) =
+        let empty : rest_of of_front ≡ [] = nothing (rest_of of_front) (omega (arith, ap length none, length-append h (rest_of of_front))) in
+        taken_same empty (nat_lt most_weight (weight + weigh front)) refl
 
-    alike_by : (o : Outcome A) → Alike of_front o → Alike (reads l) (widened weight l front o)
-    alike_by (Ok p) (is, some) = subst (λ z. Alike (reads l) (widened weight l front z)) is (front_alike (subst (λ z. 0 < length (rest_of z)) (sym is) some))
-    alike_by (Err (At r)) (is, some) = subst (λ z. Alike (reads l) (widened weight l front z)) is (front_alike (subst (λ z. 0 < length (rest_of z)) (sym is) some))
-    alike_by (Err (Over r)) (is, some) = subst (λ z. Alike (reads l) (widened weight l front z)) is (front_alike (subst (λ z. 0 < length (rest_of z)) (sym is) some))
-    alike_by (Err Spent) passed = spent_if passed (nat_lt most_weight (weight + weigh front)) refl
+    front_same : reads l ≡ widened weight l front of_front
+    front_same =
+        let (g, all) = front_taken front of_front ((reader.near at.last [] [] (suc (length front)) (suc (length front)) (omega arith)).suffix front) in
+        front_by g all (split g (rest_of of_front) at.before at.last [] (sym all ∙ at.made))
 
-  whole_alike : (l : List Token) → 0 < length l → Alike (reads l) (spec.within weight cut l)
-  whole_alike l some =
-      let front : List Token = front_of weight l in
-      let at : IsFront weight l front = front_is weight l small some in
-      alike_by l front at (cut (suc (length front)) front) ((reader.cuts (suc (length front))).alike front (front_some weight l front at))
+  empty_same : reads [] ≡ spec.within weight raw []
+  unfolding reach
+  empty_same =
+      let (g, all) = front_taken [] (raw 1 []) ((reader.near (token k.End) [] [] 1 1 (omega arith)).suffix []) in
+      let none : rest_of (raw 1 []) ≡ [] = nothing (rest_of (raw 1 [])) (omega (arith, ap length all, length-append g (rest_of (raw 1 [])))) in
+      all_same [] [] refl none (omega (arith, small))
 
-  pub laws : Laws S reads (spec.within weight cut)
-  laws = record {
-    says = whole_says;
-    near = whole_near;
-    cut = record { shrinks = λ l. suffix_shrinks l (reads l) (held_suffix weight small l (raw (turns l) l) (rest_part l)); alike = whole_alike };
-  }
+  whole_same : (l : List Token) → reads l ≡ spec.within weight raw l
+  whole_same [] = empty_same
+  whole_same (t ∷ l) = front_same (t ∷ l) (front_of weight (t ∷ l)) (front_is weight (t ∷ l) small (omega arith))
+
+  pub laws : Laws S reads (spec.within weight raw)
+  laws = record { says = whole_says; near = whole_near; same = λ l. sym (whole_same l) }

@@ -1,5 +1,5 @@
 -- What `parse_expr` answers.
-use Rattle.std.specs.Prelude.{◌≡◌, ℕ, ◌+◌, ◌<◌, ◌≤◌, List, [], ◌∷◌, ◌++◌, length, drop, Result, Ok, Err}
+use Rattle.std.specs.Prelude.{◌≡◌, ◌⊎◌, ℕ, ◌+◌, ◌<◌, ◌≤◌, List, [], ◌∷◌, ◌++◌, length, drop, Result, Ok, Err}
 use Rattle.ti_base.specs.declared.place.Place.{Place}
 use Rattle.ti_syntax.specs.declared.token.Token.{Token}
 use Rattle.ti_syntax.specs.declared.token.TokenKind.TheVariants as k
@@ -83,3 +83,13 @@ abbrev pub Answers : List Token → ℕ → Form → ℕ → Result (Expr × ℕ
 Answers list at f weight (Ok p) = (size : ℕ) × (p.1 ≡ at + size) × IsPhrase f weight (drop at list) (exp_of p.0) size p.2
 Answers list at f weight (Err (Refused r)) = Refuses f weight (drop at list) r.rule r.place
 Answers list at f weight (Err Memory) = Unit {0}
+
+-- the answer is this tree, with this place behind its run and this weight used, or out of memory
+abbrev pub GivesOnly : Result (Expr × ℕ × ℕ) ParseErr → Exp → ℕ → ℕ → Type 0
+GivesOnly (Ok p) x end used = (exp_of p.0 ≡ x) × (p.1 ≡ end) × (p.2 ≡ used)
+GivesOnly (Err error) x end used = error ≡ Memory
+
+-- the answer is this refusal, or out of memory
+abbrev pub RefusesOnly : Result (Expr × ℕ × ℕ) ParseErr → Rule → Place → Type 0
+RefusesOnly (Ok p) rule place = ⊥
+RefusesOnly (Err error) rule place = (error ≡ Refused (record { rule = rule; place = place })) ⊎ (error ≡ Memory)

@@ -1,9 +1,2 @@
-pub mod Input
-pub mod Seen
-pub mod Types
-pub mod Expr
-pub mod Full
-pub mod ByFront
-pub mod Nests
 pub mod Answers
-pub mod Reach
+pub mod Mirrors

@@ -8,6 +8,6 @@ use ti_rules::Refusal;
 pub enum ParseErr {
     #[error("the text is refused")]
     Refused(Refusal),
-    #[error("memory was wanting")]
+    #[error("out of memory")]
     Memory,
 }

@@ -1,14 +1,15 @@
 // Full expressions, which stand in no other one: no token of them weighs too much.
 
-ghost use Rattle.std.specs.Prelude.{ℕ, ◌+◌, ◌<◌, ◌≤◌, ◌^◌};
+ghost use Rattle.std.specs.Prelude.{ℕ, ◌≡◌, ◌+◌, ◌<◌, ◌≤◌, ◌^◌};
 ghost use Rattle.ti_syntax.specs.Trees.Views.{exp_of};
 ghost use Rattle.ti_syntax.specs.Spelling.{most_weight};
-ghost use Rattle.ti_parse_expr.specs.ByFront.{ByFront};
-ghost use Rattle.ti_parse_expr.specs.Full as spec;
-ghost use Rattle.ti_parse_expr.specs.Input.{ReadsAs};
-ghost use Rattle.ti_parse_expr.specs.Seen.{operand_of};
+ghost use Rattle.ti_syntax.specs.Spelling.Weights.{weigh as weigh_spec};
+ghost use Rattle.ti_parse_expr.specs.Mirrors.ByFront.{ByFront, is_final as is_final_spec};
+ghost use Rattle.ti_parse_expr.specs.Mirrors.Full as spec;
+ghost use Rattle.ti_parse_expr.specs.Mirrors.Input.{ReadsAs};
+ghost use Rattle.ti_parse_expr.specs.Mirrors.Seen.{operand_of};
 
-use crate::expr;
+use crate::exprs;
 use crate::operand::Operand;
 use crate::parse::{Form, phrase};
 use crate::reach::{MOST_WEIGHT, front_of, weigh};
@@ -16,11 +17,30 @@ use crate::stop::Stop;
 use crate::tokens::Tokens;
 use std::alloc::Global;
 use ti_base::Place;
-use ti_syntax::Spelled;
+use ti_syntax::{Spelled, Token};
 use ti_syntax::tree::Expr;
 
+/// Whether an answer says nothing of the tokens.
+fn is_final<T>(answer: &Result<T, Stop>) -> bool
+    ensures { result ≡ is_final_spec answer.now }
+{
+    match answer {
+        Ok(_) => false,
+        Err(Stop::Memory | Stop::Spent) => true,
+        Err(Stop::Refused | Stop::TooDeep) => false,
+    }
+}
+
+/// Whether reading left no token of a front, and its last token weighs too much.
+fn passed(weight: u32, front: &[Token], left: usize) -> bool
+    requires { weight + weigh_spec front.now < 2 ^ 32 }
+    ensures { result ≡ spec.passed weight front.now left }
+{
+    left < 1 && MOST_WEIGHT < weight + weigh(front)
+}
+
 /// Reads a front of the tokens, and answers for all of them.
-fn within<T, F: FnOnce(&mut Tokens<'_>, usize) -> Result<T, Stop>>(
+fn within<T: Drop, F: FnOnce(&mut Tokens<'_>, usize) -> Result<T, Stop>>(
     tokens: &mut Tokens<'_>,
     weight: u32,
     read: F,
@@ -30,45 +50,31 @@ fn within<T, F: FnOnce(&mut Tokens<'_>, usize) -> Result<T, Stop>>(
     ensures { ByFront weight (F.post read) tokens.old result tokens.new }
 {
     let front = front_of(tokens.as_slice(), weight);
-    let mut inner = Tokens::new(front);
+    let mut inner = Tokens::new(front, tokens.end());
     let answer = read(&mut inner, front.len() + 1);
-    let taken = front.len().saturating_sub(inner.left());
-    match answer {
-        Ok(tree) => {
-            tokens.skip(taken);
-            Ok(tree)
-        }
-        Err(Stop::Refused) => {
-            tokens.skip(taken);
-            Err(Stop::Refused)
-        }
-        Err(Stop::TooDeep) => {
-            tokens.skip(taken);
-            Err(Stop::TooDeep)
-        }
-        Err(Stop::Spent) => {
-            if weight + weigh(front) <= MOST_WEIGHT {
-                return Err(Stop::Spent);
-            }
-            tokens.skip(front.len() - 1);
-            Err(Stop::TooDeep)
-        }
-        Err(Stop::Memory) => Err(Stop::Memory),
+    if is_final(&answer) {
+        return answer;
     }
+    if passed(weight, front, inner.left()) {
+        tokens.skip(front.len() - 1);
+        return Err(Stop::TooDeep);
+    }
+    tokens.skip(front.len().saturating_sub(inner.left()));
+    answer
 }
 
 /// A full expression of a form.
 pub fn full(alloc: Global, tokens: &mut Tokens<'_>, form: Form) -> Result<Expr, Stop>
-    ensures { ReadsAs exp_of (spec.full_within form tokens.old) result tokens.new }
+    ensures { ReadsAs exp_of (spec.full form tokens.old) result tokens.new }
 {
     within(tokens, 0, |front, turns| phrase(alloc, front, turns, form))
 }
 
 /// A full Postfix, with what it ends with.
 pub fn full_operand(alloc: Global, tokens: &mut Tokens<'_>) -> Result<Operand, Stop>
-    ensures { ReadsAs operand_of (spec.operand_within tokens.old) result tokens.new }
+    ensures { ReadsAs operand_of (spec.full_operand tokens.old) result tokens.new }
 {
-    within(tokens, 0, |front, turns| expr::operand(alloc, front, turns))
+    within(tokens, 0, |front, turns| exprs::operand(alloc, front, turns))
 }
 
 /// A full Postfix, after its first name.
@@ -78,10 +84,10 @@ pub fn full_behind_name(
     place: Place,
     name: Spelled,
 ) -> Result<Operand, Stop>
-    ensures { ReadsAs operand_of (spec.behind_name_within place name tokens.old) result tokens.new }
+    ensures { ReadsAs operand_of (spec.full_behind_name place name tokens.old) result tokens.new }
 {
     within(tokens, 0, |front, turns| {
-        expr::behind_name(alloc, front, turns, place, name)
+        exprs::behind_name(alloc, front, turns, place, name)
     })
 }
 
@@ -93,9 +99,9 @@ pub fn full_behind_bracket(
     place: Place,
     name: Spelled,
 ) -> Result<Operand, Stop>
-    ensures { ReadsAs operand_of (spec.behind_bracket_within bracket place name tokens.old) result tokens.new }
+    ensures { ReadsAs operand_of (spec.full_behind_bracket bracket place name tokens.old) result tokens.new }
 {
     within(tokens, 1, |front, turns| {
-        expr::behind_bracket(alloc, front, turns, bracket, place, name)
+        exprs::behind_bracket(alloc, front, turns, bracket, place, name)
     })
 }

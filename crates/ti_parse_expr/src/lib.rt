@@ -2,7 +2,7 @@
 #![tactic(auto)]
 
 pub mod error;
-pub mod expr;
+pub mod exprs;
 pub mod full;
 pub mod operand;
 pub mod operators;

@@ -3,7 +3,7 @@
 use ti_syntax::tree::Expr;
 
 /// What a Postfix ends with.
-#[derive(Clone, Copy, Debug, PartialEq, Eq)]
+#[derive(Clone, Copy)]
 pub enum Ending {
     /// It is one name, or ends with a member's name or an index, so that it can be assigned to.
     Target,
@@ -13,7 +13,7 @@ pub enum Ending {
 }
 
 /// A Postfix, with what it ends with.
-#[derive(Debug, Drop)]
+#[derive(Drop)]
 pub struct Operand {
     pub expr: Expr,
     pub ending: Ending,

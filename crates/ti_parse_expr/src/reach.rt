@@ -1,12 +1,12 @@
 // How far a list of tokens is read.
 
-ghost use Rattle.std.specs.Prelude.{[], ◌≡◌, ◌≤◌, ◌<◌, ◌+◌, ◌^◌, length};
+ghost use Rattle.std.specs.Prelude.{◌≡◌, ◌≤◌, ◌<◌, ◌+◌, ◌^◌, length};
 ghost use Rattle.ti_syntax.specs.Spelling.Weights.{weigh as weigh_spec};
 ghost use Rattle.ti_parse_expr.specs.Answers.{EndsAtEnd};
 ghost use Rattle.ti_syntax.specs.Spelling.{most_weight};
-ghost use Rattle.ti_parse_expr.specs.Reach.{IsCut};
-ghost use Rattle.ti_parse_expr.specs.Reach as spec;
-ghost use Rattle.ti_parse_expr.specs.Full as full;
+ghost use Rattle.ti_parse_expr.specs.Mirrors.Reach.{IsCut};
+ghost use Rattle.ti_parse_expr.specs.Mirrors.Reach as spec;
+ghost use Rattle.ti_parse_expr.specs.Mirrors.Full as full;
 
 use crate::operators::{arity_behind, counts};
 use ti_syntax::{Token, TokenKind};
@@ -41,7 +41,7 @@ fn onward(kind: &TokenKind, arity: u32, left: u32) -> Option<(u32, u32)>
 }
 
 /// How many tokens there are up to and including the first that weighs more than the limit or stands in no expression.
-#[tactic(auto, unfolding(crate::specs::Reach::reach))]
+#[tactic(auto, unfolding(crate::specs::Mirrors::Reach::reach))]
 pub fn reach(list: &[Token], limit: u32) -> usize
     ensures value { result ≡ spec.reach 0 limit list.now }
     ensures within { result ≤ length list.now }
@@ -68,10 +68,8 @@ pub fn reach(list: &[Token], limit: u32) -> usize
 /// The tokens up to and including the first that weighs too much, where the weight is counted on from a number, or
 /// stands in no expression.
 pub fn front_of(list: &[Token], weight: u32) -> &[Token]
-    requires some { 0 < length list.now }
-    requires small { weight ≤ most_weight }
+    requires { weight ≤ most_weight }
     ensures front { result.now ≡ full.front_of weight list.now }
-    ensures taken { 0 < length result.now }
     ensures light { weight + weigh_spec result.now ≤ most_weight + 1 }
 {
     &list[..reach(list, MOST_WEIGHT - weight)]

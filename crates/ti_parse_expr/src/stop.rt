@@ -4,14 +4,14 @@ use std::alloc::{AllocError, AllocFailed};
 use ti_base::Memory;
 
 /// Why reading stops.
-#[derive(Clone, Copy, Debug)]
+#[derive(Clone, Copy)]
 pub enum Stop {
     Memory,
     /// The next token can't stand here.
     Refused,
     /// The next token is nested too deeply.
     TooDeep,
-    /// The last token would have been taken.
+    /// No turns are left.
     Spent,
 }
 

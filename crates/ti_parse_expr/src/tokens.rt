@@ -1,8 +1,9 @@
 // A cursor over a list of tokens.
 
-ghost use Rattle.std.specs.Prelude.{◌≡◌, ◌<◌, Ok, length, drop};
-ghost use Rattle.ti_parse_expr.specs.Input as spec;
-ghost use Rattle.ti_parse_expr.specs.Input.{Reads};
+ghost use Rattle.std.specs.Prelude.{◌≡◌, ◌≤◌, length, drop};
+ghost use Rattle.ti_parse_expr.specs.Mirrors.Input as spec;
+ghost use Rattle.ti_parse_expr.specs.Mirrors.Input.{Reads};
+ghost use Rattle.ti_syntax.specs.declared.token.TokenKind.TheVariants.{End};
 
 use crate::stop::Stop;
 use std::alloc::Global;
@@ -12,70 +13,68 @@ use ti_syntax::{Spelled, Token, TokenKind};
 
 /// A cursor over a list of tokens. Contracts see the tokens that are left.
 ///
-/// The last token of the list is never taken.
+/// Behind the last token the next one is the end of the text, which taking doesn't change.
 #[derive(Drop)]
 pub struct Tokens<'a> {
     list: &'a [Token],
+    end: &'a TokenKind,
 }
 
 impl<'a> Model for Tokens<'a> {
-    ghost use Rattle.std.specs.Prelude.{List, length, ◌<◌};
+    ghost use Rattle.std.specs.Prelude.{List, ◌≡◌};
     ghost use Rattle.ti_syntax.specs.declared.token.Token.{Token};
+    ghost use Rattle.ti_syntax.specs.declared.token.TokenKind.TheVariants.{End};
 
     ghost Value = { List Token };
 
     ghost view = { λ t. t.list.now };
 
-    ghost invariant = { λ t. 0 < length t.list.now };
+    ghost invariant = { λ t. t.end.now ≡ End };
 }
 
 impl<'a> Tokens<'a> {
-    /// At the first token of a list.
-    pub fn new(list: &'a [Token]) -> Tokens<'a>
-        requires { 0 < length list.now }
+    /// At the first token of a list; `end` is the kind of the end.
+    pub fn new(list: &'a [Token], end: &'a TokenKind) -> Tokens<'a>
+        requires { end.now ≡ End }
         ensures { result ≡ list.now }
     {
-        Tokens { list }
+        Tokens { list, end }
     }
 
-    fn first(&self) -> &'a Token
-        ensures kind { result.now.kind ≡ spec.kind self.now }
-        ensures place { result.now.place ≡ spec.place self.now }
+    /// The kind of the end.
+    pub fn end(&self) -> &'a TokenKind
+        ensures { result.now ≡ End }
     {
-        match self.list {
-            [first, ..] => first,
-            [] => unreachable!(),
-        }
+        self.end
     }
 
     /// The kind of the next token.
     pub fn peek(&self) -> &'a TokenKind
         ensures { result.now ≡ spec.kind self.now }
     {
-        &self.first().kind
+        match self.list {
+            [first, ..] => &first.kind,
+            [] => self.end,
+        }
     }
 
     /// The place of the next token.
     pub fn place(&self) -> Place
         ensures { result ≡ spec.place self.now }
     {
-        self.first().place
+        match self.list {
+            [first, ..] => first.place,
+            [] => Place { line: 0, col: 0 },
+        }
     }
 
-    /// Takes the next token, but the last one stays.
-    #[tactic(auto, unfolding(crate::specs::Input::take_within))]
-    pub fn take(&mut self) -> Result<(), Stop>
-        ensures { Reads (spec.take_within self.old) result self.new }
+    /// Takes the next token.
+    pub fn take(&mut self)
+        ensures { self.new ≡ spec.next self.old }
     {
         match self.list {
-            [_, rest @ ..] => match rest {
-                [_, ..] => {
-                    self.list = rest;
-                    Ok(())
-                }
-                [] => Err(Stop::Spent),
-            },
-            [] => unreachable!(),
+            [_, rest @ ..] => self.list = rest,
+            [] => {}
         }
     }
 
@@ -88,13 +87,13 @@ impl<'a> Tokens<'a> {
 
     /// Takes a token of this kind.
     pub fn expect(&mut self, kind: TokenKind) -> Result<(), Stop>
-        ensures { Reads (spec.expect_by spec.take_within kind self.old) result self.new }
+        ensures { Reads (spec.expect kind self.old) result self.new }
     {
-        if self.sees(kind) {
-            self.take()
-        } else {
-            Err(Stop::Refused)
+        if !self.sees(kind) {
+            return Err(Stop::Refused);
         }
+        self.take();
+        Ok(())
     }
 
     /// Whether the next token is this name.
@@ -109,23 +108,23 @@ impl<'a> Tokens<'a> {
 
     /// Takes this name.
     pub fn expect_word(&mut self, word: &[u8]) -> Result<(), Stop>
-        ensures { Reads (spec.expect_word_by spec.take_within word.now self.old) result self.new }
+        ensures { Reads (spec.expect_word word.now self.old) result self.new }
     {
-        if self.sees_word(word) {
-            self.take()
-        } else {
-            Err(Stop::Refused)
+        if !self.sees_word(word) {
+            return Err(Stop::Refused);
         }
+        self.take();
+        Ok(())
     }
 
     /// Takes a name.
     pub fn name(&mut self, alloc: Global) -> Result<Spelled, Stop>
-        ensures { Reads (spec.name_with spec.take_within self.old) result self.new }
+        ensures { Reads (spec.any_name self.old) result self.new }
     {
         match self.peek() {
             TokenKind::Name(name) => {
                 let name = name.copy(alloc)?;
-                self.take()?;
+                self.take();
                 Ok(name)
             }
             _ => Err(Stop::Refused),
@@ -134,23 +133,21 @@ impl<'a> Tokens<'a> {
 
     /// How many tokens are left.
     pub fn left(&self) -> usize
-        ensures count { result ≡ length self.now }
-        ensures some { 0 < result }
+        ensures { result ≡ length self.now }
     {
         self.list.len()
     }
 
     /// The tokens that are left.
     pub fn as_slice(&self) -> &'a [Token]
-        ensures all { result.now ≡ self.now }
-        ensures some { 0 < length result.now }
+        ensures { result.now ≡ self.now }
     {
         self.list
     }
 
     /// Takes so many tokens.
     pub fn skip(&mut self, count: usize)
-        requires { count < length self.old }
+        requires { count ≤ length self.old }
         ensures { self.new ≡ drop count self.old }
     {
         self.list = &self.list[count..];

@@ -1,10 +1,10 @@
-// Types, by one token of sight.
+// Types, with one token of lookahead.
 
 ghost use Rattle.std.specs.Prelude.{[], ◌∷◌, ◌++◌, ◌≡◌, ◌≤◌};
 ghost use Rattle.ti_syntax.specs.Trees.Views.{grid_of, type_of};
-ghost use Rattle.ti_parse_expr.specs.Input.{Reads, ReadsAs, take_within};
-ghost use Rattle.ti_parse_expr.specs.Types as spec;
-ghost use Rattle.ti_parse_expr.specs.Seen.{grids_of, qualifiers_of};
+ghost use Rattle.ti_parse_expr.specs.Mirrors.Input.{Reads, ReadsAs};
+ghost use Rattle.ti_parse_expr.specs.Mirrors.Types as spec;
+ghost use Rattle.ti_parse_expr.specs.Mirrors.Seen.{grids_of, qualifiers_of};
 
 use crate::operators::qualifier_of;
 use crate::stop::Stop;
@@ -26,11 +26,11 @@ fn dim_of(n: i32) -> Option<u8>
 
 /// Takes the next token, which is a number, if it is one of dimensions.
 fn dimension_if(tokens: &mut Tokens<'_>, dim: Option<u8>) -> Result<u8, Stop>
-    ensures { Reads (spec.dimension_if take_within dim tokens.old) result tokens.new }
+    ensures { Reads (spec.dimension_if dim tokens.old) result tokens.new }
 {
     match dim {
         Some(dim) => {
-            tokens.take()?;
+            tokens.take();
             Ok(dim)
         }
         None => Err(Stop::Refused),
@@ -38,7 +38,7 @@ fn dimension_if(tokens: &mut Tokens<'_>, dim: Option<u8>) -> Result<u8, Stop>
 }
 
 fn dimension(tokens: &mut Tokens<'_>) -> Result<u8, Stop>
-    ensures { Reads (spec.dimension take_within tokens.old) result tokens.new }
+    ensures { Reads (spec.dimension tokens.old) result tokens.new }
 {
     match tokens.peek() {
         TokenKind::Int(n) => dimension_if(tokens, dim_of(*n)),
@@ -47,9 +47,9 @@ fn dimension(tokens: &mut Tokens<'_>) -> Result<u8, Stop>
 }
 
 /// `<` n `>`
-#[tactic(auto, unfolding(crate::specs::Types::arity))]
+#[tactic(auto, unfolding(crate::specs::Mirrors::Types::arity))]
 pub fn arity(tokens: &mut Tokens<'_>) -> Result<u8, Stop>
-    ensures { Reads (spec.arity take_within tokens.old) result tokens.new }
+    ensures { Reads (spec.arity tokens.old) result tokens.new }
 {
     tokens.expect(TokenKind::Less)?;
     let dim = dimension(tokens)?;
@@ -58,35 +58,35 @@ pub fn arity(tokens: &mut Tokens<'_>) -> Result<u8, Stop>
 }
 
 /// What the type of a field begins with.
-#[tactic(auto, unfolding(crate::specs::Types::base))]
+#[tactic(auto, unfolding(crate::specs::Mirrors::Types::base))]
 pub fn base(alloc: Global, tokens: &mut Tokens<'_>) -> Result<Base, Stop>
-    ensures { Reads (spec.base take_within tokens.old) result tokens.new }
+    ensures { Reads (spec.base tokens.old) result tokens.new }
 {
     let place = tokens.place();
     match tokens.peek() {
         TokenKind::KeywordInt => {
-            tokens.take()?;
+            tokens.take();
             Ok(Base::Int(place))
         }
         TokenKind::KeywordLong => {
-            tokens.take()?;
+            tokens.take();
             Ok(Base::Long(place))
         }
         TokenKind::KeywordBoolean => {
-            tokens.take()?;
+            tokens.take();
             Ok(Base::Boolean(place))
         }
         TokenKind::KeywordPoint => {
-            tokens.take()?;
+            tokens.take();
             Ok(Base::Point(place, arity(tokens)?))
         }
         TokenKind::KeywordRectDomain => {
-            tokens.take()?;
+            tokens.take();
             Ok(Base::RectDomain(place, arity(tokens)?))
         }
         TokenKind::Name(name) => {
             let name = name.copy(alloc)?;
-            tokens.take()?;
+            tokens.take();
             Ok(Base::Named(place, name))
         }
         _ => Err(Stop::Refused),
@@ -94,13 +94,13 @@ pub fn base(alloc: Global, tokens: &mut Tokens<'_>) -> Result<Base, Stop>
 }
 
 /// As many qualifiers as there are.
-#[tactic(auto, unfolding(crate::specs::Types::qualifiers))]
+#[tactic(auto, unfolding(crate::specs::Mirrors::Types::qualifiers))]
 pub fn qualifiers(
     alloc: Global,
     tokens: &mut Tokens<'_>,
     turns: usize,
 ) -> Result<Vec<Qualifier>, Stop>
-    ensures { ReadsAs qualifiers_of (spec.qualifiers take_within turns [] tokens.old) result tokens.new }
+    ensures { ReadsAs qualifiers_of (spec.qualifiers turns [] tokens.old) result tokens.new }
 {
     let mut found = Vec::new(alloc);
     for _turn in 0..turns {
@@ -108,7 +108,7 @@ pub fn qualifiers(
             return Ok(found);
         };
         let place = tokens.place();
-        tokens.take()?;
+        tokens.take();
         found.push(Qualifier { word, place })?;
     }
     Err(Stop::Spent)
@@ -116,7 +116,7 @@ pub fn qualifiers(
 
 /// How many dimensions a grid has.
 fn grid_dimension(tokens: &mut Tokens<'_>) -> Result<u8, Stop>
-    ensures { Reads (spec.grid_dimension take_within tokens.old) result tokens.new }
+    ensures { Reads (spec.grid_dimension tokens.old) result tokens.new }
 {
     match tokens.peek() {
         TokenKind::Dim(n) => dimension_if(tokens, dim_of(i32::from(*n))),
@@ -125,9 +125,9 @@ fn grid_dimension(tokens: &mut Tokens<'_>) -> Result<u8, Stop>
 }
 
 /// The brackets of a grid after the opening one, and what qualifies the grid.
-#[tactic(auto, unfolding(crate::specs::Types::grid))]
+#[tactic(auto, unfolding(crate::specs::Mirrors::Types::grid))]
 pub fn grid(alloc: Global, tokens: &mut Tokens<'_>, turns: usize) -> Result<Brackets, Stop>
-    ensures { ReadsAs grid_of (spec.grid take_within turns tokens.old) result tokens.new }
+    ensures { ReadsAs grid_of (spec.grid turns tokens.old) result tokens.new }
 {
     let dim = grid_dimension(tokens)?;
     tokens.expect(TokenKind::RightBracket)?;
@@ -136,7 +136,7 @@ pub fn grid(alloc: Global, tokens: &mut Tokens<'_>, turns: usize) -> Result<Brac
 }
 
 /// At most so many more brackets of grids.
-#[tactic(auto, unfolding(crate::specs::Types::grids))]
+#[tactic(auto, unfolding(crate::specs::Mirrors::Types::grids))]
 pub fn grids(
     alloc: Global,
     tokens: &mut Tokens<'_>,
@@ -144,28 +144,28 @@ pub fn grids(
     room: usize,
     found: Vec<Brackets>,
 ) -> Result<Vec<Brackets>, Stop>
-    ensures { ReadsAs grids_of (spec.grids take_within turns room (grids_of found) tokens.old) result tokens.new }
+    ensures { ReadsAs grids_of (spec.grids turns room (grids_of found) tokens.old) result tokens.new }
 {
     let mut found = found;
     for _turn in 0..room {
         if !tokens.sees(TokenKind::LeftBracket) {
             return Ok(found);
         }
-        tokens.take()?;
+        tokens.take();
         found.push(grid(alloc, tokens, turns)?)?;
     }
     Ok(found)
 }
 
 /// The type of a field, after what it begins with.
-#[tactic(auto, unfolding(crate::specs::Types::field_type))]
+#[tactic(auto, unfolding(crate::specs::Mirrors::Types::field_type))]
 pub fn field_type(
     alloc: Global,
     tokens: &mut Tokens<'_>,
     turns: usize,
     base: Base,
 ) -> Result<TypeName, Stop>
-    ensures { ReadsAs type_of (spec.field_type take_within turns base tokens.old) result tokens.new }
+    ensures { ReadsAs type_of (spec.field_type turns base tokens.old) result tokens.new }
 {
     let qualifiers = qualifiers(alloc, tokens, turns)?;
     let grids = grids(alloc, tokens, turns, 3, Vec::new(alloc))?;

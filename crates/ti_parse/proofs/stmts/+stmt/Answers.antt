@@ -1,21 +1,21 @@
 use Rattle.std.proofs.Common.{rules, arith, ◌≡◌, ◌∙◌, ◌-◌, ◌<◌, ℕ, zero, suc, true, false, List, refl}
 use Rattle.std.proofs.lemmas.Grind.{common_steps}
 use Rattle.ti_syntax.specs.declared.token.Token.{Token}
-use Rattle.ti_parse_expr.specs.Input.{and_then, kind, place, take_within}
+use Rattle.ti_parse_expr.specs.Mirrors.Input.{kind, next, place}
 use Rattle.ti_parse_expr.proofs.Turns.{deeper}
-use Rattle.ti_parse.specs.Way.{careful}
-use Rattle.ti_parse.specs.Statements.{is_compound, compound, small, stmt}
+use Rattle.ti_parse.specs.Mirrors.Way.{plain}
+use Rattle.ti_parse.specs.Mirrors.Statements.{is_compound, compound, small, stmt}
 use Rattle.ti_parse.proofs.stmts.+stmt.Goals as goal
 
-small_at : (turns levels : ℕ) (l : List Token) → is_compound (kind l) ≡ false → stmt careful turns levels l ≡ small careful turns l
+small_at : (turns levels : ℕ) (l : List Token) → is_compound (kind l) ≡ false → stmt plain turns levels l ≡ small plain turns l
 unfolding stmt
 small_at turns zero l not = rw not refl
 small_at turns (suc n) l not = rw not refl
 
 compound_at : (turns levels : ℕ) (l : List Token) → 0 < levels → is_compound (kind l) ≡ true
-    → stmt careful turns levels l ≡ and_then (take_within l) (λ u. compound careful turns (stmt careful turns (levels - 1)) (place l) (kind l))
+    → stmt plain turns levels l ≡ compound plain turns (stmt plain turns (levels - 1)) (place l) (kind l) (next l)
 unfolding stmt
-compound_at turns levels l some is = deeper (λ n. stmt careful turns n l) levels some ∙ rw is refl
+compound_at turns levels l some is = deeper (λ n. stmt plain turns n l) levels some ∙ rw is refl
 
 pub returns-then-not-is_compound : goal.returns-then-not-is_compound
 returns-then-not-is_compound t c =

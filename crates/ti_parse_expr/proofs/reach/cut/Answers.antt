@@ -1,13 +1,10 @@
 use Rattle.std.proofs.Common.{sym, subst}
-use Rattle.ti_parse_expr.specs.Reach.{IsCut}
+use Rattle.ti_parse_expr.specs.Mirrors.Reach.{IsCut}
 use Rattle.ti_parse_expr.proofs.Weights.{front_is, cut_of, ending_some, first_cut}
 use Rattle.ti_parse_expr.proofs.reach.cut.Goals as goal
 
 pub returns-then-weight-gt-MOST_WEIGHT : goal.returns-then-weight-gt-MOST_WEIGHT
 returns-then-weight-gt-MOST_WEIGHT c = first_cut c.args.weight c.args.list.now c.requires c.if-weight-gt-MOST_WEIGHT.true
-
-pub front_of-requires-clause-some : goal.front_of-requires-clause-some
-front_of-requires-clause-some c = ending_some c.args.list.now c.requires
 
 pub returns : goal.returns
 returns c =

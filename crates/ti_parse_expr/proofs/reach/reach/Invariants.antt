@@ -1,5 +1,5 @@
 use Rattle.std.proofs.Common.{◌≡◌, ◌+◌, ◌-◌, ◌≤◌, length}
-use Rattle.ti_parse_expr.specs.Reach.{reach}
+use Rattle.ti_parse_expr.specs.Mirrors.Reach.{reach}
 use Rattle.ti_parse_expr.proofs.reach.reach.Given as goal
 
 abbrev pub invariant-loop-rest : goal.invariant-loop-rest

@@ -1,8 +1,7 @@
 use Rattle.std.proofs.Common.{◌≡◌, ◌-◌, []}
-use Rattle.ti_parse_expr.specs.Input.{take_within}
-use Rattle.ti_parse_expr.specs.Types.{qualifiers}
-use Rattle.ti_parse_expr.specs.Seen.{qualifiers_of}
+use Rattle.ti_parse_expr.specs.Mirrors.Types.{qualifiers}
+use Rattle.ti_parse_expr.specs.Mirrors.Seen.{qualifiers_of}
 use Rattle.ti_parse_expr.proofs.types.qualifiers.Given as goal
 
 abbrev pub invariant-loop-turn : goal.invariant-loop-turn
-invariant-loop-turn l = qualifiers take_within l.turns [] l.fn.tokens ≡ qualifiers take_within (l.turns - l._turn) (qualifiers_of l.found) l.tokens
+invariant-loop-turn l = qualifiers l.turns [] l.fn.tokens ≡ qualifiers (l.turns - l._turn) (qualifiers_of l.found) l.tokens

@@ -1,25 +1,25 @@
 use Rattle.std.proofs.Common.{rules, arith}
 use Rattle.std.proofs.lemmas.Grind.{common_steps}
-use Rattle.ti_parse.specs.Way.{careful}
-use Rattle.ti_parse.specs.Seen.{classes_of}
-use Rattle.ti_parse.specs.Classes.{classes}
+use Rattle.ti_parse.specs.Mirrors.Way.{plain}
+use Rattle.ti_parse.specs.Mirrors.Seen.{classes_of}
+use Rattle.ti_parse.specs.Mirrors.Classes.{classes}
 use Rattle.ti_parse_expr.proofs.Turns.{one_more}
 use Rattle.ti_parse.proofs.reader.Reader.classes.Goals as goal
 
 pub loop-turn-preserved : goal.loop-turn-preserved
 unfolding classes
 loop-turn-preserved c =
-    let e = one_more (λ n. classes careful c.args.self.turns n (classes_of c.loop-turn.found) c.loop-turn.tokens) _ c.loop-turn._turn c.loop-turn-test.true c.loop-turn.invariant in
+    let e = one_more (λ n. classes plain c.args.self.turns n (classes_of c.loop-turn.found) c.loop-turn.tokens) _ c.loop-turn._turn c.loop-turn-test.true c.loop-turn.invariant in
     first_of (search rules, grind (arith, common_steps))
 
 pub returns-then-sees : goal.returns-then-sees
 unfolding classes
 returns-then-sees c =
-    let e = one_more (λ n. classes careful c.args.self.turns n (classes_of c.loop-turn.found) c.loop-turn.tokens) _ c.loop-turn._turn c.loop-turn-test.true c.loop-turn.invariant in
+    let e = one_more (λ n. classes plain c.args.self.turns n (classes_of c.loop-turn.found) c.loop-turn.tokens) _ c.loop-turn._turn c.loop-turn-test.true c.loop-turn.invariant in
     first_of (search rules, grind (arith, common_steps))
 
 pub returns-in_err-class : goal.returns-in_err-class
 unfolding classes
 returns-in_err-class c =
-    let e = one_more (λ n. classes careful c.args.self.turns n (classes_of c.loop-turn.found) c.loop-turn.tokens) _ c.loop-turn._turn c.loop-turn-test.true c.loop-turn.invariant in
+    let e = one_more (λ n. classes plain c.args.self.turns n (classes_of c.loop-turn.found) c.loop-turn.tokens) _ c.loop-turn._turn c.loop-turn-test.true c.loop-turn.invariant in
     first_of (search rules, grind (arith, common_steps))

@@ -1,37 +1,31 @@
 use Rattle.std.proofs.Common.{rules, arith}
 use Rattle.std.proofs.lemmas.Grind.{common_steps}
 use Rattle.ti_syntax.specs.Trees.Views.{ranges_of}
-use Rattle.ti_parse.specs.Way.{careful}
-use Rattle.ti_parse.specs.Parts.{more_ranges}
+use Rattle.ti_parse.specs.Mirrors.Way.{plain}
+use Rattle.ti_parse.specs.Mirrors.Parts.{more_ranges}
 use Rattle.ti_parse_expr.proofs.Turns.{one_more}
 use Rattle.ti_parse.proofs.reader.Reader.more_ranges.Goals as goal
 
 pub loop-turn-preserved : goal.loop-turn-preserved
 unfolding more_ranges
 loop-turn-preserved c =
-    let e = one_more (λ n. more_ranges careful c.args.self.turns n (ranges_of c.loop-turn.found) c.loop-turn.tokens) _ c.loop-turn._turn c.loop-turn-test.true c.loop-turn.invariant in
+    let e = one_more (λ n. more_ranges plain c.args.self.turns n (ranges_of c.loop-turn.found) c.loop-turn.tokens) _ c.loop-turn._turn c.loop-turn-test.true c.loop-turn.invariant in
     first_of (search rules, grind (arith, common_steps))
 
 pub returns-in_err-low : goal.returns-in_err-low
 unfolding more_ranges
 returns-in_err-low c =
-    let e = one_more (λ n. more_ranges careful c.args.self.turns n (ranges_of c.loop-turn.found) c.loop-turn.tokens) _ c.loop-turn._turn c.loop-turn-test.true c.loop-turn.invariant in
+    let e = one_more (λ n. more_ranges plain c.args.self.turns n (ranges_of c.loop-turn.found) c.loop-turn.tokens) _ c.loop-turn._turn c.loop-turn-test.true c.loop-turn.invariant in
     first_of (search rules, grind (arith, common_steps))
 
 pub returns-then-not-sees : goal.returns-then-not-sees
 unfolding more_ranges
 returns-then-not-sees c =
-    let e = one_more (λ n. more_ranges careful c.args.self.turns n (ranges_of c.loop-turn.found) c.loop-turn.tokens) _ c.loop-turn._turn c.loop-turn-test.true c.loop-turn.invariant in
-    first_of (search rules, grind (arith, common_steps))
-
-pub returns-in_err-take : goal.returns-in_err-take
-unfolding more_ranges
-returns-in_err-take c =
-    let e = one_more (λ n. more_ranges careful c.args.self.turns n (ranges_of c.loop-turn.found) c.loop-turn.tokens) _ c.loop-turn._turn c.loop-turn-test.true c.loop-turn.invariant in
+    let e = one_more (λ n. more_ranges plain c.args.self.turns n (ranges_of c.loop-turn.found) c.loop-turn.tokens) _ c.loop-turn._turn c.loop-turn-test.true c.loop-turn.invariant in
     first_of (search rules, grind (arith, common_steps))
 
 pub returns-in_err-range_from : goal.returns-in_err-range_from
 unfolding more_ranges
 returns-in_err-range_from c =
-    let e = one_more (λ n. more_ranges careful c.args.self.turns n (ranges_of c.loop-turn.found) c.loop-turn.tokens) _ c.loop-turn._turn c.loop-turn-test.true c.loop-turn.invariant in
+    let e = one_more (λ n. more_ranges plain c.args.self.turns n (ranges_of c.loop-turn.found) c.loop-turn.tokens) _ c.loop-turn._turn c.loop-turn-test.true c.loop-turn.invariant in
     first_of (search rules, grind (arith, common_steps))

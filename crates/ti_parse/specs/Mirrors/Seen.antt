@@ -1,0 +1,69 @@
+-- This file mirrors the code: nobody has to believe it, since the contracts of the public calls don't cite it.
+-- What clauses see of the values that are read.
+use Rattle.std.specs.Prelude.{◌≡◌, List, map, Option, Some, None, Result, Ok, Err}
+use Rattle.std.specs.declared.boxed.Box.{Box}
+use Rattle.std.specs.declared.vec.Vec.{Vec}
+use Rattle.std.specs.declared.alloc.Global.{Global}
+use Rattle.ti_syntax.specs.declared.token.Token.{Token}
+use Rattle.ti_syntax.specs.declared.token.TokenKind.{TokenKind}
+use Rattle.ti_syntax.specs.declared.token.TokenKind.TheVariants as k
+use Rattle.ti_syntax.specs.declared.tree.stmts.Stmt.{Stmt}
+use Rattle.ti_syntax.specs.declared.tree.classes.ModifierWord.{ModifierWord}
+use Rattle.ti_syntax.specs.declared.tree.classes.Modifier.{Modifier}
+use Rattle.ti_syntax.specs.declared.tree.classes.Param.{Param}
+use Rattle.ti_syntax.specs.declared.tree.classes.Member.{Member}
+use Rattle.ti_syntax.specs.declared.tree.classes.Class.{Class}
+use Rattle.ti_syntax.specs.Trees.Statements.{Stm, MaybeStm, NoStm, SomeStm}
+use Rattle.ti_syntax.specs.Trees.Classes.{ParamTree, MemberTree, TextTree}
+use Rattle.ti_syntax.specs.Trees.Views.{stm_of, type_of, param_of, member_of, class_of}
+use Rattle.ti_syntax.specs.Spelling.Operators.{modifier_of, class_modifier_of}
+use Rattle.ti_parse_expr.specs.declared.stop.Stop.{Stop}
+use Rattle.ti_parse_expr.specs.Mirrors.Input.{Outcome, Parser, Fails, ◌>>=◌, ◌>>◌, pure, expect}
+use Rattle.ti_parse_expr.specs.Mirrors.Seen.{operand_of}
+use Rattle.ti_parse.specs.declared.simple.Begun.{Begun}
+use Rattle.ti_parse.specs.declared.simple.Begun.TheVariants as begun
+use Rattle.ti_parse.specs.declared.words.Modified.{Modified}
+use Rattle.ti_parse.specs.declared.words.Modified.TheVariants as modified
+use Rattle.ti_parse.specs.Mirrors.Parts as parts
+
+-- the words in front of a class or a member
+abbrev pub word_of : Modified → TokenKind → Option ModifierWord
+word_of modified.Class = class_modifier_of
+word_of modified.Member = modifier_of
+
+-- what begins with a name
+abbrev pub begun_of : Begun → parts.Begun
+begun_of (begun.Declares ty) = parts.Declares (type_of ty)
+begun_of (begun.Starts o) = parts.Starts (operand_of o)
+
+abbrev pub boxed_stm : Box Stmt Global → Stm
+boxed_stm b = stm_of b.value
+
+-- a part of the head of a `for`
+abbrev pub maybe_stm : Option (Box Stmt Global) → MaybeStm
+maybe_stm None = NoStm
+maybe_stm (Some b) = SomeStm (boxed_stm b)
+
+-- ---- what stands in front of a semicolon
+
+abbrev pub before_semicolon : {A : Type 0} → Parser A → Parser A
+before_semicolon p = (do x ← p; expect k.Semicolon; pure x)
+
+-- this value is given back where a token is taken
+abbrev pub Keeps : {A : Type 0} → A → Outcome (Unit {0}) → Result A Stop → List Token → Type 0
+Keeps read out (Ok a) new = (a ≡ read) × (out ≡ Ok (tt, new))
+Keeps read out (Err e) new = Fails out e new
+
+-- ---- lists
+
+abbrev pub modifiers_of : Vec Modifier Global → List Modifier
+modifiers_of v = v.items
+
+abbrev pub param_list_of : Vec Param Global → List ParamTree
+param_list_of v = map param_of v.items
+
+abbrev pub members_of : Vec Member Global → List MemberTree
+members_of v = map member_of v.items
+
+abbrev pub classes_of : Vec Class Global → TextTree
+classes_of v = map class_of v.items

@@ -1,0 +1,141 @@
+-- This file mirrors the code: nobody has to believe it, since the contracts of the public calls don't cite it.
+-- Reading statements.
+use Rattle.std.specs.Prelude.{ℕ, zero, suc, Bool, true, false, if◌then◌else◌, List, [], ◌∷◌, ◌++◌, Ok, Err, codes}
+use Rattle.ti_base.specs.declared.place.Place.{Place}
+use Rattle.ti_syntax.specs.declared.token.TokenKind.{TokenKind}
+use Rattle.ti_syntax.specs.declared.token.TokenKind.TheVariants as k
+use Rattle.ti_syntax.specs.Trees.Expressions.{Exp}
+use Rattle.ti_syntax.specs.Trees.Statements.{Stm}
+use Rattle.ti_syntax.specs.Trees.Statements as s
+use Rattle.ti_syntax.specs.Spelling.Statements.{starts}
+use Rattle.ti_parse_expr.specs.declared.parse.Form.TheVariants as form
+use Rattle.ti_parse_expr.specs.Mirrors.Input.{Parser, Over, Spent, ◌>>=◌, ◌>>◌, pure, refuse, peek, here, kind, sees, expect, expect_word, any_name, take_token}
+use Rattle.ti_parse.specs.Mirrors.Way.{Way}
+use Rattle.ti_parse.specs.Mirrors.Parts.{Begun, Declares, Starts, begins_declaration, typed, declared, simple, begun, print, barrier, break_out, continue_on, return_from, condition, first, optional, update}
+
+-- the tokens that compound statements begin with
+abbrev pub is_compound : TokenKind → Bool
+is_compound k.LeftBrace = true
+is_compound k.KeywordIf = true
+is_compound k.KeywordWhile = true
+is_compound k.KeywordFor = true
+is_compound k.KeywordForeach = true
+is_compound _ = false
+
+-- the next token is nested too deeply
+abbrev pub too_deep : {A : Type 0} → Parser A
+too_deep = λ i. Err (Over i)
+
+module _ (w : Way) (turns : ℕ) where
+  -- ---- the parts of compound statements, with a reader of the statements in them
+
+  module _ (stmt : Parser Stm) where
+    -- what began with a name
+    abbrev pub named_item : Begun → Parser Stm
+    named_item (Declares ty) = (do x ← declared w turns ty; expect k.Semicolon; pure x)
+    named_item (Starts o) = simple w turns o
+
+    abbrev pub item_by : TokenKind → Parser Stm
+    item_by (k.Name name) = (do at ← here; take_token; x ← begun w turns at name; named_item x)
+    item_by kind = if begins_declaration kind then (do ty ← typed w turns; x ← declared w turns ty; expect k.Semicolon; pure x) else stmt
+
+    -- a declaration or a statement
+    unfoldable pub item : Parser Stm
+    item = peek >>= item_by
+
+    -- as many as there are before a `}`, in at most so many turns
+    unfoldable pub items : ℕ → List Stm → Parser (List Stm)
+    items zero found = λ i. Err Spent
+    items (suc n) found = do
+      is_end ← (λ i. Ok (sees k.RightBrace i, i))
+      if is_end then pure found else (do x ← item; items n (found ++ x ∷ []))
+
+    -- after `{`
+    unfoldable pub block : Parser Stm
+    block = do
+      xs ← items turns []
+      expect k.RightBrace
+      pure (s.block xs)
+
+    -- an `if` after its first statement
+    abbrev pub conditional_behind : Place → Exp → Stm → Parser Stm
+    conditional_behind at c x = do
+      has_else ← (λ i. Ok (sees k.KeywordElse i, i))
+      if has_else then (do take_token; y ← stmt; pure (s.IfElse at c x y)) else pure (s.If at c x)
+
+    -- after `if`
+    unfoldable pub conditional : Place → Parser Stm
+    conditional at = do
+      c ← condition w turns
+      x ← stmt
+      conditional_behind at c x
+
+    -- after `while`
+    unfoldable pub while_loop : Place → Parser Stm
+    while_loop at = do
+      c ← condition w turns
+      x ← stmt
+      pure (s.While at c x)
+
+    -- after `for`
+    unfoldable pub for_loop : Place → Parser Stm
+    for_loop at = do
+      expect k.LeftParen
+      begin ← first w turns
+      expect k.Semicolon
+      c ← optional w turns
+      expect k.Semicolon
+      change ← update w turns
+      expect k.RightParen
+      x ← stmt
+      pure (s.For at begin c change x)
+
+    -- after `foreach`
+    unfoldable pub foreach_loop : Place → Parser Stm
+    foreach_loop at = do
+      expect k.LeftParen
+      name_at ← here
+      name ← any_name
+      expect_word (codes "in")
+      domain ← w.full form.Whole
+      expect k.RightParen
+      x ← stmt
+      pure (s.Foreach at name_at name domain x)
+
+    -- after the first token of a compound statement
+    abbrev pub compound : Place → TokenKind → Parser Stm
+    compound at k.LeftBrace = block
+    compound at k.KeywordIf = conditional at
+    compound at k.KeywordWhile = while_loop at
+    compound at k.KeywordFor = for_loop at
+    compound at _ = foreach_loop at
+
+  -- ---- statements
+
+  -- a statement that isn't compound
+  abbrev pub small_by : TokenKind → Parser Stm
+  small_by k.Semicolon = take_token >> pure s.Empty
+  small_by k.KeywordPrintln = print w turns
+  small_by k.KeywordSystem = print w turns
+  small_by k.KeywordTi = take_token >> barrier w turns
+  small_by k.KeywordBreak = break_out w turns
+  small_by k.KeywordContinue = continue_on w turns
+  small_by k.KeywordReturn = return_from w turns
+  small_by kind = if starts kind then w.operand >>= simple w turns else refuse
+
+  unfoldable pub small : Parser Stm
+  small = peek >>= small_by
+
+  -- a statement where so many levels of compound ones may still begin
+  unfoldable pub stmt : ℕ → Parser Stm
+  stmt zero = do
+    is_deep ← (λ i. Ok (is_compound (kind i), i))
+    if is_deep then too_deep else small
+  stmt (suc n) = do
+    begin ← peek
+    at ← here
+    if is_compound begin then take_token >> compound (stmt n) at begin else small
+
+  -- the items of a method
+  abbrev pub body : Parser (List Stm)
+  body = items (stmt w.levels) turns []

@@ -1,8 +1,0 @@
-use Rattle.std.proofs.Common.{◌≡◌, ◌-◌, []}
-use Rattle.ti_syntax.specs.Trees.Views.{exps_of}
-use Rattle.ti_parse_expr.specs.Input.{take_within}
-use Rattle.ti_parse_expr.specs.Expr.{expr, more_args}
-use Rattle.ti_parse_expr.proofs.expr.Grammar.more_args.Given as goal
-
-abbrev pub invariant-loop-turn : goal.invariant-loop-turn
-invariant-loop-turn g l = more_args take_within l.self.turns (expr take_within l.self.turns) l.self.turns [] l.fn.tokens ≡ more_args take_within l.self.turns (expr take_within l.self.turns) (l._turn-end - l._turn) (exps_of l.found) l.tokens

@@ -1,8 +1,0 @@
-use Rattle.std.proofs.Common.{◌≡◌, ◌-◌}
-use Rattle.ti_syntax.specs.Trees.Views.{exps_of}
-use Rattle.ti_parse_expr.specs.Input.{take_within}
-use Rattle.ti_parse_expr.specs.Expr.{expr, more_parts}
-use Rattle.ti_parse_expr.proofs.expr.Grammar.more_parts.Given as goal
-
-abbrev pub invariant-loop-turn : goal.invariant-loop-turn
-invariant-loop-turn g l = more_parts take_within l.self.turns (expr take_within l.self.turns) l.room (exps_of l.fn.found) l.fn.tokens ≡ more_parts take_within l.self.turns (expr take_within l.self.turns) (l.room - l._turn) (exps_of l.found) l.tokens

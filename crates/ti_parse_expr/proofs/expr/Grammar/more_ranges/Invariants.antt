@@ -1,8 +1,0 @@
-use Rattle.std.proofs.Common.{◌≡◌, ◌-◌}
-use Rattle.ti_syntax.specs.Trees.Views.{ranges_of}
-use Rattle.ti_parse_expr.specs.Input.{take_within}
-use Rattle.ti_parse_expr.specs.Expr.{expr, more_ranges}
-use Rattle.ti_parse_expr.proofs.expr.Grammar.more_ranges.Given as goal
-
-abbrev pub invariant-loop-turn : goal.invariant-loop-turn
-invariant-loop-turn g l = more_ranges take_within l.self.turns (expr take_within l.self.turns) l.room (ranges_of l.fn.found) l.fn.tokens ≡ more_ranges take_within l.self.turns (expr take_within l.self.turns) (l.room - l._turn) (ranges_of l.found) l.tokens

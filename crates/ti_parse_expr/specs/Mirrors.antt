@@ -1,0 +1,9 @@
+-- What the code reads, function by function. Nobody has to believe it: the contracts of the public calls cite `Answers` alone.
+pub mod Input
+pub mod Seen
+pub mod Types
+pub mod Exprs
+pub mod Reach
+pub mod Full
+pub mod ByFront
+pub mod Nests

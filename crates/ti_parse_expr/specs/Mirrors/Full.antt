@@ -1,0 +1,104 @@
+-- This file mirrors the code: nobody has to believe it, since the contracts of the public calls don't cite it.
+-- Reading a full expression within a limit on weights: as without a limit, but that the first token that weighs too much is
+-- too deep.
+use Rattle.std.specs.Prelude.{ℕ, suc, ◌+◌, ◌-◌, Bool, false, ◌&&◌, nat_lt, if◌then◌else◌, List, [], ◌∷◌, length, take, drop, Ok, Err}
+use Rattle.ti_base.specs.declared.place.Place.{Place}
+use Rattle.ti_syntax.specs.declared.token.Token.{Token}
+use Rattle.ti_syntax.specs.Trees.Expressions.{Exp}
+use Rattle.ti_syntax.specs.Spelling.Loads.{Load, Free, Level, Weight, weights_behind}
+use Rattle.ti_syntax.specs.Spelling.Weights.{weigh}
+use Rattle.ti_parse_expr.specs.declared.parse.Form.{Form}
+use Rattle.ti_parse_expr.specs.Mirrors.Input.{At, Over, Spent, Outcome, Parser, next}
+use Rattle.ti_parse_expr.specs.Mirrors.Reach.{reach}
+use Rattle.ti_parse_expr.specs.Mirrors.Exprs.{Operand, operand, expr, phrase, behind_name, behind_bracket}
+use Rattle.ti_syntax.specs.Spelling.{most_levels, most_weight}
+
+-- the highest level and the greatest weight of a token that is read
+pub record Limits : Type 0 where
+  pub level : ℕ
+  pub weight : ℕ
+
+-- those of the language
+abbrev pub usual : Limits
+usual = record { level = most_levels; weight = most_weight }
+
+-- whether a load is above its limit
+abbrev pub above : Limits → Load → Bool
+above limits Free = false
+above limits (Level n) = nat_lt limits.level n
+above limits (Weight n) = nat_lt limits.weight n
+
+abbrev pub is_above : Load → Bool
+is_above = above usual
+
+-- the outcome of reading a list that begins with tokens of these loads: at the first of them that is above its limit, or else this one
+abbrev pub limited_to : {A : Type 0} → Limits → List Load → List Token → Outcome A → Outcome A
+limited_to limits [] l out = out
+limited_to limits (x ∷ loads) l out = if above limits x then Err (Over l) else limited_to limits loads (next l) out
+
+abbrev pub limited : {A : Type 0} → List Load → List Token → Outcome A → Outcome A
+limited loads l out = limited_to usual loads l out
+
+-- what an outcome leaves
+abbrev pub rest_of : {A : Type 0} → Outcome A → List Token
+rest_of (Ok p) = p.1
+rest_of (Err (At r)) = r
+rest_of (Err (Over r)) = r
+rest_of (Err Spent) = []
+
+-- what was taken of the list
+abbrev pub taken : {A : Type 0} → List Token → Outcome A → List Token
+taken l out = take (length l - length (rest_of out)) l
+
+-- a reader within the limit, where the weight is counted on from a number
+abbrev pub light : {A : Type 0} → Limits → ℕ → Parser A → Parser A
+light limits weight p l = limited_to limits (weights_behind 0 weight (taken l (p l))) l (p l)
+
+-- ---- full expressions: an expression of a form; a Postfix; a Postfix behind its first name, and behind its first name and a `[`
+
+abbrev pub full_to : Limits → Form → Parser Exp
+full_to limits form l = light limits 0 (phrase (suc (length l)) form) l
+
+abbrev pub operand_to : Limits → Parser Operand
+operand_to limits l = light limits 0 (operand (suc (length l)) (expr (suc (length l)))) l
+
+abbrev pub behind_name_to : Limits → Place → List ℕ → Parser Operand
+behind_name_to limits at name l = light limits 0 (behind_name (suc (suc (length l))) at name) l
+
+abbrev pub behind_bracket_to : Limits → Place → Place → List ℕ → Parser Operand
+behind_bracket_to limits bracket_at at name l = light limits 1 (behind_bracket (suc (suc (length l))) bracket_at at name) l
+
+-- the same within the usual limits
+
+abbrev pub full : Form → Parser Exp
+full = full_to usual
+
+abbrev pub full_operand : Parser Operand
+full_operand = operand_to usual
+
+abbrev pub full_behind_name : Place → List ℕ → Parser Operand
+full_behind_name = behind_name_to usual
+
+abbrev pub full_behind_bracket : Place → Place → List ℕ → Parser Operand
+full_behind_bracket = behind_bracket_to usual
+
+-- ---- as the code reads: a front of the list
+
+-- the front up to and including the first token that weighs too much or stands in no expression
+abbrev pub front_of : ℕ → List Token → List Token
+front_of weight l = take (reach 0 (most_weight - weight) l) l
+
+-- whether reading a front left so many tokens of it, none, and its last token weighs too much
+abbrev pub passed : ℕ → List Token → ℕ → Bool
+passed weight front left = nat_lt left 1 && nat_lt most_weight (weight + weigh front)
+
+-- what the outcome for a front of the list is for the list
+abbrev pub widened : {A : Type 0} → ℕ → List Token → List Token → Outcome A → Outcome A
+widened weight l front (Ok p) = if passed weight front (length p.1) then Err (Over (drop (length front - 1) l)) else Ok (p.0, drop (length front - length p.1) l)
+widened weight l front (Err (At r)) = if passed weight front (length r) then Err (Over (drop (length front - 1) l)) else Err (At (drop (length front - length r) l))
+widened weight l front (Err (Over r)) = if passed weight front (length r) then Err (Over (drop (length front - 1) l)) else Err (Over (drop (length front - length r) l))
+widened weight l front (Err Spent) = Err Spent
+
+-- a reader of the front, given one turn more than the front has tokens
+abbrev pub within : {A : Type 0} → ℕ → (ℕ → Parser A) → Parser A
+within weight p l = let front = front_of weight l in widened weight l front (p (suc (length front)) front)

@@ -1,0 +1,114 @@
+-- This file mirrors the code: nobody has to believe it, since the contracts of the public calls don't cite it.
+-- What is read from, and the steps that every rule is made of.
+use Rattle.std.specs.Prelude.{◌≡◌, ℕ, Bool, false, if◌then◌else◌, List, [], ◌∷◌, Result, Ok, Err}
+use Rattle.std.specs.Str.{bytes_eq}
+use Rattle.ti_base.specs.declared.place.Place.{Place}
+use Rattle.ti_syntax.specs.declared.token.Token.{Token}
+use Rattle.ti_syntax.specs.declared.token.TokenKind.{TokenKind}
+use Rattle.ti_syntax.specs.declared.token.TokenKind.TheVariants as k
+use Rattle.ti_syntax.specs.Tokens.{same_kind}
+use Rattle.ti_parse_expr.specs.declared.stop.Stop.{Stop}
+use Rattle.ti_parse_expr.specs.declared.stop.Stop.TheVariants as stop
+
+-- ---- the next token, which past the end is the end
+
+abbrev pub kind : List Token → TokenKind
+kind [] = k.End
+kind (t ∷ ts) = t.kind
+
+abbrev pub place : List Token → Place
+place [] = record { line = 0; col = 0 }
+place (t ∷ ts) = t.place
+
+abbrev pub next : List Token → List Token
+next [] = []
+next (t ∷ ts) = ts
+
+-- ---- parsers
+
+-- why no tree was read: the list from the token that was refused; the list from the token that was too deep; or no turns were
+-- left
+pub data Halt : Type 0 where
+  At : List Token → Halt
+  Over : List Token → Halt
+  Spent : Halt
+
+abbrev pub Outcome : Type 0 → Type 0
+Outcome A = Result (A × List Token) Halt
+
+abbrev pub Parser : Type 0 → Type 0
+Parser A = List Token → Outcome A
+
+abbrev pub and_then : {A B : Type 0} → Outcome A → (A → Parser B) → Outcome B
+and_then (Ok p) f = f p.0 p.1
+and_then (Err e) f = Err e
+
+infixl 10 ◌>>=◌
+abbrev pub ◌>>=◌ : {A B : Type 0} → Parser A → (A → Parser B) → Parser B
+p >>= f = λ i. and_then (p i) f
+
+infixl 10 ◌>>◌
+abbrev pub ◌>>◌ : {A B : Type 0} → Parser A → Parser B → Parser B
+p >> q = p >>= (λ _. q)
+
+abbrev pub pure : {A : Type 0} → A → Parser A
+pure a = λ i. Ok (a, i)
+
+infixr 11 ◌<$>◌
+abbrev pub ◌<$>◌ : {A B : Type 0} → (A → B) → Parser A → Parser B
+f <$> p = p >>= (λ x. pure (f x))
+
+abbrev pub refuse : {A : Type 0} → Parser A
+refuse = λ i. Err (At i)
+
+abbrev pub peek : Parser TokenKind
+peek = λ i. Ok (kind i, i)
+
+abbrev pub here : Parser Place
+here = λ i. Ok (place i, i)
+
+-- ---- taking tokens
+
+abbrev pub take_token : Parser (Unit {0})
+take_token = λ i. Ok (tt, next i)
+
+abbrev pub sees : TokenKind → List Token → Bool
+sees wanted i = same_kind (kind i) wanted
+
+abbrev pub expect : TokenKind → Parser (Unit {0})
+expect wanted i = if sees wanted i then take_token i else Err (At i)
+
+-- whether it is this name
+abbrev pub spells : List ℕ → TokenKind → Bool
+spells word (k.Name name) = bytes_eq name word
+spells word _ = false
+
+abbrev pub sees_word : List ℕ → List Token → Bool
+sees_word word i = spells word (kind i)
+
+abbrev pub expect_word : List ℕ → Parser (Unit {0})
+expect_word word i = if sees_word word i then take_token i else Err (At i)
+
+abbrev pub named_by : TokenKind → Parser (List ℕ)
+named_by (k.Name name) = take_token >> pure name
+named_by _ = refuse
+
+abbrev pub any_name : Parser (List ℕ)
+any_name = peek >>= named_by
+
+-- ---- what a function that parses ensures: the parser's outcome, unless memory fails; at a refusal the refused token is next
+
+abbrev pub Fails : {A : Type 0} → Outcome A → Stop → List Token → Type 0
+Fails outcome stop.Memory new = Unit {0}
+Fails outcome stop.Refused new = outcome ≡ Err (At new)
+Fails outcome stop.TooDeep new = outcome ≡ Err (Over new)
+Fails outcome stop.Spent new = outcome ≡ Err Spent
+
+abbrev pub Reads : {A : Type 0} → Outcome A → Result A Stop → List Token → Type 0
+Reads outcome (Ok a) new = outcome ≡ Ok (a, new)
+Reads outcome (Err e) new = Fails outcome e new
+
+-- the same where clauses see the value otherwise
+abbrev pub ReadsAs : {A B : Type 0} → (A → B) → Outcome B → Result A Stop → List Token → Type 0
+ReadsAs view outcome (Ok a) new = outcome ≡ Ok (view a, new)
+ReadsAs view outcome (Err e) new = Fails outcome e new

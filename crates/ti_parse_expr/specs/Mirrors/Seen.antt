@@ -1,0 +1,29 @@
+-- This file mirrors the code: nobody has to believe it, since the contracts of the public calls don't cite it.
+-- What clauses see of the values that are read.
+use Rattle.std.specs.Prelude.{List, map}
+use Rattle.std.specs.declared.vec.Vec.{Vec}
+use Rattle.std.specs.declared.alloc.Global.{Global}
+use Rattle.ti_syntax.specs.declared.tree.types.Brackets.{Brackets}
+use Rattle.ti_syntax.specs.declared.tree.types.Qualifier.{Qualifier}
+use Rattle.ti_syntax.specs.Trees.Types.{GridTree}
+use Rattle.ti_syntax.specs.Trees.Expressions.{Exp}
+use Rattle.ti_syntax.specs.Trees.Views.{grid_of, exp_of}
+use Rattle.ti_syntax.specs.Spelling.Expressions as e
+use Rattle.ti_parse_expr.specs.declared.operand.Ending.{Ending}
+use Rattle.ti_parse_expr.specs.declared.operand.Ending.TheVariants as ending
+use Rattle.ti_parse_expr.specs.declared.operand.Operand.{Operand}
+
+abbrev pub grids_of : Vec Brackets Global → List GridTree
+grids_of v = map grid_of v.items
+
+abbrev pub qualifiers_of : Vec Qualifier Global → List Qualifier
+qualifiers_of v = v.items
+
+abbrev pub ending_of : Ending → e.Ending
+ending_of ending.Target = e.Target
+ending_of ending.Call = e.Call
+ending_of ending.Other = e.Other
+
+-- an operand as its tree and what it ends with
+abbrev pub operand_of : Operand → Exp × e.Ending
+operand_of o = (exp_of o.expr, ending_of o.ending)
