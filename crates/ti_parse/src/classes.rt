@@ -10,11 +10,11 @@ ghost use Rattle.ti_parse_expr.specs.Mirrors.Input.{ReadsAs};
 use crate::reader::Reader;
 use crate::words::{Modified, modifier_of};
 use ti_base::Place;
+use ti_parse_expr::{Stop, Tokens};
 use ti_syntax::tree::{
     Class, Field, Member, Method, Modifier, Param, Params, ResultType, TypeName,
 };
 use ti_syntax::{Spelled, TokenKind};
-use ti_parse_expr::{Stop, Tokens};
 
 impl Reader {
     // ---- methods

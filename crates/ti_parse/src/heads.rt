@@ -10,9 +10,9 @@ ghost use Rattle.ti_parse_expr.specs.Mirrors.Input.{ReadsAs};
 use crate::reader::Reader;
 use crate::simple::Begun;
 use crate::words::begins_declaration;
+use ti_parse_expr::{Stop, Tokens};
 use ti_syntax::TokenKind;
 use ti_syntax::tree::{Expr, Stmt};
-use ti_parse_expr::{Stop, Tokens};
 
 impl Reader {
     /// A condition with its parentheses.

@@ -9,11 +9,11 @@ ghost use Rattle.ti_parse_expr.specs.declared.parse.Form.TheVariants as form;
 
 use crate::reader::Reader;
 use ti_base::Place;
-use ti_syntax::tree::{Base, Dims, Expr, Init, Range, TypeName};
-use ti_syntax::{Spelled, TokenKind};
 use ti_parse_expr::full::full;
 use ti_parse_expr::types::{base, grids, qualifiers};
 use ti_parse_expr::{Form, Stop, Tokens};
+use ti_syntax::tree::{Base, Dims, Expr, Init, Range, TypeName};
+use ti_syntax::{Spelled, TokenKind};
 
 impl Reader {
     /// Any full expression.

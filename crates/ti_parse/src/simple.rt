@@ -13,12 +13,12 @@ ghost use Rattle.ti_parse_expr.specs.Mirrors.Seen.{operand_of};
 use crate::reader::Reader;
 use crate::words::{is_dim, starts, step_of, update_of};
 use ti_base::Place;
-use ti_syntax::tree::{Base, BinaryOperator, Expr, Printed, Stmt, TypeName};
-use ti_syntax::{Spelled, TokenKind};
 use ti_parse_expr::full::{full, full_behind_bracket, full_behind_name, full_operand};
 use ti_parse_expr::operators::qualifier_of;
 use ti_parse_expr::types::{field_type, grid, grids};
 use ti_parse_expr::{Ending, Form, Operand, Stop, Tokens};
+use ti_syntax::tree::{Base, BinaryOperator, Expr, Printed, Stmt, TypeName};
+use ti_syntax::{Spelled, TokenKind};
 
 /// What begins with a name.
 #[derive(Drop)]
@@ -68,12 +68,7 @@ impl Reader {
     }
 
     /// An assignment, after its `=`.
-    fn assigned(
-        self,
-        tokens: &mut Tokens<'_>,
-        place: Place,
-        target: Expr,
-    ) -> Result<Stmt, Stop>
+    fn assigned(self, tokens: &mut Tokens<'_>, place: Place, target: Expr) -> Result<Stmt, Stop>
         ensures { ReadsAs stm_of (spec.assigned plain self.turns place (exp_of target) tokens.old) result tokens.new }
     {
         let value = Box::new(self.alloc, self.initial(tokens)?)?;

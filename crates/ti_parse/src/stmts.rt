@@ -12,10 +12,10 @@ use crate::reader::Reader;
 use crate::simple::Begun;
 use crate::words::{begins_declaration, is_compound, starts};
 use ti_base::Place;
-use ti_syntax::TokenKind;
-use ti_syntax::tree::{Expr, Stmt};
 use ti_parse_expr::full::full_operand;
 use ti_parse_expr::{Stop, Tokens};
+use ti_syntax::TokenKind;
+use ti_syntax::tree::{Expr, Stmt};
 
 /// The most levels of compound statements.
 pub const MOST_LEVELS: u32 = 64;

@@ -15,10 +15,10 @@ ghost use Rattle.ti_parse_expr.specs.Mirrors.Input.{ReadsAs};
 use crate::reader::Reader;
 use std::alloc::Global;
 use ti_base::Place;
-use ti_syntax::{Token, TokenKind};
-use ti_syntax::tree::{Class, Tree};
 use ti_parse_expr::{ParseErr, Stop, Tokens};
 use ti_rules::{Refusal, Rule};
+use ti_syntax::tree::{Class, Tree};
+use ti_syntax::{Token, TokenKind};
 
 /// The classes up to the end, which nothing follows.
 #[tactic(auto, unfolding(crate::specs::Mirrors::Classes::text))]

@@ -8,10 +8,10 @@ ghost use Rattle.ti_parse_expr.specs.Mirrors.Input.{ReadsAs};
 
 use crate::reader::Reader;
 use crate::words::is_wide;
-use ti_syntax::TokenKind;
-use ti_syntax::tree::{Base, TypeName};
 use ti_parse_expr::types::{arity, base, field_type, qualifiers};
 use ti_parse_expr::{Stop, Tokens};
+use ti_syntax::TokenKind;
+use ti_syntax::tree::{Base, TypeName};
 
 impl Reader {
     /// A type that no field and no element has.

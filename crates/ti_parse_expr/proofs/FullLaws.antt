@@ -39,7 +39,6 @@ operand_reader = record {
   says = λ n l. as_said {m = suc n} (omega arith) (λ g y s. s) (λ _ _. tt) (sound.operand_says n (expr n) (expr_says n) l);
   near = λ t w v n m le. (readers_near t w v n m le).operand;
   enough = λ n m le. (readers_enough n m le).operand;
- 
   goes_on = λ l x s. postfixed_ends s;
 }
 
@@ -62,7 +61,6 @@ module _ (at : Place) (name : List ℕ) where
     says = behind_name_says;
     near = λ t w v n m le. (readers_near t w v n m le).behind_name at name;
     enough = λ n m le. (readers_enough n m le).behind_name at name;
-   
     goes_on = λ l x s. omega (arith, postfixed_ends s);
   }
 
@@ -87,7 +85,6 @@ module _ (bracket_at at : Place) (name : List ℕ) where
     says = behind_bracket_says;
     near = λ t w v n m le. (readers_near t w v n m le).behind_bracket bracket_at at name;
     enough = λ n m le. (readers_enough n m le).behind_bracket bracket_at at name;
-   
     goes_on = λ l x s. omega (arith, postfixed_ends s);
   }
 

@@ -17,8 +17,8 @@ use crate::stop::Stop;
 use crate::tokens::Tokens;
 use std::alloc::Global;
 use ti_base::Place;
-use ti_syntax::{Spelled, Token};
 use ti_syntax::tree::Expr;
+use ti_syntax::{Spelled, Token};
 
 /// Whether an answer says nothing of the tokens.
 fn is_final<T>(answer: &Result<T, Stop>) -> bool
@@ -74,7 +74,11 @@ pub fn full(alloc: Global, tokens: &mut Tokens<'_>, form: Form) -> Result<Expr, 
 pub fn full_operand(alloc: Global, tokens: &mut Tokens<'_>) -> Result<Operand, Stop>
     ensures { ReadsAs operand_of (spec.full_operand tokens.old) result tokens.new }
 {
-    within(tokens, 0, |front, turns| exprs::operand(alloc, front, turns))
+    within(
+        tokens,
+        0,
+        |front, turns| exprs::operand(alloc, front, turns),
+    )
 }
 
 /// A full Postfix, after its first name.

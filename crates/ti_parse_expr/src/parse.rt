@@ -18,9 +18,9 @@ use crate::stop::Stop;
 use crate::tokens::Tokens;
 use std::alloc::Global;
 use ti_base::Place;
-use ti_syntax::{Token, TokenKind};
-use ti_syntax::tree::Expr;
 use ti_rules::{Refusal, Rule};
+use ti_syntax::tree::Expr;
+use ti_syntax::{Token, TokenKind};
 
 /// Which part of the grammar an expression is.
 #[derive(Clone, Copy)]
