@@ -1,0 +1,6 @@
+use Rattle.std.specs.Int.{w64}
+use Rattle.ti_base.proofs.WholeLaws.{adds}
+use Rattle.ti_base.proofs.long_calls.long_add.Goals as goal
+
+pub returns : goal.returns
+returns c = adds w64 c.args.a c.args.b c.ranges.a c.ranges.b

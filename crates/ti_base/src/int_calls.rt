@@ -1,0 +1,71 @@
+// The arithmetic of `int`: 32 bits in two's complement.
+ghost use Rattle.std.specs.Prelude.{◌≡◌, ◌↔◌, pos, IfOk, IsErr};
+ghost use Rattle.std.specs.Int.{w32};
+ghost use Rattle.ti_base.specs.WholeNumbers as whole;
+
+use crate::whole::DivZero;
+
+/// `a + b` of two ints.
+pub fn int_add(a: i32, b: i32) -> i32
+    ensures { result ≡ whole.sum w32 a b }
+{
+    a.wrapping_add(b)
+}
+
+/// `a - b` of two ints.
+pub fn int_sub(a: i32, b: i32) -> i32
+    ensures { result ≡ whole.difference w32 a b }
+{
+    a.wrapping_sub(b)
+}
+
+/// `a * b` of two ints.
+pub fn int_mul(a: i32, b: i32) -> i32
+    ensures { result ≡ whole.product w32 a b }
+{
+    a.wrapping_mul(b)
+}
+
+/// `a / b` of two ints, toward 0; the least one divided by -1 is itself. A divisor of 0 is the error.
+pub fn int_div(a: i32, b: i32) -> Result<i32, DivZero>
+    ensures zero { IsErr result ↔ (b ≡ pos 0) }
+    ensures value { IfOk result (λ q. q ≡ whole.wrap w32 (whole.quotient a b)) }
+{
+    if b == 0 {
+        return Err(DivZero);
+    }
+    Ok(a.wrapping_div(b))
+}
+
+/// `a % b` of two ints, 0 or of the sign of `a`. A divisor of 0 is the error.
+pub fn int_rem(a: i32, b: i32) -> Result<i32, DivZero>
+    ensures zero { IsErr result ↔ (b ≡ pos 0) }
+    ensures value { IfOk result (λ r. r ≡ whole.remainder a b) }
+{
+    if b == 0 {
+        return Err(DivZero);
+    }
+    Ok(a.wrapping_rem(b))
+}
+
+/// `a << b` of an int, by the low 5 bits of `b`.
+pub fn int_shl(a: i32, b: i32) -> i32
+    ensures { result ≡ whole.shift_left w32 a b }
+{
+    a.wrapping_shl(b.cast_unsigned())
+}
+
+/// `a >> b` of an int, by the low 5 bits of `b`; the sign stays.
+pub fn int_shr(a: i32, b: i32) -> i32
+    ensures { result ≡ whole.shift_right w32 a b }
+{
+    a.wrapping_shr(b.cast_unsigned())
+}
+
+/// `a >>> b` of an int, by the low 5 bits of `b`; zeros come in.
+pub fn int_ushr(a: i32, b: i32) -> i32
+    ensures { result ≡ whole.shift_right_unsigned w32 a b }
+{
+    let bits = a.cast_unsigned();
+    bits.wrapping_shr(b.cast_unsigned()).cast_signed()
+}
