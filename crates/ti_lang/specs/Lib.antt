@@ -6,6 +6,7 @@ pub mod Lines
 pub mod Listings
 pub mod MainForm
 pub mod MainMethod
+pub mod Meaning
 pub mod Members
 pub mod NextStep
 pub mod Nodes
@@ -15,3 +16,4 @@ pub mod Program
 pub mod Programs
 pub mod Runs
 pub mod Scopes
+pub mod Typing

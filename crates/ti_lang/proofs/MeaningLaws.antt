@@ -1,0 +1,5 @@
+pub mod Falling
+pub mod Running
+pub mod Sizes
+pub mod Steps
+pub mod Total
