@@ -1,4 +1,5 @@
 pub mod Falling
+pub mod Forms
 pub mod Grids
 pub mod Limits
 pub mod Running

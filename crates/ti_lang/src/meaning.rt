@@ -3,3 +3,4 @@
 pub mod heap_laws;
 pub mod process_laws;
 pub mod run_laws;
+pub mod text_laws;
