@@ -13,16 +13,16 @@ use Rattle.ti_lang.specs.Program.Classes.{NumberedMethod, NumberedProgram}
 use Rattle.ti_lang.specs.Program.Scope.{this_of}
 use Rattle.ti_lang.specs.Typing.BuiltIn.{BuiltIn, Copy, Exchange, Delete}
 use Rattle.ti_lang.specs.Typing.TextTypes.{type_in_text}
-use Rattle.ti_lang.specs.Typing.Called.{method_behind, called_method, member_called}
+use Rattle.ti_lang.specs.Typing.Called.{method_behind, member_called}
 use Rattle.ti_lang.specs.Meaning.Held.{Held, truth_of}
-use Rattle.ti_lang.specs.Meaning.Asking.{Request, Reference, Asking, Got, Gives, Asks, Fails, followed, gives, guarded}
+use Rattle.ti_lang.specs.Meaning.Asking.{Reference, Asking, Got, Gives, Asks, Fails, followed, gives, guarded}
 use Rattle.ti_lang.specs.Meaning.Evaluation.{eval}
 use Rattle.ti_lang.specs.Meaning.Makers.{new_object, new_grid}
 use Rattle.ti_lang.specs.Meaning.Processes.{Variable, Receiver, Nowhere, Declared, Assigned, Updated, While, Foreach, Work, Do, End, Before, Behind, Receive, CopyAll, TakeAll}
 use Rattle.ti_lang.specs.Meaning.Scoping.{Env}
-use Rattle.ti_lang.specs.Meaning.Copies.{copies, copied, taken}
+use Rattle.ti_lang.specs.Meaning.Copies.{copies}
 use Rattle.ti_lang.specs.Meaning.Collectives.{broadcasts, exchanges, deletes}
-use Rattle.ti_lang.specs.Meaning.Calls.{Call, call_of, call_by, called, calling}
+use Rattle.ti_lang.specs.Meaning.Calls.{Call, call_of, called, calling}
 use Rattle.ti_lang.specs.Meaning.Moves.{Move, Goes, Turns, Breaks, Continues, Calls, Returns, Meets, Deletes, receives}
 use Rattle.ti_lang.specs.Meaning.Statements.{made_first, valued_or_called, initialized, member_alone, alone, printed, one_more, declared_as, maybe_do, returns, statement}
 use Rattle.ti_lang.specs.Meaning.Performing.{condition, performed}
@@ -117,7 +117,7 @@ module _ (b : ℕ) (k : ℕ) (some : 0 < k) where
   calling_falls env receiver c rest f = search (then_giving, f)
 
   broadcasts_falls : (env : Env) (receiver : Receiver) (at : Place) (x p : NumberedExp) (rest : List Answer) → Giving (Falls b k) (broadcasts env receiver at x p rest)
-  broadcasts_falls env receiver at x p rest = search (then_giving, goes_falls)
+  broadcasts_falls env receiver at x p rest = search then_giving
 
   exchanges_falls : (env : Env) (at : Place) (x : NumberedExp) (args : NumberedExps) (rest : List Answer) → Giving (Falls b k) (exchanges env at x args rest)
   exchanges_falls env at x args rest = search (then_giving, guarded_giving) depth 12

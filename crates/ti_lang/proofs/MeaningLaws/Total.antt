@@ -8,7 +8,7 @@ use Rattle.ti_lang.specs.Meaning.Held.{Held}
 use Rattle.ti_lang.specs.Meaning.Asking.{Got, Gives, Asks, Fails}
 use Rattle.ti_lang.specs.Program.Statements.{numbered_stms}
 use Rattle.ti_lang.specs.Meaning.Processes.{Variable, Receiver, Work, Do, End, Before, Behind, Receive, CopyAll, TakeAll, Frame, Wait, Process, frame_of}
-use Rattle.ti_lang.specs.Meaning.Scoping.{env_of, without}
+use Rattle.ti_lang.specs.Meaning.Scoping.{env_of}
 use Rattle.ti_lang.specs.Meaning.Moves.{Move, Goes, Turns, Breaks, Continues, Calls, Returns, Meets, Deletes}
 use Rattle.ti_lang.specs.Meaning.Performing.{performed}
 use Rattle.ti_lang.specs.Meaning.Steps.{Step, To, At, Ends, Faults, going, handed, ticks, most_frames, valued, moves, works, runs, steps, step}
@@ -124,9 +124,10 @@ moves_fall : (b : ℕ) (p : Process) (f : Frame) (fs : List Frame) (w : Work) (l
 moves_fall b p f fs w left (Goes variables new) e z h x y m =
     goes_falls b p f fs variables (new ++ left) e (omega (arith, ap weigh z, weigh_append new left, h.0)) (fits_append b new left h.1 x) y m
 moves_fall b p f fs w left (Turns at variables new) e z h x y m =
-    ticks_fall b p at _ (λ t.
-    (tick_less p.setting.fuel p.spent b (weigh_all p.frames + length p.answers) (weigh (new ++ left) + weigh_all fs + 2 + 0) (ltb-true p.spent p.setting.fuel t) (omega (arith, ap weigh_all e, ap weigh z, weigh_append new left, h.0)),
-    ((fits_append b new left h.1 x, y), m)))
+    ticks_fall b p at _ (λ t. (
+      tick_less p.setting.fuel p.spent b (weigh_all p.frames + length p.answers) (weigh (new ++ left) + weigh_all fs + 2 + 0) (ltb-true p.spent p.setting.fuel t) (omega (arith, ap weigh_all e, ap weigh z, weigh_append new left, h.0)),
+      ((fits_append b new left h.1 x, y), m),
+    ))
 moves_fall b p f fs w left Breaks e z h x y m =
     jump_falls b p (has_mark left) _ _
     (goes_falls b p f fs (variables_at_mark left f.variables) (past_mark left) e (omega (arith, ap weigh z, past_weight left)) (past_fits b left x) y m)
@@ -136,9 +137,10 @@ moves_fall b p f fs w left Continues e z h x y m =
     (goes_falls b p f fs (variables_at_mark left f.variables) (from_mark left) e (omega (arith, ap weigh z, mark_weight left)) (mark_fits b left x) y m)
     (goes_falls b p f fs f.variables left e (omega (arith, ap weigh z)) x y m)
 moves_fall b p f fs w left (Calls at method this parameters receiver) e z h x y m =
-    ticks_fall b p at _ (λ t. if_falls b p (nat_lt (length (f ∷ fs)) most_frames) _ _
-    (tick_less p.setting.fuel p.spent b (weigh_all p.frames + length p.answers) (weigh (frame_of method this parameters receiver).left + (weigh left + weigh_all fs + 2) + 2 + 0) (ltb-true p.spent p.setting.fuel t) (omega (arith, ap weigh_all e, ap weigh z, weigh_before (numbered_stms method.body) [], h)),
-    ((fits_before b (numbered_stms method.body) [] (omega arith) tt, (x, y)), m))
+    ticks_fall b p at _ (λ t. if_falls b p (nat_lt (length (f ∷ fs)) most_frames) _ _ (
+      tick_less p.setting.fuel p.spent b (weigh_all p.frames + length p.answers) (weigh (frame_of method this parameters receiver).left + (weigh left + weigh_all fs + 2) + 2 + 0) (ltb-true p.spent p.setting.fuel t) (omega (arith, ap weigh_all e, ap weigh z, weigh_before (numbered_stms method.body) [], h)),
+      ((fits_before b (numbered_stms method.body) [] (omega arith) tt, (x, y)), m),
+    )
     tt)
 moves_fall b p f fs w left (Returns value) e z h x y m = returns_fall b p f fs left value e y m
 moves_fall b p f fs w left (Meets wait given behind) e z h x y m = ticks_fall b p wait.place _ (λ t. tt)

@@ -11,7 +11,6 @@ use Rattle.ti_lang.specs.Program.Types.{ValueType, Void}
 use Rattle.ti_lang.specs.Meaning.Held.{Held, Plain, nothing, thing_of}
 
 infixl 1 ◌>>=◌
-
 -- ---- requests
 
 -- what an action asks for: that it be done, a value of a type, or a new thing of a type

@@ -1,5 +1,5 @@
 -- The two operands of an operator, brought to one type, and what is made of them.
-use Rattle.std.specs.Prelude.{ℕ, ◌^◌, nat_lt, ℤ, pos, Bool, true, false, not, ◌&&◌, ◌||◌, ◌==◌, List, [], ◌∷◌, Option, Some, None}
+use Rattle.std.specs.Prelude.{ℕ, ◌^◌, nat_lt, ℤ, pos, Bool, true, false, ◌&&◌, ◌||◌, ◌==◌, List, [], ◌∷◌, Option, Some, None}
 use Rattle.std.specs.Int.{Width, w32, w64}
 use mir.Val.{bits}
 use Rattle.ti_base.specs.declared.point.Point.{Point}

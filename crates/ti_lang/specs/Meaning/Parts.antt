@@ -1,5 +1,5 @@
 -- Cells of things, and views.
-use Rattle.std.specs.Prelude.{Bool, true, false, ℕ, pred, ℤ, pos, if◌then◌else◌, int_le, List, slice_get, slice_index_or, Option, Some, None}
+use Rattle.std.specs.Prelude.{Bool, true, false, ℕ, pred, ℤ, pos, if◌then◌else◌, int_le, List, slice_get, slice_index_or, None}
 use Rattle.ti_base.specs.declared.place.Place.{Place}
 use Rattle.ti_base.specs.declared.point.Point.{Point}
 use Rattle.ti_base.specs.declared.value.Value.TheVariants as v
@@ -11,7 +11,7 @@ use Rattle.ti_lang.specs.Program.Types.{ValueType}
 use Rattle.ti_lang.specs.Program.Types as t
 use Rattle.ti_lang.specs.Typing.Kinds.{dim_of_type}
 use Rattle.ti_lang.specs.Meaning.Held.{Held, Plain, point_of}
-use Rattle.ti_lang.specs.Meaning.Asking.{ToBeDone, ValueOf, NewThing, Reference, request_through, Asking, ◌>>=◌, gives, found_or, asked, needed}
+use Rattle.ti_lang.specs.Meaning.Asking.{ValueOf, NewThing, Reference, request_through, Asking, ◌>>=◌, gives, found_or, asked, needed}
 use Rattle.ti_lang.specs.Meaning.Literals as literal
 
 -- ---- cells

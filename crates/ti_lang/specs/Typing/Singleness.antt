@@ -1,7 +1,7 @@
 -- Which expressions are single: their value is the same in all processes.
-use Rattle.std.specs.Prelude.{ℕ, Bool, true, false, not, ◌&&◌, Option, Some, None}
+use Rattle.std.specs.Prelude.{ℕ, Bool, true, false, not, ◌&&◌, Option, Some}
 use Rattle.std.specs.Option.{option_map_or}
-use Rattle.ti_lang.specs.Program.Types.{ValueType, Int, Long, Boolean, Pt, Rc, Declaration, Typed, Foreach, VariableUse}
+use Rattle.ti_lang.specs.Program.Types.{ValueType, Int, Long, Boolean, Pt, Rc, Declaration, Typed, Foreach}
 use Rattle.ti_lang.specs.Program.Expressions.{NumberedExp, NumberedExps, NumberedRange, NumberedRanges}
 use Rattle.ti_lang.specs.Program.Expressions as x
 use Rattle.ti_lang.specs.Program.Statements.{NumberedInit}
