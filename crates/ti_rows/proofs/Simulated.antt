@@ -16,7 +16,7 @@ use Rattle.ti_base.specs.declared.entry.Next.TheVariants as next
 use Rattle.ti_lang.specs.Meaning.Asking.{Request}
 use Rattle.ti_lang.specs.Meaning.Processes.{Setting, Process, begin}
 use Rattle.ti_lang.specs.Meaning.Steps.{Step, To, At, Ends, Faults, step}
-use Rattle.ti_lang.specs.Meaning.NextStep.{Reaches, here, later, shown, Settles, IsNext, After, none, more}
+use Rattle.ti_lang.specs.Meaning.NextStep.{Reaches, here, later, shown, IsNext, After, none, more}
 use Rattle.ti_lang.specs.Meaning.Histories.{is_end, is_fault, is_answered, entries_of, answers_of, arrivals, departures, has_end, has_fault, history_of}
 use Rattle.ti_lang.specs.Meaning.HeapAnswers.{Outcome, Answers, Impossible, heap_answer}
 use Rattle.ti_lang.specs.Meaning.HeapAnswers as heap
@@ -244,15 +244,14 @@ outcome_taking : (s : Setting) (es : List Entry) (x : Slot) (request : Request) 
     → (o : Outcome) → heap_answer s.program (history_of es) x.number request.action ≡ o → Taking_is s es x.number (by_outcome x request go o)
 outcome_taking s es x request go q reach stands w last ready (Answers a) k =
     let e : Entry = record { proc = x.number; place = request.place; act = request.action; answer = a } in
-    let own : (x.number == x.number) ≡ true = eq-eqb x.number x.number refl in
-    (
+    let own : (x.number == x.number) ≡ true = eq-eqb x.number x.number refl in (
       can s es x.number x _ e w ready (ap (entry_with x.number request.place request.action) k),
       refl,
       λ f. (
         refl,
         subst (λ rs. After (begin s x.number) rs (go a)) (sym (answers_own x.number es e own last)) (after_more w.slot.1 reach stands),
         end_own x.number es e own ∙ false_both (has_end x.number es) (is_end request.action || false) (w.slot.2 ∙ w.unended)
-        (false_both (is_end request.action) false (neither (is_end request.action) (is_fault request.action) last).0 refl) ∙ sym w.unended,
+            (false_both (is_end request.action) false (neither (is_end request.action) (is_fault request.action) last).0 refl) ∙ sym w.unended,
       ),
     )
 outcome_taking s es x request go q reach stands w last ready (heap.Faults kind) k =
@@ -300,12 +299,11 @@ step_taking s es x l g w u (Ends at) q reach stands =
     ends : (b : Bool) → (b || (true || false)) ≡ true
     ends true = refl
     ends false = refl
-step_taking s es x l g w u (Faults kind at) q reach stands =
-    (
-      can s es x.number x (next.Fault kind at) _ (record { within = l; goes_on = g; slot = w; unended = u; is_next = (q, record { reaches = reach; stands = ap shown stands }) }) tt refl,
-      refl,
-      λ f. cc,
-    )
+step_taking s es x l g w u (Faults kind at) q reach stands = (
+  can s es x.number x (next.Fault kind at) _ (record { within = l; goes_on = g; slot = w; unended = u; is_next = (q, record { reaches = reach; stands = ap shown stands }) }) tt refl,
+  refl,
+  λ f. cc,
+)
 
 taking : (s : Setting) (es : List Entry) (x : Slot) → x.number < s.procs → has_fault es ≡ false → IsSlot s es x.number x → Taking_is s es x.number (takes s es x)
 taking s es x l g w = by x.ended refl
@@ -344,15 +342,14 @@ Turn_is s es k Untold = Unit {0}
 
 put_turn : (s : Setting) (es : List Entry) (k : ℕ) (x : Slot) → k < s.procs → IsSlot s es k x → (t : Turn) → Turn_is s es (k + 1) t → Turn_is s es k (put_before x t)
 put_turn s es k x l w sim.None h = tt
-put_turn s es k x l w (Taken ys e) h =
-    (
-      h.0,
-      omega (arith, h.1),
-      h.2,
-      h.3,
-      h.4,
-      λ f. (l, slot_other s es e k x (beyond h.0 e.proc k h.1 h.3) w, h.5 f),
-    )
+put_turn s es k x l w (Taken ys e) h = (
+  h.0,
+  omega (arith, h.1),
+  h.2,
+  h.3,
+  h.4,
+  λ f. (l, slot_other s es e k x (beyond h.0 e.proc k h.1 h.3) w, h.5 f),
+)
   where
     beyond : (i j k : ℕ) → k + 1 ≤ i → j ≡ i → (j == k) ≡ false
     beyond i j k a b = by (j == k) refl

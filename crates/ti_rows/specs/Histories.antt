@@ -1,5 +1,5 @@
 -- The entries of two runs.
-use Rattle.std.specs.Prelude.{ℕ, ℤ, pos, List, [], ◌∷◌, Option, None, Some}
+use Rattle.std.specs.Prelude.{ℕ, ℤ, pos, List, [], ◌∷◌, None, Some}
 use Rattle.ti_base.specs.declared.place.Place.{Place}
 use Rattle.ti_base.specs.declared.point.Point.{Point}
 use Rattle.ti_base.specs.declared.point.Rect.{Rect}
@@ -26,6 +26,7 @@ thing i serial region = record { maker = i; serial = serial; owner = i; region =
 -- a point of one coordinate, and the domain from 0 to a number
 abbrev point_at : ℤ → Point
 point_at x = record { dim = 1; x1 = x; x2 = pos 0; x3 = pos 0 }
+
 abbrev range_to : ℤ → Rect
 range_to high = record { dim = 1; lo = point_at (pos 0); hi = point_at high; step = 1 ∷ 1 ∷ 1 ∷ [] }
 

@@ -1,6 +1,5 @@
 -- The run of the lowest-numbered process that can take an entry, as a plain and slow program.
 use Rattle.std.specs.Prelude.{ℕ, zero, suc, ◌+◌, nat_lt, ◌&&◌, ◌||◌, if◌then◌else◌, Bool, true, false, List, [], ◌∷◌, ◌++◌}
-use Rattle.ti_base.specs.declared.place.Place.{Place}
 use Rattle.ti_base.specs.declared.action.Action.{Action}
 use Rattle.ti_base.specs.declared.action.Action.TheVariants as act
 use Rattle.ti_base.specs.declared.entry.Answer.TheVariants.{Done}

@@ -18,20 +18,24 @@ pl line col = record { line = line; col = col }
 -- a type without `single`, and with it
 abbrev pub plain : ValueType → NumberedType
 plain type = record { type = type; is_single = false; qualifiers = []; grids = [] }
+
 abbrev pub single : ValueType → NumberedType
 single type = record { type = type; is_single = true; qualifiers = []; grids = [] }
 
 -- a variable of a number, where it is used: of a type, single or not, or of a foreach
 abbrev pub var : Place → ℕ → ValueType → NumberedExp
 var at number type = Variable at (record { number = number; declared = t.Typed false type })
+
 abbrev pub single_var : Place → ℕ → ValueType → NumberedExp
 single_var at number type = Variable at (record { number = number; declared = t.Typed true type })
+
 abbrev pub each_var : Place → ℕ → NumberedExp
 each_var at number = Variable at (record { number = number; declared = t.Foreach })
 
 -- expressions and statements in a node
 abbrev pub xs : List NumberedExp → NumberedExps
 xs l = numbered_exps l
+
 abbrev pub stms : List NumberedStm → NumberedStms
 stms l = numbered_stms l
 
@@ -40,6 +44,7 @@ stms l = numbered_stms l
 -- a class with fields, each of a type and a name
 abbrev pub class_of : List NumberedField → NumberedClass
 class_of fields = record { modifiers = []; fields = fields }
+
 abbrev pub field : ValueType → ℕ → NumberedField
 field type name = record { modifiers = []; ty = plain type; name = name }
 
@@ -55,10 +60,13 @@ static_word = record { word = word.Static; place = pl 1 1 } ∷ []
 abbrev pub method_of : List Modifier → Bool → ℕ → NumberedResult → ℕ → NumberedParams → List NumberedStm → Place → NumberedMethod
 method_of words is_single class result name params body end =
     record { class = class; modifiers = words; is_single = is_single; result = result; place = pl 1 1; name = name; params = params; body = body; end = end }
+
 abbrev pub instance_method : ℕ → NumberedResult → ℕ → NumberedParams → List NumberedStm → Place → NumberedMethod
 instance_method class result name params body end = method_of [] false class result name params body end
+
 abbrev pub static_method : ℕ → NumberedResult → ℕ → NumberedParams → List NumberedStm → Place → NumberedMethod
 static_method class result name params body end = method_of static_word false class result name params body end
+
 abbrev pub single_method : ℕ → NumberedResult → ℕ → NumberedParams → List NumberedStm → Place → NumberedMethod
 single_method class result name params body end = method_of static_word true class result name params body end
 

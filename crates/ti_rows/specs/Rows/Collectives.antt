@@ -1,14 +1,12 @@
 -- Programs of rows: barriers, broadcasts and exchanges.
-use Rattle.std.specs.Prelude.{pos, Bool, true, false, List, [], ◌∷◌, Option, None, Some, codes}
-use Rattle.ti_syntax.specs.declared.tree.exprs.UnaryOperator.TheVariants as un
+use Rattle.std.specs.Prelude.{pos, true, false, [], ◌∷◌, None, codes}
 use Rattle.ti_syntax.specs.declared.tree.exprs.BinaryOperator.TheVariants as op
-use Rattle.ti_syntax.specs.declared.tree.stmts.StepOperator.TheVariants.{Increment, Decrement}
 use Rattle.ti_lang.specs.Program.Types as t
 use Rattle.ti_lang.specs.Program.Expressions as e
 use Rattle.ti_lang.specs.Program.Statements as s
 use Rattle.ti_lang.specs.Program.Classes as c
 use Rattle.ti_lang.specs.Meaning.Processes.{Setting}
-use Rattle.ti_rows.specs.Texts.{pl, plain, single, var, single_var, each_var, xs, stms, class_of, field, param, instance_method, static_method, single_method, text, alone}
+use Rattle.ti_rows.specs.Texts.{pl, plain, single, var, single_var, xs, stms, class_of, field, single_method, text, alone}
 
 -- class Main { public static single void main(String[] args) { println(Ti.thisProc()); Ti.barrier(); println(Ti.numProcs()); } }
 abbrev pub barriers : Setting

@@ -1,14 +1,11 @@
 -- Programs of rows: points and domains.
-use Rattle.std.specs.Prelude.{pos, Bool, true, false, List, [], ◌∷◌, Option, None, Some, codes}
-use Rattle.ti_syntax.specs.declared.tree.exprs.UnaryOperator.TheVariants as un
+use Rattle.std.specs.Prelude.{pos, [], ◌∷◌}
 use Rattle.ti_syntax.specs.declared.tree.exprs.BinaryOperator.TheVariants as op
-use Rattle.ti_syntax.specs.declared.tree.stmts.StepOperator.TheVariants.{Increment, Decrement}
 use Rattle.ti_lang.specs.Program.Types as t
 use Rattle.ti_lang.specs.Program.Expressions as e
 use Rattle.ti_lang.specs.Program.Statements as s
-use Rattle.ti_lang.specs.Program.Classes as c
 use Rattle.ti_lang.specs.Meaning.Processes.{Setting}
-use Rattle.ti_rows.specs.Texts.{pl, plain, single, var, single_var, each_var, xs, stms, class_of, field, param, instance_method, static_method, single_method, text, alone}
+use Rattle.ti_rows.specs.Texts.{pl, plain, var, each_var, xs, alone}
 
 -- class Main { public static single void main(String[] args) { Point<2> p = [1,2]; Point<2> q = p + [3,4]; println(q); println(p < q); println(q - p); println(p == [1,2]); foreach (x in [p:q:[2,3]]) println(x); } }
 abbrev pub points : Setting
