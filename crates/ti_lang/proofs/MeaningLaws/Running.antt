@@ -1,6 +1,6 @@
 -- A process takes at most one entry; fronts of runs are runs; the entries of a run are answered.
-use Rattle.std.proofs.Common.{◌≡◌, ◌⊎◌, inl, inr, ℕ, Some, List, [], ◌∷◌, ◌++◌, refl, sym, ◌∙◌, ap, subst}
-use Rattle.std.proofs.lemmas.List.{reverse-append}
+use Rattle.std.proofs.Common.{◌≡◌, ◌⊎◌, inl, inr, ℕ, Some, List, [], ◌∷◌, ◌++◌, map, reverse, refl, sym, ◌∙◌, ap, subst}
+use Rattle.std.proofs.lemmas.List.{reverse-append, reverse-reverse, map-append}
 use Rattle.ti_base.specs.declared.place.Place.{Place}
 use Rattle.ti_base.specs.declared.action.Action.{Action}
 use Rattle.ti_base.specs.declared.entry.Answer.{Answer}
@@ -98,3 +98,54 @@ run_answered s es r.none = heap.none
 run_answered s all (r.more {es = es} {i = i} {e = e} run take z) =
     subst (λ x. IsAnswered s.program (history_of x)) (sym z)
     (subst (IsAnswered s.program) (sym (history_grows es e)) (heap.more (run_answered s es run) (said s es i take.next e take.entry)))
+
+-- ---- who takes the entries decides the run
+
+-- the process of an entry is the one that takes it
+taker_with : (i : ℕ) (at : Place) (a : Action) (o : Outcome) (e : Entry) → entry_with i at a o ≡ Some e → e.proc ≡ i
+taker_with i at a (Answers answer) e m = sym (ap (λ (x : Entry). x.proc) (some_entry _ e m))
+taker_with i at a (Faults kind) e m = sym (ap (λ (x : Entry). x.proc) (some_entry _ e m))
+taker_with i at a Impossible e m = cc
+
+taker_of : (s : Setting) (es : List Entry) (i : ℕ) (n : Next) (e : Entry) → entry_of s es i n ≡ Some e → e.proc ≡ i
+taker_of s es i (next.Act at a) e m = taker_with i at a (heap_answer s.program (history_of es) i a) e m
+taker_of s es i (next.End at) e m = sym (ap (λ (x : Entry). x.proc) (some_entry _ e m))
+taker_of s es i (next.Fault kind at) e m = sym (ap (λ (x : Entry). x.proc) (some_entry _ e m))
+
+pub taker : (s : Setting) (es : List Entry) (i : ℕ) (e : Entry) → CanTake s es i e → e.proc ≡ i
+taker s es i e take = taker_of s es i take.next e take.entry
+
+same_first : (x y : ℕ) (xs ys : List ℕ) → x ∷ xs ≡ y ∷ ys → x ≡ y
+same_first x y xs ys e = cc
+
+same_rest : (x y : ℕ) (xs ys : List ℕ) → x ∷ xs ≡ y ∷ ys → xs ≡ ys
+same_rest x y xs ys e = cc
+
+-- lists of numbers that end in one number
+last_same : (xs ys : List ℕ) (x y : ℕ) → xs ++ x ∷ [] ≡ ys ++ y ∷ [] → (xs ≡ ys) × (x ≡ y)
+last_same xs ys x y e =
+    let back : x ∷ reverse xs ≡ y ∷ reverse ys = sym (reverse-append xs (x ∷ [])) ∙ ap reverse e ∙ reverse-append ys (y ∷ []) in
+    (sym (reverse-reverse xs) ∙ ap reverse (same_rest x y _ _ back) ∙ reverse-reverse ys, same_first x y _ _ back)
+
+none_end : (xs : List ℕ) (x : ℕ) → [] ≡ xs ++ x ∷ [] → ⊥
+none_end [] x e = cc
+none_end (y ∷ xs) x e = cc
+
+-- the processes of the entries
+abbrev procs_of : List Entry → List ℕ
+procs_of es = map (λ (x : Entry). x.proc) es
+
+procs_more : (es : List Entry) (e : Entry) → procs_of (es ++ e ∷ []) ≡ procs_of es ++ e.proc ∷ []
+procs_more es e = map-append (λ (x : Entry). x.proc) es (e ∷ [])
+
+pub decided : (s : Setting) (es ds : List Entry) → IsRun s es → IsRun s ds → procs_of es ≡ procs_of ds → es ≡ ds
+decided s es ds r.none r.none h = refl
+decided s es ds r.none (r.more {es = b} {e = y} run take z) h = absurd (none_end (procs_of b) y.proc (h ∙ ap procs_of z ∙ procs_more b y))
+decided s es ds (r.more {es = a} {e = x} run take z) r.none h = absurd (none_end (procs_of a) x.proc (sym h ∙ ap procs_of z ∙ procs_more a x))
+decided s es ds (r.more {es = a} {i = i} {e = x} run take z) (r.more {es = b} {i = j} {e = y} ran took w) h =
+    let ends = last_same (procs_of a) (procs_of b) x.proc y.proc (sym (procs_more a x) ∙ ap procs_of (sym z) ∙ h ∙ ap procs_of w ∙ procs_more b y) in
+    let before : a ≡ b = decided s a b run ran ends.0 in
+    let who : j ≡ i = sym (taker s b j y took) ∙ sym ends.1 ∙ taker s a i x take in
+    let own : CanTake s a i y = subst (λ es. CanTake s es i y) (sym before) (subst (λ k. CanTake s b k y) who took) in
+    let last : x ≡ y = entry_same s a i x y take own in
+    z ∙ ap (λ es. es ++ x ∷ []) before ∙ ap (λ d. b ++ d ∷ []) last ∙ sym w

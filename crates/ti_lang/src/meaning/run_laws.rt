@@ -1,5 +1,5 @@
 // What holds of every run of every program.
-ghost use Rattle.std.specs.Prelude.{◌≡◌, ◌++◌, ℕ, List};
+ghost use Rattle.std.specs.Prelude.{◌≡◌, ◌++◌, ℕ, List, map};
 ghost use Rattle.ti_base.specs.declared.entry.Entry.{Entry};
 ghost use Rattle.ti_lang.specs.Program.Classes.{NumberedProgram};
 ghost use Rattle.ti_lang.specs.Meaning.Processes.{Setting, Process};
@@ -13,10 +13,16 @@ pub fn one_world()
     ensures { (s : Setting) (es : List Entry) (i : ℕ) (p q : Process) → World s es i p → World s es i q → p ≡ q }
 {}
 
-/// A process can take at most one entry, so the answer to its action is one alone, and who takes
-/// the next entry decides the run.
+/// A process can take at most one entry: the answer to its action is one alone.
 pub fn one_entry()
     ensures { (s : Setting) (es : List Entry) (i : ℕ) (d e : Entry) → CanTake s es i d → CanTake s es i e → d ≡ e }
+{}
+
+/// Who takes the entries decides the run: two runs of which the entries are those of the same
+/// processes, one by one, are equal.
+pub fn one_run()
+    ensures { (s : Setting) (es ds : List Entry) → IsRun s es → IsRun s ds
+        → map (λ (e : Entry). e.proc) es ≡ map (λ (e : Entry). e.proc) ds → es ≡ ds }
 {}
 
 /// Each front of a run is a run.
