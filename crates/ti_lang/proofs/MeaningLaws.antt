@@ -2,6 +2,7 @@ pub mod Falling
 pub mod Forms
 pub mod Grids
 pub mod Limits
+pub mod NewThings
 pub mod Requests
 pub mod Running
 pub mod Sizes

@@ -22,8 +22,9 @@ use Rattle.ti_lang.specs.Meaning.HeapAnswers.{Outcome, Answers, Impossible, heap
 use Rattle.ti_lang.specs.Meaning.HeapAnswers as heap
 use Rattle.ti_lang.specs.Meaning.Runs.{World, IsReady, entry_with, entry_of, CanTake, IsSolo}
 use Rattle.ti_lang.specs.Meaning.Runs as r
+use Rattle.ti_lang.proofs.MeaningLaws.Requests.{no_end_asked}
 use Rattle.ti_lang.proofs.MeaningLaws.Steps.{next_same, after_same}
-use Rattle.ti_rows.specs.Simulation.{settle_by, settle, most_silent, Slot, slots, have_arrived, is_ready, Taking, Waits, Takes, Unknown, by_outcome, by_request, is_last, by_step, takes, Turn, Taken, Untold, put_before, first_of, turn, run_by, run_from, solo}
+use Rattle.ti_rows.specs.Simulation.{settle_by, settle, most_silent, Slot, slots, have_arrived, is_ready, Taking, Waits, Takes, Unknown, by_outcome, by_request, by_step, takes, Turn, Taken, Untold, put_before, first_of, turn, run_by, run_from, solo}
 use Rattle.ti_rows.specs.Simulation as sim
 
 -- ---- silent steps
@@ -154,6 +155,10 @@ or_false false b k = k
 end_other : (i : ℕ) (es : List Entry) (e : Entry) → (e.proc == i) ≡ false → has_end i (es ++ e ∷ []) ≡ has_end i es
 end_other i es e k = end_more i es e ∙ or_false (has_end i es) (has_end i (e ∷ [])) (other_end e (e.proc == i) k)
 
+-- an end or a fault
+abbrev is_last : Action → Bool
+is_last a = is_end a || is_fault a
+
 -- of the process itself
 own_answer : (e : Entry) (t : Bool) → t ≡ true → (u : Bool) → u ≡ false → map (λ (x : Entry). x.answer) (cond t (cond (not u) (e ∷ []) []) []) ≡ e.answer ∷ []
 own_answer e true k true l = cc
@@ -267,18 +272,13 @@ request_taking s es x request go q reach stands w last true k =
 request_taking s es x request go q reach stands w last false k =
     λ e c. let u = is_ready_then s es x.number request.place request.action (taken_is s es x.number x _ e w c).0 in cc
 
-last_taking : (s : Setting) (es : List Entry) (x : Slot) (request : Request) (go : Answer → Process) (q : Process) → Reaches x.process q → step q ≡ At request go
-    → Stands s es x.number x (next.Act request.place request.action) → (t : Bool) → is_last request.action ≡ t
-    → Taking_is s es x.number (if t then Unknown else by_request s es x request go (is_ready s es x.number request.action))
-last_taking s es x request go q reach stands w true k = tt
-last_taking s es x request go q reach stands w false k =
-    request_taking s es x request go q reach stands w k (is_ready s es x.number request.action) refl
-
 step_taking : (s : Setting) (es : List Entry) (x : Slot) → x.number < s.procs → has_fault es ≡ false → IsSlot s es x.number x → x.ended ≡ false
     → (t : Step) (q : Process) → Reaches x.process q → step q ≡ t → Taking_is s es x.number (by_step s es x t)
 step_taking s es x l g w u (To p) q reach stands = tt
 step_taking s es x l g w u (At request go) q reach stands =
-    last_taking s es x request go q reach stands (record { within = l; goes_on = g; slot = w; unended = u; is_next = (q, record { reaches = reach; stands = ap shown stands }) }) (is_last request.action) refl
+    let end = no_end_asked q request go stands in
+    request_taking s es x request go q reach stands (record { within = l; goes_on = g; slot = w; unended = u; is_next = (q, record { reaches = reach; stands = ap shown stands }) })
+    (false_both (is_end request.action) (is_fault request.action) end.0 end.1) (is_ready s es x.number request.action) refl
 step_taking s es x l g w u (Ends at) q reach stands =
     let e : Entry = record { proc = x.number; place = at; act = act.End; answer = Done } in
     let own : (x.number == x.number) ≡ true = eq-eqb x.number x.number refl in

@@ -1,5 +1,5 @@
 -- The run of the lowest-numbered process that can take an entry, as a plain and slow program.
-use Rattle.std.specs.Prelude.{ℕ, zero, suc, ◌+◌, nat_lt, ◌&&◌, ◌||◌, if◌then◌else◌, Bool, true, false, List, [], ◌∷◌, ◌++◌}
+use Rattle.std.specs.Prelude.{ℕ, zero, suc, ◌+◌, nat_lt, ◌&&◌, if◌then◌else◌, Bool, true, false, List, [], ◌∷◌, ◌++◌}
 use Rattle.ti_base.specs.declared.action.Action.{Action}
 use Rattle.ti_base.specs.declared.action.Action.TheVariants as act
 use Rattle.ti_base.specs.declared.entry.Answer.TheVariants.{Done}
@@ -8,7 +8,7 @@ use Rattle.ti_base.specs.declared.entry.Entry.{Entry}
 use Rattle.ti_lang.specs.Meaning.Asking.{Request}
 use Rattle.ti_lang.specs.Meaning.Processes.{Setting, Process, begin}
 use Rattle.ti_lang.specs.Meaning.Steps.{Step, To, At, Ends, Faults, step}
-use Rattle.ti_lang.specs.Meaning.Histories.{is_end, is_fault, history_of, arrivals, departures}
+use Rattle.ti_lang.specs.Meaning.Histories.{is_fault, history_of, arrivals, departures}
 use Rattle.ti_lang.specs.Meaning.HeapAnswers.{Outcome, Answers, Impossible, heap_answer}
 use Rattle.ti_lang.specs.Meaning.HeapAnswers as heap
 
@@ -68,14 +68,10 @@ abbrev pub by_request : Setting → List Entry → Slot → Request → (Answer 
 by_request s es x request go true = by_outcome x request go (heap_answer s.program (history_of es) x.number request.action)
 by_request s es x request go false = Waits
 
--- an end or a fault, which no process asks for
-abbrev pub is_last : Action → Bool
-is_last a = is_end a || is_fault a
-
 -- the entry of a step
 abbrev pub by_step : Setting → List Entry → Slot → Step → Taking
 by_step s es x (To p) = Unknown
-by_step s es x (At request go) = if is_last request.action then Unknown else by_request s es x request go (is_ready s es x.number request.action)
+by_step s es x (At request go) = by_request s es x request go (is_ready s es x.number request.action)
 by_step s es x (Ends at) = Takes (record x { ended = true }) (record { proc = x.number; place = at; act = act.End; answer = Done })
 by_step s es x (Faults kind at) = Takes x (record { proc = x.number; place = at; act = act.Fault kind; answer = Done })
 

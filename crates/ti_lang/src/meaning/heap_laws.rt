@@ -23,6 +23,12 @@ pub fn writes()
         → cell_value program cell (e ∷ h) ≡ cell_value program cell h }
 {}
 
+/// A new thing changes no cell that was there.
+pub fn makings()
+    ensures { (program : NumberedProgram) (h : History) (e : Entry) (cell : Cell) (zero : Value) → IsAnswered program (e ∷ h) → is_making e.act ≡ true
+        → zero_of program cell h ≡ Some zero → cell_value program cell (e ∷ h) ≡ cell_value program cell h }
+{}
+
 /// Different points of a grid have different cells.
 pub fn cells_differ()
     ensures { (program : NumberedProgram) (h : History) (id : Id) (g : Grid) (p q : Point) → IsAnswered program h → grid_of id h ≡ Some g
