@@ -8,4 +8,5 @@ pub mod Running
 pub mod Sizes
 pub mod Steps
 pub mod Things
+pub mod TextAgrees
 pub mod Total

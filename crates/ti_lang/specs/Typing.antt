@@ -1,7 +1,11 @@
--- What the text alone tells of the expressions and the statements of a program: types, single values, global effects.
+-- The types of the expressions of a program; and what the text alone tells of expressions and statements: types, single values,
+-- global effects.
 pub mod Kinds
+pub mod Fits
+pub mod Operators
 pub mod BuiltIn
 pub mod Declared
+pub mod Expressions
 pub mod TextTypes
 pub mod Called
 pub mod Singleness

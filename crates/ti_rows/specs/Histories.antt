@@ -23,10 +23,11 @@ entry i at a r = record { proc = i; place = at; act = a; answer = r }
 abbrev thing : ℕ → ℕ → ℕ → Id
 thing i serial region = record { maker = i; serial = serial; owner = i; region = region }
 
--- a point of one coordinate, and the domain from 0 to a number
+-- a point of one coordinate
 abbrev point_at : ℤ → Point
 point_at x = record { dim = 1; x1 = x; x2 = pos 0; x3 = pos 0 }
 
+-- the domain from 0 to a number
 abbrev range_to : ℤ → Rect
 range_to high = record { dim = 1; lo = point_at (pos 0); hi = point_at high; step = 1 ∷ 1 ∷ 1 ∷ [] }
 

@@ -15,36 +15,41 @@ use Rattle.ti_lang.specs.Meaning.Processes.{Setting}
 abbrev pub pl : ℕ → ℕ → Place
 pl line col = record { line = line; col = col }
 
--- a type without `single`, and with it
+-- a type without `single`
 abbrev pub plain : ValueType → NumberedType
 plain type = record { type = type; is_single = false; qualifiers = []; grids = [] }
 
+-- a type with it
 abbrev pub single : ValueType → NumberedType
 single type = record { type = type; is_single = true; qualifiers = []; grids = [] }
 
--- a variable of a number, where it is used: of a type, single or not, or of a foreach
+-- a variable of a number and a type, where it is used
 abbrev pub var : Place → ℕ → ValueType → NumberedExp
 var at number type = Variable at (record { number = number; declared = t.Typed false type })
 
+-- a single variable
 abbrev pub single_var : Place → ℕ → ValueType → NumberedExp
 single_var at number type = Variable at (record { number = number; declared = t.Typed true type })
 
+-- a foreach variable
 abbrev pub each_var : Place → ℕ → NumberedExp
 each_var at number = Variable at (record { number = number; declared = t.Foreach })
 
--- expressions and statements in a node
+-- expressions in a node
 abbrev pub xs : List NumberedExp → NumberedExps
 xs l = numbered_exps l
 
+-- statements in a node
 abbrev pub stms : List NumberedStm → NumberedStms
 stms l = numbered_stms l
 
 -- ---- classes
 
--- a class with fields, each of a type and a name
+-- a class with fields
 abbrev pub class_of : List NumberedField → NumberedClass
 class_of fields = record { modifiers = []; fields = fields }
 
+-- a field of a type and a name
 abbrev pub field : ValueType → ℕ → NumberedField
 field type name = record { modifiers = []; ty = plain type; name = name }
 
@@ -56,17 +61,20 @@ param at type = record { place = at; ty = type }
 abbrev pub static_word : List Modifier
 static_word = record { word = word.Static; place = pl 1 1 } ∷ []
 
--- a method of a class: an instance method, a static one, a single one
+-- a method of a class with these words, single or not
 abbrev pub method_of : List Modifier → Bool → ℕ → NumberedResult → ℕ → NumberedParams → List NumberedStm → Place → NumberedMethod
 method_of words is_single class result name params body end =
     record { class = class; modifiers = words; is_single = is_single; result = result; place = pl 1 1; name = name; params = params; body = body; end = end }
 
+-- an instance method
 abbrev pub instance_method : ℕ → NumberedResult → ℕ → NumberedParams → List NumberedStm → Place → NumberedMethod
 instance_method class result name params body end = method_of [] false class result name params body end
 
+-- a static method
 abbrev pub static_method : ℕ → NumberedResult → ℕ → NumberedParams → List NumberedStm → Place → NumberedMethod
 static_method class result name params body end = method_of static_word false class result name params body end
 
+-- a single method
 abbrev pub single_method : ℕ → NumberedResult → ℕ → NumberedParams → List NumberedStm → Place → NumberedMethod
 single_method class result name params body end = method_of static_word true class result name params body end
 

@@ -1,13 +1,29 @@
--- What a program declares: the fields and methods that its expressions name by number.
-use Rattle.std.specs.Prelude.{ℕ, Bool, not, ◌&&◌, ◌==◌, List, [], Option, find, position, slice_get, option_map}
+-- What a program declares: the variables, fields and methods that its expressions name by number.
+use Rattle.std.specs.Prelude.{ℕ, Bool, not, ◌&&◌, ◌==◌, List, [], map, Option, Some, find, position, slice_get, option_map}
 use Rattle.std.specs.List.{list_any}
 use Rattle.std.specs.Option.{option_map_or}
 use Rattle.ti_syntax.specs.declared.tree.classes.Modifier.{Modifier}
 use Rattle.ti_lang.specs.Members.{only_if, is_static_word}
-use Rattle.ti_lang.specs.Program.Types.{ValueType}
+use Rattle.ti_lang.specs.Program.Types.{ValueType, Declaration, Typed, Foreach, VariableUse}
 use Rattle.ti_lang.specs.Program.Types as ty
-use Rattle.ti_lang.specs.Program.Classes.{NumberedField, NumberedClass, NumberedResult, NumberedMethod, NumberedProgram}
+use Rattle.ti_lang.specs.Program.Classes.{NumberedField, NumberedClass, NumberedParam, NumberedResult, NumberedMethod, NumberedProgram}
 use Rattle.ti_lang.specs.Program.Classes as c
+use Rattle.ti_lang.specs.Program.Scope.{ScopeVariable, ScopeContents}
+
+-- ---- variables
+
+-- the variable of this number
+abbrev pub in_scope : ScopeContents → ℕ → Option ScopeVariable
+in_scope s number = find (λ (v : ScopeVariable). v.number == number) s.variables
+
+-- a variable has its declared type; one of a foreach, what its scope says
+abbrev pub declared_type : ScopeContents → ℕ → Declaration → Option ValueType
+declared_type s number (Typed is_single type) = Some type
+declared_type s number Foreach = option_map (λ (v : ScopeVariable). v.type) (in_scope s number)
+
+-- the type of a variable that is used
+abbrev pub variable_type : ScopeContents → VariableUse → Option ValueType
+variable_type s v = declared_type s v.number v.declared
 
 -- ---- fields
 
@@ -45,3 +61,7 @@ type_of_result (c.Typed t) = t.type
 -- what a call of the method gives
 abbrev pub result_type : NumberedMethod → ValueType
 result_type m = type_of_result m.result
+
+-- the types of parameters
+abbrev pub types_of : List NumberedParam → List ValueType
+types_of params = map (λ (p : NumberedParam). p.ty.type) params

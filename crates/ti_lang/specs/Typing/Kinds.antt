@@ -2,6 +2,10 @@
 use Rattle.std.specs.Prelude.{ℕ, Bool, true, false, not, ◌&&◌, ◌==◌, if◌then◌else◌, Option, Some, None}
 use Rattle.ti_lang.specs.Program.Types.{ValueType, Int, Long, Boolean, Pt, Rc, Dm, Region, Class, Grid, Null, Void}
 
+-- the value, where the test holds
+abbrev pub where_true : {A : Type 0} → Bool → A → Option A
+where_true test a = if test then Some a else None
+
 -- both or neither
 abbrev pub same_truth : Bool → Bool → Bool
 same_truth a b = if a then b else not b
@@ -20,6 +24,28 @@ same_type (Grid t n local) (Grid u m global) = (same_type t u && (n == m)) && sa
 same_type Null Null = true
 same_type Void Void = true
 same_type _ _ = false
+
+-- `int` or `long`
+abbrev pub is_whole : ValueType → Bool
+is_whole Int = true
+is_whole Long = true
+is_whole _ = false
+
+-- the type of `null`
+abbrev pub is_null : ValueType → Bool
+is_null Null = true
+is_null _ = false
+
+-- the type of what gives nothing
+abbrev pub is_void : ValueType → Bool
+is_void Void = true
+is_void _ = false
+
+-- a class or a grid
+abbrev pub is_reference : ValueType → Bool
+is_reference (Class c local) = true
+is_reference (Grid t n local) = true
+is_reference _ = false
 
 -- a local reference
 abbrev pub is_local : ValueType → Bool
@@ -64,3 +90,9 @@ as_global t = t
 -- the type of a field or an element that is read through a reference, which is local or not
 abbrev pub read_through : Bool → ValueType → ValueType
 read_through local t = if local then t else as_global t
+
+-- the dimension of a domain
+abbrev pub domain_dim : ValueType → Option ℕ
+domain_dim (Rc n) = Some n
+domain_dim (Dm n) = Some n
+domain_dim _ = None

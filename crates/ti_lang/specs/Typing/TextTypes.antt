@@ -1,6 +1,6 @@
 -- The type that an expression has in the text: the declared type where a name is used, and what an operator or a member gives of
 -- the types of its operands. No operand is judged, so every expression has one; it means nothing where a rule of types is broken.
-use Rattle.std.specs.Prelude.{ℕ, ◌-◌, ◌+◌, false, Option, Some, option_map, option_and_then, unwrap_or, slice_get}
+use Rattle.std.specs.Prelude.{◌≡◌, ℕ, ◌-◌, ◌+◌, false, Option, Some, option_map, option_and_then, unwrap_or, slice_get}
 use Rattle.std.specs.Option.{option_map_or}
 use Rattle.ti_syntax.specs.declared.tree.exprs.BinaryOperator.{BinaryOperator}
 use Rattle.ti_syntax.specs.declared.tree.exprs.BinaryOperator.TheVariants as op
@@ -9,9 +9,10 @@ use Rattle.ti_lang.specs.Program.Types as t
 use Rattle.ti_lang.specs.Program.Expressions.{NumberedExp, NumberedExps, NumberedRange, NumberedRanges}
 use Rattle.ti_lang.specs.Program.Expressions as e
 use Rattle.ti_lang.specs.Program.Classes.{NumberedProgram}
+use Rattle.ti_lang.specs.Program.Scope.{ScopeContents}
 use Rattle.ti_lang.specs.Typing.Kinds.{read_through, as_global, dim_of_type}
 use Rattle.ti_lang.specs.Typing.BuiltIn.{BuiltIn, Size, Min, Max, Contains, Domain, Restrict, Translate, Slice, built_in}
-use Rattle.ti_lang.specs.Typing.Declared.{field_type, named_field_type, instance_method, result_type}
+use Rattle.ti_lang.specs.Typing.Declared.{declared_type, field_type, named_field_type, instance_method, result_type}
 
 -- ---- names
 
@@ -128,3 +129,7 @@ module _ (program : NumberedProgram) (this : Option ℕ) (dims : ℕ → ℕ) wh
 -- no element and no form of a node hangs on them.
 abbrev pub type_in_text : NumberedProgram → Option ℕ → NumberedExp → ValueType
 type_in_text program this x = type_at program this (λ number. 1) x
+
+-- the dimensions are those that a scope says of foreach variables
+abbrev pub AreDims : ScopeContents → (ℕ → ℕ) → Type 0
+AreDims s dims = (number : ℕ) (type : ValueType) → declared_type s number Foreach ≡ Some type → type ≡ t.Pt (dims number)
