@@ -1,11 +1,10 @@
 -- A new thing changes no cell that was there.
-use Rattle.std.proofs.Common.{◌≡◌, inl, inr, ℕ, Bool, true, false, cond, ◌&&◌, ◌==◌, List, [], ◌∷◌, Option, Some, None, refl, sym, ap, subst, ◌∙◌, eqb-true}
+use Rattle.std.proofs.Common.{◌≡◌, inl, inr, ℕ, Bool, true, false, cond, ◌&&◌, ◌==◌, [], ◌∷◌, Option, Some, None, refl, sym, ap, ◌∙◌, eqb-true}
 use Rattle.std.specs.Option.{option_map, option_and_then, option_map_or}
 use Rattle.std.specs.Prelude.{slice_get}
 use Rattle.ti_base.specs.declared.value.Id.{Id}
 use Rattle.ti_base.specs.declared.value.Value.{Value}
 use Rattle.ti_base.specs.declared.value.Value.TheVariants as v
-use Rattle.ti_base.specs.declared.value.Zero.{Zero}
 use Rattle.ti_base.specs.declared.action.Action.{Action}
 use Rattle.ti_base.specs.declared.action.Action.TheVariants as act
 use Rattle.ti_base.specs.declared.entry.Answer.{Answer}
@@ -15,7 +14,7 @@ use Rattle.ti_base.specs.Cells.{Cell, Field, Element, same_id, zero_value, Grid}
 use Rattle.ti_lang.specs.Program.Classes.{NumberedProgram}
 use Rattle.ti_lang.specs.Meaning.Zeros.{zeros_of_class}
 use Rattle.ti_lang.specs.Meaning.Histories.{History, is_making}
-use Rattle.ti_lang.specs.Meaning.HeapOf.{is_object, is_grid, made_by, IsMade, class_made, class_of, zeros_of, grid_made, grid_of, written_by, written_to, or_else, last_written, zero_of, cell_value}
+use Rattle.ti_lang.specs.Meaning.HeapOf.{is_object, is_grid, made_by, IsMade, class_made, class_of, grid_made, grid_of, written_by, written_to, or_else, last_written, zero_of, cell_value}
 use Rattle.ti_lang.specs.Meaning.HeapAnswers.{IsAnswered}
 use Rattle.ti_lang.proofs.MeaningLaws.Things.{made_once}
 

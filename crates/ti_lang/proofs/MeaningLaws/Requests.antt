@@ -38,11 +38,11 @@ use Rattle.ti_lang.specs.Meaning.Conversions.{to_domain, converted, of_domains}
 use Rattle.ti_lang.specs.Meaning.Operands.{Operands, Wholes, Points, Rects, Domains, operands}
 use Rattle.ti_lang.specs.Meaning.Operators.{added, subtracted, multiplied, divided, equal, operated, settled}
 use Rattle.ti_lang.specs.Meaning.Literals as literal
-use Rattle.ti_lang.specs.Meaning.Processes.{Variable, Receiver, Nowhere, Declared, Assigned, Updated, Loop, While, Foreach, Work, Do, End, Before, Behind, Receive, CopyAll, TakeAll, Frame, Wait, Process}
+use Rattle.ti_lang.specs.Meaning.Processes.{Variable, Receiver, Nowhere, Declared, Assigned, Updated, While, Foreach, Work, Do, End, Before, Behind, Receive, CopyAll, TakeAll, Frame, Wait, Process}
 use Rattle.ti_lang.specs.Meaning.Scoping.{Env, env_of, type_of, declared_type, field_selected}
 use Rattle.ti_lang.specs.Meaning.Parts.{Part, Field, Element, fetched, domain_asked, domain_of, viewed, coordinate, indexed}
 use Rattle.ti_lang.specs.Meaning.MemberForms.{sized, member}
-use Rattle.ti_lang.specs.Meaning.Evaluation.{unless_settled, with_right, eval, eval_all, eval_numbers, eval_range, eval_ranges}
+use Rattle.ti_lang.specs.Meaning.Evaluation.{unless_settled, eval, eval_all, eval_numbers, eval_range, eval_ranges}
 use Rattle.ti_lang.specs.Meaning.Targets.{Target, InVariable, InPart, located, held_in, stored, into}
 use Rattle.ti_lang.specs.Meaning.Moves.{Move, Goes, Turns, Breaks, Continues, Calls, Returns, Meets, Deletes, receives}
 use Rattle.ti_lang.specs.Meaning.Calls.{Call, called, bound, maybe_eval, maybe_needed, parameters_of, calling}
@@ -50,8 +50,8 @@ use Rattle.ti_lang.specs.Meaning.Makers.{region_for, spread, new_object, new_gri
 use Rattle.ti_lang.specs.Meaning.Copies.{first_type, copies, copied, taken}
 use Rattle.ti_lang.specs.Meaning.Collectives.{deletes, root_among, root_deposit, broadcasts, exchanges}
 use Rattle.ti_lang.specs.Meaning.Statements.{valued_or_called, made_first, initialized, member_alone, alone, prints, printed, returns, one_more, declared_as, statement}
-use Rattle.ti_lang.specs.Meaning.Performing.{condition, before_turn, performed}
-use Rattle.ti_lang.specs.Meaning.Steps.{Step, To, At, Ends, Faults, most_frames, valued, moves, works, runs, steps, step}
+use Rattle.ti_lang.specs.Meaning.Performing.{condition, performed}
+use Rattle.ti_lang.specs.Meaning.Steps.{Step, At, most_frames, valued, moves, works, runs, steps, step}
 use Rattle.ti_lang.specs.Meaning.Histories.{is_end, is_fault}
 
 -- the fact holds of each kind of request

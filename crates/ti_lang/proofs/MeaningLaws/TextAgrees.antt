@@ -68,7 +68,7 @@ product_agrees t.Int t.Int ty h = some_same _ _ h
 product_agrees t.Int t.Long ty h = some_same _ _ h
 product_agrees t.Long t.Int ty h = some_same _ _ h
 product_agrees t.Long t.Long ty h = some_same _ _ h
-product_agrees (t.Rc n) (t.Rc m) ty h = rects (n == m)  h
+product_agrees (t.Rc n) (t.Rc m) ty h = rects (n == m) h
   where
     rects : (test : Bool) → option_or (where_true test (t.Rc n)) (option_map t.Dm (where_true test n)) ≡ Some ty → t.Rc n ≡ ty
     rects true h = some_same _ _ h

@@ -1,5 +1,5 @@
 -- The members that the language gives to domains, grids and regions.
-use Rattle.std.specs.Prelude.{ℕ, ◌-◌, Bool, true, false, not, ◌&&◌, ◌||◌, ◌==◌, nat_lt, if◌then◌else◌, List, [], ◌∷◌, Option, Some, None, slice_get, option_and_then, bytes_eq, codes}
+use Rattle.std.specs.Prelude.{ℕ, ◌-◌, Bool, false, not, ◌&&◌, ◌||◌, ◌==◌, nat_lt, if◌then◌else◌, List, [], ◌∷◌, Option, Some, None, slice_get, option_and_then, bytes_eq, codes}
 use Rattle.ti_lang.specs.Program.Types.{ValueType, Int, Boolean, Pt, Rc, Dm, Region, Grid, Void}
 use Rattle.ti_lang.specs.Program.Classes.{NumberedProgram}
 use Rattle.ti_lang.specs.Typing.Kinds.{where_true, same_type, is_local}
