@@ -25,6 +25,8 @@ pub fn numbers()
     ensures remainders { Prints numbers_rows.remainders (codes "-1\n-3\n1\n9223372036854775807\n") }
     ensures an_empty_print { Prints numbers_rows.an_empty_print (codes "\n") }
     ensures a_literal_and_a_value { Prints numbers_rows.a_literal_and_a_value (97 ∷ 9 ∷ 98 ∷ 51 ∷ 10 ∷ []) }
+    ensures a_literal_alone { Prints numbers_rows.a_literal_alone (codes "hi\n3\n") }
+    ensures a_right_side_is_not_needed { Prints numbers_rows.a_right_side_is_not_needed (codes "true\ntrue\n") }
     ensures a_zero_divisor { FaultsBehind numbers_rows.a_zero_divisor [] DivZero 0 (pl 1 72) }
     ensures an_update_by_zero { FaultsBehind numbers_rows.an_update_by_zero [] DivZero 0 (pl 1 75) }
 {}
@@ -46,6 +48,7 @@ pub fn calls()
     ensures a_return_of_nothing { Prints calls_rows.a_return_of_nothing (codes "1\n0\n") }
     ensures recursion { Prints calls_rows.recursion (codes "120\n") }
     ensures instance_methods { Prints calls_rows.instance_methods (codes "5\n") }
+    ensures a_method_of_the_own_object { Prints calls_rows.a_method_of_the_own_object (codes "8\n") }
     ensures long_parameters { Prints calls_rows.long_parameters (codes "4\n4\ntrue\n") }
     ensures a_domain_as_parameter { Prints calls_rows.a_domain_as_parameter (codes "5\n") }
     ensures a_call_comes_before_its_target { Prints calls_rows.a_call_comes_before_its_target (codes "7\n0\n14\n0\n") }
@@ -81,6 +84,7 @@ pub fn domains()
 pub fn grids()
     ensures elements { Prints grids_rows.elements (codes "3\n") }
     ensures grids_of_grids { Prints grids_rows.grids_of_grids (codes "4\ntrue\n") }
+    ensures a_member_form_alone { Prints grids_rows.a_member_form_alone (codes "1\n") }
     ensures the_domain_of_a_grid { Prints grids_rows.the_domain_of_a_grid (codes "6\n") }
     ensures views { Prints grids_rows.views (codes "5\n4\n5\n") }
     ensures a_translated_view { FaultsBehind grids_rows.a_translated_view (codes "7\n") Bounds 0 (pl 1 194) }
@@ -98,6 +102,8 @@ pub fn collectives()
     ensures a_break_under_a_single_condition { Prints collectives_rows.a_break_under_a_single_condition (codes "3\n3\n") }
     ensures a_broadcast_decides_a_loop { Prints collectives_rows.a_broadcast_decides_a_loop (codes "0\n0\n0\n") }
     ensures a_broadcast_of_a_reference { Prints collectives_rows.a_broadcast_of_a_reference (codes "false\ntrue\n") }
+    ensures a_broadcast_of_a_foreach_variable { Prints collectives_rows.a_broadcast_of_a_foreach_variable (codes "[1,0]\n[1,0]\n[1,1]\n[1,1]\n") }
+    ensures a_barrier_in_a_foreach { Prints collectives_rows.a_barrier_in_a_foreach [] }
     ensures a_root_that_is_no_process { FaultsBehind collectives_rows.a_root_that_is_no_process [] BadRoot 0 (pl 1 77) }
     ensures an_exchange { Prints collectives_rows.an_exchange (codes "10\n0\n") }
     ensures an_exchange_widens { Prints collectives_rows.an_exchange_widens (codes "1\n1\n") }

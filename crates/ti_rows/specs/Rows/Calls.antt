@@ -29,6 +29,10 @@ recursion = text 1 100000 (class_of [] ∷ []) (static_method 0 (c.Typed (plain 
 abbrev pub instance_methods : Setting
 instance_methods = text 1 100000 (class_of (field t.Int 11 ∷ []) ∷ class_of [] ∷ []) (instance_method 0 (c.Typed (plain t.Int)) 12 (c.Params ([])) ((s.Return (pl 1 30) (Some (e.OwnField (pl 1 37) 0))) ∷ []) (pl 1 40) ∷ instance_method 0 c.Void 13 (c.Params ((param (pl 1 55) (plain t.Int)) ∷ [])) ((s.Assign (pl 1 62) (e.OwnField (pl 1 60) 0) (s.Value (var (pl 1 64) 0 t.Int))) ∷ (s.Update (pl 1 74) op.Add (e.Select (pl 1 72) (e.This (pl 1 67)) 11) (e.Int (pl 1 77) (pos 1))) ∷ []) (pl 1 80) ∷ single_method 1 c.Void 14 c.Words ((s.Declare (pl 1 147) (plain (t.Class 0 false)) 0 (s.NewObject (pl 1 151) None 0)) ∷ (s.Call (e.Member (pl 1 162) (var (pl 1 160) 0 (t.Class 0 false)) 13 (xs ((e.Int (pl 1 166) (pos 4)) ∷ [])))) ∷ (s.Declare (pl 1 174) (plain t.Int) 1 (s.Value (e.Member (pl 1 180) (var (pl 1 178) 0 (t.Class 0 false)) 12 (xs ([]))))) ∷ (s.Print (pl 1 187) (s.Expression (var (pl 1 195) 1 t.Int))) ∷ []) (pl 1 199) ∷ []) 2 ((codes "v") ∷ (codes "get") ∷ (codes "set") ∷ (codes "main") ∷ []) []
 
+-- class C { int v; int get() { return v; } int twice() { int x = get(); return x * 2; } } class Main { public static single void main(String[] args) { C c = new C(); c.v = 4; int y = c.twice(); println(y); } }
+abbrev pub a_method_of_the_own_object : Setting
+a_method_of_the_own_object = text 1 100000 (class_of (field t.Int 11 ∷ []) ∷ class_of [] ∷ []) (instance_method 0 (c.Typed (plain t.Int)) 12 (c.Params ([])) ((s.Return (pl 1 30) (Some (e.OwnField (pl 1 37) 0))) ∷ []) (pl 1 40) ∷ instance_method 0 (c.Typed (plain t.Int)) 13 (c.Params ([])) ((s.Declare (pl 1 60) (plain t.Int) 0 (s.Value (e.OwnCall (pl 1 64) 0 (xs ([]))))) ∷ (s.Return (pl 1 71) (Some (e.Binary (pl 1 80) op.Multiply (var (pl 1 78) 0 t.Int) (e.Int (pl 1 82) (pos 2))))) ∷ []) (pl 1 85) ∷ single_method 1 c.Void 14 c.Words ((s.Declare (pl 1 152) (plain (t.Class 0 false)) 0 (s.NewObject (pl 1 156) None 0)) ∷ (s.Assign (pl 1 169) (e.Select (pl 1 167) (var (pl 1 165) 0 (t.Class 0 false)) 11) (s.Value (e.Int (pl 1 171) (pos 4)))) ∷ (s.Declare (pl 1 178) (plain t.Int) 1 (s.Value (e.Member (pl 1 184) (var (pl 1 182) 0 (t.Class 0 false)) 13 (xs ([]))))) ∷ (s.Print (pl 1 193) (s.Expression (var (pl 1 201) 1 t.Int))) ∷ []) (pl 1 205) ∷ []) 2 ((codes "v") ∷ (codes "get") ∷ (codes "twice") ∷ (codes "main") ∷ []) []
+
 -- class Main { static long g(long x) { return x + 1; } public static single void main(String[] args) { long y = g(3); println(y); int z = (int) y; println(z); println(y == 4); } }
 abbrev pub long_parameters : Setting
 long_parameters = text 1 100000 (class_of [] ∷ []) (static_method 0 (c.Typed (plain t.Long)) 11 (c.Params ((param (pl 1 33) (plain t.Long)) ∷ [])) ((s.Return (pl 1 38) (Some (e.Binary (pl 1 47) op.Add (var (pl 1 45) 0 t.Long) (e.Int (pl 1 49) (pos 1))))) ∷ []) (pl 1 52) ∷ single_method 0 c.Void 12 c.Words ((s.Declare (pl 1 107) (plain t.Long) 0 (s.Value (e.Call (pl 1 111) 0 (xs ((e.Int (pl 1 113) (pos 3)) ∷ []))))) ∷ (s.Print (pl 1 117) (s.Expression (var (pl 1 125) 0 t.Long))) ∷ (s.Declare (pl 1 133) (plain t.Int) 1 (s.Value (e.Cast (pl 1 137) (plain t.Int) (var (pl 1 143) 0 t.Long)))) ∷ (s.Print (pl 1 146) (s.Expression (var (pl 1 154) 1 t.Int))) ∷ (s.Print (pl 1 158) (s.Expression (e.Binary (pl 1 168) op.Equal (var (pl 1 166) 0 t.Long) (e.Int (pl 1 171) (pos 4))))) ∷ []) (pl 1 175) ∷ []) 1 ((codes "g") ∷ (codes "main") ∷ []) []

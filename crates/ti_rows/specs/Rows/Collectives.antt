@@ -6,7 +6,7 @@ use Rattle.ti_lang.specs.Program.Expressions as e
 use Rattle.ti_lang.specs.Program.Statements as s
 use Rattle.ti_lang.specs.Program.Classes as c
 use Rattle.ti_lang.specs.Meaning.Processes.{Setting}
-use Rattle.ti_rows.specs.Texts.{pl, plain, single, var, single_var, xs, stms, class_of, field, single_method, text, alone}
+use Rattle.ti_rows.specs.Texts.{pl, plain, single, var, single_var, each_var, xs, stms, class_of, field, single_method, text, alone}
 
 -- class Main { public static single void main(String[] args) { println(Ti.thisProc()); Ti.barrier(); println(Ti.numProcs()); } }
 abbrev pub barriers : Setting
@@ -23,6 +23,14 @@ a_broadcast_decides_a_loop = alone 3 100000 [] ((s.Declare (pl 1 73) (single t.I
 -- class C { int v; } class Main { public static single void main(String[] args) { C x = new C(); C y = broadcast x from 1; println(y == x); } }
 abbrev pub a_broadcast_of_a_reference : Setting
 a_broadcast_of_a_reference = text 2 100000 (class_of (field t.Int 11 ∷ []) ∷ class_of [] ∷ []) (single_method 1 c.Void 12 c.Words ((s.Declare (pl 1 83) (plain (t.Class 0 false)) 0 (s.NewObject (pl 1 87) None 0)) ∷ (s.Declare (pl 1 98) (plain (t.Class 0 false)) 1 (s.Broadcast (pl 1 102) (var (pl 1 112) 0 (t.Class 0 false)) (e.Int (pl 1 119) (pos 1)))) ∷ (s.Print (pl 1 122) (s.Expression (e.Binary (pl 1 132) op.Equal (var (pl 1 130) 1 (t.Class 0 false)) (var (pl 1 135) 0 (t.Class 0 false))))) ∷ []) (pl 1 139) ∷ []) 0 ((codes "v") ∷ (codes "main") ∷ []) []
+
+-- class Main { public static single void main(String[] args) { foreach (p in [[0, 0]:[0, 1]]) { Point<2> single q = broadcast p + [Ti.thisProc(), 0] from 1; println(q); } } }
+abbrev pub a_broadcast_of_a_foreach_variable : Setting
+a_broadcast_of_a_foreach_variable = alone 2 100000 [] ((s.Foreach (pl 1 62) 0 (e.Rect (pl 1 76) (e.numbered_ranges (e.Plain (e.Point (pl 1 77) (xs ((e.Int (pl 1 78) (pos 0)) ∷ (e.Int (pl 1 81) (pos 0)) ∷ []))) (e.Point (pl 1 84) (xs ((e.Int (pl 1 85) (pos 0)) ∷ (e.Int (pl 1 88) (pos 1)) ∷ []))) ∷ []))) (s.Block (stms ((s.Declare (pl 1 111) (single (t.Pt 2)) 1 (s.Broadcast (pl 1 115) (e.Binary (pl 1 127) op.Add (each_var (pl 1 125) 0) (e.Point (pl 1 129) (xs ((e.ThisProc (pl 1 130)) ∷ (e.Int (pl 1 145) (pos 0)) ∷ [])))) (e.Int (pl 1 153) (pos 1)))) ∷ (s.Print (pl 1 156) (s.Expression (single_var (pl 1 164) 1 (t.Pt 2)))) ∷ [])))) ∷ []) (pl 1 170)
+
+-- class Main { public static single void main(String[] args) { foreach (p in [0:Ti.numProcs()]) Ti.barrier(); } }
+abbrev pub a_barrier_in_a_foreach : Setting
+a_barrier_in_a_foreach = alone 2 100000 [] ((s.Foreach (pl 1 62) 0 (e.Rect (pl 1 76) (e.numbered_ranges (e.Plain (e.Int (pl 1 77) (pos 0)) (e.NumProcs (pl 1 79)) ∷ []))) (s.Barrier (pl 1 98))) ∷ []) (pl 1 109)
 
 -- class Main { public static single void main(String[] args) { int single k = broadcast 1 from 3; } }
 abbrev pub a_root_that_is_no_process : Setting

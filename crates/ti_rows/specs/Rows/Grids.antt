@@ -16,6 +16,10 @@ elements = alone 1 100000 [] ((s.Declare (pl 1 71) (plain (t.Grid t.Int 1 false)
 abbrev pub grids_of_grids : Setting
 grids_of_grids = alone 1 100000 [] ((s.Declare (pl 1 76) (plain (t.Grid (t.Grid t.Int 1 false) 1 false)) 0 (s.NewGrid (pl 1 80) None (plain (t.Grid t.Int 1 false)) (pl 1 88) (s.Ranges (e.Plain (e.Int (pl 1 89) (pos 0)) (e.Int (pl 1 91) (pos 1)) ∷ [])))) ∷ (s.Assign (pl 1 105) (e.Index (pl 1 101) (var (pl 1 100) 0 (t.Grid (t.Grid t.Int 1 false) 1 false)) (xs ((e.Int (pl 1 102) (pos 0)) ∷ []))) (s.NewGrid (pl 1 107) None (plain t.Int) (pl 1 115) (s.Ranges (e.Plain (e.Int (pl 1 116) (pos 0)) (e.Int (pl 1 118) (pos 2)) ∷ [])))) ∷ (s.Assign (pl 1 130) (e.Index (pl 1 126) (e.Index (pl 1 123) (var (pl 1 122) 0 (t.Grid (t.Grid t.Int 1 false) 1 false)) (xs ((e.Int (pl 1 124) (pos 0)) ∷ []))) (xs ((e.Int (pl 1 127) (pos 1)) ∷ []))) (s.Value (e.Int (pl 1 132) (pos 4)))) ∷ (s.Print (pl 1 135) (s.Expression (e.Index (pl 1 147) (e.Index (pl 1 144) (var (pl 1 143) 0 (t.Grid (t.Grid t.Int 1 false) 1 false)) (xs ((e.Int (pl 1 145) (pos 0)) ∷ []))) (xs ((e.Int (pl 1 148) (pos 1)) ∷ []))))) ∷ (s.Print (pl 1 153) (s.Expression (e.Binary (pl 1 166) op.Equal (e.Index (pl 1 162) (var (pl 1 161) 0 (t.Grid (t.Grid t.Int 1 false) 1 false)) (xs ((e.Int (pl 1 163) (pos 1)) ∷ []))) (e.Null (pl 1 169))))) ∷ []) (pl 1 176)
 
+-- class Main { public static single void main(String[] args) { int [1d] a = new int [0:3]; a.domain(); println(1); } }
+abbrev pub a_member_form_alone : Setting
+a_member_form_alone = alone 1 100000 [] ((s.Declare (pl 1 71) (plain (t.Grid t.Int 1 false)) 0 (s.NewGrid (pl 1 75) None (plain t.Int) (pl 1 83) (s.Ranges (e.Plain (e.Int (pl 1 84) (pos 0)) (e.Int (pl 1 86) (pos 3)) ∷ [])))) ∷ (s.Call (e.Member (pl 1 92) (var (pl 1 90) 0 (t.Grid t.Int 1 false)) 4 (xs ([])))) ∷ (s.Print (pl 1 102) (s.Expression (e.Int (pl 1 110) (pos 1)))) ∷ []) (pl 1 114)
+
 -- class Main { public static single void main(String[] args) { int [1d] a = new int [0:2]; foreach (p in a.domain()) { a[p] = p[1] * 2; } int s = 0; foreach (p in a.domain()) s += a[p]; println(s); } }
 abbrev pub the_domain_of_a_grid : Setting
 the_domain_of_a_grid = alone 1 100000 [] ((s.Declare (pl 1 71) (plain (t.Grid t.Int 1 false)) 0 (s.NewGrid (pl 1 75) None (plain t.Int) (pl 1 83) (s.Ranges (e.Plain (e.Int (pl 1 84) (pos 0)) (e.Int (pl 1 86) (pos 2)) ∷ [])))) ∷ (s.Foreach (pl 1 90) 1 (e.Member (pl 1 106) (var (pl 1 104) 0 (t.Grid t.Int 1 false)) 4 (xs ([]))) (s.Block (stms ((s.Assign (pl 1 123) (e.Index (pl 1 119) (var (pl 1 118) 0 (t.Grid t.Int 1 false)) (xs ((each_var (pl 1 120) 1) ∷ []))) (s.Value (e.Binary (pl 1 130) op.Multiply (e.Index (pl 1 126) (each_var (pl 1 125) 1) (xs ((e.Int (pl 1 127) (pos 1)) ∷ []))) (e.Int (pl 1 132) (pos 2))))) ∷ [])))) ∷ (s.Declare (pl 1 141) (plain t.Int) 2 (s.Value (e.Int (pl 1 145) (pos 0)))) ∷ (s.Foreach (pl 1 148) 3 (e.Member (pl 1 164) (var (pl 1 162) 0 (t.Grid t.Int 1 false)) 4 (xs ([]))) (s.Update (pl 1 176) op.Add (var (pl 1 174) 2 t.Int) (e.Index (pl 1 180) (var (pl 1 179) 0 (t.Grid t.Int 1 false)) (xs ((each_var (pl 1 181) 3) ∷ []))))) ∷ (s.Print (pl 1 185) (s.Expression (var (pl 1 193) 2 t.Int))) ∷ []) (pl 1 197)

@@ -1,5 +1,5 @@
 -- Programs of rows: whole numbers, booleans and prints.
-use Rattle.std.specs.Prelude.{pos, true, false, [], ◌∷◌}
+use Rattle.std.specs.Prelude.{pos, true, false, [], ◌∷◌, codes}
 use Rattle.ti_syntax.specs.declared.tree.exprs.UnaryOperator.TheVariants as un
 use Rattle.ti_syntax.specs.declared.tree.exprs.BinaryOperator.TheVariants as op
 use Rattle.ti_lang.specs.Program.Types as t
@@ -43,6 +43,14 @@ an_empty_print = alone 1 100000 [] ((s.Print (pl 1 62) s.Nothing) ∷ []) (pl 1 
 -- class Main { public static single void main(String[] args) { println("a\tb" + 3); } }
 abbrev pub a_literal_and_a_value : Setting
 a_literal_and_a_value = alone 1 100000 ((97 ∷ 9 ∷ 98 ∷ []) ∷ []) ((s.Print (pl 1 62) (s.TextAndExpression 0 (e.Int (pl 1 79) (pos 3)))) ∷ []) (pl 1 83)
+
+-- class Main { public static single void main(String[] args) { println("hi"); System.out.println(+3); } }
+abbrev pub a_literal_alone : Setting
+a_literal_alone = alone 1 100000 ((codes "hi") ∷ []) ((s.Print (pl 1 62) (s.Text 0)) ∷ (s.Print (pl 1 88) (s.Expression (e.Unary (pl 1 96) un.Plus (e.Int (pl 1 97) (pos 3))))) ∷ []) (pl 1 101)
+
+-- class Main { public static single void main(String[] args) { int d = 0; println(d == 0 || 1 / d > 1); println(d != 0 || !(d > 1)); } }
+abbrev pub a_right_side_is_not_needed : Setting
+a_right_side_is_not_needed = alone 1 100000 [] ((s.Declare (pl 1 66) (plain t.Int) 0 (s.Value (e.Int (pl 1 70) (pos 0)))) ∷ (s.Print (pl 1 73) (s.Expression (e.Binary (pl 1 88) op.OrElse (e.Binary (pl 1 83) op.Equal (var (pl 1 81) 0 t.Int) (e.Int (pl 1 86) (pos 0))) (e.Binary (pl 1 97) op.Greater (e.Binary (pl 1 93) op.Divide (e.Int (pl 1 91) (pos 1)) (var (pl 1 95) 0 t.Int)) (e.Int (pl 1 99) (pos 1)))))) ∷ (s.Print (pl 1 103) (s.Expression (e.Binary (pl 1 118) op.OrElse (e.Binary (pl 1 113) op.NotEqual (var (pl 1 111) 0 t.Int) (e.Int (pl 1 116) (pos 0))) (e.Unary (pl 1 121) un.Not (e.Binary (pl 1 125) op.Greater (var (pl 1 123) 0 t.Int) (e.Int (pl 1 127) (pos 1))))))) ∷ []) (pl 1 132)
 
 -- class Main { public static single void main(String[] args) { println(6 / Ti.thisProc()); } }
 abbrev pub a_zero_divisor : Setting

@@ -25,6 +25,10 @@ pub returns-clause-instance_methods : goal.returns-clause-instance_methods
 unfolding digits int_wrap built_in named_field_type instance_method
 returns-clause-instance_methods c = refl
 
+pub returns-clause-a_method_of_the_own_object : goal.returns-clause-a_method_of_the_own_object
+unfolding digits int_wrap built_in named_field_type instance_method
+returns-clause-a_method_of_the_own_object c = refl
+
 pub returns-clause-long_parameters : goal.returns-clause-long_parameters
 unfolding digits int_wrap built_in named_field_type instance_method
 returns-clause-long_parameters c = refl

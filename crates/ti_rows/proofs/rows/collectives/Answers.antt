@@ -21,6 +21,14 @@ pub returns-clause-a_broadcast_of_a_reference : goal.returns-clause-a_broadcast_
 unfolding digits int_wrap built_in named_field_type instance_method
 returns-clause-a_broadcast_of_a_reference c = refl
 
+pub returns-clause-a_broadcast_of_a_foreach_variable : goal.returns-clause-a_broadcast_of_a_foreach_variable
+unfolding digits int_wrap built_in named_field_type instance_method
+returns-clause-a_broadcast_of_a_foreach_variable c = refl
+
+pub returns-clause-a_barrier_in_a_foreach : goal.returns-clause-a_barrier_in_a_foreach
+unfolding digits int_wrap built_in named_field_type instance_method
+returns-clause-a_barrier_in_a_foreach c = refl
+
 pub returns-clause-a_root_that_is_no_process : goal.returns-clause-a_root_that_is_no_process
 unfolding digits int_wrap built_in named_field_type instance_method
 returns-clause-a_root_that_is_no_process c = refl

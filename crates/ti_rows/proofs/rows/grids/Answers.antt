@@ -13,6 +13,10 @@ pub returns-clause-grids_of_grids : goal.returns-clause-grids_of_grids
 unfolding digits int_wrap built_in named_field_type instance_method
 returns-clause-grids_of_grids c = refl
 
+pub returns-clause-a_member_form_alone : goal.returns-clause-a_member_form_alone
+unfolding digits int_wrap built_in named_field_type instance_method
+returns-clause-a_member_form_alone c = refl
+
 pub returns-clause-the_domain_of_a_grid : goal.returns-clause-the_domain_of_a_grid
 unfolding digits int_wrap built_in named_field_type instance_method
 returns-clause-the_domain_of_a_grid c = refl

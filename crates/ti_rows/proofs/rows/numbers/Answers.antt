@@ -41,6 +41,14 @@ pub returns-clause-a_literal_and_a_value : goal.returns-clause-a_literal_and_a_v
 unfolding digits int_wrap built_in named_field_type instance_method
 returns-clause-a_literal_and_a_value c = refl
 
+pub returns-clause-a_literal_alone : goal.returns-clause-a_literal_alone
+unfolding digits int_wrap built_in named_field_type instance_method
+returns-clause-a_literal_alone c = refl
+
+pub returns-clause-a_right_side_is_not_needed : goal.returns-clause-a_right_side_is_not_needed
+unfolding digits int_wrap built_in named_field_type instance_method
+returns-clause-a_right_side_is_not_needed c = refl
+
 pub returns-clause-a_zero_divisor : goal.returns-clause-a_zero_divisor
 unfolding digits int_wrap built_in named_field_type instance_method
 returns-clause-a_zero_divisor c = refl
