@@ -23,7 +23,7 @@ number_from x y e =
 number_self : (x : ℤ) → same_number x x ≡ true
 number_self x = let e : int_le x x ≡ true = grind (arith, ints) in ap (λ t. t && int_le x x) e ∙ e
 
-same_from : (p q : Point) → same_point p q ≡ true → p ≡ q
+pub same_from : (p q : Point) → same_point p q ≡ true → p ≡ q
 same_from p q e =
     let a = both_true (p.dim == q.dim && same_number p.x1 q.x1 && same_number p.x2 q.x2) (same_number p.x3 q.x3) e in
     let b = both_true (p.dim == q.dim && same_number p.x1 q.x1) (same_number p.x2 q.x2) a.0 in
@@ -35,13 +35,13 @@ same_from p q e =
       x3 = number_from p.x3 q.x3 a.1 i;
     }
 
-same_self : (p : Point) → same_point p p ≡ true
+pub same_self : (p : Point) → same_point p p ≡ true
 same_self p =
     ap (λ t. t && same_number p.x1 p.x1 && same_number p.x2 p.x2 && same_number p.x3 p.x3) (eq-eqb p.dim p.dim refl)
     ∙ ap (λ t. t && same_number p.x2 p.x2 && same_number p.x3 p.x3) (number_self p.x1)
     ∙ ap (λ t. t && same_number p.x3 p.x3) (number_self p.x2) ∙ number_self p.x3
 
-among_from : (qs : List Point) (p : Point) → is_among qs p ≡ true → IsAmong qs p
+pub among_from : (qs : List Point) (p : Point) → is_among qs p ≡ true → IsAmong qs p
 among_from [] p e = cc
 among_from (q ∷ qs) p e = by (same_point p q) refl e (among_from qs p)
   where
@@ -53,14 +53,14 @@ or_right : (a b : Bool) → b ≡ true → (a || b) ≡ true
 or_right true b e = refl
 or_right false b e = e
 
-among_to : (qs : List Point) (p : Point) → IsAmong qs p → is_among qs p ≡ true
+pub among_to : (qs : List Point) (p : Point) → IsAmong qs p → is_among qs p ≡ true
 among_to [] p m = elim m [ ]
 among_to (q ∷ qs) p (inl e) = ap (λ t. t || is_among qs p) (subst (λ x. same_point p x ≡ true) e (same_self p))
 among_to (q ∷ qs) p (inr m) = or_right (same_point p q) (is_among qs p) (among_to qs p m)
 
 -- ---- those that pass a test
 
-filter_in : (t : Point → Bool) (p : Point) (ps : List Point) → IsAmong (filter t ps) p ↔ (IsAmong ps p × (t p ≡ true))
+pub filter_in : (t : Point → Bool) (p : Point) (ps : List Point) → IsAmong (filter t ps) p ↔ (IsAmong ps p × (t p ≡ true))
 filter_in t p [] = (λ m. absurd m, λ m. m.0)
 filter_in t p (q ∷ qs) = by (t q) refl (filter_in t p qs)
   where
@@ -158,7 +158,7 @@ lex_to p q (inr (e, inr (f, h))) = or_right (int_lt p.x1 q.x1) _
     (ap (λ t. t && int_lt p.x3 q.x3) (number_to p.x2 q.x2 f) ∙ lt_to p.x3 q.x3 h))
 
 -- of two points of one dimension that are not the same one is below the other
-other_below : (p q : Point) → p.dim ≡ q.dim → (pt_lex_lt p q → ⊥) → (p ≡ q → ⊥) → pt_lex_lt q p
+pub other_below : (p q : Point) → p.dim ≡ q.dim → (pt_lex_lt p q → ⊥) → (p ≡ q → ⊥) → pt_lex_lt q p
 other_below p q d less same = by_lt_z q.x1 p.x1 (λ h. inl h)
     (λ a. by_lt_z p.x1 q.x1 (λ h. absurd (less (inl h)))
     (λ b.
@@ -173,7 +173,7 @@ other_below p q d less same = by_lt_z q.x1 p.x1 (λ h. inl h)
     let g : p.x3 ≡ q.x3 = omega (arith, ints) in
     absurd (same (λ i. record { dim = d i; x1 = e i; x2 = f i; x3 = g i }))))))))
 
-below_trans : (p q r : Point) → pt_lex_lt p q → pt_lex_lt q r → pt_lex_lt p r
+pub below_trans : (p q r : Point) → pt_lex_lt p q → pt_lex_lt q r → pt_lex_lt p r
 below_trans p q r (inl a) (inl b) = inl (omega (arith, ints))
 below_trans p q r (inl a) (inr (e, b)) = inl (omega (arith, ints))
 below_trans p q r (inr (e, a)) (inl b) = inl (omega (arith, ints))
@@ -182,11 +182,11 @@ below_trans p q r (inr (e, inl a)) (inr (f, inr (g, b))) = inr (e ∙ f, inl (om
 below_trans p q r (inr (e, inr (g, a))) (inr (f, inl b)) = inr (e ∙ f, inl (omega (arith, ints)))
 below_trans p q r (inr (e, inr (g, a))) (inr (f, inr (h, b))) = inr (e ∙ f, inr (g ∙ h, omega (arith, ints)))
 
-below_from : (p : Point) (qs : List Point) → ((q : Point) → IsAmong qs q → pt_lex_lt p q) → IsBelow p qs
+pub below_from : (p : Point) (qs : List Point) → ((q : Point) → IsAmong qs q → pt_lex_lt p q) → IsBelow p qs
 below_from p [] h = tt
 below_from p (q ∷ qs) h = (h q (inl refl), below_from p qs (λ x m. h x (inr m)))
 
-from_below : (p q : Point) (qs : List Point) → IsBelow p qs → IsAmong qs q → pt_lex_lt p q
+pub from_below : (p q : Point) (qs : List Point) → IsBelow p qs → IsAmong qs q → pt_lex_lt p q
 from_below p q [] b m = elim m [ ]
 from_below p q (x ∷ qs) b (inl e) = subst (pt_lex_lt p) (sym e) b.0
 from_below p q (x ∷ qs) b (inr m) = from_below p q qs b.1 m
@@ -227,7 +227,7 @@ with_dim d p (q ∷ qs) e a = by (is_lex_lt p q) (same_point p q) (with_dim d p 
     by false true h = a
     by false false h = (a.0, h)
 
-union_dim : (d : ℕ) (ps qs : List Point) → AllOf d ps → AllOf d qs → AllOf d (union ps qs)
+pub union_dim : (d : ℕ) (ps qs : List Point) → AllOf d ps → AllOf d qs → AllOf d (union ps qs)
 union_dim d ps [] a b = a
 union_dim d ps (q ∷ qs) a b = with_dim d q (union ps qs) b.0 (union_dim d ps qs a b.1)
 
@@ -235,7 +235,7 @@ union_rises : (d : ℕ) (ps qs : List Point) → AllOf d ps → AllOf d qs → R
 union_rises d ps [] a b r = r
 union_rises d ps (q ∷ qs) a b r = with_rises d q (union ps qs) b.0 (union_dim d ps qs a b.1) (union_rises d ps qs a b.1 r)
 
-union_in : (ps qs : List Point) (x : Point) → IsAmong (union ps qs) x ↔ (IsAmong ps x ⊎ IsAmong qs x)
+pub union_in : (ps qs : List Point) (x : Point) → IsAmong (union ps qs) x ↔ (IsAmong ps x ⊎ IsAmong qs x)
 union_in ps [] x = (inl, ⊎_elim (λ m. m) (λ m. absurd m))
 union_in ps (q ∷ qs) x =
     let h = union_in ps qs x in

@@ -36,7 +36,7 @@ length_points r =
 below_first : (p q : Point) → pt_lex_lt p q → pt_lex_lt q p → ⊥
 below_first p q a b = omega (arith, ints)
 
-irreflexive : (p : Point) → pt_lex_lt p p → ⊥
+pub irreflexive : (p : Point) → pt_lex_lt p p → ⊥
 irreflexive p h = below_first p p h h
 
 below_all : (p q : Point) (qs : List Point) → IsBelow p qs → IsAmong qs q → pt_lex_lt p q

@@ -4,7 +4,6 @@ pub mod Entries
 pub mod MeaningLaws
 pub mod Moves
 pub mod OneListing
-pub mod OneMain
 pub mod ProgramBridges
 pub mod Standing
 pub mod Steps

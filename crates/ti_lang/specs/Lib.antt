@@ -3,9 +3,9 @@ pub mod Answers
 pub mod Copies
 pub mod Evaluation
 pub mod Lines
+pub mod Listed
 pub mod Listings
 pub mod MainForm
-pub mod MainMethod
 pub mod Meaning
 pub mod Members
 pub mod NextStep
@@ -13,7 +13,6 @@ pub mod Nodes
 pub mod Numbering
 pub mod Processes
 pub mod Program
-pub mod Programs
 pub mod Runs
 pub mod Scopes
 pub mod Typing

@@ -1,5 +1,5 @@
 -- Runs: lists of entries that the processes of a program can make, one atomic step after another.
-use Rattle.std.specs.Prelude.{◌≡◌, ◌⊎◌, ℕ, ◌<◌, ◌==◌, Bool, true, false, List, [], ◌∷◌, ◌++◌, map, filter, count_by}
+use Rattle.std.specs.Prelude.{◌≡◌, ◌⊎◌, ℕ, ◌<◌, ◌==◌, Bool, true, false, not, ◌||◌, List, [], ◌∷◌, ◌++◌, map, filter, count_by}
 use Rattle.std.specs.List.{list_any}
 use Rattle.ti_base.specs.declared.action.Action.{Action}
 use Rattle.ti_base.specs.declared.action.Action.TheVariants as act
@@ -32,9 +32,13 @@ is_departure a = false
 abbrev pub entries_of : ℕ → List Entry → List Entry
 entries_of i es = filter (λ e. e.proc == i) es
 
+-- the answers to actions; an end and a fault are no actions of the program, and their answers go to no process
+abbrev pub answers_in : List Entry → List Answer
+answers_in es = map (λ e. e.answer) (filter (λ e. not (is_end e.act || is_fault e.act)) es)
+
 -- the answers that a process has got
 abbrev pub answers_of : ℕ → List Entry → List Answer
-answers_of i es = map (λ e. e.answer) (entries_of i es)
+answers_of i es = answers_in (entries_of i es)
 
 -- how often a process has arrived at a collective; its nth arrival belongs to the nth round
 abbrev pub arrivals : ℕ → List Entry → ℕ
@@ -52,7 +56,7 @@ has_end i es = list_any (λ e. is_end e.act) (entries_of i es)
 abbrev pub has_fault : List Entry → Bool
 has_fault es = list_any (λ e. is_fault e.act) es
 
--- the world after these entries: each process, after the answers of its own entries
+-- the world after these entries: each process, after the answers that it has got; one with an end or a fault stays where it was
 abbrev pub World : Setting → List Entry → ℕ → Process → Type 0
 World s es i p = After (begin s i) (answers_of i es) p
 

@@ -6,7 +6,7 @@ use Rattle.std.specs.Char.{is_ascii_digit}
 use Rattle.ti_syntax.specs.Tokenizing.{is_blank, begins_name}
 use Rattle.ti_lex.specs.declared.class.Class.{Class}
 use Rattle.ti_lex.specs.declared.class.Class.TheVariants as c
-use Rattle.ti_lex.specs.Reading.{class_of}
+use Rattle.ti_lex.specs.Mirrors.Reading.{class_of}
 
 pub class_of-blank : (b : ℕ) → is_blank b ≡ true → class_of b ≡ c.Blank
 class_of-blank b h = rw h refl

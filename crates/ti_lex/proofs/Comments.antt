@@ -5,7 +5,7 @@ use Rattle.std.proofs.lemmas.List.Folds.{length-prefix_len}
 use Rattle.std.specs.List.{list_all}
 use Rattle.ti_syntax.specs.Tokenizing.{Space, IsPiece, ClosesAtEnd, Flaw, OpenComment, HasFlaw}
 use Rattle.ti_syntax.specs.Tokenizing as pieces
-use Rattle.ti_lex.specs.Reading.{Reading, Takes, Refuses, comment_from, line_left}
+use Rattle.ti_lex.specs.Mirrors.Reading.{Reading, Takes, Refuses, comment_from, line_left}
 use Rattle.ti_lex.proofs.Fronts.{Beats, IsSound, IsRefusal, beats_same}
 use Rattle.ti_lex.proofs.Runs.{run_covers, run_passes}
 

@@ -2,7 +2,7 @@
 use Rattle.std.proofs.Common.{◌≡◌, ◌⊎◌, inl, inr, ℕ, ◌+◌, ◌<◌, ◌≤◌, List, ◌++◌, length, refl, arith}
 use Rattle.std.proofs.lemmas.Bool.{cases_lt}
 use Rattle.ti_syntax.specs.Tokenizing.{Piece, IsPiece, Flaw, HasFlaw}
-use Rattle.ti_lex.specs.Reading.{Reading, Takes, Refuses}
+use Rattle.ti_lex.specs.Mirrors.Reading.{Reading, Takes, Refuses}
 
 -- the reading takes more than a piece of this size, or it takes that piece
 abbrev pub Beats : ℕ → ℕ → Piece → Reading → Type 0

@@ -9,39 +9,39 @@ use Rattle.std.specs.Str.Parse.{digits_value}
 use Rattle.ti_syntax.specs.declared.token.TokenKind.{TokenKind}
 use Rattle.ti_syntax.specs.declared.token.TokenKind.TheVariants as k
 use Rattle.ti_syntax.specs.Tokens.{word_of, sign_of}
-use Rattle.ti_syntax.specs.Tokenizing.{Piece, Space, Spells, StrayByte, IsPiece, IsLongest, OpensComment, BeginsNoPiece, HasFlaw, begins_name, is_name_byte, first_passes}
+use Rattle.ti_syntax.specs.Tokenizing.{Piece, Space, Lexeme, StrayByte, IsPiece, IsLongest, OpensComment, BeginsNoPiece, HasFlaw, begins_name, is_name_byte, first_passes}
 use Rattle.ti_syntax.specs.Tokenizing as pieces
 use Rattle.ti_lex.specs.declared.class.Class.{Class}
 use Rattle.ti_lex.specs.declared.class.Class.TheVariants as c
-use Rattle.ti_lex.specs.Reading.{Reading, Takes, Refuses, class_of, comment_from, line_left, word, slash, sign, first_by, first}
+use Rattle.ti_lex.specs.Mirrors.Reading.{Reading, Takes, Refuses, class_of, comment_from, line_left, word, slash, sign, first_by, first}
 use Rattle.ti_lex.proofs.Bytes.{class_of-blank, class_of-letter, class_of-digit, IsOfClass, class_of_is}
 use Rattle.ti_lex.proofs.Comments.{line_beats, line_sound, comment_taken, comment_sound}
 use Rattle.ti_lex.proofs.Fronts.{Beats, IsSound}
-use Rattle.ti_lex.proofs.Numbers.{dimension_beats, number_beats, number_sound}
+use Rattle.ti_lex.proofs.Numbers.{dimension_beats, number_beats, long_beats, number_sound}
 use Rattle.ti_lex.proofs.Signs.{sign_beats, sign_sound}
 use Rattle.ti_lex.proofs.StringPieces.{string_beats, string_sound}
 use Rattle.ti_lex.proofs.Words.{reserved_found, name_found, word_beats, word_sound}
 
-line_longer : (at : ℕ) (l : List ℕ) → first_passes (λ b. b == 47) l ≡ true → Beats at 1 (Spells k.Slash) (Takes Space (at + line_left (47 ∷ l)))
+line_longer : (at : ℕ) (l : List ℕ) → first_passes (λ b. b == 47) l ≡ true → Beats at 1 (Lexeme k.Slash) (Takes Space (at + line_left (47 ∷ l)))
 line_longer at [] h = cc
 line_longer at (b ∷ l) h =
-    subst (λ d. Beats at 1 (Spells k.Slash) (Takes Space (at + line_left (47 ∷ d ∷ l)))) (sym (eqb-true b 47 h)) (inl (omega arith))
+    subst (λ d. Beats at 1 (Lexeme k.Slash) (Takes Space (at + line_left (47 ∷ d ∷ l)))) (sym (eqb-true b 47 h)) (inl (omega arith))
 
 pub opens : (l : List ℕ) → first_passes (λ b. b == 42) l ≡ true → OpensComment (47 ∷ l)
 opens [] h = cc
 opens (b ∷ l) h = (l, ap (λ d. 47 ∷ d ∷ l) (eqb-true b 42 h))
 
 -- a slash is read as an operator, where no comment begins with it
-slash_beats : (at : ℕ) (rest : List ℕ) → (OpensComment (47 ∷ rest) → ⊥) → Beats at 1 (Spells k.Slash) (sign at (47 ∷ rest)) → Beats at 1 (Spells k.Slash) (slash at (47 ∷ rest))
+slash_beats : (at : ℕ) (rest : List ℕ) → (OpensComment (47 ∷ rest) → ⊥) → Beats at 1 (Lexeme k.Slash) (sign at (47 ∷ rest)) → Beats at 1 (Lexeme k.Slash) (slash at (47 ∷ rest))
 slash_beats at rest no_comment h =
-    let P : Reading → Type 0 = Beats at 1 (Spells k.Slash) in
+    let P : Reading → Type 0 = Beats at 1 (Lexeme k.Slash) in
     cond_both (first_passes (λ b. b == 47) rest) _ _ P (line_longer at rest) (λ _. cond_both (first_passes (λ b. b == 42) rest) _ _ P (λ star. absurd (no_comment (opens rest star))) (λ _. h))
 
 -- an operator that the front is read as is the piece that is read
 abbrev IsFront : TokenKind → Option (List ℕ) → Type 0
 IsFront kind None = Unit {0}
 IsFront kind (Some spelling) =
-    (at : ℕ) (rest : List ℕ) → (OpensComment (spelling ++ rest) → ⊥) → Beats at (length spelling) (Spells kind) (sign at (spelling ++ rest)) → Beats at (length spelling) (Spells kind) (first at (spelling ++ rest))
+    (at : ℕ) (rest : List ℕ) → (OpensComment (spelling ++ rest) → ⊥) → Beats at (length spelling) (Lexeme kind) (sign at (spelling ++ rest)) → Beats at (length spelling) (Lexeme kind) (first at (spelling ++ rest))
 
 all_fronts : (kind : TokenKind) → IsFront kind (sign_of kind)
 unfolding first
@@ -92,12 +92,12 @@ all_fronts k.Dot = λ at rest no_comment h. h
 all_fronts k.Colon = λ at rest no_comment h. h
 all_fronts _ = tt
 
-reserved_beats : (at : ℕ) (kind : TokenKind) (word rest : List ℕ) → word_of kind ≡ Some word → Beats at (length word) (Spells kind) (first at (word ++ rest))
+reserved_beats : (at : ℕ) (kind : TokenKind) (word rest : List ℕ) → word_of kind ≡ Some word → Beats at (length word) (Lexeme kind) (first at (word ++ rest))
 unfolding first
 reserved_beats at kind [] rest h = let (letter, all, found) = reserved_found kind [] h in cc
 reserved_beats at kind (b ∷ more) rest h =
     let (letter, all, found) = reserved_found kind (b ∷ more) h in
-    subst (λ q. Beats at (length (b ∷ more)) (Spells kind) (first_by q at (b ∷ (more ++ rest)))) (sym (class_of-letter b letter)) (word_beats at (b ∷ more) rest kind all found)
+    subst (λ q. Beats at (length (b ∷ more)) (Lexeme kind) (first_by q at (b ∷ (more ++ rest)))) (sym (class_of-letter b letter)) (word_beats at (b ∷ more) rest kind all found)
 
 digit_of : (n : ℕ) → n ≤ 3 → is_ascii_digit (n + 48) ≡ true
 digit_of n h = grind (arith, nat_tests)
@@ -111,13 +111,15 @@ first_beats (pieces.line_comment inner {rest = rest} h) at = line_beats at inner
 first_beats (pieces.block_comment inner {rest = rest} closes) at =
     subst (Beats at (length (codes "/*" ++ (inner ++ codes "*/"))) Space) (sym (comment_taken at inner rest false (at + 2) closes)) (inr (omega (arith, length-append inner (codes "*/")), refl))
 first_beats (pieces.name b more {rest = rest} letter all none) at =
-    subst (λ q. Beats at (length (b ∷ more)) (Spells (k.Name (b ∷ more))) (first_by q at (b ∷ (more ++ rest)))) (sym (class_of-letter b letter)) (word_beats at (b ∷ more) rest (k.Name (b ∷ more)) (ap (λ t. (t || is_ascii_digit b) && list_all is_name_byte more) letter ∙ all) (name_found (b ∷ more) none))
+    subst (λ q. Beats at (length (b ∷ more)) (Lexeme (k.Name (b ∷ more))) (first_by q at (b ∷ (more ++ rest)))) (sym (class_of-letter b letter)) (word_beats at (b ∷ more) rest (k.Name (b ∷ more)) (ap (λ t. (t || is_ascii_digit b) && list_all is_name_byte more) letter ∙ all) (name_found (b ∷ more) none))
 first_beats (pieces.reserved kind {word = word} {rest = rest} h) at =
     reserved_beats at kind word rest h
 first_beats (pieces.dimension n {rest = rest} low high stop) at =
-    subst (λ q. Beats at 2 (Spells (k.Dim n)) (first_by q at ((n + 48) ∷ 100 ∷ rest))) (sym (class_of-digit (n + 48) (digit_of n high))) (dimension_beats at n rest low high stop)
+    subst (λ q. Beats at 2 (Lexeme (k.Dim n)) (first_by q at ((n + 48) ∷ 100 ∷ rest))) (sym (class_of-digit (n + 48) (digit_of n high))) (dimension_beats at n rest low high stop)
 first_beats (pieces.number digit more {rest = rest} all stop no_zero fits) at =
-    subst (λ q. Beats at (length (digit ∷ more)) (Spells (k.Int (pos (digits_value 10 (digit ∷ more))))) (first_by q at (digit ∷ (more ++ rest)))) (sym (class_of-digit digit (and_parts (is_ascii_digit digit) (list_all is_ascii_digit more) all).0)) (number_beats at digit more rest all stop no_zero fits)
+    subst (λ q. Beats at (length (digit ∷ more)) (Lexeme (k.Int (pos (digits_value 10 (digit ∷ more))))) (first_by q at (digit ∷ (more ++ rest)))) (sym (class_of-digit digit (and_parts (is_ascii_digit digit) (list_all is_ascii_digit more) all).0)) (number_beats at digit more rest all no_zero stop fits)
+first_beats (pieces.long_number digit more letter {rest = rest} all is no_zero fits) at =
+    subst (λ q. Beats at (length ((digit ∷ more) ++ letter ∷ [])) (Lexeme (k.LongInt (pos (digits_value 10 (digit ∷ more))))) (first_by q at (((digit ∷ more) ++ letter ∷ []) ++ rest))) (sym (class_of-digit digit (and_parts (is_ascii_digit digit) (list_all is_ascii_digit more) all).0)) (long_beats at digit more rest all no_zero letter is fits)
 first_beats (pieces.string {items = items} {bytes = bytes} {rest = rest} are) at =
     string_beats at items bytes rest are
 first_beats (pieces.sign kind {sign = spelling} {rest = rest} h no_comment) at =

@@ -1,5 +1,5 @@
 -- A text is read in one way.
-use Rattle.std.proofs.Common.{◌≡◌, ◌≢◌, ◌⊎◌, inl, inr, Result, Ok, Err, ℕ, zero, suc, ◌+◌, ◌≤◌, ◌<◌, ◌==◌, Bool, true, false, ◌||◌, cond, if◌then◌else◌, Option, Some, None, is_some, unwrap_or, List, [], ◌∷◌, ◌++◌, length, drop, codes, pos, refl, sym, ap, ◌∙◌, subst, arith, length-drop}
+use Rattle.std.proofs.Common.{◌≡◌, ◌≢◌, ◌⊎◌, inl, inr, Result, Ok, Err, ℕ, zero, suc, ◌+◌, ◌≤◌, ◌<◌, ◌==◌, Bool, true, false, ◌||◌, cond, if◌then◌else◌, Option, Some, None, is_some, unwrap_or, List, [], ◌∷◌, ◌++◌, length, drop, codes, refl, sym, ap, ◌∙◌, subst, arith, length-drop}
 use Rattle.std.proofs.lemmas.Bool.{cond_both, cases_lt, eqb-true}
 use Rattle.std.proofs.lemmas.Bool.Decides.{nat_tests}
 use Rattle.std.proofs.lemmas.List.{drop_all}
@@ -12,7 +12,7 @@ use Rattle.ti_base.specs.Places.{place_of, end_place}
 use Rattle.ti_syntax.specs.declared.token.Token.{Token}
 use Rattle.ti_syntax.specs.declared.token.TokenKind.{TokenKind}
 use Rattle.ti_syntax.specs.declared.token.TokenKind.TheVariants as k
-use Rattle.ti_syntax.specs.Tokenizing.{Piece, Space, Spells, IsLongest, Pieces, IsTokenized, BeginsNoPiece, BeginsNoItem, IsItem, AreItems, OpensComment, breaks_string, is_plain, escaped, first_passes, Flaw, StrayByte, OpenComment, OpenString, WrongNumber, HasFlaw, IsFlawed}
+use Rattle.ti_syntax.specs.Tokenizing.{Piece, Space, Lexeme, IsLongest, Pieces, IsTokenized, BeginsNoPiece, BeginsNoItem, IsItem, AreItems, OpensComment, breaks_string, is_plain, is_long_letter, escaped, first_passes, Flaw, StrayByte, OpenComment, OpenString, WrongNumber, HasFlaw, IsFlawed}
 use Rattle.ti_syntax.specs.Tokenizing as pieces
 use Rattle.ti_rules.specs.declared.refusal.Refusal.{Refusal}
 use Rattle.ti_rules.specs.LexicalRefusals.{most_bytes, rule_of, IsLexicalRefusal}
@@ -22,7 +22,7 @@ use Rattle.ti_lex.specs.declared.error.LexErr.TheVariants as e
 use Rattle.ti_lex.specs.Answer.{Lexes, GivesOnly, RefusesOnly}
 use Rattle.ti_lex.specs.declared.class.Class.{Class}
 use Rattle.ti_lex.specs.declared.class.Class.TheVariants as c
-use Rattle.ti_lex.specs.Reading.{Reading, Takes, Refuses, class_of, dimension, value_from, is_number, digits, number, string_from, escape_from, slash, first_by, first}
+use Rattle.ti_lex.specs.Mirrors.Reading.{Reading, Takes, Refuses, class_of, dimension, value_from, most_of, kind_of_number, letters, is_number, digits, number, string_from, escape_from, slash, first_by, first}
 use Rattle.ti_lex.proofs.Bytes.{IsOfClass, class_of_is, class_of-digit}
 use Rattle.ti_lex.proofs.Comments.{only_open}
 use Rattle.ti_lex.proofs.Fronts.{IsRefusal}
@@ -33,14 +33,16 @@ use Rattle.ti_lex.proofs.StringPieces.{items_read}
 number_refusal : (at : ℕ) (l : List ℕ) → IsRefusal WrongNumber at (number at l)
 number_refusal at l = by (dimension l)
   where
-    cases : (t : Bool) → IsRefusal WrongNumber at (cond t (Takes (Spells (k.Int (pos (value_from 0 l)))) (at + prefix_len is_ascii_digit l)) (Refuses WrongNumber at))
-    cases true = tt
-    cases false = (refl, refl)
+    cases : (taken : Reading) (t : Bool) → IsRefusal WrongNumber at taken → IsRefusal WrongNumber at (cond t taken (Refuses WrongNumber at))
+    cases taken true is = is
+    cases taken false is = (refl, refl)
 
-    by : (found : Option ℕ) → IsRefusal WrongNumber at (option_map_or (λ n. Takes (Spells (k.Dim n)) (at + 2)) found (digits at l))
+    by : (found : Option ℕ) → IsRefusal WrongNumber at (option_map_or (λ n. Takes (Lexeme (k.Dim n)) (at + 2)) found (digits at l))
     by (Some n) = tt
     by None =
-        cases (is_number (first_passes (λ b. b == 48) l) (prefix_len is_ascii_digit l) (value_from 0 l))
+        let size = prefix_len is_ascii_digit l in
+        let long = first_passes is_long_letter (drop size l) in
+        cases (Takes (Lexeme (kind_of_number long (value_from 0 l))) (at + size + letters long)) (is_number (first_passes (λ b. b == 48) l) size (most_of long) (value_from 0 l)) tt
 
 -- where a string breaks, it is refused at its quote
 breaks_refused : (quote : ℕ) (bytes : List ℕ) (at : ℕ) (l : List ℕ) → breaks_string l ≡ true → string_from quote bytes at l ≡ Refuses OpenString quote
@@ -140,20 +142,20 @@ same_pieces pieces.no_piece stuck pieces.no_piece stop = (refl, refl)
 same_pieces pieces.no_piece stuck (pieces.space_and {size = n} one others) stop =
     absurd (stuck n Space one.within one.is_piece)
 same_pieces pieces.no_piece stuck (pieces.token_and {size = n} {kind = kind} one others) stop =
-    absurd (stuck n (Spells kind) one.within one.is_piece)
+    absurd (stuck n (Lexeme kind) one.within one.is_piece)
 same_pieces (pieces.space_and {size = n} one others) stuck pieces.no_piece stop =
     absurd (stop n Space one.within one.is_piece)
 same_pieces (pieces.token_and {size = n} {kind = kind} one others) stuck pieces.no_piece stop =
-    absurd (stop n (Spells kind) one.within one.is_piece)
+    absurd (stop n (Lexeme kind) one.within one.is_piece)
 same_pieces {text} {i} {l = l} {us = us} (pieces.space_and {size = n} one others) stuck (pieces.space_and {size = m} two more) stop =
     let (to, same) = same_longest i (drop i text) n m Space Space one two in
     same_pieces others stuck (subst (λ x. Pieces text x us l) (sym to) more) stop
 same_pieces {text} {i} (pieces.space_and {size = n} one others) stuck (pieces.token_and {size = m} {kind = kind} two more) stop =
-    let (to, same) = same_longest i (drop i text) n m Space (Spells kind) one two in cc
+    let (to, same) = same_longest i (drop i text) n m Space (Lexeme kind) one two in cc
 same_pieces {text} {i} (pieces.token_and {size = n} {kind = kind} one others) stuck (pieces.space_and {size = m} two more) stop =
-    let (to, same) = same_longest i (drop i text) n m (Spells kind) Space one two in cc
+    let (to, same) = same_longest i (drop i text) n m (Lexeme kind) Space one two in cc
 same_pieces {text} {i} {l = l} (pieces.token_and {size = n} {kind = kind} {tokens = ts} one others) stuck (pieces.token_and {size = m} {kind = other} {tokens = us} two more) stop =
-    let (to, same) = same_longest i (drop i text) n m (Spells kind) (Spells other) one two in
+    let (to, same) = same_longest i (drop i text) n m (Lexeme kind) (Lexeme other) one two in
     let (rest, there) = same_pieces others stuck (subst (λ x. Pieces text x us l) (sym to) more) stop in
     let named : kind ≡ other = cc in
     (ap (λ (q : TokenKind). record { kind = q; place = place_of text i } ∷ ts) named ∙ ap (λ t. record { kind = other; place = place_of text i } ∷ t) rest, there)
@@ -216,7 +218,7 @@ go_space text i size longest (inl (tokens, to_end)) = inl (tokens, pieces.space_
 go_space text i size longest (inr (tokens, end, flaw, before, to, stuck, flawed)) =
     inr (tokens, end, flaw, before, pieces.space_and longest to, stuck, flawed)
 
-go_token : (text : List ℕ) (i size : ℕ) (kind : TokenKind) → IsLongest (drop i text) size (Spells kind) → GoesOn text (i + size) → GoesOn text i
+go_token : (text : List ℕ) (i size : ℕ) (kind : TokenKind) → IsLongest (drop i text) size (Lexeme kind) → GoesOn text (i + size) → GoesOn text i
 go_token text i size kind longest (inl (tokens, to_end)) =
     inl (record { kind = kind; place = place_of text i } ∷ tokens, pieces.token_and longest to_end)
 go_token text i size kind longest (inr (tokens, end, flaw, before, to, stuck, flawed)) =
@@ -232,7 +234,7 @@ goes_on text (suc left) i within near =
     by : (r : Reading) → Tells i (drop i text) r → ((size : ℕ) → 0 < size → size ≤ length (drop i text) → GoesOn text (i + size)) → GoesOn text i
     by (Takes Space end) (size, to, some, longest) more =
         go_space text i size longest (more size some longest.within)
-    by (Takes (Spells kind) end) (size, to, some, longest) more =
+    by (Takes (Lexeme kind) end) (size, to, some, longest) more =
         go_token text i size kind longest (more size some longest.within)
     by (Refuses flaw fault) (stuck, (before, to, flawed)) more =
         inr ([], i, flaw, before, pieces.no_piece, stuck, flawed)

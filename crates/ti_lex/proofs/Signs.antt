@@ -7,26 +7,26 @@ use Rattle.std.specs.Option.{option_map_or}
 use Rattle.ti_syntax.specs.declared.token.TokenKind.{TokenKind}
 use Rattle.ti_syntax.specs.declared.token.TokenKind.TheVariants as k
 use Rattle.ti_syntax.specs.Tokens.{sign_of}
-use Rattle.ti_syntax.specs.Tokenizing.{Piece, Spells, IsPiece, OpensComment}
+use Rattle.ti_syntax.specs.Tokenizing.{Piece, Lexeme, IsPiece, OpensComment}
 use Rattle.ti_syntax.specs.Tokenizing as pieces
-use Rattle.ti_lex.specs.Reading.{Reading, Takes, Refuses, first_signs, first_sign, longer_sign, sign_from, sign}
+use Rattle.ti_lex.specs.Mirrors.Reading.{Reading, Takes, Refuses, first_signs, first_sign, longer_sign, sign_from, sign}
 use Rattle.ti_lex.proofs.Fronts.{Beats, IsSound, IsRefusal}
 
 -- an operator or a longer one is read behind it
-from_by : (at size : ℕ) (kind : TokenKind) (rest : List ℕ) (b : ℕ) → ((p : ℕ) (longer : TokenKind) → p ≡ at + size + 1 → Beats (at + 1) size (Spells longer) (sign_from longer p rest)) → (longer : Option TokenKind) → Beats at size (Spells kind) (if is_some longer then sign_from (unwrap_or longer kind) (at + size + 1) rest else Takes (Spells kind) (at + size))
+from_by : (at size : ℕ) (kind : TokenKind) (rest : List ℕ) (b : ℕ) → ((p : ℕ) (longer : TokenKind) → p ≡ at + size + 1 → Beats (at + 1) size (Lexeme longer) (sign_from longer p rest)) → (longer : Option TokenKind) → Beats at size (Lexeme kind) (if is_some longer then sign_from (unwrap_or longer kind) (at + size + 1) rest else Takes (Lexeme kind) (at + size))
 from_by at size kind rest b more (Some longer) =
     further (sign_from longer (at + size + 1) rest) (more (at + size + 1) longer refl)
   where
-    further : (r : Reading) → Beats (at + 1) size (Spells longer) r → Beats at size (Spells kind) r
+    further : (r : Reading) → Beats (at + 1) size (Lexeme longer) r → Beats at size (Lexeme kind) r
     further (Takes piece end) (inl far) = inl (omega arith)
     further (Takes piece end) (inr (near, same)) = inl (omega arith)
     further (Refuses flaw fault) h = absurd h
 from_by at size kind rest b more None = inr (refl, refl)
 
-from_beats : (rest : List ℕ) (at size : ℕ) (kind : TokenKind) (p : ℕ) → p ≡ at + size → Beats at size (Spells kind) (sign_from kind p rest)
+from_beats : (rest : List ℕ) (at size : ℕ) (kind : TokenKind) (p : ℕ) → p ≡ at + size → Beats at size (Lexeme kind) (sign_from kind p rest)
 from_beats [] at size kind p h = inr (h, refl)
 from_beats (b ∷ rest) at size kind p h =
-    subst (λ q. Beats at size (Spells kind) (if is_some (longer_sign kind b) then sign_from (unwrap_or (longer_sign kind b) kind) (q + 1) rest else Takes (Spells kind) q)) (sym h) (from_by at size kind rest b (λ q longer e. from_beats rest (at + 1) size longer q (e ∙ omega arith)) (longer_sign kind b))
+    subst (λ q. Beats at size (Lexeme kind) (if is_some (longer_sign kind b) then sign_from (unwrap_or (longer_sign kind b) kind) (q + 1) rest else Takes (Lexeme kind) q)) (sym h) (from_by at size kind rest b (λ q longer e. from_beats rest (at + 1) size longer q (e ∙ omega arith)) (longer_sign kind b))
 
 -- a sign is read byte by byte, from `at` on
 abbrev IsRead : TokenKind → Option (List ℕ) → Type 0
@@ -83,10 +83,10 @@ all_read k.Colon = λ at rest. (at + 1, omega arith, refl)
 all_read _ = tt
 
 -- where a list begins with a sign, that sign or a longer one is read
-pub sign_beats : (at : ℕ) (kind : TokenKind) (spelling rest : List ℕ) → sign_of kind ≡ Some spelling → Beats at (length spelling) (Spells kind) (sign at (spelling ++ rest))
+pub sign_beats : (at : ℕ) (kind : TokenKind) (spelling rest : List ℕ) → sign_of kind ≡ Some spelling → Beats at (length spelling) (Lexeme kind) (sign at (spelling ++ rest))
 sign_beats at kind spelling rest h =
     let (end, to, same) = subst (IsRead kind) h (all_read kind) at rest in
-    subst (Beats at (length spelling) (Spells kind)) (sym same) (from_beats rest at (length spelling) kind end to)
+    subst (Beats at (length spelling) (Lexeme kind)) (sym same) (from_beats rest at (length spelling) kind end to)
 
 -- a byte behind a sign makes the sign that both spell
 abbrev IsLonger : TokenKind → ℕ → Option TokenKind → Type 0
@@ -141,10 +141,10 @@ first_of b (row ∷ rows) (this, others) =
 -- what is read behind a sign spells one with it
 abbrev IsRest : ℕ → List ℕ → List ℕ → Reading → Type 0
 IsRest p spelling l (Takes piece end) =
-    (kind : TokenKind) × (whole : List ℕ) × (more : List ℕ) × (rest : List ℕ) × (piece ≡ Spells kind) × (sign_of kind ≡ Some whole) × (whole ≡ spelling ++ more) × (l ≡ more ++ rest) × (end ≡ p + length more)
+    (kind : TokenKind) × (whole : List ℕ) × (more : List ℕ) × (rest : List ℕ) × (piece ≡ Lexeme kind) × (sign_of kind ≡ Some whole) × (whole ≡ spelling ++ more) × (l ≡ more ++ rest) × (end ≡ p + length more)
 IsRest p spelling l (Refuses flaw fault) = ⊥
 
-rest_by : (p b : ℕ) (spelling l : List ℕ) (kind : TokenKind) → sign_of kind ≡ Some spelling → ((longer : TokenKind) → sign_of longer ≡ Some (spelling ++ b ∷ []) → IsRest (p + 1) (spelling ++ b ∷ []) l (sign_from longer (p + 1) l)) → (longer : Option TokenKind) → IsLonger kind b longer → IsRest p spelling (b ∷ l) (if is_some longer then sign_from (unwrap_or longer kind) (p + 1) l else Takes (Spells kind) p)
+rest_by : (p b : ℕ) (spelling l : List ℕ) (kind : TokenKind) → sign_of kind ≡ Some spelling → ((longer : TokenKind) → sign_of longer ≡ Some (spelling ++ b ∷ []) → IsRest (p + 1) (spelling ++ b ∷ []) l (sign_from longer (p + 1) l)) → (longer : Option TokenKind) → IsLonger kind b longer → IsRest p spelling (b ∷ l) (if is_some longer then sign_from (unwrap_or longer kind) (p + 1) l else Takes (Lexeme kind) p)
 rest_by p b spelling l kind this more (Some longer) is =
     further (sign_from longer (p + 1) l) (more longer (is spelling this))
   where
@@ -179,7 +179,7 @@ sign_sound at b l no_comment stray = by (first_sign b) refl (first_of b first_si
 pub sign_refusal : (at b : ℕ) (l : List ℕ) → IsRefusal pieces.StrayByte at (sign at (b ∷ l))
 sign_refusal at b l = by (first_sign b)
   where
-    taken : (kind : TokenKind) (r : Reading) → Beats at 1 (Spells kind) r → IsRefusal pieces.StrayByte at r
+    taken : (kind : TokenKind) (r : Reading) → Beats at 1 (Lexeme kind) r → IsRefusal pieces.StrayByte at r
     taken kind (Takes piece end) h = tt
     taken kind (Refuses flaw fault) h = absurd h
 

@@ -4,9 +4,9 @@ use Rattle.std.proofs.lemmas.Bool.{cond_both, eqb-true, eqb-false}
 use Rattle.std.proofs.lemmas.Bool.Decides.{nat_tests}
 use Rattle.std.proofs.lemmas.List.{append-nil}
 use Rattle.ti_syntax.specs.declared.token.TokenKind.TheVariants as k
-use Rattle.ti_syntax.specs.Tokenizing.{Piece, Spells, Flaw, StrayByte, OpenString, IsPiece, HasFlaw, IsItem, AreItems, BeginsNoItem, breaks_string, first_passes, is_plain, escaped}
+use Rattle.ti_syntax.specs.Tokenizing.{Piece, Lexeme, Flaw, StrayByte, OpenString, IsPiece, HasFlaw, IsItem, AreItems, BeginsNoItem, breaks_string, first_passes, is_plain, escaped}
 use Rattle.ti_syntax.specs.Tokenizing as pieces
-use Rattle.ti_lex.specs.Reading.{Reading, Takes, Refuses, string_from, escape_from}
+use Rattle.ti_lex.specs.Mirrors.Reading.{Reading, Takes, Refuses, string_from, escape_from}
 use Rattle.ti_lex.proofs.Fronts.{Beats, IsSound}
 
 plain_apart : (b : ℕ) → is_plain b ≡ true → ((b == 34) ≡ false) × ((b == 92) ≡ false)
@@ -29,23 +29,23 @@ items_read (pieces.more_items {items = items} {bytes = bytes} (pieces.escape b {
     escape_read quote before at b byte (items ++ rest) h ∙ items_read more quote (before ++ byte ∷ []) (at + 2) rest ∙ ap (λ t. string_from quote t (at + 2 + length items) rest) (append_assoc before (byte ∷ []) bytes) ∙ ap (λ p. string_from quote (before ++ byte ∷ bytes) p rest) (omega arith)
 
 -- where a list begins with a string, that string is read
-pub string_beats : (at : ℕ) (items bytes rest : List ℕ) → AreItems items bytes → Beats at (length (34 ∷ (items ++ 34 ∷ []))) (Spells (k.Str bytes)) (string_from at [] (at + 1) ((items ++ 34 ∷ []) ++ rest))
+pub string_beats : (at : ℕ) (items bytes rest : List ℕ) → AreItems items bytes → Beats at (length (34 ∷ (items ++ 34 ∷ []))) (Lexeme (k.Str bytes)) (string_from at [] (at + 1) ((items ++ 34 ∷ []) ++ rest))
 string_beats at items bytes rest are =
-    let whole : string_from at [] (at + 1) ((items ++ 34 ∷ []) ++ rest) ≡ Takes (Spells (k.Str bytes)) (at + 1 + length items + 1) = ap (string_from at [] (at + 1)) (append_assoc items (34 ∷ []) rest) ∙ items_read are at [] (at + 1) (34 ∷ rest) in
-    subst (Beats at (length (34 ∷ (items ++ 34 ∷ []))) (Spells (k.Str bytes))) (sym whole) (inr (omega (arith, length-append items (34 ∷ [])), refl))
+    let whole : string_from at [] (at + 1) ((items ++ 34 ∷ []) ++ rest) ≡ Takes (Lexeme (k.Str bytes)) (at + 1 + length items + 1) = ap (string_from at [] (at + 1)) (append_assoc items (34 ∷ []) rest) ∙ items_read are at [] (at + 1) (34 ∷ rest) in
+    subst (Beats at (length (34 ∷ (items ++ 34 ∷ []))) (Lexeme (k.Str bytes))) (sym whole) (inr (omega (arith, length-append items (34 ∷ [])), refl))
 
 module _ (quote : ℕ) where
   -- what is read of the rest of a string: items and the quote, or items up to a fault
   abbrev IsRest : List ℕ → ℕ → List ℕ → Reading → Type 0
   IsRest before at l (Takes piece end) =
-      (items : List ℕ) × (bytes : List ℕ) × (rest : List ℕ) × AreItems items bytes × (l ≡ items ++ (34 ∷ rest)) × (piece ≡ Spells (k.Str (before ++ bytes))) × (end ≡ at + length items + 1)
+      (items : List ℕ) × (bytes : List ℕ) × (rest : List ℕ) × AreItems items bytes × (l ≡ items ++ (34 ∷ rest)) × (piece ≡ Lexeme (k.Str (before ++ bytes))) × (end ≡ at + length items + 1)
   IsRest before at l (Refuses flaw fault) =
       (items : List ℕ) × (bytes : List ℕ) × (rest : List ℕ) × AreItems items bytes × (l ≡ items ++ rest)
       × (((flaw ≡ OpenString) × (fault ≡ quote) × (breaks_string rest ≡ true)) ⊎ ((flaw ≡ StrayByte) × (fault ≡ at + length items) × (breaks_string rest ≡ false) × BeginsNoItem rest))
 
   item_more : (item : List ℕ) (byte : ℕ) (before : List ℕ) (at : ℕ) (l : List ℕ) (r : Reading) → IsItem item byte → IsRest (before ++ byte ∷ []) (at + length item) l r → IsRest before at (item ++ l) r
   item_more item byte before at l (Takes piece end) is (items, bytes, rest, are, l_is, piece_is, to) =
-      (item ++ items, byte ∷ bytes, rest, pieces.more_items is are, ap (λ t. item ++ t) l_is ∙ sym (append_assoc item items (34 ∷ rest)), piece_is ∙ ap (λ t. Spells (k.Str t)) (append_assoc before (byte ∷ []) bytes), omega (arith, length-append item items))
+      (item ++ items, byte ∷ bytes, rest, pieces.more_items is are, ap (λ t. item ++ t) l_is ∙ sym (append_assoc item items (34 ∷ rest)), piece_is ∙ ap (λ t. Lexeme (k.Str t)) (append_assoc before (byte ∷ []) bytes), omega (arith, length-append item items))
   item_more item byte before at l (Refuses flaw fault) is (items, bytes, rest, are, l_is, why) =
       (item ++ items, byte ∷ bytes, rest, pieces.more_items is are, ap (λ t. item ++ t) l_is ∙ sym (append_assoc item items rest), elim why [ inl ended ↦ inl ended | inr (stray, fault_is, goes_on, none) ↦ inr (stray, omega (arith, length-append item items), goes_on, none) ])
 
@@ -85,7 +85,7 @@ module _ (quote : ℕ) where
     rest_of before at [] = ([], [], [], pieces.no_items, refl, inl (refl, refl, refl))
     rest_of before at (b ∷ l) =
         let P : Reading → Type 0 = IsRest before at (b ∷ l) in
-        cond_both (b == 34) _ _ P (λ h. ([], [], l, pieces.no_items, ap (λ d. d ∷ l) (eqb-true b 34 h), ap (λ t. Spells (k.Str t)) (sym (append-nil before)), omega arith)) (λ quoted. cond_both (b == 92) _ _ P (λ h. subst (λ d. IsRest before at (d ∷ l) (escape_from quote before at l)) (sym (eqb-true b 92 h)) (escape_rest before at l)) (λ begins. cond_both (is_plain b) _ _ P (λ h. item_more (b ∷ []) b before at l (string_from quote (before ++ b ∷ []) (at + 1) l) (pieces.plain b h) (rest_of (before ++ b ∷ []) (at + 1) l)) (λ plain. cond_both (b == 10 || b == 13) _ _ P (λ h. ([], [], b ∷ l, pieces.no_items, refl, inl (refl, refl, h))) (λ breaks. stray_here before at b l quoted breaks (no_item b l plain begins)))))
+        cond_both (b == 34) _ _ P (λ h. ([], [], l, pieces.no_items, ap (λ d. d ∷ l) (eqb-true b 34 h), ap (λ t. Lexeme (k.Str t)) (sym (append-nil before)), omega arith)) (λ quoted. cond_both (b == 92) _ _ P (λ h. subst (λ d. IsRest before at (d ∷ l) (escape_from quote before at l)) (sym (eqb-true b 92 h)) (escape_rest before at l)) (λ begins. cond_both (is_plain b) _ _ P (λ h. item_more (b ∷ []) b before at l (string_from quote (before ++ b ∷ []) (at + 1) l) (pieces.plain b h) (rest_of (before ++ b ∷ []) (at + 1) l)) (λ plain. cond_both (b == 10 || b == 13) _ _ P (λ h. ([], [], b ∷ l, pieces.no_items, refl, inl (refl, refl, h))) (λ breaks. stray_here before at b l quoted breaks (no_item b l plain begins)))))
 
     escape_rest : (before : List ℕ) (at : ℕ) (l : List ℕ) → IsRest before at (92 ∷ l) (escape_from quote before at l)
     escape_rest before at [] = stray_here before at 92 [] refl refl (no_escape [] (λ c rest is. cc))

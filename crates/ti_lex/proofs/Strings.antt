@@ -5,17 +5,17 @@ use Rattle.std.specs.Option.{option_map_or}
 use Rattle.ti_base.specs.declared.place.Place.{Place}
 use Rattle.ti_base.specs.Places.{place_of}
 use Rattle.ti_syntax.specs.declared.token.TokenKind.TheVariants as k
-use Rattle.ti_syntax.specs.Tokenizing.{Spells, StrayByte, OpenString, escaped, is_plain}
+use Rattle.ti_syntax.specs.Tokenizing.{Lexeme, StrayByte, OpenString, escaped, is_plain}
 use Rattle.ti_lex.specs.declared.error.LexErr.{LexErr}
 use Rattle.ti_rules.specs.declared.rule.Rule.TheVariants.{X1}
-use Rattle.ti_lex.specs.Cursor.{Spot, rest, moved}
-use Rattle.ti_lex.specs.Reading.{Reading, Takes, Refuses, Item, Gives, Closes, Breaks, Strays, item, escape, string_from, escape_from}
-use Rattle.ti_lex.specs.Answer.{Reads, ReadsItem}
+use Rattle.ti_lex.specs.Mirrors.Cursor.{Spot, rest, moved}
+use Rattle.ti_lex.specs.Mirrors.Reading.{Reading, Takes, Refuses, Item, Gives, Closes, Breaks, Strays, item, escape, string_from, escape_from}
+use Rattle.ti_lex.specs.Mirrors.Answers.{Reads, ReadsItem}
 
 -- what an item makes of the rest of a string
 abbrev pub behind : ℕ → List ℕ → ℕ → List ℕ → Item → Reading
 behind quote bytes at l (Gives byte size) = string_from quote (bytes ++ byte ∷ []) (at + size) (drop size l)
-behind quote bytes at l Closes = Takes (Spells (k.Str bytes)) (at + 1)
+behind quote bytes at l Closes = Takes (Lexeme (k.Str bytes)) (at + 1)
 behind quote bytes at l Breaks = Refuses OpenString quote
 behind quote bytes at l Strays = Refuses StrayByte at
 
@@ -29,7 +29,7 @@ module _ (quote : ℕ) (bytes : List ℕ) (at : ℕ) where
       by None = refl
 
   chosen : (l : List ℕ) (b : ℕ) (closes begins plain breaks : Bool) (from : Reading) (e : Item) → from ≡ behind quote bytes at (b ∷ l) e
-      → (if closes then Takes (Spells (k.Str bytes)) (at + 1) else (if begins then from else (if plain then string_from quote (bytes ++ b ∷ []) (at + 1) l else (if breaks then Refuses OpenString quote else Refuses StrayByte at))))
+      → (if closes then Takes (Lexeme (k.Str bytes)) (at + 1) else (if begins then from else (if plain then string_from quote (bytes ++ b ∷ []) (at + 1) l else (if breaks then Refuses OpenString quote else Refuses StrayByte at))))
       ≡ behind quote bytes at (b ∷ l) (if closes then Closes else (if begins then e else (if plain then Gives b 1 else (if breaks then Breaks else Strays))))
   chosen l b true begins plain breaks from e h = refl
   chosen l b false true plain breaks from e h = h

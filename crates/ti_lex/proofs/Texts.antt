@@ -5,7 +5,7 @@ use Rattle.ti_base.specs.Places.{place_of, end_place}
 use Rattle.ti_syntax.specs.declared.token.Token.{Token}
 use Rattle.ti_syntax.specs.declared.token.TokenKind.{TokenKind}
 use Rattle.ti_syntax.specs.declared.token.TokenKind.TheVariants as k
-use Rattle.ti_syntax.specs.Tokenizing.{Piece, Space, Spells, IsLongest, Pieces, IsTokenized, BeginsNoPiece, Flaw, HasFlaw, IsFlawed}
+use Rattle.ti_syntax.specs.Tokenizing.{Piece, Space, Lexeme, IsLongest, Pieces, IsTokenized, BeginsNoPiece, Flaw, HasFlaw, IsFlawed}
 use Rattle.ti_syntax.specs.Tokenizing as pieces
 use Rattle.ti_rules.specs.declared.refusal.Refusal.{Refusal}
 use Rattle.ti_rules.specs.LexicalRefusals.{most_bytes, rule_of, IsLexicalRefusal}
@@ -14,9 +14,10 @@ use Rattle.ti_lex.specs.declared.error.LexErr.{LexErr}
 use Rattle.ti_lex.specs.declared.error.LexErr.TheVariants as e
 use Rattle.ti_lex.specs.declared.piece.Piece as read
 use Rattle.ti_lex.specs.declared.piece.Piece.TheVariants as p
-use Rattle.ti_lex.specs.Answer.{Reads, Lexes}
-use Rattle.ti_lex.specs.Cursor.{Spot, rest}
-use Rattle.ti_lex.specs.Reading.{Reading, Takes, Refuses, first}
+use Rattle.ti_lex.specs.Answer.{Lexes}
+use Rattle.ti_lex.specs.Mirrors.Answers.{Reads}
+use Rattle.ti_lex.specs.Mirrors.Cursor.{Spot, rest}
+use Rattle.ti_lex.specs.Mirrors.Reading.{Reading, Takes, Refuses, first}
 use Rattle.ti_lex.proofs.Longest.{Tells, first_tells}
 
 -- one more piece behind others
@@ -27,7 +28,7 @@ more_space (pieces.space_and first others) size longest =
 more_space (pieces.token_and first others) size longest =
     pieces.token_and first (more_space others size longest)
 
-more_token : {text : List ℕ} {i j : ℕ} {tokens : List Token} → Pieces text i tokens j → (size : ℕ) (kind : TokenKind) → IsLongest (drop j text) size (Spells kind) → Pieces text i (tokens ++ record { kind = kind; place = place_of text j } ∷ []) (j + size)
+more_token : {text : List ℕ} {i j : ℕ} {tokens : List Token} → Pieces text i tokens j → (size : ℕ) (kind : TokenKind) → IsLongest (drop j text) size (Lexeme kind) → Pieces text i (tokens ++ record { kind = kind; place = place_of text j } ∷ []) (j + size)
 more_token pieces.no_piece size kind longest = pieces.token_and longest pieces.no_piece
 more_token (pieces.space_and first others) size kind longest =
     pieces.space_and first (more_token others size kind longest)

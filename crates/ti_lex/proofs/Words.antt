@@ -11,9 +11,9 @@ use Rattle.std.specs.Str.{bytes_eq}
 use Rattle.ti_syntax.specs.declared.token.TokenKind.{TokenKind}
 use Rattle.ti_syntax.specs.declared.token.TokenKind.TheVariants as k
 use Rattle.ti_syntax.specs.Tokens.{word_of}
-use Rattle.ti_syntax.specs.Tokenizing.{Spells, IsPiece, first_passes, begins_name, is_name_byte}
+use Rattle.ti_syntax.specs.Tokenizing.{Lexeme, IsPiece, first_passes, begins_name, is_name_byte}
 use Rattle.ti_syntax.specs.Tokenizing as pieces
-use Rattle.ti_lex.specs.Reading.{Takes, reserved, kind_of_word, word}
+use Rattle.ti_lex.specs.Mirrors.Reading.{Takes, reserved, kind_of_word, word}
 use Rattle.ti_lex.proofs.Fronts.{Beats, IsSound}
 use Rattle.ti_lex.proofs.Runs.{run_covers, run_passes}
 
@@ -96,7 +96,7 @@ not_reserved word none kind h =
     cc
 
 -- what a word that looks like a name is
-word_piece : (b : ℕ) (more rest : List ℕ) → begins_name b ≡ true → list_all is_name_byte more ≡ true → (found : Option TokenKind) → lookup (bytes_eq (b ∷ more)) reserved ≡ found → IsPiece (b ∷ more) rest (Spells (unwrap_or found (k.Name (b ∷ more))))
+word_piece : (b : ℕ) (more rest : List ℕ) → begins_name b ≡ true → list_all is_name_byte more ≡ true → (found : Option TokenKind) → lookup (bytes_eq (b ∷ more)) reserved ≡ found → IsPiece (b ∷ more) rest (Lexeme (unwrap_or found (k.Name (b ∷ more))))
 word_piece b more rest first others None h =
     pieces.name b more first others (not_reserved (b ∷ more) h)
 word_piece b more rest first others (Some kind) h =
@@ -111,17 +111,17 @@ name_found word none = by (lookup (bytes_eq word) reserved) refl
     by (Some kind) h = absurd (none kind (subst (IsSpelling word) h (spelled word reserved all_spelled)))
 
 -- where a list begins with a word, that word or a longer one is read
-pub word_beats : (at : ℕ) (name rest : List ℕ) (kind : TokenKind) → list_all is_name_byte name ≡ true → kind_of_word name ≡ kind → Beats at (length name) (Spells kind) (word at (name ++ rest))
+pub word_beats : (at : ℕ) (name rest : List ℕ) (kind : TokenKind) → list_all is_name_byte name ≡ true → kind_of_word name ≡ kind → Beats at (length name) (Lexeme kind) (word at (name ++ rest))
 word_beats at name rest kind all found =
     let covers = run_covers is_name_byte name rest all in
-    elim (cases_lt (length name) (prefix_len is_name_byte (name ++ rest))) [ inl longer ↦ inl (omega arith) | inr short ↦ (let same : prefix_len is_name_byte (name ++ rest) ≡ length name = omega arith in inr (ap (λ n. at + n) same, ap (λ n. Spells (kind_of_word (take n (name ++ rest)))) same ∙ ap (λ w. Spells (kind_of_word w)) (take-append_seam name rest) ∙ ap Spells found)) ]
+    elim (cases_lt (length name) (prefix_len is_name_byte (name ++ rest))) [ inl longer ↦ inl (omega arith) | inr short ↦ (let same : prefix_len is_name_byte (name ++ rest) ≡ length name = omega arith in inr (ap (λ n. at + n) same, ap (λ n. Lexeme (kind_of_word (take n (name ++ rest)))) same ∙ ap (λ w. Lexeme (kind_of_word w)) (take-append_seam name rest) ∙ ap Lexeme found)) ]
 
-sized : (at b : ℕ) (l : List ℕ) (n : ℕ) → begins_name b ≡ true → n ≡ prefix_len is_name_byte l → (size : ℕ) → size ≡ suc n → IsSound at (b ∷ l) (Takes (Spells (kind_of_word (take size (b ∷ l)))) (at + size))
+sized : (at b : ℕ) (l : List ℕ) (n : ℕ) → begins_name b ≡ true → n ≡ prefix_len is_name_byte l → (size : ℕ) → size ≡ suc n → IsSound at (b ∷ l) (Takes (Lexeme (kind_of_word (take size (b ∷ l)))) (at + size))
 sized at b l n first is size h =
     let all : list_all is_name_byte (take n l) ≡ true = subst (λ m. list_all is_name_byte (take m l) ≡ true) (sym is) (run_passes is_name_byte l) in
     let long : length (take n l) ≡ n = subst (λ m. length (take m l) ≡ m) (sym is) (length-prefix_len is_name_byte l) in
     let name = b ∷ take n l in
-    subst (λ m. IsSound at (b ∷ l) (Takes (Spells (kind_of_word (take m (b ∷ l)))) (at + m))) (sym h) (name, drop n l, ap (λ t. b ∷ t) (sym (take-append-drop n l)), omega arith, omega arith, word_piece b (take n l) (drop n l) first all (lookup (bytes_eq name) reserved) refl)
+    subst (λ m. IsSound at (b ∷ l) (Takes (Lexeme (kind_of_word (take m (b ∷ l)))) (at + m))) (sym h) (name, drop n l, ap (λ t. b ∷ t) (sym (take-append-drop n l)), omega arith, omega arith, word_piece b (take n l) (drop n l) first all (lookup (bytes_eq name) reserved) refl)
 
 -- a word that is read stands at the front
 pub word_sound : (at b : ℕ) (l : List ℕ) → begins_name b ≡ true → IsSound at (b ∷ l) (word at (b ∷ l))

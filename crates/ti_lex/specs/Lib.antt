@@ -1,3 +1,2 @@
 pub mod Answer
-pub mod Cursor
-pub mod Reading
+pub mod Mirrors

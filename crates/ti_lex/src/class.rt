@@ -1,7 +1,7 @@
 // Kinds of bytes.
 ghost use Rattle.std.specs.Prelude.{◌≡◌};
-ghost use Rattle.ti_syntax.specs.Tokenizing.{is_blank, is_name_byte, is_plain, escaped};
-ghost use Rattle.ti_lex.specs.Reading.{class_of};
+ghost use Rattle.ti_syntax.specs.Tokenizing.{is_blank, is_name_byte, is_long_letter, is_plain, escaped};
+ghost use Rattle.ti_lex.specs.Mirrors.Reading.{class_of};
 
 /// What kind of piece can begin with a byte.
 #[derive(Clone, Copy, Debug)]
@@ -32,6 +32,13 @@ pub fn is_name_byte(byte: u8) -> bool
     ensures { result ≡ is_name_byte byte }
 {
     byte.is_ascii_alphanumeric() || byte == b'_' || byte == b'$'
+}
+
+/// Whether a byte makes the digits before it a long number.
+pub fn is_long_letter(byte: u8) -> bool
+    ensures { result ≡ is_long_letter byte }
+{
+    byte == b'L' || byte == b'l'
 }
 
 /// Whether a byte stands for itself in a string.

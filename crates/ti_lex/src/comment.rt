@@ -1,9 +1,9 @@
 // Comments, and what else begins with a slash.
 ghost use Rattle.std.specs.Prelude.{◌≡◌, ◌+◌, ◌≤◌, ◌<◌, ◌++◌, List, ℕ, codes, length, drop, false};
 ghost use Rattle.ti_syntax.specs.Tokenizing.{Space};
-ghost use Rattle.ti_lex.specs.Answer.{Reads};
-ghost use Rattle.ti_lex.specs.Cursor.{rest};
-ghost use Rattle.ti_lex.specs.Reading.{Takes, comment_from, line_left, slash};
+ghost use Rattle.ti_lex.specs.Mirrors.Answers.{Reads};
+ghost use Rattle.ti_lex.specs.Mirrors.Cursor.{rest};
+ghost use Rattle.ti_lex.specs.Mirrors.Reading.{Takes, comment_from, line_left, slash};
 
 use crate::cursor::Cursor;
 use crate::error::{LexErr, refused};

@@ -2,7 +2,7 @@
 ghost use Rattle.std.specs.Prelude.{◌≡◌, ◌≤◌, ◌<◌, ◌∷◌, [], length, drop, MatchOption};
 ghost use Rattle.ti_base.specs.Places.{place_of};
 ghost use Rattle.ti_rules.specs.LexicalRefusals.{most_bytes};
-ghost use Rattle.ti_lex.specs.Cursor.{rest, moved};
+ghost use Rattle.ti_lex.specs.Mirrors.Cursor.{rest, moved};
 
 use std::marker::Model;
 use ti_base::Place;
@@ -19,7 +19,7 @@ impl<'a> Model for Cursor<'a> {
     ghost use Rattle.std.specs.Prelude.{◌≡◌, ◌≤◌, length};
     ghost use Rattle.ti_base.specs.Places.{place_of};
     ghost use Rattle.ti_rules.specs.LexicalRefusals.{most_bytes};
-    ghost use Rattle.ti_lex.specs.Cursor.{Spot};
+    ghost use Rattle.ti_lex.specs.Mirrors.Cursor.{Spot};
 
     ghost Value = { Spot };
 

@@ -4,9 +4,10 @@ ghost use Rattle.ti_syntax.specs.declared.token.Token.{Token};
 ghost use Rattle.ti_syntax.specs.Tokenizing.{IsTokenized};
 ghost use Rattle.ti_rules.specs.declared.refusal.Refusal.{Refusal};
 ghost use Rattle.ti_rules.specs.LexicalRefusals.{most_bytes, IsLexicalRefusal};
-ghost use Rattle.ti_lex.specs.Answer.{Lexes, Reads, GivesOnly, RefusesOnly};
-ghost use Rattle.ti_lex.specs.Cursor.{rest};
-ghost use Rattle.ti_lex.specs.Reading.{first};
+ghost use Rattle.ti_lex.specs.Answer.{Lexes, GivesOnly, RefusesOnly};
+ghost use Rattle.ti_lex.specs.Mirrors.Answers.{Reads};
+ghost use Rattle.ti_lex.specs.Mirrors.Cursor.{rest};
+ghost use Rattle.ti_lex.specs.Mirrors.Reading.{first};
 
 use crate::class::{Class, class_of};
 use crate::cursor::Cursor;
@@ -14,15 +15,15 @@ use crate::error::{LexErr, refused};
 use crate::piece::Piece;
 use std::alloc::Global;
 use ti_base::Place;
-use ti_syntax::{Token, TokenKind};
 use ti_rules::Rule;
+use ti_syntax::{Token, TokenKind};
 
 /// How many bytes a text may have.
 const MOST_BYTES: usize = 1048576;
 
 impl Cursor<'_> {
     /// The piece at the front, which begins with this byte.
-    #[tactic(auto, unfolding(crate::specs::Reading::first))]
+    #[tactic(auto, unfolding(crate::specs::Mirrors::Reading::first))]
     fn piece(&mut self, alloc: Global, byte: u8) -> Result<Piece, LexErr>
         requires { rest self.old ≡ byte ∷ drop 1 (rest self.old) }
         ensures { Reads (first self.old.at (rest self.old)) self.old self.new result }

@@ -10,8 +10,6 @@ mod number;
 mod operator;
 mod piece;
 mod string;
-#[cfg(test)]
-mod tests;
 mod word;
 
 pub use error::LexErr;

@@ -1,14 +1,14 @@
 // Operators and marks.
 ghost use Rattle.std.specs.Prelude.{◌≡◌, ◌<◌, length};
-ghost use Rattle.ti_lex.specs.Cursor.{rest};
-ghost use Rattle.ti_lex.specs.Reading.{first_sign, longer_sign, sign};
-ghost use Rattle.ti_lex.specs.Answer.{Reads};
+ghost use Rattle.ti_lex.specs.Mirrors.Cursor.{rest};
+ghost use Rattle.ti_lex.specs.Mirrors.Reading.{first_sign, longer_sign, sign};
+ghost use Rattle.ti_lex.specs.Mirrors.Answers.{Reads};
 
 use crate::cursor::Cursor;
 use crate::error::{LexErr, refused};
 use crate::piece::Piece;
-use ti_syntax::TokenKind;
 use ti_rules::Rule;
+use ti_syntax::TokenKind;
 
 /// The operator or mark of one byte.
 fn first_sign(byte: u8) -> Option<TokenKind>

@@ -1,8 +1,8 @@
 // String literals.
 ghost use Rattle.std.specs.Prelude.{◌≡◌, ◌+◌, [], ◌<◌, length, drop};
-ghost use Rattle.ti_lex.specs.Answer.{Reads, ReadsItem};
-ghost use Rattle.ti_lex.specs.Cursor.{rest};
-ghost use Rattle.ti_lex.specs.Reading.{item, string_from};
+ghost use Rattle.ti_lex.specs.Mirrors.Answers.{Reads, ReadsItem};
+ghost use Rattle.ti_lex.specs.Mirrors.Cursor.{rest};
+ghost use Rattle.ti_lex.specs.Mirrors.Reading.{item, string_from};
 
 use crate::class::{escaped, is_plain};
 use crate::cursor::Cursor;
@@ -10,8 +10,8 @@ use crate::error::{LexErr, refused};
 use crate::piece::Piece;
 use std::alloc::Global;
 use ti_base::Place;
-use ti_syntax::{Spelled, TokenKind};
 use ti_rules::Rule;
+use ti_syntax::{Spelled, TokenKind};
 
 impl Cursor<'_> {
     /// The byte that the next item of a string stands for, or `None` at the closing quote.

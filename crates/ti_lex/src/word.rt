@@ -4,9 +4,9 @@ ghost use Rattle.std.specs.List.{prefix_len};
 ghost use Rattle.std.specs.Map.{lookup};
 ghost use Rattle.std.specs.Str.{bytes_eq};
 ghost use Rattle.ti_syntax.specs.Tokenizing.{is_name_byte};
-ghost use Rattle.ti_lex.specs.Answer.{Reads};
-ghost use Rattle.ti_lex.specs.Cursor.{rest, moved};
-ghost use Rattle.ti_lex.specs.Reading.{reserved, word};
+ghost use Rattle.ti_lex.specs.Mirrors.Answers.{Reads};
+ghost use Rattle.ti_lex.specs.Mirrors.Cursor.{rest, moved};
+ghost use Rattle.ti_lex.specs.Mirrors.Reading.{reserved, word};
 
 use crate::class::is_name_byte;
 use crate::cursor::Cursor;
@@ -19,7 +19,7 @@ use ti_syntax::{Spelled, TokenKind};
 const RESERVED: usize = 34;
 
 /// A reserved word by its number: how it is spelled, and its kind.
-#[tactic(auto, unfolding(crate::specs::Reading::reserved))]
+#[tactic(auto, unfolding(crate::specs::Mirrors::Reading::reserved))]
 fn reserved_at(number: usize) -> (&'static [u8], TokenKind)
     requires { number < RESERVED }
     ensures { slice_get reserved number ≡ Some (result.0.now, result.1) }

@@ -7,21 +7,23 @@ use Rattle.ti_syntax.specs.declared.tree.types.Base.TheVariants as b
 use Rattle.ti_syntax.specs.Trees.Types.{TypeTree}
 use Rattle.ti_syntax.specs.Trees.Expressions.{Exp, Exps, RangeTree, RangeTrees}
 use Rattle.ti_syntax.specs.Trees.Statements.{DimsTree, InitTree, PrintTree, Stm, MaybeStm, Stms}
-use Rattle.ti_syntax.specs.Trees.Classes.{FieldTree, ParamTree, ParamsTree, ReturnTree, ResultTree, ClassTree, TextTree}
+use Rattle.ti_syntax.specs.Trees.Classes.{FieldTree, ParamTree, ParamsTree, ResultTree, ClassTree, TextTree}
 use Rattle.ti_lang.specs.Program.Types.{NumberedType}
 use Rattle.ti_lang.specs.Program.Expressions.{NumberedExp, NumberedExps, NumberedRange, NumberedRanges}
 use Rattle.ti_lang.specs.Program.Statements.{NumberedDims, NumberedInit, NumberedPrint, NumberedStm, MaybeNumbered, NumberedStms}
-use Rattle.ti_lang.specs.Program.Classes.{NumberedField, NumberedClass, NumberedParams, NumberedReturn, NumberedResult, NumberedMethod, NumberedProgram}
+use Rattle.ti_lang.specs.Program.Classes.{NumberedField, NumberedClass, NumberedParam, NumberedParams, NumberedResult, NumberedMethod, NumberedProgram}
 use Rattle.ti_lang.specs.Members.{class_named, fields_in, field_named, OwnMethod, method_named}
 use Rattle.ti_lang.specs.Scopes.{Site, class_site, most_variables, IsFresh, HasRoom}
-use Rattle.ti_lang.specs.Nodes.{base_nodes, type_nodes, exp_nodes, exps_nodes, range_nodes, ranges_nodes, maybe_nodes, dims_nodes, init_nodes, print_nodes, stm_nodes, maybe_stm_nodes, stms_nodes, fields_nodes, classes_nodes, result_nodes, param_list_nodes, params_nodes, return_nodes, method_nodes, methods_nodes, nodes_of, node, ClassName, FieldName, MethodName, VariableName, ClassUse}
-use Rattle.ti_lang.specs.Numbering.{IsKnownBase, NumbersType, NumbersExp, NumbersExps, NumbersRange, NumbersRanges, NumbersMaybe, NumbersDims, NumbersInit, NumbersPrint, NumbersStm, NumbersMaybeStm, NumbersStms, NumbersFields, NumbersClasses, NumbersResult, NumbersParamList, NumbersParams, NumbersReturn, NumbersMethod, NumbersMethods, Numbers}
+use Rattle.ti_lang.specs.Nodes.{base_nodes, type_nodes, exp_nodes, exps_nodes, range_nodes, ranges_nodes, maybe_nodes, dims_nodes, init_nodes, print_nodes, stm_nodes, maybe_stm_nodes, stms_nodes, fields_nodes, classes_nodes, result_nodes, param_list_nodes, params_nodes, method_nodes, methods_nodes, nodes_of, node, ClassName, FieldName, MethodName, VariableName, ClassUse}
+use Rattle.ti_lang.specs.Numbering.{IsKnownBase, NumbersType, NumbersExp, NumbersExps, NumbersRange, NumbersRanges, NumbersMaybe, NumbersDims, NumbersInit, NumbersPrint, NumbersStm, NumbersMaybeStm, NumbersStms, NumbersFields, NumbersClasses, NumbersResult, NumbersParamList, NumbersParams, NumbersMethod, NumbersMethods, Numbers}
 use Rattle.ti_rules.specs.declared.rule.Rule.TheVariants.{N2}
-use Rattle.ti_names.specs.Faults.{fault_if, is_another}
+use Rattle.ti_rules.specs.First.{refused_if}
+use Rattle.ti_rules.specs.MainForm.{is_another}
 use Rattle.ti_names.proofs.CleanNodes.{Clean, first_clean, clean_append}
 
 clean_base : (site : Site) (base : Base) → IsKnownBase site.text base → Clean (base_nodes site base)
 clean_base site (b.Int at) k = Clean.no_nodes
+clean_base site (b.Long at) k = Clean.no_nodes
 clean_base site (b.Boolean at) k = Clean.no_nodes
 clean_base site (b.Point at n) k = Clean.no_nodes
 clean_base site (b.RectDomain at n) k = Clean.no_nodes
@@ -37,6 +39,7 @@ clean_type site {t = t} (NumbersType.known k) = clean_base site t.base k
 mutual
   clean_exp : {site : Site} {x : Exp} {y : NumberedExp} → NumbersExp site x y → Clean (exp_nodes site x)
   clean_exp NumbersExp.int = Clean.no_nodes
+  clean_exp NumbersExp.long = Clean.no_nodes
   clean_exp NumbersExp.truth = Clean.no_nodes
   clean_exp NumbersExp.null = Clean.no_nodes
   clean_exp (NumbersExp.this e) = Clean.more_nodes (rw e) Clean.no_nodes
@@ -110,6 +113,9 @@ mutual
   clean_stm (NumbersStm.call x) = clean_exp x
   clean_stm (NumbersStm.print what) = clean_print what
   clean_stm NumbersStm.barrier = Clean.no_nodes
+  clean_stm NumbersStm.break = Clean.no_nodes
+  clean_stm NumbersStm.continue = Clean.no_nodes
+  clean_stm (NumbersStm.return value) = clean_maybe value
   clean_stm (NumbersStm.block body) = clean_stms body
   clean_stm (NumbersStm.if_alone d x) = clean_append (clean_exp d) (clean_stm x)
   clean_stm (NumbersStm.if_else d x y) = clean_append (clean_append (clean_exp d) (clean_stm x)) (clean_stm y)
@@ -130,10 +136,10 @@ mutual
 
 -- ---- classes
 
-once : (found : Option ℕ) (number : ℕ) (at : Place) → found ≡ Some number → fault_if (is_another found number) N2 at ≡ []
+once : (found : Option ℕ) (number : ℕ) (at : Place) → found ≡ Some number → refused_if (is_another found number) N2 at ≡ []
 once found number at is =
     let same : (number == number) ≡ true = grind (arith, nat_tests) in
-    ap (λ o. fault_if (is_another o number) N2 at) is ∙ ap (λ b. fault_if (not b) N2 at) same
+    ap (λ o. refused_if (is_another o number) N2 at) is ∙ ap (λ b. refused_if (not b) N2 at) same
 
 clean_fields : {text : TextTree} {class number : ℕ} {fs : List FieldTree} {gs : List NumberedField} → NumbersFields text class number fs gs → Clean (fields_nodes (class_site text class) number fs)
 clean_fields NumbersFields.none = Clean.no_nodes
@@ -153,7 +159,7 @@ clean_result : (site : Site) {r : ResultTree} {s : NumberedResult} → NumbersRe
 clean_result site NumbersResult.void = Clean.no_nodes
 clean_result site (NumbersResult.typed ty) = clean_type site ty
 
-clean_param_list : {site : Site} {params : List ParamTree} {types : List NumberedType} → NumbersParamList site params types → Clean (param_list_nodes site params)
+clean_param_list : {site : Site} {params : List ParamTree} {ys : List NumberedParam} → NumbersParamList site params ys → Clean (param_list_nodes site params)
 clean_param_list NumbersParamList.none = Clean.no_nodes
 clean_param_list (NumbersParamList.more {site = site} {param = param} ty fresh room rest) =
     clean_append (clean_append (clean_type site ty) (clean_variable site param.place param.name fresh room)) (clean_param_list rest)
@@ -162,15 +168,11 @@ clean_params : {site : Site} {params : ParamsTree} {q : NumberedParams} → Numb
 clean_params NumbersParams.words = Clean.no_nodes
 clean_params (NumbersParams.params params) = clean_param_list params
 
-clean_return : {site : Site} {r : Option ReturnTree} {q : Option NumberedReturn} → NumbersReturn site r q → Clean (return_nodes site r)
-clean_return NumbersReturn.none = Clean.no_nodes
-clean_return (NumbersReturn.some value) = clean_maybe value
-
-clean_method : {site : Site} (number : ℕ) {own : OwnMethod} {method : NumberedMethod} → fault_if (is_another (method_named site.text own.class own.method.name) number) N2 own.method.place ≡ [] → NumbersMethod site own method
+clean_method : {site : Site} (number : ℕ) {own : OwnMethod} {method : NumberedMethod} → refused_if (is_another (method_named site.text own.class own.method.name) number) N2 own.method.place ≡ [] → NumbersMethod site own method
     → Clean (method_nodes site number own)
-clean_method {site} number {own} first (NumbersMethod.method result ps statements last) =
+clean_method {site} number {own} first (NumbersMethod.method result ps statements) =
     let head : Clean (node site (MethodName number own) ∷ result_nodes site own.method.result) = Clean.more_nodes first (clean_result site result) in
-    clean_append (clean_append (clean_append head (clean_params ps)) (clean_stms statements)) (clean_return last)
+    clean_append (clean_append head (clean_params ps)) (clean_stms statements)
 
 clean_methods : {text : TextTree} {number before : ℕ} {ms : List OwnMethod} {ns : List NumberedMethod} → NumbersMethods text number before ms ns → Clean (methods_nodes text number before ms)
 clean_methods NumbersMethods.none = Clean.no_nodes

@@ -1,50 +1,100 @@
--- The first element of a list that has a property, and the position that a test finds.
-use Rattle.std.proofs.Common.{◌≡◌, ℕ, zero, suc, ◌+◌, ◌<◌, Bool, true, false, cond, List, [], ◌∷◌, Option, Some, None, slice_get, position, refl, ap, sym, ◌∙◌, subst, true≢false, arith}
-use Rattle.std.specs.Bool.{Decides}
-use Rattle.std.specs.List.{position_from}
-use Rattle.std.proofs.lemmas.Iterator.Adapters.{position_from-zero}
-use Rattle.ti_lang.specs.MainMethod.{IsFirst}
+-- What counts of several nodes.
+use Rattle.std.proofs.Common.{◌≡◌, ℕ, ◌&&◌, if◌then◌else◌, List, [], ◌∷◌, ◌++◌, flat_map, Option, None, is_some, is_none, refl, ap, sym, ◌∙◌}
+use Rattle.std.specs.declared.vec.Vec.{Vec}
+use Rattle.std.specs.declared.alloc.Global.{Global}
+use Rattle.std.specs.declared.boxed.Box.{Box}
+use Rattle.ti_base.specs.declared.place.Place.{Place}
+use Rattle.ti_syntax.specs.declared.tree.exprs.Range.{Range}
+use Rattle.ti_syntax.specs.declared.tree.exprs.Expr.{Expr, Call, Point, Rect, Member, Index}
+use Rattle.ti_syntax.specs.Trees.Expressions.{Exp, Exps, exps, ranges_tree}
+use Rattle.ti_syntax.specs.Trees.Expressions as t
+use Rattle.ti_syntax.specs.Trees.Views.{exp_of, exps_of, ranges_of}
+use Rattle.ti_syntax.proofs.Bridges.{seen_call, seen_point, seen_rect, seen_member, seen_index}
+use Rattle.ti_syntax.specs.Trees.Classes.{TextTree}
+use Rattle.ti_lang.specs.Members.{methods_of}
+use Rattle.ti_lang.specs.Scopes.{Site, own_method_named, class_before_dot}
+use Rattle.ti_lang.specs.Nodes.{Node, node, Expression, exp_nodes, exps_nodes, ranges_nodes, classes_nodes, methods_nodes, nodes_of}
+use Rattle.ti_rules.specs.declared.rule.Rule.TheVariants.{N1}
+use Rattle.ti_rules.specs.declared.refusal.Refusal.{Refusal}
+use Rattle.ti_rules.specs.First.{sooner, first_of, refused_if}
+use Rattle.ti_rules.specs.BrokenNames.{lacks_method, node_refusals, name_refusals}
+use Rattle.ti_rules.specs.MainForm.{main_refusals}
+use Rattle.ti_rules.proofs.First.{sooner_none, sooner_assoc, first_append, first_append_each, first_alone, first_nil}
+use Rattle.ti_names.specs.Found.{first_in}
 
-module _ {A : Type 0} (P : A → Type 0) (t : A → Bool) (says : (x : A) → Decides (t x) (P x)) where
-  from_first : (n : ℕ) (xs : List A) (j : ℕ) (x : A) → IsFirst P xs j x → position_from t n xs ≡ Some (n + j)
-  from_first n [] j x f = let e : None ≡ Some x = f.stands in cc
-  from_first n (y ∷ ys) zero x f =
-      let same : x ≡ y = cc f.stands in
-      let passes : t y ≡ true = (says y).1 (subst P same f.has) in
-      ap (λ b. cond b (Some n) (position_from t (n + 1) ys)) passes ∙ ap Some (omega arith)
-  from_first n (y ∷ ys) (suc j) x f = by (t y) refl (from_first (n + 1) ys j x (record { stands = f.stands; has = f.has; none_before = λ k z lt at p. f.none_before (suc k) z (omega arith) at p }))
-    where
-      by : (b : Bool) → t y ≡ b → position_from t (n + 1) ys ≡ Some (n + 1 + j) → cond b (Some n) (position_from t (n + 1) ys) ≡ Some (n + suc j)
-      by true ty rest = absurd (f.none_before 0 y (omega arith) refl ((says y).0 ty))
-      by false ty rest = rest ∙ ap Some (omega arith)
+pub none_sooner : (a : Option Refusal) → sooner None a ≡ a
+unfolding sooner
+none_sooner a = refl
 
-  before_more : (y : A) (ys : List A) → t y ≡ false → {j : ℕ} {x : A} → IsFirst P ys j x → (k : ℕ) (z : A) → k < suc j → slice_get (y ∷ ys) k ≡ Some z → P z → ⊥
-  before_more y ys ty f zero z lt at p = let same : y ≡ z = cc in true≢false (sym ((says y).1 (subst P (sym same) p)) ∙ ty)
-  before_more y ys ty f (suc k) z lt at p = f.none_before k z (omega arith) at p
+pub in_none : first_in [] ≡ None
+unfolding first_in first_of
+in_none = refl
 
-  found_first : (n : ℕ) (xs : List A) (i : ℕ) → position_from t n xs ≡ Some i → (j : ℕ) × (x : A) × (i ≡ n + j) × IsFirst P xs j x
-  found_first n [] i e = cc
-  found_first n (y ∷ ys) i e = by (t y) refl e (found_first (n + 1) ys i)
-    where
-      by : (b : Bool) → t y ≡ b → cond b (Some n) (position_from t (n + 1) ys) ≡ Some i → (position_from t (n + 1) ys ≡ Some i → (j : ℕ) × (x : A) × (i ≡ n + 1 + j) × IsFirst P ys j x)
-          → (j : ℕ) × (x : A) × (i ≡ n + j) × IsFirst P (y ∷ ys) j x
-      by true ty is rest =
-          let same : n ≡ i = cc in
-          (0, y, omega arith, record { stands = refl; has = (says y).0 ty; none_before = λ k z lt at p. absurd (omega arith) })
-      by false ty is rest =
-          let found = rest is in
-          let f = found.3 in
-          (suc found.0, found.1, omega (arith, found.2), record { stands = f.stands; has = f.has; none_before = before_more y ys ty f })
+pub in_one : (n : Node) → first_in (n ∷ []) ≡ first_of (node_refusals n)
+unfolding first_in
+in_one n = first_alone (node_refusals n)
 
-  pub position_of_first : (xs : List A) (j : ℕ) (x : A) → IsFirst P xs j x → position t xs ≡ Some j
-  position_of_first xs j x f = position_from-zero t xs ∙ from_first 0 xs j x f ∙ ap Some (omega arith)
+pub in_more : (n : Node) (rest : List Node) → first_in (n ∷ rest) ≡ sooner (first_of (node_refusals n)) (first_in rest)
+unfolding first_in
+in_more n rest = first_append (node_refusals n) (flat_map node_refusals rest)
 
-  pub first_of_position : (xs : List A) (i : ℕ) → position t xs ≡ Some i → (x : A) × IsFirst P xs i x
-  first_of_position xs i e =
-      let found = found_first 0 xs i (sym (position_from-zero t xs) ∙ e) in
-      let same : found.0 ≡ i = omega (arith, found.2) in
-      (found.1, subst (λ j. IsFirst P xs j found.1) same found.3)
+pub in_append : (xs ys : List Node) → first_in (xs ++ ys) ≡ sooner (first_in xs) (first_in ys)
+unfolding first_in
+in_append xs ys = first_append_each node_refusals xs ys
 
--- an element is found in one place
-pub one_element : {A : Type 0} {o : Option A} {x y : A} → o ≡ Some x → o ≡ Some y → x ≡ y
-one_element e f = cc
+pub ruleset in_nodes = (none_sooner, sooner_none, in_none, in_one, in_more, in_append)
+
+-- ---- in expressions that hold a list
+
+pub in_call : (site : Site) (a : Expr) (at : Place) (name : List ℕ) (v : Vec Expr Global) → a ≡ Call at name v
+    → first_in (exp_nodes site (exp_of a)) ≡ sooner (first_of (refused_if (is_none (own_method_named site name)) N1 at)) (first_in (exps_nodes site (exps (exps_of v))))
+in_call site a at name v is = ap (λ z. first_in (exp_nodes site z)) (seen_call a at name v is) ∙ in_more (node site (Expression (t.call at name (exps_of v)))) (exps_nodes site (exps (exps_of v)))
+
+pub in_point : (site : Site) (a : Expr) (at : Place) (v : Vec Expr Global) → a ≡ Point at v → first_in (exp_nodes site (exp_of a)) ≡ first_in (exps_nodes site (exps (exps_of v)))
+in_point site a at v is = ap (λ z. first_in (exp_nodes site z)) (seen_point a at v is)
+
+pub in_rect : (site : Site) (a : Expr) (at : Place) (v : Vec Range Global) → a ≡ Rect at v → first_in (exp_nodes site (exp_of a)) ≡ first_in (ranges_nodes site (ranges_tree (ranges_of v)))
+in_rect site a at v is = ap (λ z. first_in (exp_nodes site z)) (seen_rect a at v is)
+
+pub in_member : (site : Site) (a : Expr) (at : Place) (x : Box Expr Global) (name : List ℕ) (v : Vec Expr Global) → a ≡ Member at x name v
+    → first_in (exp_nodes site (exp_of a))
+    ≡ sooner (sooner (first_of (refused_if (lacks_method site (class_before_dot site (exp_of x.value)) name) N1 at)) (first_in (if is_some (class_before_dot site (exp_of x.value)) then [] else exp_nodes site (exp_of x.value))))
+    (first_in (exps_nodes site (exps (exps_of v))))
+in_member site a at x name v is =
+    let e = exp_of x.value in
+    let receiver : List Node = if is_some (class_before_dot site e) then [] else exp_nodes site e in
+    let own = node site (Expression (t.member at e name (exps_of v))) in
+    ap (λ z. first_in (exp_nodes site z)) (seen_member a at x name v is) ∙ in_append (own ∷ receiver) (exps_nodes site (exps (exps_of v)))
+    ∙ ap (λ z. sooner z (first_in (exps_nodes site (exps (exps_of v))))) (in_more own receiver)
+
+pub in_index : (site : Site) (a : Expr) (at : Place) (x : Box Expr Global) (v : Vec Expr Global) → a ≡ Index at x v
+    → first_in (exp_nodes site (exp_of a)) ≡ sooner (first_in (exp_nodes site (exp_of x.value))) (first_in (exps_nodes site (exps (exps_of v))))
+in_index site a at x v is = ap (λ z. first_in (exp_nodes site z)) (seen_index a at x v is) ∙ in_append (exp_nodes site (exp_of x.value)) (exps_nodes site (exps (exps_of v)))
+
+pub ruleset in_expressions = (in_call, in_point, in_rect, in_member, in_index)
+
+-- ---- lists that are walked
+
+-- one element more
+pub in_step : (found next whole : Option Refusal) (all head rest : List Node) → sooner found (first_in all) ≡ whole → all ≡ head ++ rest → next ≡ sooner found (first_in head) → sooner next (first_in rest) ≡ whole
+in_step found next whole all head rest so is more =
+    ap (λ z. sooner z (first_in rest)) more ∙ sooner_assoc found (first_in head) (first_in rest) ∙ ap (sooner found) (sym (in_append head rest)) ∙ sym (ap (λ z. sooner found (first_in z)) is) ∙ so
+
+pub in_end : (found whole : Option Refusal) (all : List Node) → sooner found (first_in all) ≡ whole → all ≡ [] → found ≡ whole
+in_end found whole all so is = sym (sooner_none found) ∙ ap (sooner found) (sym in_none) ∙ sym (ap (λ z. sooner found (first_in z)) is) ∙ so
+
+-- the same of a list of refusals
+pub list_step : (found next whole : Option Refusal) (all head rest : List Refusal) → sooner found (first_of all) ≡ whole → all ≡ head ++ rest → next ≡ sooner found (first_of head) → sooner next (first_of rest) ≡ whole
+list_step found next whole all head rest so is more =
+    ap (λ z. sooner z (first_of rest)) more ∙ sooner_assoc found (first_of head) (first_of rest) ∙ ap (sooner found) (sym (first_append head rest)) ∙ sym (ap (λ z. sooner found (first_of z)) is) ∙ so
+
+pub list_end : (found whole : Option Refusal) (all : List Refusal) → sooner found (first_of all) ≡ whole → all ≡ [] → found ≡ whole
+list_end found whole all so is = sym (sooner_none found) ∙ ap (sooner found) (sym first_nil) ∙ sym (ap (λ z. sooner found (first_of z)) is) ∙ so
+
+-- ---- of a text
+
+pub in_text : (text : TextTree) → sooner (sooner (first_in (classes_nodes text 0 text)) (first_in (methods_nodes text 0 0 (methods_of text)))) (first_of (main_refusals text)) ≡ first_of (name_refusals text)
+unfolding first_in
+in_text text =
+    ap (λ z. sooner z (first_of (main_refusals text))) (sym (first_append_each node_refusals (classes_nodes text 0 text) (methods_nodes text 0 0 (methods_of text))))
+    ∙ sym (first_append (flat_map node_refusals (nodes_of text)) (main_refusals text))

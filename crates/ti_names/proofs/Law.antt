@@ -1,34 +1,44 @@
 -- There is a program of a text exactly where it breaks no rule of names, and only one; where it breaks one, there is a refusal.
-use Rattle.std.proofs.Common.{◌≡◌, ◌⊎◌, inl, inr, Option, None, Some, refl, sym, ◌∙◌}
+use Rattle.std.proofs.Common.{◌≡◌, ◌⊎◌, inl, inr, [], ◌++◌, flat_map, length, Contains, Option, None, Some, refl, sym, subst, ◌∙◌, arith}
 use Rattle.ti_syntax.specs.Trees.Classes.{TextTree}
 use Rattle.ti_lang.specs.Program.Classes.{NumberedProgram}
+use Rattle.ti_lang.specs.Nodes.{nodes_of}
 use Rattle.ti_lang.specs.Numbering.{Numbers}
 use Rattle.ti_rules.specs.declared.refusal.Refusal.{Refusal}
+use Rattle.ti_rules.specs.First.{first_of}
 use Rattle.ti_rules.specs.Refusals.{IsFirstRefusal}
-use Rattle.ti_rules.specs.BrokenNames.{BreaksNames}
-use Rattle.ti_names.specs.Faults.{first_fault}
-use Rattle.ti_names.specs.Numbered.{number_program}
+use Rattle.ti_rules.specs.MainForm.{main_refusals}
+use Rattle.ti_rules.specs.BrokenNames.{node_refusals, name_refusals, BreaksNames}
+use Rattle.ti_rules.proofs.First.{first_is, first_none}
+use Rattle.ti_names.specs.Mirrors.Numbered.{number_program}
+use Rattle.ti_names.proofs.CleanNodes.{empty_left, empty_right, clean_of, of_clean}
 use Rattle.ti_names.proofs.CleanPrograms.{clean_program}
 use Rattle.ti_names.proofs.TotalPrograms.{total_program}
 use Rattle.ti_names.proofs.OnlyOne.{only_program}
-use Rattle.ti_names.proofs.MainFaults.{clean_main, main_of_clean}
-use Rattle.ti_names.proofs.BrokenPlaces.{clean_nodes, clean_rest, no_faults, none_first, first_refusal, unbroken_of}
+use Rattle.ti_names.proofs.MainForms.{clean_main, main_of_clean}
 
-pub accepted : (text : TextTree) → first_fault text ≡ None → Numbers text (number_program text)
+pub accepted : (text : TextTree) → first_of (name_refusals text) ≡ None → Numbers text (number_program text)
 accepted text e =
-    let none = none_first text e in
-    total_program text (clean_nodes text none) (main_of_clean text (clean_rest text none))
+    let none = first_none (name_refusals text) e in
+    let nodes = flat_map node_refusals (nodes_of text) in
+    total_program text (clean_of (nodes_of text) (empty_left nodes (main_refusals text) none)) (main_of_clean text (empty_right nodes (main_refusals text) none))
 
--- by what counts of all that is broken
+-- by what counts of all that is wrong
 pub program_or_refusal : (text : TextTree) → ((program : NumberedProgram) × Numbers text program) ⊎ ((r : Refusal) × IsFirstRefusal (BreaksNames text) r)
-program_or_refusal text = by (first_fault text) refl
+program_or_refusal text = by (first_of (name_refusals text)) refl
   where
-    by : (found : Option Refusal) → first_fault text ≡ found → ((program : NumberedProgram) × Numbers text program) ⊎ ((r : Refusal) × IsFirstRefusal (BreaksNames text) r)
+    by : (found : Option Refusal) → first_of (name_refusals text) ≡ found → ((program : NumberedProgram) × Numbers text program) ⊎ ((r : Refusal) × IsFirstRefusal (BreaksNames text) r)
     by None e = inl (number_program text, accepted text e)
-    by (Some r) e = inr (r, first_refusal text r e)
+    by (Some r) e = inr (r, first_is (name_refusals text) r e)
 
 pub unbroken_program : (text : TextTree) (program : NumberedProgram) → Numbers text program → (r : Refusal) → BreaksNames text r → ⊥
-unbroken_program text program numbers = unbroken_of text (no_faults text (clean_program numbers) (clean_main text program.main numbers.main))
+unbroken_program text program numbers r broken =
+    let nodes = of_clean (nodes_of text) (clean_program numbers) in
+    let main = clean_main text program.main numbers.main in
+    nothing (subst (λ rs. Contains rs r) (λ j. nodes j ++ main j) broken)
+  where
+    nothing : Contains [] r → ⊥
+    nothing c = omega (arith, c.1)
 
 pub same_program : (text : TextTree) (p q : NumberedProgram) → Numbers text p → Numbers text q → p ≡ q
 same_program text p q a b = only_program a ∙ sym (only_program b)

@@ -1,17 +1,14 @@
 pub mod Branches
-pub mod BrokenPlaces
 pub mod CleanNodes
 pub mod CleanPrograms
 pub mod Compound
 pub mod Entries
-pub mod FirstFault
 pub mod Firsts
 pub mod Law
 pub mod Lists
-pub mod MainFaults
+pub mod MainForms
 pub mod MainPlaces
-pub mod Memberships
-pub mod Noting
+pub mod Nested
 pub mod OnlyOne
 pub mod Sites
 pub mod TableLookups
@@ -19,4 +16,3 @@ pub mod Total
 pub mod TotalPrograms
 pub mod TotalStatements
 pub mod Walks
-pub mod WholeMethods

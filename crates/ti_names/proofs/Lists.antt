@@ -1,4 +1,4 @@
--- Lists inside nodes, and what counts of several lists of nodes.
+-- Lists inside nodes, and scopes.
 use Rattle.std.proofs.Common.{◌≡◌, ℕ, Bool, true, false, cond, if◌then◌else◌, List, [], ◌∷◌, ◌++◌, map, take, length, Option, Some, None, is_some, bytes_eq, Bor, refl, ap, sym, ◌∙◌}
 use Rattle.std.proofs.lemmas.List.{take-map, length-map}
 use Rattle.std.specs.Map.{lookup}
@@ -12,10 +12,9 @@ use Rattle.ti_syntax.specs.Trees.Statements.{Stm, stms}
 use Rattle.ti_lang.specs.Program.Statements.{numbered_stms}
 use Rattle.ti_lang.specs.Program.Statements as m
 use Rattle.ti_lang.specs.Scopes.{Site, behind, with_variable}
-use Rattle.ti_names.specs.Numbered.{number_exp, number_exps, number_range, number_ranges, number_stm, number_stms, number_list}
+use Rattle.ti_names.specs.Mirrors.Numbered.{number_exp, number_exps, number_range, number_ranges, number_stm, number_stms, number_list}
 use Rattle.ti_names.specs.Seen.{scope_of}
-use Rattle.ti_names.specs.Tables.{with_first}
-use Rattle.ti_names.proofs.Noting.{noted_none, noted_more, noted_append}
+use Rattle.ti_names.specs.Mirrors.Tables.{with_first}
 
 pub number_exps_list : (site : Site) (xs : List Exp) → number_exps site (exps xs) ≡ numbered_exps (map (number_exp site) xs)
 number_exps_list site [] = refl
@@ -29,7 +28,7 @@ pub number_stms_list : (site : Site) (xs : List Stm) → number_stms site (stms 
 number_stms_list site [] = refl
 number_stms_list site (x ∷ xs) = ap (m.Cons (number_stm site x)) (number_stms_list (behind site x) xs)
 
-pub ruleset lists = (number_exps_list, number_ranges_list, number_stms_list, noted_none, noted_more, noted_append)
+pub ruleset lists = (number_exps_list, number_ranges_list, number_stms_list)
 
 -- ---- scopes
 

@@ -4,19 +4,19 @@ use Rattle.std.specs.Option.{unwrap_or, option_and_then}
 use Rattle.ti_syntax.specs.Trees.Types.{TypeTree}
 use Rattle.ti_syntax.specs.Trees.Expressions.{Exp, Exps, RangeTree, RangeTrees}
 use Rattle.ti_syntax.specs.Trees.Statements.{DimsTree, InitTree, PrintTree, Stm, MaybeStm, Stms}
-use Rattle.ti_syntax.specs.Trees.Classes.{FieldTree, ParamTree, ParamsTree, ReturnTree, ResultTree, ClassTree, TextTree}
+use Rattle.ti_syntax.specs.Trees.Classes.{FieldTree, ParamTree, ParamsTree, ResultTree, ClassTree, TextTree}
 use Rattle.ti_lang.specs.Program.Types.{NumberedType}
 use Rattle.ti_lang.specs.Program.Expressions.{NumberedExp, NumberedExps, NumberedRange, NumberedRanges, numbered_ranges}
 use Rattle.ti_lang.specs.Program.Expressions as n
 use Rattle.ti_lang.specs.Program.Statements.{NumberedDims, NumberedInit, NumberedPrint, NumberedStm, MaybeNumbered, NumberedStms, numbered_stms}
 use Rattle.ti_lang.specs.Program.Statements as m
-use Rattle.ti_lang.specs.Program.Classes.{NumberedField, NumberedClass, NumberedParams, NumberedReturn, NumberedResult, NumberedMethod, NumberedProgram}
+use Rattle.ti_lang.specs.Program.Classes.{NumberedField, NumberedClass, NumberedParam, NumberedParams, NumberedResult, NumberedMethod, NumberedProgram}
 use Rattle.ti_lang.specs.Program.Classes as p
-use Rattle.ti_lang.specs.Members.{OwnMethod, method_named, name_number}
+use Rattle.ti_lang.specs.Members.{OwnMethod, is_single, method_named, name_number}
 use Rattle.ti_lang.specs.Scopes.{numbered_type, Site, body_site}
-use Rattle.ti_lang.specs.Numbering.{NumbersType, NumbersExp, NumbersExps, NumbersRange, NumbersRanges, NumbersMaybe, NumbersDims, NumbersInit, NumbersPrint, NumbersStm, NumbersMaybeStm, NumbersStms, NumbersFields, NumbersClasses, NumbersResult, NumbersParamList, NumbersParams, NumbersReturn, NumbersMethod, NumbersMethods, HasMain, Numbers}
-use Rattle.ti_names.specs.Faults.{main_number}
-use Rattle.ti_names.specs.Numbered.{number_exp, number_exps, number_range, number_ranges, number_maybe, number_dims, number_init, number_print, number_stm, number_maybe_stm, number_stms, number_list, number_fields, number_classes, number_result, number_param_list, number_params, number_return, number_method, number_methods, number_program}
+use Rattle.ti_lang.specs.Numbering.{NumbersType, NumbersExp, NumbersExps, NumbersRange, NumbersRanges, NumbersMaybe, NumbersDims, NumbersInit, NumbersPrint, NumbersStm, NumbersMaybeStm, NumbersStms, NumbersFields, NumbersClasses, NumbersResult, NumbersParamList, NumbersParams, NumbersMethod, NumbersMethods, HasMain, Numbers}
+use Rattle.ti_rules.specs.MainForm.{main_method}
+use Rattle.ti_names.specs.Mirrors.Numbered.{number_exp, number_exps, number_range, number_ranges, number_maybe, number_dims, number_init, number_print, number_stm, number_maybe_stm, number_stms, number_list, number_fields, number_classes, number_result, number_param_list, number_params, number_method, number_methods, number_program}
 use Rattle.ti_names.proofs.Lists.{number_ranges_list, number_stms_list}
 
 only_type : {text : TextTree} {t : TypeTree} {u : NumberedType} → NumbersType text t u → u ≡ numbered_type text t
@@ -27,6 +27,7 @@ only_type (NumbersType.known k) = refl
 mutual
   pub only_exp : {site : Site} {x : Exp} {y : NumberedExp} → NumbersExp site x y → y ≡ number_exp site x
   only_exp NumbersExp.int = refl
+  only_exp NumbersExp.long = refl
   only_exp NumbersExp.truth = refl
   only_exp NumbersExp.null = refl
   only_exp (NumbersExp.this e) = refl
@@ -103,6 +104,9 @@ mutual
   only_stm (NumbersStm.call x) = ap m.Call (only_exp x)
   only_stm (NumbersStm.print {at = at} what) = ap (m.Print at) (only_print what)
   only_stm NumbersStm.barrier = refl
+  only_stm NumbersStm.break = refl
+  only_stm NumbersStm.continue = refl
+  only_stm (NumbersStm.return {at = at} value) = ap (m.Return at) (only_maybe value)
   only_stm (NumbersStm.block body) = ap m.Block (only_stms body)
   only_stm (NumbersStm.if_alone {at = at} d x) = let a = only_exp d in let b = only_stm x in λ i. m.If at (a i) (b i)
   only_stm (NumbersStm.if_else {at = at} d x y) = let a = only_exp d in let b = only_stm x in let c = only_stm y in λ i. m.IfElse at (a i) (b i) (c i)
@@ -143,35 +147,30 @@ only_result NumbersResult.void = refl
 only_result (NumbersResult.typed ty) = ap p.Typed (only_type ty)
 
 -- the sites of parameters are of one text
-only_param_list : (text : TextTree) {site : Site} {params : List ParamTree} {types : List NumberedType} → site.text ≡ text → NumbersParamList site params types → types ≡ number_param_list text params
+only_param_list : (text : TextTree) {site : Site} {params : List ParamTree} {ys : List NumberedParam} → site.text ≡ text → NumbersParamList site params ys → ys ≡ number_param_list text params
 only_param_list text is NumbersParamList.none = refl
 only_param_list text is (NumbersParamList.more {param = param} ty fresh room rest) =
-    let a = only_type ty ∙ ap (λ t. numbered_type t param.ty) is in let b = only_param_list text is rest in λ i. a i ∷ b i
+    let a = only_type ty ∙ ap (λ t. numbered_type t param.ty) is in let b = only_param_list text is rest in λ i. record { place = param.place; ty = a i } ∷ b i
 
 only_params : {site : Site} {params : ParamsTree} {q : NumberedParams} → NumbersParams site params q → q ≡ number_params site.text params
 only_params NumbersParams.words = refl
 only_params {site} (NumbersParams.params params) = ap p.Params (only_param_list site.text refl params)
 
-only_return : {site : Site} {r : Option ReturnTree} {q : Option NumberedReturn} → NumbersReturn site r q → q ≡ number_return site r
-only_return NumbersReturn.none = refl
-only_return (NumbersReturn.some {r = r} value) = ap (λ v. Some (record { place = r.place; value = v })) (only_maybe value)
-
 only_method : {site : Site} {own : OwnMethod} {method : NumberedMethod} → NumbersMethod site own method → method ≡ number_method site own
-only_method {site} {own} (NumbersMethod.method {body = body} result ps statements last) =
+only_method {site} {own} (NumbersMethod.method {body = body} result ps statements) =
     let a = only_result result in
     let b = only_params ps in
     let rows : numbered_stms body ≡ numbered_stms (number_list (body_site site own.method.params) own.method.body) = only_stms statements ∙ number_stms_list (body_site site own.method.params) own.method.body in
     let c : body ≡ number_list (body_site site own.method.params) own.method.body = sym (listed_stms body) ∙ ap stm_list rows ∙ listed_stms _ in
-    let d = only_return last in
     λ i. record {
       class = own.class;
       modifiers = own.method.modifiers;
+      is_single = is_single own.method.modifiers;
       result = a i;
       place = own.method.place;
       name = name_number site.text own.method.name;
       params = b i;
       body = c i;
-      last = d i;
       end = own.method.end;
     }
 
@@ -179,7 +178,7 @@ only_methods : {text : TextTree} {number before : ℕ} {ms : List OwnMethod} {ns
 only_methods NumbersMethods.none = refl
 only_methods (NumbersMethods.more once m rest) = let a = only_method m in let b = only_methods rest in λ i. a i ∷ b i
 
-pub main_is : {text : TextTree} {number : ℕ} → HasMain text number → main_number text ≡ Some number
+pub main_is : {text : TextTree} {number : ℕ} → HasMain text number → main_method text ≡ Some number
 main_is {text} main = ap (λ c. option_and_then (λ (class : ℕ). method_named text class (codes "main")) c) main.is_class ∙ main.is_method
 
 pub only_program : {text : TextTree} {program : NumberedProgram} → Numbers text program → program ≡ number_program text

@@ -8,7 +8,7 @@ use Rattle.std.proofs.lemmas.Iterator.Adapters.{position_from-zero}
 use Rattle.std.proofs.lemmas.Slice.Eq.{bytes_eq-Decides}
 use Rattle.ti_syntax.specs.Trees.Classes.{FieldTree, MemberTree, FieldMember, MethodMember, ClassTree, TextTree}
 use Rattle.ti_lang.specs.Members.{class_named, fields_in, field_named, OwnMethod, methods_in, methods_from, methods_of, method_named, is_static, is_static_method, names_of, name_number, with_name}
-use Rattle.ti_names.specs.Tables.{with_first, with_numbered, numbered, found_in, class_names, field_names, method_names, class_table, field_tables, method_tables, static_table}
+use Rattle.ti_names.specs.Mirrors.Tables.{with_first, with_numbered, numbered, found_in, class_names, field_names, method_names, class_table, field_tables, method_tables, static_table}
 
 -- ---- lists of pairs
 

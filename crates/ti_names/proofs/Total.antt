@@ -12,20 +12,22 @@ use Rattle.ti_lang.specs.Program.Expressions as n
 use Rattle.ti_lang.specs.Members.{class_named, is_static_method}
 use Rattle.ti_lang.specs.Scopes.{numbered_type, Site, variable_named, own_field_named, own_method_named, static_method_named, class_before_dot}
 use Rattle.ti_lang.specs.Nodes.{base_nodes, type_nodes, exp_nodes, exps_nodes, range_nodes, ranges_nodes, maybe_nodes}
-use Rattle.ti_lang.specs.Numbering.{IsKnownBase, NumbersType, known, NumbersExp, int, truth, null, this, variable, own_field, call, own_call, this_proc, num_procs, point, rect, unary, binary, cast, select, member, class_call, index, NumbersExps, no_exps, more_exps, NumbersRange, plain, stepped, NumbersRanges, no_ranges, more_ranges, NumbersMaybe}
+use Rattle.ti_lang.specs.Numbering.{IsKnownBase, NumbersType, known, NumbersExp, int, long, truth, null, this, variable, own_field, call, own_call, this_proc, num_procs, point, rect, unary, binary, cast, select, member, class_call, index, NumbersExps, no_exps, more_exps, NumbersRange, plain, stepped, NumbersRanges, no_ranges, more_ranges, NumbersMaybe}
 use Rattle.ti_rules.specs.declared.rule.Rule.TheVariants.{N1}
-use Rattle.ti_names.specs.Faults.{fault_if, lacks_method}
-use Rattle.ti_names.specs.Numbered.{named, called, class_called, selected, member_called, number_exp, number_exps, number_range, number_ranges, number_maybe}
+use Rattle.ti_rules.specs.First.{refused_if}
+use Rattle.ti_rules.specs.BrokenNames.{lacks_method}
+use Rattle.ti_names.specs.Mirrors.Numbered.{named, called, class_called, selected, member_called, number_exp, number_exps, number_range, number_ranges, number_maybe}
 use Rattle.ti_names.proofs.CleanNodes.{Clean, first_clean, rest_clean, clean_left, clean_right}
 
 -- ---- types
 
-pub known_class : (text : _) (at : Place) (name : List ℕ) (found : Option ℕ) → class_named text name ≡ found → fault_if (is_none found) N1 at ≡ [] → (class : ℕ) × (class_named text name ≡ Some class)
+pub known_class : (text : _) (at : Place) (name : List ℕ) (found : Option ℕ) → class_named text name ≡ found → refused_if (is_none found) N1 at ≡ [] → (class : ℕ) × (class_named text name ≡ Some class)
 known_class text at name (Some class) is none = (class, is)
 known_class text at name None is none = cc
 
 known_base : (site : Site) (base : Base) → Clean (base_nodes site base) → IsKnownBase site.text base
 known_base site (b.Int at) c = tt
+known_base site (b.Long at) c = tt
 known_base site (b.Boolean at) c = tt
 known_base site (b.Point at n) c = tt
 known_base site (b.RectDomain at n) c = tt
@@ -38,17 +40,17 @@ total_type site type c = known (known_base site type.base c)
 
 -- ---- expressions
 
-total_this : (site : Site) (at : Place) (static : Bool) → site.static ≡ static → fault_if static N1 at ≡ [] → NumbersExp site (t.This at) (n.This at)
+total_this : (site : Site) (at : Place) (static : Bool) → site.static ≡ static → refused_if static N1 at ≡ [] → NumbersExp site (t.This at) (n.This at)
 total_this site at true is none = cc
 total_this site at false is none = this is
 
 total_name : (site : Site) (at : Place) (name : List ℕ) (v : Option VariableUse) (f : Option ℕ) → variable_named site name ≡ v → own_field_named site name ≡ f
-    → fault_if (is_none v && is_none f) N1 at ≡ [] → NumbersExp site (t.Name at name) (named at v f)
+    → refused_if (is_none v && is_none f) N1 at ≡ [] → NumbersExp site (t.Name at name) (named at v f)
 total_name site at name (Some v) f is field none = variable is
 total_name site at name None (Some f) is field none = own_field is field
 total_name site at name None None is field none = cc
 
-total_call : (site : Site) (at : Place) (name : List ℕ) (xs : Exps) (m : Option ℕ) → own_method_named site name ≡ m → fault_if (is_none m) N1 at ≡ [] → NumbersExps site xs (number_exps site xs)
+total_call : (site : Site) (at : Place) (name : List ℕ) (xs : Exps) (m : Option ℕ) → own_method_named site name ≡ m → refused_if (is_none m) N1 at ≡ [] → NumbersExps site xs (number_exps site xs)
     → NumbersExp site (t.Call at name xs) (called site.text at m (number_exps site xs))
 total_call site at name xs None is none args = cc
 total_call site at name xs (Some m) is none args = by (is_static_method site.text m) refl
@@ -57,25 +59,26 @@ total_call site at name xs (Some m) is none args = by (is_static_method site.tex
     by true static = call is static args
     by false static = own_call is static args
 
-total_select : (site : Site) (at : Place) (x : Exp) (name : List ℕ) (class : Option ℕ) → class_before_dot site x ≡ class → fault_if (is_some class) N1 at ≡ []
+total_select : (site : Site) (at : Place) (x : Exp) (name : List ℕ) (class : Option ℕ) → class_before_dot site x ≡ class → refused_if (is_some class) N1 at ≡ []
     → Clean (if is_some class then [] else exp_nodes site x) → (Clean (exp_nodes site x) → NumbersExp site x (number_exp site x))
     → NumbersExp site (t.Select at x name) (selected site at class (number_exp site x) name)
 total_select site at x name None is none c inner = select is (inner c)
 total_select site at x name (Some class) is none c inner = cc
 
-total_member : (site : Site) (at : Place) (x : Exp) (name : List ℕ) (xs : Exps) (class : Option ℕ) → class_before_dot site x ≡ class → fault_if (lacks_method site class name) N1 at ≡ []
+total_member : (site : Site) (at : Place) (x : Exp) (name : List ℕ) (xs : Exps) (class : Option ℕ) → class_before_dot site x ≡ class → refused_if (lacks_method site class name) N1 at ≡ []
     → Clean (if is_some class then [] else exp_nodes site x) → (Clean (exp_nodes site x) → NumbersExp site x (number_exp site x)) → NumbersExps site xs (number_exps site xs)
     → NumbersExp site (t.Member at x name xs) (member_called site at class (number_exp site x) name (number_exps site xs))
 total_member site at x name xs None is none c inner args = member is (inner c) args
 total_member site at x name xs (Some class) is none c inner args = by (static_method_named site class name) refl none
   where
-    by : (m : Option ℕ) → static_method_named site class name ≡ m → fault_if (is_none m) N1 at ≡ [] → NumbersExp site (t.Member at x name xs) (class_called at m (number_exps site xs))
+    by : (m : Option ℕ) → static_method_named site class name ≡ m → refused_if (is_none m) N1 at ≡ [] → NumbersExp site (t.Member at x name xs) (class_called at m (number_exps site xs))
     by None method none = cc
     by (Some m) method none = class_call is method args
 
 mutual
   pub total_exp : (site : Site) (x : Exp) → Clean (exp_nodes site x) → NumbersExp site x (number_exp site x)
   total_exp site (t.Int at i) c = int
+  total_exp site (t.Long at i) c = long
   total_exp site (t.Truth at b) c = truth
   total_exp site (t.Null at) c = null
   total_exp site (t.This at) c = total_this site at site.static refl (first_clean c)

@@ -4,29 +4,30 @@ use Rattle.std.proofs.lemmas.Bool.Decides.{nat_tests}
 use Rattle.std.specs.Option.{unwrap_or}
 use Rattle.ti_base.specs.declared.place.Place.{Place}
 use Rattle.ti_syntax.specs.Trees.Statements.{stms}
-use Rattle.ti_syntax.specs.Trees.Classes.{FieldTree, ParamTree, ParamsTree, ReturnTree, ResultTree, MethodTree, ClassTree, TextTree}
+use Rattle.ti_syntax.specs.Trees.Classes.{FieldTree, ParamTree, ParamsTree, ResultTree, MethodTree, ClassTree, TextTree}
 use Rattle.ti_syntax.specs.Trees.Classes as c
 use Rattle.ti_lang.specs.Members.{class_named, fields_in, field_named, OwnMethod, methods_of, method_named}
-use Rattle.ti_lang.specs.Scopes.{Site, class_site, declares, typed_as, literals_in, behind_all, method_site, body_site}
-use Rattle.ti_lang.specs.Nodes.{type_nodes, result_nodes, param_list_nodes, params_nodes, return_nodes, stms_nodes, fields_nodes, classes_nodes, method_nodes, methods_nodes, nodes_of, node, VariableName, ClassName, FieldName, MethodName}
-use Rattle.ti_lang.specs.Numbering.{NumbersFields, NumbersClasses, NumbersResult, NumbersParamList, NumbersParams, NumbersReturn, NumbersMethod, NumbersMethods, HasMain, Numbers}
+use Rattle.ti_lang.specs.Scopes.{Site, class_site, declares, typed_as, literals_in, method_site, body_site}
+use Rattle.ti_lang.specs.Nodes.{type_nodes, result_nodes, param_list_nodes, params_nodes, stms_nodes, fields_nodes, classes_nodes, method_nodes, methods_nodes, nodes_of, node, VariableName, ClassName, FieldName, MethodName}
+use Rattle.ti_lang.specs.Numbering.{NumbersFields, NumbersClasses, NumbersResult, NumbersParamList, NumbersParams, NumbersMethod, NumbersMethods, HasMain, Numbers}
 use Rattle.ti_rules.specs.declared.rule.Rule.TheVariants.{N2}
-use Rattle.ti_names.specs.Faults.{fault_if, is_another, main_number}
-use Rattle.ti_names.specs.Numbered.{number_fields, number_classes, number_result, number_param_list, number_params, number_return, number_method, number_methods, number_program}
+use Rattle.ti_rules.specs.First.{refused_if}
+use Rattle.ti_rules.specs.MainForm.{is_another, main_method}
+use Rattle.ti_names.specs.Mirrors.Numbered.{number_fields, number_classes, number_result, number_param_list, number_params, number_method, number_methods, number_program}
 use Rattle.ti_names.proofs.CleanNodes.{Clean, first_clean, rest_clean, clean_left, clean_right}
-use Rattle.ti_names.proofs.Total.{total_type, total_maybe}
+use Rattle.ti_names.proofs.Total.{total_type}
 use Rattle.ti_names.proofs.Lists.{number_stms_list}
 use Rattle.ti_names.proofs.TotalStatements.{fresh_variable, room_for_variable, total_stms}
 
 -- the number isn't another one
-pub same_number : (found : Option ℕ) (number : ℕ) (at : Place) → fault_if (is_another found number) N2 at ≡ [] → found ≡ Some number
+pub same_number : (found : Option ℕ) (number : ℕ) (at : Place) → refused_if (is_another found number) N2 at ≡ [] → found ≡ Some number
 same_number None number at none = cc
 same_number (Some n) number at none = by (n == number) refl none
   where
     same : (n == number) ≡ true → n ≡ number
     same is = grind (arith, nat_tests, is)
 
-    by : (b : Bool) → (n == number) ≡ b → fault_if (not b) N2 at ≡ [] → Some n ≡ Some number
+    by : (b : Bool) → (n == number) ≡ b → refused_if (not b) N2 at ≡ [] → Some n ≡ Some number
     by true is none = ap Some (same is)
     by false is none = cc
 
@@ -63,39 +64,22 @@ total_params : (site : Site) (params : ParamsTree) → Clean (params_nodes site 
 total_params site (c.Words at name) clean = NumbersParams.words
 total_params site (c.Params params) clean = NumbersParams.params (total_param_list site params clean)
 
-total_return : (site : Site) (r : Option ReturnTree) → Clean (return_nodes site r) → NumbersReturn site r (number_return site r)
-total_return site None c = NumbersReturn.none
-total_return site (Some r) c = NumbersReturn.some (total_maybe site r.value c)
-
-behind_params_text : (site : Site) (params : ParamsTree) → (body_site site params).text ≡ site.text
-behind_params_text site (c.Words at name) = refl
-behind_params_text site (c.Params params) = by site params
-  where
-    by : (site : Site) (params : List ParamTree) → (body_site site (c.Params params)).text ≡ site.text
-    by site [] = refl
-    by site (p ∷ ps) = by (declares site p.name (typed_as site.text p.ty)) ps
-
 total_method : (site : Site) (number : ℕ) (own : OwnMethod) → Clean (method_nodes site number own) → NumbersMethod site own (number_method site own)
 total_method site number own c =
     let m = own.method in
     let inside = body_site site m.params in
     let one = node site (MethodName number own) ∷ result_nodes site m.result in
     let two = one ++ params_nodes site m.params in
-    let three = two ++ stms_nodes inside (stms m.body) in
-    let clean_three = clean_left three _ c in
-    let clean_two = clean_left two _ clean_three in
-    let clean_one = clean_left one _ clean_two in
-    NumbersMethod.method (total_result site m.result (rest_clean clean_one)) (total_params site m.params (clean_right one _ clean_two))
-    (rw (← number_stms_list inside m.body) (total_stms inside (stms m.body) (clean_right two _ clean_three))) (total_return (behind_all inside (stms m.body)) m.last (clean_right three _ c))
+    let clean_two = clean_left two _ c in
+    NumbersMethod.method (total_result site m.result (rest_clean (clean_left one _ clean_two))) (total_params site m.params (clean_right one _ clean_two))
+    (rw (← number_stms_list inside m.body) (total_stms inside (stms m.body) (clean_right two _ c)))
 
 named_once : (site : Site) (number : ℕ) (own : OwnMethod) → Clean (method_nodes site number own) → method_named site.text own.class own.method.name ≡ Some number
 named_once site number own c =
     let m = own.method in
-    let inside = body_site site m.params in
     let one = node site (MethodName number own) ∷ result_nodes site m.result in
     let two = one ++ params_nodes site m.params in
-    let three = two ++ stms_nodes inside (stms m.body) in
-    same_number (method_named site.text own.class m.name) number own.method.place (first_clean (clean_left one _ (clean_left two _ (clean_left three _ c))))
+    same_number (method_named site.text own.class m.name) number own.method.place (first_clean (clean_left one _ (clean_left two _ c)))
 
 total_methods : (text : TextTree) (number before : ℕ) (ms : List OwnMethod) → Clean (methods_nodes text number before ms) → NumbersMethods text number before ms (number_methods text before ms)
 total_methods text number before [] c = NumbersMethods.none
@@ -106,7 +90,7 @@ total_methods text number before (own ∷ rest) c =
     (total_methods text (number + 1) (before + length (literals_in (stms own.method.body))) rest (clean_right head _ c))
 
 -- everything but `main`
-pub total_program : (text : TextTree) → Clean (nodes_of text) → HasMain text (unwrap_or (main_number text) 0) → Numbers text (number_program text)
+pub total_program : (text : TextTree) → Clean (nodes_of text) → HasMain text (unwrap_or (main_method text) 0) → Numbers text (number_program text)
 total_program text c main = record {
   classes = total_classes text 0 text (clean_left (classes_nodes text 0 text) _ c);
   methods = total_methods text 0 0 (methods_of text) (clean_right (classes_nodes text 0 text) _ c);

@@ -13,8 +13,8 @@ use Rattle.ti_lang.specs.Nodes.{type_nodes, exp_nodes, maybe_nodes, dims_nodes, 
 use Rattle.ti_lang.specs.Numbering.{NumbersDims, NumbersInit, NumbersPrint, NumbersStm, NumbersMaybeStm, NumbersStms}
 use Rattle.ti_rules.specs.declared.rule.Rule.TheVariants.{N2, N4}
 use Rattle.ti_rules.specs.declared.refusal.Refusal.{Refusal}
-use Rattle.ti_names.specs.Faults.{fault_if}
-use Rattle.ti_names.specs.Numbered.{number_dims, number_init, number_print, number_stm, number_maybe_stm, number_stms}
+use Rattle.ti_rules.specs.First.{refused_if}
+use Rattle.ti_names.specs.Mirrors.Numbered.{number_dims, number_init, number_print, number_stm, number_maybe_stm, number_stms}
 use Rattle.ti_names.proofs.CleanNodes.{Clean, first_clean, rest_clean, clean_left, clean_right}
 use Rattle.ti_names.proofs.Lists.{number_ranges_list}
 use Rattle.ti_names.proofs.Total.{known_class, total_type, total_exp, total_ranges, total_maybe}
@@ -51,23 +51,23 @@ total_print site (s.TextAndExpression text x) c = NumbersPrint.text_and_expressi
 
 -- ---- declarations
 
-fresh : (v : Option VariableUse) (at : Place) (rest : List Refusal) → fault_if (is_some v) N2 at ++ rest ≡ [] → v ≡ None
+fresh : (v : Option VariableUse) (at : Place) (rest : List Refusal) → refused_if (is_some v) N2 at ++ rest ≡ [] → v ≡ None
 fresh None at rest none = refl
 fresh (Some v) at rest none = cc
 
-room : (site : Site) (at : Place) (first : List Refusal) → first ++ fault_if (nat_le most_variables (length site.scope)) N4 at ≡ [] → HasRoom site
+room : (site : Site) (at : Place) (first : List Refusal) → first ++ refused_if (nat_le most_variables (length site.scope)) N4 at ≡ [] → HasRoom site
 room site at [] none = by (nat_le most_variables (length site.scope)) refl none
   where
-    by : (b : Bool) → nat_le most_variables (length site.scope) ≡ b → fault_if b N4 at ≡ [] → HasRoom site
+    by : (b : Bool) → nat_le most_variables (length site.scope) ≡ b → refused_if b N4 at ≡ [] → HasRoom site
     by true is none = cc
     by false is none = grind (arith, nat_tests, is)
 room site at (f ∷ rest) none = cc
 
 pub fresh_variable : (site : Site) (at : Place) (name : List ℕ) → Clean (node site (VariableName at name) ∷ []) → IsFresh site name
-fresh_variable site at name c = fresh (variable_named site name) at (fault_if (nat_le most_variables (length site.scope)) N4 at) (first_clean c)
+fresh_variable site at name c = fresh (variable_named site name) at (refused_if (nat_le most_variables (length site.scope)) N4 at) (first_clean c)
 
 pub room_for_variable : (site : Site) (at : Place) (name : List ℕ) → Clean (node site (VariableName at name) ∷ []) → HasRoom site
-room_for_variable site at name c = room site at (fault_if (is_some (variable_named site name)) N2 at) (first_clean c)
+room_for_variable site at name c = room site at (refused_if (is_some (variable_named site name)) N2 at) (first_clean c)
 
 -- ---- statements
 
@@ -86,6 +86,9 @@ mutual
   total_stm site (s.Call x) c = NumbersStm.call (total_exp site x c)
   total_stm site (s.Print at what) c = NumbersStm.print (total_print site what c)
   total_stm site (s.Barrier at) c = NumbersStm.barrier
+  total_stm site (s.Break at) c = NumbersStm.break
+  total_stm site (s.Continue at) c = NumbersStm.continue
+  total_stm site (s.Return at value) c = NumbersStm.return (total_maybe site value c)
   total_stm site (s.Block body) c = NumbersStm.block (total_stms site body c)
   total_stm site (s.If at d x) c = NumbersStm.if_alone (total_exp site d (clean_left (exp_nodes site d) _ c)) (total_stm site x (clean_right (exp_nodes site d) _ c))
   total_stm site (s.IfElse at d x y) c =

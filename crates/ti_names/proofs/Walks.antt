@@ -1,27 +1,20 @@
--- One element more of a list that is walked, and what counts of the nodes behind a call.
+-- One element more of a list that is walked.
 use Rattle.std.proofs.Common.{◌≡◌, ℕ, suc, ◌+◌, ◌<◌, ◌≤◌, if◌then◌else◌, List, [], ◌∷◌, ◌++◌, map, drop, length, get_or, Option, Some, None, is_some, refl, ap, sym, ◌∙◌, add-one}
 use Rattle.std.proofs.Math.Seq.{drop-cons}
 use Rattle.std.proofs.lemmas.List.{drop_all}
 use Rattle.ti_base.specs.declared.place.Place.{Place}
-use Rattle.ti_syntax.specs.declared.tree.exprs.Expr.{Expr}
-use Rattle.ti_syntax.specs.declared.tree.exprs.Range.{Range}
 use Rattle.ti_syntax.specs.declared.tree.classes.Field.{Field}
 use Rattle.ti_syntax.specs.declared.tree.classes.Method.{Method}
 use Rattle.ti_syntax.specs.declared.tree.classes.Member.{Member}
 use Rattle.ti_syntax.specs.declared.tree.classes.Member.TheVariants as m
-use Rattle.ti_syntax.specs.Trees.Views.{exp_of, range_of, member_of, field_of}
-use Rattle.ti_syntax.specs.Trees.Expressions.{Exp, exps, ranges_tree}
+use Rattle.ti_syntax.specs.Trees.Views.{member_of, field_of}
+use Rattle.ti_syntax.specs.Trees.Expressions.{Exp, exps}
 use Rattle.ti_syntax.specs.Trees.Expressions as t
 use Rattle.ti_lang.specs.Program.Expressions.{NumberedExp, numbered_exps}
 use Rattle.ti_lang.specs.Program.Expressions as n
 use Rattle.ti_lang.specs.Members.{name_number, fields_in}
 use Rattle.ti_lang.specs.Scopes.{Site, class_before_dot}
-use Rattle.ti_lang.specs.Nodes.{exp_nodes, exps_nodes, range_nodes, ranges_nodes}
-use Rattle.ti_rules.specs.declared.rule.Rule.TheVariants.{N1}
-use Rattle.ti_rules.specs.declared.refusal.Refusal.{Refusal}
-use Rattle.ti_names.specs.Faults.{fault_if, lacks_method, least, noted}
-use Rattle.ti_names.specs.Numbered.{number_exp, number_exps, member_called}
-use Rattle.ti_names.proofs.Noting.{noted_none, noted_append}
+use Rattle.ti_names.specs.Mirrors.Numbered.{number_exp, number_exps, member_called}
 use Rattle.ti_names.proofs.Lists.{number_exps_list}
 
 -- ---- lists
@@ -37,38 +30,7 @@ map_push {A = A} view old new a b rest is seen = ap (λ l. map view l ++ rest) i
     pushed [] = refl
     pushed (x ∷ xs) = ap (λ ys. view x ∷ ys) (pushed xs)
 
-pub exps_step : (found : Option Refusal) (site : Site) (xs : List Expr) (i : ℕ) (x : Expr) → i < length xs → x ≡ get_or xs i x
-    → noted found (exps_nodes site (exps (map exp_of (drop i xs)))) ≡ noted (noted found (exp_nodes site (exp_of x))) (exps_nodes site (exps (map exp_of (drop (i + 1) xs))))
-exps_step found site xs i x lt is =
-    ap (λ l. noted found (exps_nodes site (exps (map exp_of l)))) (drop_next xs i x lt is) ∙ noted_append found (exp_nodes site (exp_of x)) (exps_nodes site (exps (map exp_of (drop (i + 1) xs))))
-
-pub exps_end : (found : Option Refusal) (site : Site) (xs : List Expr) (i : ℕ) → length xs ≤ i → noted found (exps_nodes site (exps (map exp_of (drop i xs)))) ≡ found
-exps_end found site xs i le = ap (λ l. noted found (exps_nodes site (exps (map exp_of l)))) (drop_all i xs le) ∙ noted_none found
-
-pub ranges_step : (found : Option Refusal) (site : Site) (xs : List Range) (i : ℕ) (x : Range) → i < length xs → x ≡ get_or xs i x
-    → noted found (ranges_nodes site (ranges_tree (map range_of (drop i xs)))) ≡ noted (noted found (range_nodes site (range_of x))) (ranges_nodes site (ranges_tree (map range_of (drop (i + 1) xs))))
-ranges_step found site xs i x lt is =
-    ap (λ l. noted found (ranges_nodes site (ranges_tree (map range_of l)))) (drop_next xs i x lt is) ∙ noted_append found (range_nodes site (range_of x)) (ranges_nodes site (ranges_tree (map range_of (drop (i + 1) xs))))
-
-pub ranges_end : (found : Option Refusal) (site : Site) (xs : List Range) (i : ℕ) → length xs ≤ i → noted found (ranges_nodes site (ranges_tree (map range_of (drop i xs)))) ≡ found
-ranges_end found site xs i le = ap (λ l. noted found (ranges_nodes site (ranges_tree (map range_of l)))) (drop_all i xs le) ∙ noted_none found
-
 -- ---- calls behind a dot
-
--- of a method of a class that is named
-pub noted_class_call : (found : Option Refusal) (site : Site) (at : Place) (x : Exp) (name : List ℕ) (args : List Exp) (class : ℕ) → class_before_dot site x ≡ Some class
-    → noted found (exp_nodes site (t.member at x name args)) ≡ noted (least found (fault_if (lacks_method site (Some class) name) N1 at)) (exps_nodes site (exps args))
-unfolding noted
-noted_class_call found site at x name args class e =
-    ap (λ (o : Option ℕ). noted (least found (fault_if (lacks_method site o name) N1 at)) ((if is_some o then [] else exp_nodes site x) ++ exps_nodes site (exps args))) e
-
--- of a method of an object
-pub noted_member : (found : Option Refusal) (site : Site) (at : Place) (x : Exp) (name : List ℕ) (args : List Exp) → class_before_dot site x ≡ None
-    → noted found (exp_nodes site (t.member at x name args)) ≡ noted (noted found (exp_nodes site x)) (exps_nodes site (exps args))
-unfolding noted
-noted_member found site at x name args e =
-    ap (λ (o : Option ℕ). noted (least found (fault_if (lacks_method site o name) N1 at)) ((if is_some o then [] else exp_nodes site x) ++ exps_nodes site (exps args))) e
-    ∙ noted_append found (exp_nodes site x) (exps_nodes site (exps args))
 
 pub number_member : (site : Site) (at : Place) (x : Exp) (name : List ℕ) (args : List Exp) (x' : NumberedExp) (number : ℕ) (args' : List NumberedExp) → class_before_dot site x ≡ None
     → x' ≡ number_exp site x → number ≡ name_number site.text name → args' ≡ map (number_exp site) args

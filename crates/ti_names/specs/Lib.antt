@@ -1,6 +1,5 @@
 pub mod Answer
-pub mod Faults
-pub mod Numbered
+pub mod Found
+pub mod Mirrors
 pub mod Own
 pub mod Seen
-pub mod Tables

@@ -1,5 +1,5 @@
--- What clauses see of the tables of a text and of where its parts are walked.
-use Rattle.std.specs.Prelude.{ℕ, List, map, length, Option, Some, None}
+-- What clauses see of the tables of a text and of the places where its parts are walked.
+use Rattle.std.specs.Prelude.{ℕ, List, map, Option, Some, None}
 use Rattle.std.specs.declared.alloc.Global.{Global}
 use Rattle.std.specs.declared.boxed.Box.{Box}
 use Rattle.ti_syntax.specs.declared.tree.stmts.Stmt.{Stmt}
@@ -8,14 +8,15 @@ use Rattle.ti_lang.specs.declared.program.stmts.Stmt as numbered
 use Rattle.ti_syntax.specs.Trees.Statements.{MaybeStm}
 use Rattle.ti_syntax.specs.Trees.Statements as s
 use Rattle.ti_syntax.specs.Trees.Classes.{TextTree}
-use Rattle.ti_syntax.specs.Trees.Views.{tree_of, stm_of}
+use Rattle.ti_syntax.specs.Trees.Text.{tree_of}
+use Rattle.ti_syntax.specs.Trees.Views.{stm_of}
 use Rattle.ti_lang.specs.Program.Statements.{MaybeNumbered}
 use Rattle.ti_lang.specs.Program.Statements as m
 use Rattle.ti_lang.specs.Program.Views.{variable_of, statement_of}
-use Rattle.ti_lang.specs.Scopes.{Known, Site}
+use Rattle.ti_lang.specs.Scopes.{Known}
+use Rattle.ti_lang.specs.Scopes as scopes
 use Rattle.ti_names.specs.declared.tables.Tables.{Tables}
-use Rattle.ti_names.specs.declared.around.Around.{Around}
-use Rattle.ti_names.specs.declared.body.Body.{Body}
+use Rattle.ti_names.specs.declared.site.Site.{Site}
 
 -- the text that the tables are of
 abbrev pub text_of : Tables → TextTree
@@ -24,13 +25,9 @@ text_of tables = tree_of tables.tree.now
 abbrev pub scope_of : List (List ℕ × Variable) → List Known
 scope_of names = map (λ e. (e.0, variable_of e.1)) names
 
--- where expressions are walked
-abbrev pub site_of : Around → Site
-site_of a = record { text = text_of a.tables.now; class = a.class; static = a.is_static; scope = scope_of a.scope.now; variables = a.variables; literals = a.literals }
-
--- where statements are walked
-abbrev pub site_at : Body → Site
-site_at b = record { text = text_of b.tables.now; class = b.class; static = b.is_static; scope = scope_of b.scope; variables = b.variables; literals = length b.literals.items }
+-- a place in a text
+abbrev pub site_of : Site → scopes.Site
+site_of a = record { text = text_of a.tables.now; class = a.class; static = a.is_static; scope = scope_of a.scope; variables = a.variables; literals = a.literals }
 
 -- ---- statements that may be left out
 

@@ -1,8 +1,9 @@
 // The tables of a text, filled.
 ghost use Rattle.std.specs.Prelude.{◌≡◌, ◌+◌, [], map, fold, length, IfOk};
-ghost use Rattle.ti_syntax.specs.Trees.Views.{tree_of, member_of};
+ghost use Rattle.ti_syntax.specs.Trees.Text.{tree_of};
+ghost use Rattle.ti_syntax.specs.Trees.Views.{member_of};
 ghost use Rattle.ti_lang.specs.Members.{fields_in, names_of, name_of_member, with_name};
-ghost use Rattle.ti_names.specs.Tables.{with_numbered, class_table, field_tables, field_names, method_tables, method_names};
+ghost use Rattle.ti_names.specs.Mirrors.Tables.{with_numbered, class_table, field_tables, field_names, method_tables, method_names};
 
 use crate::names::Names;
 use crate::number::next;

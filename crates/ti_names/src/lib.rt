@@ -1,20 +1,23 @@
 //! Trees become programs: every name is resolved, or the rule of names that is broken is found.
 #![tactic(auto)]
 
-mod around;
-mod body;
 mod build;
+mod checks;
 mod classes;
 mod error;
+mod exprs;
+mod literals;
 mod main_form;
 mod methods;
 mod names;
-mod note;
 mod number;
 mod own;
 mod resolving;
+mod site;
 mod spelling;
+mod stmts;
 mod tables;
+mod types;
 
 pub use error::NameErr;
 pub use resolving::{one_program, resolve};

@@ -1,40 +1,33 @@
 // The form of `main`.
 
-ghost use Rattle.std.specs.Prelude.{◌≡◌, ◌++◌, map, length, Some, slice_get, codes, IfOk};
-ghost use Rattle.ti_syntax.specs.Trees.Views.{tree_of, class_of, method_of, params_of, result_of};
-ghost use Rattle.ti_lang.specs.Members.{class_named, methods_of};
-ghost use Rattle.ti_names.specs.Faults.{is_word, has_word, is_void, is_words, has_main_form, main_method, main_number, form_faults, words_faults, main_faults, fault_if, least};
+ghost use Rattle.std.specs.Prelude.{◌≡◌, ◌&&◌, map, IfOk};
+ghost use Rattle.ti_syntax.specs.Trees.Text.{tree_of};
+ghost use Rattle.ti_syntax.specs.Trees.Views.{method_of, params_of, result_of};
+ghost use Rattle.ti_lang.specs.Members.{methods_of};
+ghost use Rattle.ti_rules.specs.First.{first_of};
+ghost use Rattle.ti_rules.specs.MainForm.{is_public_word, is_public, is_void, is_words, is_another, has_main_form, main_class, main_method, form_refusals, words_refusals, main_refusals};
 ghost use Rattle.ti_names.specs.Own.{own_of};
 ghost use Rattle.ti_names.specs.Seen.{text_of};
 
-use crate::note::{is_another, note};
+use crate::checks::is_another;
 use crate::number::next;
 use crate::own::Own;
 use crate::tables::Tables;
 use ti_base::{Memory, Place};
+use ti_lang::program::{has_static, is_single};
+use ti_rules::{Refusal, Rule, refused_if, sooner};
 use ti_syntax::tree::{Method, Modifier, ModifierWord, Params, ResultType, Tree};
-use ti_rules::{Refusal, Rule};
 
-fn is_word(word: ModifierWord, other: ModifierWord) -> bool
-    ensures { result ≡ is_word word other }
+fn is_public_word(word: ModifierWord) -> bool
+    ensures { result ≡ is_public_word word }
 {
-    matches!(
-        (word, other),
-        (ModifierWord::Public, ModifierWord::Public)
-            | (ModifierWord::Static, ModifierWord::Static)
-            | (ModifierWord::Single, ModifierWord::Single)
-    )
+    matches!(word, ModifierWord::Public)
 }
 
-fn has_word(word: ModifierWord, modifiers: &[Modifier]) -> bool
-    ensures { result ≡ has_word word modifiers.now }
+fn is_public(words: &[Modifier]) -> bool
+    ensures { result ≡ is_public words.now }
 {
-    for modifier in modifiers {
-        if is_word(word, modifier.word) {
-            return true;
-        }
-    }
-    false
+    words.iter().any(|modifier| is_public_word(modifier.word))
 }
 
 fn is_void(result_type: &ResultType) -> bool
@@ -59,93 +52,82 @@ fn is_words(params: &Params) -> bool
 fn has_main_form(method: &Method) -> bool
     ensures { result ≡ has_main_form (method_of method.now) }
 {
-    method.modifiers.len() == 3
-        && has_word(ModifierWord::Public, &method.modifiers)
-        && has_word(ModifierWord::Static, &method.modifiers)
-        && has_word(ModifierWord::Single, &method.modifiers)
+    let words = &method.modifiers;
+    (words.len() == 3 && is_public(words))
+        && (has_static(words) && is_single(words))
         && (is_void(&method.result) && is_words(&method.params))
 }
 
-/// The number of `main`, where there is a class of this number.
-fn main_method(tables: &Tables<'_>, class: Option<u32>) -> Option<u32>
-    ensures { result ≡ main_method (text_of tables.now) class }
+/// The number of `main`.
+pub fn main_method(tables: &Tables<'_>) -> Option<u32>
+    ensures { result ≡ main_method (text_of tables.now) }
 {
-    match class {
+    match tables.class(b"Main") {
         Some(class) => tables.method(class, b"main"),
         None => None,
     }
 }
 
 /// Whether there is a `main`, of the required form.
+#[tactic(auto, using(ti_rules::proofs::First::first_nil))]
 fn check_form(
-    found: &mut Option<Refusal>,
     tree: &Tree,
     methods: &[Own<'_>],
     class: Option<u32>,
     number: Option<u32>,
-)
+) -> Option<Refusal>
     requires { map own_of methods.now ≡ methods_of (tree_of tree.now) }
-    ensures { found.new ≡ least found.old (form_faults (tree_of tree.now) class number) }
+    ensures { result ≡ first_of (form_refusals (tree_of tree.now) class number) }
 {
     let Some(class) = class else {
-        note(found, true, Rule::N3, Place::first());
-        return;
+        return refused_if(true, Rule::N3, Place::first());
     };
     let Some(number) = number else {
-        if let Some(class) = tree.classes.get(class as usize) {
-            note(found, true, Rule::N3, class.place);
-        }
-        return;
+        return match tree.classes.get(class as usize) {
+            Some(class) => refused_if(true, Rule::N3, class.place),
+            None => None,
+        };
     };
-    if let Some(own) = methods.get(number as usize) {
-        let has_form = has_main_form(own.method);
-        note(found, !has_form, Rule::N3, own.method.place);
+    match methods.get(number as usize) {
+        Some(own) => refused_if(!has_main_form(own.method), Rule::N3, own.method.place),
+        None => None,
     }
 }
 
-/// Whether another method than `main` has a parameter `String[] x`.
-#[tactic(auto, using(crate::proofs::FirstFault::least_append))]
-fn check_words(
-    found: Option<Refusal>,
-    methods: &[Own<'_>],
-    main: Option<u32>,
-) -> Result<Option<Refusal>, Memory>
-    ensures { IfOk result (λ f. f ≡ least found (words_faults main 0 (map own_of methods.now))) }
+/// Whether the method of a number has a parameter `String[] x` and is another than `main`.
+fn is_words_elsewhere(own: Own<'_>, main: Option<u32>, number: u32) -> bool
+    ensures { result ≡ (is_words (own_of own.entry).method.params && is_another main number) }
 {
-    let mut found = found;
+    is_words(&own.method.params) && is_another(main, number)
+}
+
+/// Whether another method than `main` has a parameter `String[] x`.
+#[tactic(auto, using(crate::proofs::Firsts::none_sooner))]
+fn check_words(methods: &[Own<'_>], main: Option<u32>) -> Result<Option<Refusal>, Memory>
+    ensures { IfOk result (λ r. r ≡ first_of (words_refusals main 0 (map own_of methods.now))) }
+{
+    let mut found = None;
     let mut number = 0;
     for own in methods {
-        let broken = is_words(&own.method.params) && is_another(main, number);
-        note(&mut found, broken, Rule::N3, own.method.place);
+        let elsewhere = is_words_elsewhere(*own, main, number);
+        found = sooner(found, refused_if(elsewhere, Rule::N3, own.method.place));
         number = next(number)?;
     }
     Ok(found)
 }
 
-/// The number of `main`, and the refusal that counts behind the rule on its form.
-#[derive(Drop)]
-pub struct Main {
-    pub number: Option<u32>,
-    pub found: Option<Refusal>,
-}
-
-/// The rule on the form of `main`.
-#[tactic(auto, using(crate::proofs::FirstFault::least_append))]
-pub fn main_form(
-    found: Option<Refusal>,
+/// What is wrong with `main`.
+#[tactic(auto, using(ti_rules::proofs::First::firsts))]
+pub fn check_main(
     tree: &Tree,
     tables: &Tables<'_>,
     methods: &[Own<'_>],
-) -> Result<Main, Memory>
+) -> Result<Option<Refusal>, Memory>
     requires tables { text_of tables.now ≡ tree_of tree.now }
     requires methods { map own_of methods.now ≡ methods_of (tree_of tree.now) }
-    ensures number { IfOk result (λ m. m.number ≡ main_number (tree_of tree.now)) }
-    ensures found { IfOk result (λ m. m.found ≡ least found (main_faults (tree_of tree.now))) }
+    ensures { IfOk result (λ r. r ≡ first_of (main_refusals (tree_of tree.now))) }
 {
-    let class = tables.class(b"Main");
-    let number = main_method(tables, class);
-    let mut found = found;
-    check_form(&mut found, tree, methods, class, number);
-    let found = check_words(found, methods, number)?;
-    Ok(Main { number, found })
+    let number = main_method(tables);
+    let form = check_form(tree, methods, tables.class(b"Main"), number);
+    Ok(sooner(form, check_words(methods, number)?))
 }

@@ -1,104 +1,101 @@
 // Methods.
 
-ghost use Rattle.std.specs.Prelude.{◌≡◌, ◌++◌, ◌∷◌, [], map, flat_map, length, IfOk, OnOk};
+ghost use Rattle.std.specs.Prelude.{◌≡◌, ◌++◌, ◌∷◌, [], map, flat_map, IfOk, OnOk};
 ghost use Rattle.ti_syntax.specs.Trees.Statements.{stms};
-ghost use Rattle.ti_syntax.specs.Trees.Views.{type_of, param_of, params_of, result_of, return_of, maybe_of};
-ghost use Rattle.ti_lang.specs.Program.Views.{type_use_of, numbered_params_of, numbered_result_of, numbered_return_of, numbered_method_of};
+ghost use Rattle.ti_syntax.specs.Trees.Views.{type_of, param_of, params_of, result_of};
+ghost use Rattle.ti_lang.specs.Program.Views.{numbered_param_of, numbered_params_of, numbered_result_of, numbered_method_of};
 ghost use Rattle.ti_lang.specs.Members.{OwnMethod};
-ghost use Rattle.ti_lang.specs.Scopes.{numbered_type, declares, typed_as, behind_params, body_site, literals_in, method_site};
-ghost use Rattle.ti_lang.specs.Nodes.{node, VariableName, MethodName, type_nodes, param_list_nodes, params_nodes, result_nodes, return_nodes, method_nodes, methods_nodes};
-ghost use Rattle.ti_names.specs.Faults.{noted};
-ghost use Rattle.ti_names.specs.Numbered.{number_param_list, number_params, number_result, number_return, number_method, number_methods};
+ghost use Rattle.ti_lang.specs.Scopes.{declares, typed_as, behind_params, body_site, literals_in, method_site};
+ghost use Rattle.ti_lang.specs.Nodes.{node, VariableName, MethodName, type_nodes, param_list_nodes, params_nodes, result_nodes, method_nodes, methods_nodes};
+ghost use Rattle.ti_names.specs.Mirrors.Numbered.{number_param, number_param_list, number_params, number_result, number_method, number_methods};
+ghost use Rattle.ti_names.specs.Found.{first_in};
 ghost use Rattle.ti_names.specs.Own.{own_of};
-ghost use Rattle.ti_names.specs.Seen.{site_at, text_of};
+ghost use Rattle.ti_names.specs.Seen.{site_of, text_of};
 
-use crate::body::Body;
-use crate::names::Names;
-use crate::note::{is_another, note};
-use crate::number::next;
+use crate::checks::is_another;
+use crate::literals::Literals;
+use crate::number::{narrow, next};
 use crate::own::Own;
+use crate::site::{Site, method_site};
+use crate::stmts::Resolved;
 use crate::tables::Tables;
 use std::alloc::Global;
 use ti_base::Memory;
-use ti_lang::program::{
-    Declared, Method, Params, ResultType, Return, TypeUse, copy_modifiers, has_single, has_static,
-};
-use ti_syntax::{Spelled, tree};
-use ti_rules::{Refusal, Rule};
+use ti_lang::program::{Method, Param, Params, ResultType, is_single};
+use ti_rules::{Refusal, Rule, refused_if, sooner};
+use ti_syntax::tree;
 
-/// Methods, with the string literals so far and the refusal that counts so far.
+/// Methods with the string literals in them, and what counts of all that is wrong with their names.
 #[derive(Drop)]
 pub struct AllMethods {
     pub methods: Vec<Method>,
-    pub literals: Vec<Spelled>,
-    pub found: Option<Refusal>,
+    pub literals: Literals,
+    pub refusal: Option<Refusal>,
 }
 
-impl<'t, 'a> Body<'t, 'a> {
-    /// Whether the method of a number is the first of its name.
-    #[tactic(auto, unfolding(crate::specs::Faults::noted))]
-    fn check_method(&mut self, own: Own<'a>, number: u32)
-        ensures { self.new ≡ record (self.old) { found = noted self.old.found (node (site_at self.old) (MethodName number (own_of own.entry)) ∷ []) } }
+impl<'t, 'a> Site<'t, 'a> {
+    #[tactic(auto, using(crate::proofs::Firsts::in_nodes))]
+    fn param(&mut self, param: &'a tree::Param) -> Result<Resolved<Param>, Memory>
+        ensures part { IfOk result (λ r. numbered_param_of r.part ≡ number_param (text_of self.old.tables.now) (param_of param.now)) }
+        ensures refusal { IfOk result (λ r. r.refusal ≡ first_in (type_nodes (site_of self.old) (type_of param.now.ty) ++ node (site_of self.old) (VariableName param.now.place param.now.name) ∷ [])) }
+        ensures site { OnOk result (site_of self.new ≡ declares (site_of self.old) param.now.name (typed_as (text_of self.old.tables.now) (type_of param.now.ty))) }
     {
-        let named = self.tables.method(own.class, own.method.name.as_bytes());
-        let mut found = self.found;
-        note(
-            &mut found,
-            is_another(named, number),
-            Rule::N2,
-            own.method.place,
-        );
-        self.found = found;
-    }
-
-    #[tactic(auto, using(crate::proofs::Lists::lists))]
-    fn param(&mut self, param: &'a tree::Param) -> Result<TypeUse, Memory>
-        ensures value { IfOk result (λ t. type_use_of t ≡ numbered_type (text_of self.old.tables.now) (type_of param.now.ty)) }
-        ensures site { OnOk result (site_at self.new ≡ declares (site_at self.old) param.now.name (typed_as (text_of self.old.tables.now) (type_of param.now.ty))) }
-        ensures literals { OnOk result (self.new.literals.items ≡ self.old.literals.items) }
-        ensures found { OnOk result (self.new.found ≡ noted self.old.found (type_nodes (site_at self.old) (type_of param.now.ty) ++ node (site_at self.old) (VariableName param.now.place param.now.name) ∷ [])) }
-    {
+        let named = self.check_variable(param.place, &param.name);
+        let refusal = sooner(self.check_type(&param.ty), named);
         let ty = self.type_use(&param.ty)?;
-        self.check_variable(param.place, &param.name);
-        let declared = Declared::Typed {
-            single: has_single(&param.ty.qualifiers),
-            ty: ty.ty.copy(self.alloc)?,
-        };
+        let declared = self.declared(&param.ty)?;
         self.declare(&param.name, declared)?;
-        Ok(ty)
+        Ok(Resolved {
+            part: Param {
+                place: param.place,
+                ty,
+            },
+            refusal,
+        })
     }
 
-    #[tactic(auto, using(crate::proofs::Lists::lists))]
-    fn param_list(&mut self, params: &'a [tree::Param]) -> Result<Vec<TypeUse>, Memory>
-        ensures value { IfOk result (λ v. map type_use_of v.items ≡ number_param_list (text_of self.old.tables.now) (map param_of params.now)) }
-        ensures site { OnOk result (site_at self.new ≡ behind_params (site_at self.old) (map param_of params.now)) }
-        ensures literals { OnOk result (self.new.literals.items ≡ self.old.literals.items) }
-        ensures found { OnOk result (self.new.found ≡ noted self.old.found (param_list_nodes (site_at self.old) (map param_of params.now))) }
+    #[tactic(auto, using(crate::proofs::Firsts::none_sooner))]
+    fn param_list(&mut self, params: &'a [tree::Param]) -> Result<Resolved<Vec<Param>>, Memory>
+        ensures part { IfOk result (λ r. map numbered_param_of r.part.items ≡ number_param_list (text_of self.old.tables.now) (map param_of params.now)) }
+        ensures refusal { IfOk result (λ r. r.refusal ≡ first_in (param_list_nodes (site_of self.old) (map param_of params.now))) }
+        ensures site { OnOk result (site_of self.new ≡ behind_params (site_of self.old) (map param_of params.now)) }
     {
-        let mut types = Vec::new(self.alloc);
+        let mut done = Vec::new(self.alloc);
+        let mut refusal = None;
         for param in params {
-            types.push(self.param(param)?)?;
+            let param = self.param(param)?;
+            done.push(param.part)?;
+            refusal = sooner(refusal, param.refusal);
         }
-        Ok(types)
+        Ok(Resolved {
+            part: done,
+            refusal,
+        })
     }
 
-    #[tactic(auto, using(crate::proofs::Lists::lists))]
-    fn params(&mut self, params: &'a tree::Params) -> Result<Params, Memory>
-        ensures value { IfOk result (λ p. numbered_params_of p ≡ number_params (text_of self.old.tables.now) (params_of params.now)) }
-        ensures site { OnOk result (site_at self.new ≡ body_site (site_at self.old) (params_of params.now)) }
-        ensures literals { OnOk result (self.new.literals.items ≡ self.old.literals.items) }
-        ensures found { OnOk result (self.new.found ≡ noted self.old.found (params_nodes (site_at self.old) (params_of params.now))) }
+    #[tactic(auto, using(crate::proofs::Firsts::in_nodes))]
+    fn params(&mut self, params: &'a tree::Params) -> Result<Resolved<Params>, Memory>
+        ensures part { IfOk result (λ r. numbered_params_of r.part ≡ number_params (text_of self.old.tables.now) (params_of params.now)) }
+        ensures refusal { IfOk result (λ r. r.refusal ≡ first_in (params_nodes (site_of self.old) (params_of params.now))) }
+        ensures site { OnOk result (site_of self.new ≡ body_site (site_of self.old) (params_of params.now)) }
     {
         match params {
-            tree::Params::Words(_, _) => Ok(Params::Words),
-            tree::Params::Typed(params) => Ok(Params::Typed(self.param_list(params)?)),
+            tree::Params::Words(_, _) => Ok(Resolved {
+                part: Params::Words,
+                refusal: None,
+            }),
+            tree::Params::Typed(params) => {
+                let params = self.param_list(params)?;
+                Ok(Resolved {
+                    part: Params::Typed(params.part),
+                    refusal: params.refusal,
+                })
+            }
         }
     }
 
-    #[tactic(auto, using(crate::proofs::Lists::lists))]
-    fn result(&mut self, given: &tree::ResultType) -> Result<ResultType, Memory>
-        ensures value { IfOk result (λ r. numbered_result_of r ≡ number_result (text_of self.old.tables.now) (result_of given.now)) }
-        ensures body { OnOk result (self.new ≡ record (self.old) { found = noted self.old.found (result_nodes (site_at self.old) (result_of given.now)) }) }
+    fn result(&self, given: &tree::ResultType) -> Result<ResultType, Memory>
+        ensures { IfOk result (λ r. numbered_result_of r ≡ number_result (text_of self.now.tables.now) (result_of given.now)) }
     {
         match given {
             tree::ResultType::Void(_) => Ok(ResultType::Void),
@@ -106,127 +103,98 @@ impl<'t, 'a> Body<'t, 'a> {
         }
     }
 
-    #[tactic(auto, using(crate::proofs::Lists::lists))]
-    fn last(&mut self, last: &Option<tree::Return>) -> Result<Option<Return>, Memory>
-        ensures value { IfOk result (λ r. maybe_of numbered_return_of r ≡ number_return (site_at self.old) (maybe_of return_of last.now)) }
-        ensures body { OnOk result (self.new ≡ record (self.old) { found = noted self.old.found (return_nodes (site_at self.old) (maybe_of return_of last.now)) }) }
+    #[tactic(auto, using(crate::proofs::Firsts::in_nodes))]
+    fn check_result(&self, given: &tree::ResultType) -> Option<Refusal>
+        ensures { result ≡ first_in (result_nodes (site_of self.now) (result_of given.now)) }
     {
-        match last {
-            Some(last) => Ok(Some(Return {
-                place: last.place,
-                value: self.maybe(&last.value)?,
-            })),
-            None => Ok(None),
+        match given {
+            tree::ResultType::Void(_) => None,
+            tree::ResultType::Typed(ty) => self.check_type(ty),
         }
     }
 
-    /// The method of a number.
-    fn method(&mut self, own: Own<'a>, number: u32) -> Result<Method, Memory>
-        ensures value { IfOk result (λ m. numbered_method_of m ≡ number_method (site_at self.old) (own_of own.entry)) }
-        ensures literals { OnOk result (self.new.literals.items ≡ self.old.literals.items ++ literals_in (stms (own_of own.entry).method.body)) }
-        ensures found { OnOk result (self.new.found ≡ noted self.old.found (method_nodes (site_at self.old) number (own_of own.entry))) }
+    /// The name and the result of the method of a number.
+    #[tactic(auto, using(crate::proofs::Firsts::in_nodes))]
+    fn check_head(&self, number: u32, own: Own<'a>) -> Option<Refusal>
+        ensures { result ≡ first_in (node (site_of self.now) (MethodName number (own_of own.entry)) ∷ result_nodes (site_of self.now) (own_of own.entry).method.result) }
     {
-        let name = self.tables.name(own.method.name.as_bytes());
-        self.check_method(own, number);
+        let named = self.tables.method(own.class, own.method.name.as_bytes());
+        let twice = refused_if(is_another(named, number), Rule::N2, own.method.place);
+        sooner(twice, self.check_result(&own.method.result))
+    }
+
+    /// The method of a number, from its first parameter on.
+    #[tactic(auto, using(crate::proofs::Firsts::in_nodes))]
+    fn method(&mut self, number: u32, own: Own<'a>) -> Result<Resolved<Method>, Memory>
+        ensures part { IfOk result (λ r. numbered_method_of r.part ≡ number_method (site_of self.old) (own_of own.entry)) }
+        ensures refusal { IfOk result (λ r. r.refusal ≡ first_in (method_nodes (site_of self.old) number (own_of own.entry))) }
+    {
+        let head = self.check_head(number, own);
         let result = self.result(&own.method.result)?;
+        let name = self.tables.name(own.method.name.as_bytes());
         let params = self.params(&own.method.params)?;
         let body = self.stms(&own.method.body)?;
-        let last = self.last(&own.method.last)?;
-        let modifiers = copy_modifiers(self.alloc, &own.method.modifiers)?;
-        Ok(Method {
-            class: own.class,
-            modifiers,
-            result,
-            place: own.method.place,
-            name,
-            params,
-            body,
-            last,
-            end: own.method.end,
+        Ok(Resolved {
+            part: Method {
+                class: own.class,
+                modifiers: own.method.modifiers.to_vec(self.alloc)?,
+                single: is_single(&own.method.modifiers),
+                result,
+                place: own.method.place,
+                name,
+                params: params.part,
+                body: body.part,
+                end: own.method.end,
+            },
+            refusal: sooner(sooner(head, params.refusal), body.refusal),
         })
     }
 }
 
-/// At the first parameter of a method.
-fn before_params<'t, 'a>(
-    alloc: Global,
-    tables: &'t Tables<'a>,
-    own: Own<'a>,
-    literals: Vec<Spelled>,
-    found: Option<Refusal>,
-) -> Body<'t, 'a>
-    ensures site { site_at result ≡ method_site (text_of tables.now) (own_of own.entry) (length literals.items) }
-    ensures literals { result.literals.items ≡ literals.items }
-    ensures found { result.found ≡ found }
-{
-    Body {
-        alloc,
-        tables,
-        class: own.class,
-        is_static: has_static(&own.method.modifiers),
-        scope: Names::new(alloc),
-        variables: 0,
-        literals,
-        found,
-    }
-}
-
-/// The method of a number, with the string literals and the refusal behind those before it.
+/// The method of a number, with so many string literals before.
 fn method<'a>(
     alloc: Global,
     tables: &Tables<'a>,
-    own: Own<'a>,
     number: u32,
-    literals: Vec<Spelled>,
-    found: Option<Refusal>,
-) -> Result<Walked, Memory>
-    ensures value { IfOk result (λ w. numbered_method_of w.method ≡ number_method (method_site (text_of tables.now) (own_of own.entry) (length literals.items)) (own_of own.entry)) }
-    ensures literals { IfOk result (λ w. w.literals.items ≡ literals.items ++ literals_in (stms (own_of own.entry).method.body)) }
-    ensures found { IfOk result (λ w. w.found ≡ noted found (method_nodes (method_site (text_of tables.now) (own_of own.entry) (length literals.items)) number (own_of own.entry))) }
+    own: Own<'a>,
+    before: u32,
+) -> Result<Resolved<Method>, Memory>
+    ensures part { IfOk result (λ r. numbered_method_of r.part ≡ number_method (method_site (text_of tables.now) (own_of own.entry) before) (own_of own.entry)) }
+    ensures refusal { IfOk result (λ r. r.refusal ≡ first_in (method_nodes (method_site (text_of tables.now) (own_of own.entry) before) number (own_of own.entry))) }
 {
-    let mut body = before_params(alloc, tables, own, literals, found);
-    let method = body.method(own, number)?;
-    Ok(Walked {
-        method,
-        literals: body.literals,
-        found: body.found,
-    })
-}
-
-/// A method, with the string literals and the refusal behind it.
-#[derive(Drop)]
-struct Walked {
-    method: Method,
-    literals: Vec<Spelled>,
-    found: Option<Refusal>,
+    let mut site = method_site(alloc, tables, own, before);
+    site.method(number, own)
 }
 
 /// The methods of a text.
-#[tactic(auto, using(crate::proofs::Lists::lists))]
+#[tactic(auto, using(crate::proofs::Firsts::none_sooner))]
 pub fn methods<'a>(
     alloc: Global,
     tables: &Tables<'a>,
     methods: &[Own<'a>],
-    found: Option<Refusal>,
 ) -> Result<AllMethods, Memory>
-    ensures value { IfOk result (λ m. map numbered_method_of m.methods.items ≡ number_methods (text_of tables.now) 0 (map own_of methods.now)) }
-    ensures literals { IfOk result (λ m. m.literals.items ≡ flat_map (λ (own : OwnMethod). literals_in (stms own.method.body)) (map own_of methods.now)) }
-    ensures found { IfOk result (λ m. m.found ≡ noted found (methods_nodes (text_of tables.now) 0 0 (map own_of methods.now))) }
+    ensures part { IfOk result (λ m. map numbered_method_of m.methods.items ≡ number_methods (text_of tables.now) 0 (map own_of methods.now)) }
+    ensures literals { IfOk result (λ m. m.literals.texts.items ≡ flat_map (λ (own : OwnMethod). literals_in (stms own.method.body)) (map own_of methods.now)) }
+    ensures refusal { IfOk result (λ m. m.refusal ≡ first_in (methods_nodes (text_of tables.now) 0 0 (map own_of methods.now))) }
 {
     let mut done = Vec::new(alloc);
-    let mut literals = Vec::new(alloc);
-    let mut found = found;
+    let mut literals = Literals {
+        alloc,
+        texts: Vec::new(alloc),
+    };
+    let mut refusal = None;
     let mut number = 0;
     for own in methods {
-        let walked = method(alloc, tables, *own, number, literals, found)?;
-        done.push(walked.method)?;
-        literals = walked.literals;
-        found = walked.found;
+        let before = narrow(literals.texts.len())?;
+        let found = method(alloc, tables, number, *own, before)?;
+        literals.body(&own.method.body)?;
+        done.push(found.part)?;
+        refusal = sooner(refusal, found.refusal);
         number = next(number)?;
     }
     Ok(AllMethods {
         methods: done,
         literals,
-        found,
+        refusal,
     })
 }

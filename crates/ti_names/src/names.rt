@@ -3,7 +3,7 @@ ghost use Rattle.std.specs.Prelude.{◌≡◌, ◌≤◌, [], length, take, OnOk
 ghost use Rattle.std.specs.Map.{lookup};
 ghost use Rattle.std.specs.Option.{option_map, option_copied};
 ghost use Rattle.std.specs.Str.{bytes_eq};
-ghost use Rattle.ti_names.specs.Tables.{with_first};
+ghost use Rattle.ti_names.specs.Mirrors.Tables.{with_first};
 
 use indexmap::IndexMap;
 use std::alloc::Global;

@@ -1,9 +1,10 @@
 // The methods of a text.
 ghost use Rattle.std.specs.Prelude.{◌≡◌, ◌++◌, map, IfOk};
-ghost use Rattle.ti_syntax.specs.Trees.Views.{tree_of, member_of};
+ghost use Rattle.ti_syntax.specs.Trees.Text.{tree_of};
+ghost use Rattle.ti_syntax.specs.Trees.Views.{member_of};
 ghost use Rattle.ti_lang.specs.Members.{methods_of, methods_in};
 ghost use Rattle.ti_names.specs.Own.{own_of};
-ghost use Rattle.ti_names.specs.Tables.{static_table};
+ghost use Rattle.ti_names.specs.Mirrors.Tables.{static_table};
 
 use crate::number::next;
 use std::alloc::Global;

@@ -1,66 +1,70 @@
 // Trees become programs.
-ghost use Rattle.std.specs.Prelude.{◌≡◌, ◌⊎◌, map, IfOk, Option};
+ghost use Rattle.std.specs.Prelude.{◌≡◌, ◌⊎◌, IfOk};
+ghost use Rattle.std.specs.Option.{unwrap_or};
 ghost use Rattle.ti_syntax.specs.Trees.Classes.{TextTree};
-ghost use Rattle.ti_syntax.specs.Trees.Views.{tree_of};
+ghost use Rattle.ti_syntax.specs.Trees.Text.{tree_of};
 ghost use Rattle.ti_lang.specs.Program.Classes.{NumberedProgram};
 ghost use Rattle.ti_lang.specs.Program.Views.{program_of};
 ghost use Rattle.ti_lang.specs.Numbering.{Numbers};
 ghost use Rattle.ti_rules.specs.declared.refusal.Refusal.{Refusal as RefusalSeen};
+ghost use Rattle.ti_rules.specs.First.{first_of};
 ghost use Rattle.ti_rules.specs.Refusals.{IsFirstRefusal};
-ghost use Rattle.ti_rules.specs.BrokenNames.{BreaksNames};
+ghost use Rattle.ti_rules.specs.MainForm.{main_method as main_of};
+ghost use Rattle.ti_rules.specs.BrokenNames.{name_refusals, BreaksNames};
 ghost use Rattle.ti_names.specs.Answer.{Resolves, GivesOnly, RefusesOnly};
-ghost use Rattle.ti_names.specs.Faults.{first_fault};
-ghost use Rattle.ti_names.specs.Numbered.{number_program};
+ghost use Rattle.ti_names.specs.Mirrors.Numbered.{number_program};
+ghost use Rattle.ti_names.specs.Seen.{text_of};
 
 use crate::build::name_table;
-use crate::classes::classes;
+use crate::classes::{check_classes, classes};
 use crate::error::NameErr;
-use crate::main_form::{Main, main_form};
+use crate::main_form::{check_main, main_method};
 use crate::methods::{AllMethods, methods};
 use crate::own::own_methods;
 use crate::spelling::NameTable;
+use crate::stmts::Resolved;
 use crate::tables::Tables;
 use std::alloc::Global;
 use ti_base::Memory;
 use ti_lang::program::{Parts, Program};
+use ti_rules::sooner;
 use ti_syntax::tree::Tree;
-use ti_rules::Refusal;
 
-/// A program, and the refusal that counts, if there is one.
-#[derive(Drop)]
-struct Resolved {
-    parts: Parts,
-    found: Option<Refusal>,
+/// The number of `main`, or some number where there is none.
+fn main_number(tables: &Tables<'_>) -> u32
+    ensures { result ≡ unwrap_or (main_of (text_of tables.now)) 0 }
+{
+    match main_method(tables) {
+        Some(number) => number,
+        None => 0,
+    }
 }
 
-/// The program of a text, if nothing is broken, and what counts of all that is broken.
-fn walk(alloc: Global, tree: &Tree) -> Result<Resolved, Memory>
-    ensures parts { IfOk result (λ r. program_of r.parts ≡ number_program (tree_of tree.now)) }
-    ensures found { IfOk result (λ r. r.found ≡ first_fault (tree_of tree.now)) }
+/// The program of a text, if nothing is wrong with its names, and what counts of all that is.
+fn walk(alloc: Global, tree: &Tree) -> Result<Resolved<Parts>, Memory>
+    ensures part { IfOk result (λ r. program_of r.part ≡ number_program (tree_of tree.now)) }
+    ensures refusal { IfOk result (λ r. r.refusal ≡ first_of (name_refusals (tree_of tree.now))) }
 {
     let own = own_methods(alloc, tree)?;
     let NameTable { spelled, numbers } = name_table(alloc, tree)?;
     let tables = Tables::of(alloc, tree, &own, &spelled, numbers)?;
-    let mut found = None;
-    let classes = classes(alloc, &tables, &mut found, &tree.classes)?;
+    let of_classes = check_classes(alloc, &tables, &tree.classes)?;
     let AllMethods {
         methods,
         literals,
-        found,
-    } = methods(alloc, &tables, &own, found)?;
-    let Main { number, found } = main_form(found, tree, &tables, &own)?;
-    let main = match number {
-        Some(number) => number,
-        None => 0,
-    };
-    let parts = Parts {
-        classes,
-        methods,
-        main,
-        names: spelled,
-        literals,
-    };
-    Ok(Resolved { parts, found })
+        refusal,
+    } = methods(alloc, &tables, &own)?;
+    let of_main = check_main(tree, &tables, &own)?;
+    Ok(Resolved {
+        part: Parts {
+            classes: classes(alloc, &tables, &tree.classes)?,
+            methods,
+            main: main_number(&tables),
+            names: spelled,
+            literals: literals.texts,
+        },
+        refusal: sooner(sooner(of_classes, refusal), of_main),
+    })
 }
 
 /// The program of a text, with a number in place of each name.
@@ -73,9 +77,9 @@ pub fn resolve(alloc: Global, tree: &Tree) -> Result<Program, NameErr>
     ensures refused { (refusal : RefusalSeen) → IsFirstRefusal (BreaksNames (tree_of tree.now)) refusal → RefusesOnly result refusal }
 {
     let resolved = walk(alloc, tree)?;
-    match resolved.found {
+    match resolved.refusal {
         Some(refusal) => Err(NameErr::Refused(refusal)),
-        None => Ok(Program::of(resolved.parts)),
+        None => Ok(Program::of(resolved.part)),
     }
 }
 

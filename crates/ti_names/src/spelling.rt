@@ -1,6 +1,6 @@
 // The table of the names of members.
 ghost use Rattle.std.specs.Prelude.{◌≡◌};
-ghost use Rattle.ti_names.specs.Tables.{numbered};
+ghost use Rattle.ti_names.specs.Mirrors.Tables.{numbered};
 
 use crate::names::Names;
 use crate::number::narrow;

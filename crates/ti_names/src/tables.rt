@@ -3,9 +3,9 @@ ghost use Rattle.std.specs.Prelude.{◌≡◌, ℕ, List, false, slice_get};
 ghost use Rattle.std.specs.Map.{lookup};
 ghost use Rattle.std.specs.Option.{unwrap_or};
 ghost use Rattle.std.specs.Str.{bytes_eq};
-ghost use Rattle.ti_syntax.specs.Trees.Views.{tree_of};
+ghost use Rattle.ti_syntax.specs.Trees.Text.{tree_of};
 ghost use Rattle.ti_lang.specs.Members.{class_named, field_named, method_named, is_static_method, name_number};
-ghost use Rattle.ti_names.specs.Tables.{found_in, numbered};
+ghost use Rattle.ti_names.specs.Mirrors.Tables.{found_in, numbered};
 
 use crate::build::{class_table, field_tables, method_tables};
 use crate::names::Names;

@@ -10,14 +10,14 @@ use Rattle.ti_syntax.specs.declared.tree.classes.ModifierWord.{ModifierWord}
 use Rattle.ti_syntax.specs.Trees.Types.{TypeTree}
 use Rattle.ti_syntax.specs.Trees.Expressions.{Exp}
 use Rattle.ti_syntax.specs.Trees.Statements.{DimsTree, InitTree, PrintTree, Stm, MaybeStm}
-use Rattle.ti_syntax.specs.Trees.Classes.{ParamTree, ParamsTree, ReturnTree, MemberTree, ClassTree}
+use Rattle.ti_syntax.specs.Trees.Classes.{ParamTree, ParamsTree, MemberTree, ClassTree}
 use Rattle.ti_syntax.specs.Spelling.Operators.{update_of, step_of, modifier_of, class_modifier_of}
 use Rattle.ti_syntax.specs.Spelling.Types.{FieldType, WideType, Typed}
 use Rattle.ti_syntax.specs.Spelling.Types as types
 use Rattle.ti_syntax.specs.Spelling.Expressions.{Ending, Whole}
-use Rattle.ti_syntax.specs.Spelling.Statements.{Start, Region, Dims, Initial, Declared, Changed, Printer, Printed, Condition, First, Test, Update, Stated, Items}
+use Rattle.ti_syntax.specs.Spelling.Statements.{Start, Region, Dims, Initial, Declared, Changed, Printer, Printed, Condition, First, Optional, Update, Stated, Items}
 use Rattle.ti_syntax.specs.Spelling.Statements as s
-use Rattle.ti_syntax.specs.Spelling.Classes.{ParamList, Parameters, Returned, Method, Modified, Member, Members, ClassModified, Class, AllClasses}
+use Rattle.ti_syntax.specs.Spelling.Classes.{ParamList, Parameters, Method, Modified, Member, Members, ClassModified, Class, AllClasses}
 use Rattle.ti_syntax.specs.Spelling.Classes as c
 use Rattle.ti_parse_expr.proofs.Ends.{ends, end_of, arity_ends, based_ends, qualified_ends, gridded_ends, whole_ends, postfixed_ends, ranges_ends}
 
@@ -143,9 +143,9 @@ first_lasts s.none = refl
 first_lasts (s.declaration d) = declared_lasts d
 first_lasts (s.change d) = changed_lasts d
 
-test_lasts : {l : List Token} {x : Option Exp} → Test l x → lasts l ≡ 0
-test_lasts s.none = refl
-test_lasts (s.some x) = whole_lasts x
+optional_lasts : {l : List Token} {x : Option Exp} → Optional l x → lasts l ≡ 0
+optional_lasts s.none = refl
+optional_lasts (s.some x) = whole_lasts x
 
 update_lasts : {l : List Token} {x : MaybeStm} → Update l x → lasts l ≡ 0
 update_lasts s.none = refl
@@ -170,7 +170,7 @@ mutual
         ap last_of h4,
         ap last_of h5,
         first_lasts first,
-        test_lasts test,
+        optional_lasts test,
         update_lasts update,
         stated_lasts x,
       )
@@ -181,6 +181,9 @@ mutual
   stated_lasts (s.print {l = l} {m = m} p o c t printer h what h2 h3) =
       omega (arith, lasts-append l (o ∷ (m ++ c ∷ t ∷ [])), lasts-append m (c ∷ t ∷ []), ap last_of h, ap last_of h2, ap last_of h3, printer_lasts printer, printed_lasts what)
   stated_lasts (s.barrier i d b o c t h h2 h3 h4 h5 h6) = omega (arith, ap last_of h, ap last_of h2, ap last_of h3, ap last_of h4, ap last_of h5, ap last_of h6)
+  stated_lasts (s.break b t h h2) = omega (arith, ap last_of h, ap last_of h2)
+  stated_lasts (s.continue c t h h2) = omega (arith, ap last_of h, ap last_of h2)
+  stated_lasts (s.return {l = l} r t h value h2) = omega (arith, lasts-append l (t ∷ []), ap last_of h, ap last_of h2, optional_lasts value)
 
   items_lasts : {l : List Token} {xs : List Stm} → Items l xs → lasts l ≡ 0
   items_lasts s.no_item = refl
@@ -198,14 +201,9 @@ parameters_lasts c.none = refl
 parameters_lasts (c.words a o u t h h2 h3 h4) = omega (arith, ap last_of h, ap last_of h2, ap last_of h3, ap last_of h4)
 parameters_lasts (c.typed ps) = params_lasts ps
 
-returned_lasts : {l : List Token} {x : Option ReturnTree} → Returned l x → lasts l ≡ 0
-returned_lasts c.none = refl
-returned_lasts (c.plain r t h h2) = omega (arith, ap last_of h, ap last_of h2)
-returned_lasts (c.value {l = l} r t h e h2) = omega (arith, lasts-append l (t ∷ []), ap last_of h, ap last_of h2, whole_lasts e)
-
-method_lasts : {l : List Token} {ps : ParamsTree} {body : List Stm} {last : Option ReturnTree} {e : Token} → Method l ps body last e → lasts l ≡ 0
-method_lasts (c.method {l = l} {m = m} {v = v} o u b e h ps h2 h3 xs last h4) =
-    omega (arith, lasts-append l (u ∷ b ∷ (m ++ (v ++ e ∷ []))), lasts-append m (v ++ e ∷ []), lasts-append v (e ∷ []), ap last_of h, ap last_of h2, ap last_of h3, ap last_of h4, parameters_lasts ps, items_lasts xs, returned_lasts last)
+method_lasts : {l : List Token} {ps : ParamsTree} {body : List Stm} {e : Token} → Method l ps body e → lasts l ≡ 0
+method_lasts (c.method {l = l} {m = m} o u b e h ps h2 h3 xs h4) =
+    omega (arith, lasts-append l (u ∷ b ∷ (m ++ e ∷ [])), lasts-append m (e ∷ []), ap last_of h, ap last_of h2, ap last_of h3, ap last_of h4, parameters_lasts ps, items_lasts xs)
 
 -- ---- members and classes
 

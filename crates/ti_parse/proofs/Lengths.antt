@@ -4,14 +4,14 @@ use Rattle.std.proofs.lemmas.List.{length-map}
 use Rattle.ti_syntax.specs.declared.token.Token.{Token}
 use Rattle.ti_syntax.specs.Trees.Expressions.{Exp, RangeTree}
 use Rattle.ti_syntax.specs.Trees.Statements.{DimsTree, InitTree, PrintTree, Stm, MaybeStm}
-use Rattle.ti_syntax.specs.Trees.Classes.{ParamsTree, ReturnTree, MemberTree}
+use Rattle.ti_syntax.specs.Trees.Classes.{ParamsTree, MemberTree}
 use Rattle.ti_syntax.specs.Spelling.Expressions.{Ranges, Range}
 use Rattle.ti_syntax.specs.Spelling.Expressions as e
-use Rattle.ti_syntax.specs.Spelling.Statements.{Region, Dims, Initial, Declared, Changed, Printed, Condition, First, Test, Update, Stated, Items}
+use Rattle.ti_syntax.specs.Spelling.Statements.{Region, Dims, Initial, Declared, Changed, Printed, Condition, First, Optional, Update, Stated, Items}
 use Rattle.ti_syntax.specs.Spelling.Statements as s
-use Rattle.ti_syntax.specs.Spelling.Classes.{Returned, Method, Member, Members}
+use Rattle.ti_syntax.specs.Spelling.Classes.{Method, Member, Members}
 use Rattle.ti_syntax.specs.Spelling.Classes as c
-use Rattle.ti_syntax.specs.Spelling.Loads.{Load, Free, free, weights, region_loads, range_loads, ranges_loads, dims_loads, initial_loads, declared_loads, changed_loads, printed_loads, condition_loads, first_loads, test_loads, update_loads, stated_loads, items_loads, returned_loads, method_loads, member_loads, members_loads}
+use Rattle.ti_syntax.specs.Spelling.Loads.{Load, Free, free, weights, region_loads, range_loads, ranges_loads, dims_loads, initial_loads, declared_loads, changed_loads, printed_loads, condition_loads, first_loads, optional_loads, update_loads, stated_loads, items_loads, method_loads, member_loads, members_loads}
 use Rattle.ti_parse_expr.proofs.FullLaws.{weights_long}
 
 -- as many loads as tokens
@@ -88,9 +88,9 @@ first_loaded s.none = none_loaded
 first_loaded (s.declaration d) = declared_loaded d
 first_loaded (s.change d) = changed_loaded d
 
-pub test_loaded : {l : List Token} {x : Option Exp} (q : Test l x) → Loaded (test_loads q) l
-test_loaded s.none = none_loaded
-test_loaded (s.some {l = l} x) = weights_loaded l
+pub optional_loaded : {l : List Token} {x : Option Exp} (q : Optional l x) → Loaded (optional_loads q) l
+optional_loaded s.none = none_loaded
+optional_loaded (s.some {l = l} x) = weights_loaded l
 
 pub update_loaded : {l : List Token} {x : MaybeStm} (q : Update l x) → Loaded (update_loads q) l
 update_loaded s.none = none_loaded
@@ -104,12 +104,15 @@ mutual
   stated_loaded n (s.if_else i d h c x h2 y) = one_loaded (both_loaded (condition_loaded c) (both_loaded (stated_loaded (suc n) x) (one_loaded (stated_loaded (suc n) y))))
   stated_loaded n (s.while w h c x) = one_loaded (both_loaded (condition_loaded c) (stated_loaded (suc n) x))
   stated_loaded n (s.for f o p q c h h2 first h3 test h4 update h5 x) =
-      one_loaded (one_loaded (both_loaded (first_loaded first) (one_loaded (both_loaded (test_loaded test) (one_loaded (both_loaded (update_loaded update) (one_loaded (stated_loaded (suc n) x))))))))
+      one_loaded (one_loaded (both_loaded (first_loaded first) (one_loaded (both_loaded (optional_loaded test) (one_loaded (both_loaded (update_loaded update) (one_loaded (stated_loaded (suc n) x))))))))
   stated_loaded n (s.foreach {l = l} f o t i c h h2 h3 h4 d h5 x) = one_loaded (one_loaded (one_loaded (one_loaded (both_loaded (weights_loaded l) (one_loaded (stated_loaded (suc n) x))))))
   stated_loaded n (s.change t d h) = both_loaded (changed_loaded d) last_loaded
   stated_loaded n (s.call {l = l} t x h) = both_loaded (weights_loaded l) last_loaded
   stated_loaded n (s.print {l = l} p o c t printer h what h2 h3) = both_loaded (free_loaded l) (one_loaded (both_loaded (printed_loaded what) (one_loaded (one_loaded none_loaded))))
   stated_loaded n (s.barrier i d b o c t h h2 h3 h4 h5 h6) = free_loaded (i ∷ d ∷ b ∷ o ∷ c ∷ t ∷ [])
+  stated_loaded n (s.break b t h h2) = free_loaded (b ∷ t ∷ [])
+  stated_loaded n (s.continue c t h h2) = free_loaded (c ∷ t ∷ [])
+  stated_loaded n (s.return r t h value h2) = one_loaded (both_loaded (optional_loaded value) last_loaded)
 
   pub items_loaded : {l : List Token} {xs : List Stm} (n : ℕ) (q : Items l xs) → Loaded (items_loads n q) l
   items_loaded n s.no_item = none_loaded
@@ -118,14 +121,8 @@ mutual
 
 -- ---- classes
 
-pub returned_loaded : {l : List Token} {x : Option ReturnTree} (q : Returned l x) → Loaded (returned_loads q) l
-returned_loaded c.none = none_loaded
-returned_loaded (c.plain r t h h2) = one_loaded (one_loaded none_loaded)
-returned_loaded (c.value {l = l} r t h x h2) = one_loaded (both_loaded (weights_loaded l) last_loaded)
-
-pub method_loaded : {l : List Token} {params : ParamsTree} {body : List Stm} {last : Option ReturnTree} {e : Token} (q : Method l params body last e) → Loaded (method_loads q) l
-method_loaded (c.method {l = l} o c b e h ps h2 h3 items last h4) =
-    one_loaded (both_loaded (free_loaded l) (one_loaded (one_loaded (both_loaded (items_loaded 1 items) (both_loaded (returned_loaded last) last_loaded)))))
+pub method_loaded : {l : List Token} {params : ParamsTree} {body : List Stm} {e : Token} (q : Method l params body e) → Loaded (method_loads q) l
+method_loaded (c.method {l = l} o c b e h ps h2 h3 items h4) = one_loaded (both_loaded (free_loaded l) (one_loaded (one_loaded (both_loaded (items_loaded 1 items) last_loaded))))
 
 pub member_loaded : {l : List Token} {x : MemberTree} (q : Member l x) → Loaded (member_loads q) l
 member_loaded (c.void_method {l = l} v t e ms h h2 rest) = both_loaded (free_loaded l) (one_loaded (one_loaded (method_loaded rest)))

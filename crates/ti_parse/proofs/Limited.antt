@@ -3,19 +3,19 @@ use Rattle.std.proofs.Common.{◌≡◌, ℕ, zero, suc, ◌<◌, ◌≤◌, Boo
 use borrow.Author.Tests.{ltb-true, ltb-false}
 use Rattle.ti_syntax.specs.declared.token.Token.{Token}
 use Rattle.ti_syntax.specs.Spelling.Loads.{Load, Free, Level, Weight}
-use Rattle.ti_syntax.specs.Spelling.{IsAbove}
+use Rattle.ti_syntax.specs.Spelling.{IsAbove, most_levels, most_weight}
 use Rattle.ti_parse_expr.specs.Input.{At, Over, Outcome, next}
 use Rattle.ti_parse_expr.specs.Full.{is_above, limited, rest_of}
 
 above_is : (x : Load) → is_above x ≡ true → IsAbove (Some x)
 above_is Free h = cc
-above_is (Level n) h = ltb-true 64 n h
-above_is (Weight n) h = ltb-true 256 n h
+above_is (Level n) h = ltb-true most_levels n h
+above_is (Weight n) h = ltb-true most_weight n h
 
 not_above : (x : Load) → is_above x ≡ false → IsAbove (Some x) → ⊥
 not_above Free h a = a
-not_above (Level n) h a = let low : n ≤ 64 = ltb-false 64 n h in omega (arith, low, a)
-not_above (Weight n) h a = let low : n ≤ 256 = ltb-false 256 n h in omega (arith, low, a)
+not_above (Level n) h a = let low : n ≤ most_levels = ltb-false most_levels n h in omega (arith, low, a)
+not_above (Weight n) h a = let low : n ≤ most_weight = ltb-false most_weight n h in omega (arith, low, a)
 
 end_free : (i : ℕ) → IsAbove (slice_get (Free ∷ []) i) → ⊥
 end_free zero a = a

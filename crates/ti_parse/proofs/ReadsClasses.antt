@@ -1,5 +1,5 @@
 -- Classes that are spelled are read, up to the first token whose load is above its limit.
-use Rattle.std.proofs.Common.{◌≡◌, ℕ, zero, suc, ◌<◌, List, [], ◌∷◌, ◌++◌, length, Option, Some, None, Ok, refl, sym, ap, ◌∙◌, append_assoc, arith, length-append, true, false, Bool}
+use Rattle.std.proofs.Common.{◌≡◌, ℕ, zero, suc, ◌<◌, List, [], ◌∷◌, ◌++◌, length, Some, None, Ok, refl, sym, ap, ◌∙◌, append_assoc, arith, length-append, true, false, Bool}
 use Rattle.ti_base.specs.declared.place.Place.{Place}
 use Rattle.ti_syntax.specs.declared.token.Token.{Token}
 use Rattle.ti_syntax.specs.declared.token.TokenKind.{TokenKind}
@@ -9,27 +9,24 @@ use Rattle.ti_syntax.specs.declared.tree.classes.ModifierWord.{ModifierWord}
 use Rattle.ti_syntax.specs.Tokens.{same_kind}
 use Rattle.ti_syntax.specs.Trees.Types.{TypeTree}
 use Rattle.ti_syntax.specs.Trees.Statements.{Stm}
-use Rattle.ti_syntax.specs.Trees.Classes.{ParamTree, ParamsTree, ReturnTree, ResultTree, MemberTree, ClassTree}
+use Rattle.ti_syntax.specs.Trees.Classes.{ParamTree, ParamsTree, ResultTree, MemberTree, ClassTree}
 use Rattle.ti_syntax.specs.Trees.Classes as tree
 use Rattle.ti_syntax.specs.Spelling.Operators.{modifier_of, class_modifier_of}
 use Rattle.ti_syntax.specs.Spelling.Types.{FieldType, WideType, Typed}
 use Rattle.ti_syntax.specs.Spelling.Types as types
-use Rattle.ti_syntax.specs.Spelling.Statements as statements
-use Rattle.ti_syntax.specs.Spelling.Classes.{ParamList, Parameters, Returned, Method, Modified, Member, Members, ClassModified, Class, AllClasses}
+use Rattle.ti_syntax.specs.Spelling.Classes.{ParamList, Parameters, Method, Modified, Member, Members, ClassModified, Class, AllClasses}
 use Rattle.ti_syntax.specs.Spelling.Classes as grammar
-use Rattle.ti_syntax.specs.Spelling.Loads.{free, returned_loads, method_loads, member_loads, members_loads, class_loads, classes_loads}
+use Rattle.ti_syntax.specs.Spelling.Loads.{free, method_loads, member_loads, members_loads, class_loads, classes_loads}
 use Rattle.ti_parse_expr.specs.Input.{and_then, kind, sees}
 use Rattle.ti_parse_expr.specs.Full.{Limits, limited_to}
 use Rattle.ti_parse_expr.proofs.Law.{append_nil}
 use Rattle.ti_parse.specs.Way.{up_to}
 use Rattle.ti_parse.specs.Parts.{is_wide, wide, field, typed}
-use Rattle.ti_parse.specs.Statements.{ends_items}
 use Rattle.ti_parse.specs.Classes as spec
-use Rattle.ti_parse.specs.Classes.{more_params, words, params, returned, method, method_named, field_or_method, member_from, modifiers, member, members, class_from, class, classes}
+use Rattle.ti_parse.specs.Classes.{more_params, words, params, method, method_named, field_or_method, member_from, modifiers, member, members, class_from, class, classes}
 use Rattle.ti_parse.proofs.Lengths.{free_loaded, items_loaded, members_loaded}
 use Rattle.ti_parse.proofs.Limits.{IsRead, bounded_reads, same_reads, result_reads, then_reads, done_reads, made_reads, took, want, name_took, by_kind, test_reads, sees_reads, free_reads, free_both}
 use Rattle.ti_parse.proofs.ReadsTypes.{begins_base, front_field, name_ends, field_reads, wide_reads, wide_is_wide, typed_reads}
-use Rattle.ti_parse.proofs.ReadsParts.{test_part}
 use Rattle.ti_parse.proofs.ReadsStatements.{begins_item, typed_front, items_reads}
 
 -- ---- what members and classes begin with
@@ -43,6 +40,7 @@ begins_member k.KeywordFinal = true
 begins_member k.KeywordSingle = true
 begins_member k.KeywordVoid = true
 begins_member k.KeywordInt = true
+begins_member k.KeywordLong = true
 begins_member k.KeywordBoolean = true
 begins_member k.KeywordPoint = true
 begins_member k.KeywordRectDomain = true
@@ -62,6 +60,7 @@ modifier_begins _ word h = cc
 
 base_begins : (q : TokenKind) → begins_base q ≡ true → (begins_member q ≡ true) × (modifier_of q ≡ None)
 base_begins k.KeywordInt h = (refl, refl)
+base_begins k.KeywordLong h = (refl, refl)
 base_begins k.KeywordBoolean h = (refl, refl)
 base_begins k.KeywordPoint h = (refl, refl)
 base_begins k.KeywordRectDomain h = (refl, refl)
@@ -119,13 +118,8 @@ class_some : (l : List Token) → begins_class (kind (l ++ [])) ≡ true → 0 <
 class_some [] h = cc
 class_some (t ∷ l) h = omega arith
 
-method_front : {l : List Token} {params : ParamsTree} {body : List Stm} {last : Option ReturnTree} {e : Token} → Method l params body last e → (r : List Token) → kind (l ++ r) ≡ k.LeftParen
-method_front (grammar.method o c b e h ps h2 h3 items last h4) r = h
-
-returned_front : {l : List Token} {last : Option ReturnTree} → Returned l last → (e : Token) (r : List Token) → e.kind ≡ k.RightBrace → ends_items (kind ((l ++ e ∷ []) ++ r)) ≡ true
-returned_front grammar.none e r he = ap ends_items he
-returned_front (grammar.plain w t h h2) e r he = ap ends_items h
-returned_front (grammar.value w t h x h2) e r he = ap ends_items h
+method_front : {l : List Token} {params : ParamsTree} {body : List Stm} {e : Token} → Method l params body e → (r : List Token) → kind (l ++ r) ≡ k.LeftParen
+method_front (grammar.method o c b e h ps h2 h3 items h4) r = h
 
 params_front : {l : List Token} {ps : List ParamTree} → ParamList l ps → (r : List Token) → begins_item (kind (l ++ r)) ≡ true
 params_front (grammar.last {l = l} t s h) r = ap (λ z. begins_item (kind z)) (append_assoc l (t ∷ []) r) ∙ typed_front s (t ∷ r)
@@ -198,24 +192,18 @@ module _ (limits : Limits) (allows : 0 < limits.weight) (turns : ℕ) where
       same_reads (λ i. and_then (more_params (up_to limits) turns turns [] i) (λ ps i. Ok (tree.Params ps, i))) (params_typed (kind (l ++ r)) (l ++ r) (params_front q r))
       (made_reads _ (bounded_reads (free_loaded l) (λ lt. more_params_read q turns [] lt r end)) refl)
 
-  returned_reads : {l : List Token} {x : Option ReturnTree} (s : Returned l x) (r : List Token) → kind r ≡ k.RightBrace → IsRead limits turns (returned (up_to limits) turns) (returned_loads s) l r x
-  unfolding returned
-  returned_reads grammar.none r end = sees_reads k.KeywordReturn _ _ end done_reads
-  returned_reads (grammar.plain w t hw ht) r end = sees_reads k.KeywordReturn _ _ hw (took (then_reads _ (test_part limits turns statements.none _ ht) (want k.Semicolon _ ht done_reads)))
-  returned_reads (grammar.value w t hw x ht) r end = sees_reads k.KeywordReturn _ _ hw (took (then_reads _ (test_part limits turns (statements.some x) _ ht) (want k.Semicolon _ ht done_reads)))
-
-  method_reads : {l : List Token} {ps : ParamsTree} {xs : List Stm} {last : Option ReturnTree} {e : Token} (s : Method l ps xs last e) (ms : List Modifier) (result : ResultTree) (at : Place) (name : List ℕ) (r : List Token)
-      → IsRead limits turns (method (up_to limits) turns ms result at name) (method_loads s) l r (tree.MethodMember (record { modifiers = ms; result = result; place = at; name = name; params = ps; body = xs; last = last; end = e.place }))
+  method_reads : {l : List Token} {ps : ParamsTree} {xs : List Stm} {e : Token} (s : Method l ps xs e) (ms : List Modifier) (result : ResultTree) (at : Place) (name : List ℕ) (r : List Token)
+      → IsRead limits turns (method (up_to limits) turns ms result at name) (method_loads s) l r (tree.MethodMember (record { modifiers = ms; result = result; place = at; name = name; params = ps; body = xs; end = e.place }))
   unfolding method
-  method_reads (grammar.method o c b e ho ps hc hb items last he) ms result at name r =
+  method_reads (grammar.method o c b e ho ps hc hb items he) ms result at name r =
       want k.LeftParen _ ho (then_reads _ (params_read ps _ hc) (want k.RightParen _ hc (want k.LeftBrace _ hb
-      (then_reads _ (bounded_reads (items_loaded 1 items) (λ lt. items_reads limits allows turns items limits.level 1 (omega arith) turns [] lt _ (returned_front last e r he)))
-      (then_reads _ (returned_reads last _ he) (want k.RightBrace _ he done_reads))))))
+      (then_reads _ (bounded_reads (items_loaded 1 items) (λ lt. items_reads limits allows turns items limits.level 1 (omega arith) turns [] lt _ he)) (want k.RightBrace _ he done_reads)))))
 
   -- ---- members
 
   member_base : (ms : List Modifier) (q : TokenKind) (i : List Token) → begins_base q ≡ true → spec.member_by (up_to limits) turns ms q i ≡ and_then (field (up_to limits) turns i) (field_or_method (up_to limits) turns ms)
   member_base ms k.KeywordInt i h = refl
+  member_base ms k.KeywordLong i h = refl
   member_base ms k.KeywordBoolean i h = refl
   member_base ms k.KeywordPoint i h = refl
   member_base ms k.KeywordRectDomain i h = refl

@@ -18,9 +18,9 @@ use Rattle.ti_syntax.specs.Spelling.Types.{Based, Qualified, Gridded}
 use Rattle.ti_syntax.specs.Spelling.Types as types
 use Rattle.ti_syntax.specs.Spelling.Expressions.{Whole, Range, Ranges}
 use Rattle.ti_syntax.specs.Spelling.Expressions as expressions
-use Rattle.ti_syntax.specs.Spelling.Statements.{Region, Dims, Initial, Printer, Printed, Condition, Test}
+use Rattle.ti_syntax.specs.Spelling.Statements.{Region, Dims, Initial, Printer, Printed, Condition, Optional}
 use Rattle.ti_syntax.specs.Spelling.Statements as grammar
-use Rattle.ti_syntax.specs.Spelling.Loads.{Load, Free, free, weights, region_loads, range_loads, ranges_loads, dims_loads, initial_loads, printed_loads, condition_loads, test_loads}
+use Rattle.ti_syntax.specs.Spelling.Loads.{Load, Free, free, weights, region_loads, range_loads, ranges_loads, dims_loads, initial_loads, printed_loads, condition_loads, optional_loads}
 use Rattle.ti_parse_expr.specs.declared.parse.Form.TheVariants as form
 use Rattle.ti_parse_expr.specs.Input.{Parser, and_then, kind, sees, take_token}
 use Rattle.ti_parse_expr.specs.Types.{base, qualifiers, grids}
@@ -68,6 +68,7 @@ qualified_not_paren (types.more t {word = word} is q) o r s h = qualifier_not_pa
 abbrev begins_new : TokenKind → Bool
 begins_new k.LeftParen = true
 begins_new k.KeywordInt = true
+begins_new k.KeywordLong = true
 begins_new k.KeywordBoolean = true
 begins_new k.KeywordPoint = true
 begins_new k.KeywordRectDomain = true
@@ -80,6 +81,7 @@ front_region (grammar.some o c ho e hc) r s h = ap begins_new ho
 
 based_new : {l : List Token} {x : Base} → Based l x → (r s : List Token) → begins_new (kind ((l ++ r) ++ s)) ≡ true
 based_new (types.int t h) r s = ap begins_new h
+based_new (types.long t h) r s = ap begins_new h
 based_new (types.boolean t h) r s = ap begins_new h
 based_new (types.point t h q) r s = ap begins_new h
 based_new (types.rect_domain t h q) r s = ap begins_new h
@@ -87,6 +89,7 @@ based_new (types.named t h) r s = ap begins_new h
 
 based_not_paren : {l : List Token} {x : Base} → Based l x → (r s : List Token) → sees k.LeftParen ((l ++ r) ++ s) ≡ false
 based_not_paren (types.int t h) r s = ap (λ q. same_kind q k.LeftParen) h
+based_not_paren (types.long t h) r s = ap (λ q. same_kind q k.LeftParen) h
 based_not_paren (types.boolean t h) r s = ap (λ q. same_kind q k.LeftParen) h
 based_not_paren (types.point t h q) r s = ap (λ q. same_kind q k.LeftParen) h
 based_not_paren (types.rect_domain t h q) r s = ap (λ q. same_kind q k.LeftParen) h
@@ -176,6 +179,8 @@ module _ (limits : Limits) (turns : ℕ) where
   unfolding made new_named
   grid_reads at owner o c r (types.int t h) qs ho s hc gs few stop =
       by_kind (spec.made_by (up_to limits) turns at owner) h (then_reads _ (base_part (types.int t h) _) (new_grid_reads at owner _ o c r qs ho s hc gs few stop))
+  grid_reads at owner o c r (types.long t h) qs ho s hc gs few stop =
+      by_kind (spec.made_by (up_to limits) turns at owner) h (then_reads _ (base_part (types.long t h) _) (new_grid_reads at owner _ o c r qs ho s hc gs few stop))
   grid_reads at owner o c r (types.boolean t h) qs ho s hc gs few stop =
       by_kind (spec.made_by (up_to limits) turns at owner) h (then_reads _ (base_part (types.boolean t h) _) (new_grid_reads at owner _ o c r qs ho s hc gs few stop))
   grid_reads at owner o c r (types.point t h n) qs ho s hc gs few stop =
@@ -246,7 +251,7 @@ module _ (limits : Limits) (turns : ℕ) where
   unfolding condition
   condition_reads (grammar.condition o c ho e hc) r = want k.LeftParen _ ho (then_reads _ (whole (ends paren_closes hc) e) (want k.RightParen _ hc done_reads))
 
-  pub test_part : {l : List Token} {x : Option Exp} (s : Test l x) (r : List Token) → kind r ≡ k.Semicolon → IsRead limits turns (optional (up_to limits) turns) (test_loads s) l r x
+  pub optional_part : {l : List Token} {x : Option Exp} (s : Optional l x) (r : List Token) → kind r ≡ k.Semicolon → IsRead limits turns (optional (up_to limits) turns) (optional_loads s) l r x
   unfolding optional
-  test_part grammar.none r h = sees_reads k.Semicolon _ _ h done_reads
-  test_part (grammar.some {l = l} e) r h = test_reads (sees k.Semicolon) _ _ false (not_semicolon (kind (l ++ r)) (front_whole e r)) (made_reads _ (whole (ends semicolon_closes h) e) refl)
+  optional_part grammar.none r h = sees_reads k.Semicolon _ _ h done_reads
+  optional_part (grammar.some {l = l} e) r h = test_reads (sees k.Semicolon) _ _ false (not_semicolon (kind (l ++ r)) (front_whole e r)) (made_reads _ (whole (ends semicolon_closes h) e) refl)

@@ -110,6 +110,7 @@ unnamed q h not is = let wrong : true ≡ false = sym is ∙ ap is_name h ∙ no
 -- behind the first name of an operand stands what can follow it
 front_name : {ending : Ending} {l : List Token} {x : Exp} → Postfixed ending l x → (r : List Token) → BehindName r → FrontName (l ++ r)
 front_name (expressions.int t {n = n} h) r behind = unnamed (k.Int n) h refl
+front_name (expressions.long t {n = n} h) r behind = unnamed (k.LongInt n) h refl
 front_name (expressions.truth t h) r behind = unnamed k.KeywordTrue h refl
 front_name (expressions.falsehood t h) r behind = unnamed k.KeywordFalse h refl
 front_name (expressions.null t h) r behind = unnamed k.KeywordNull h refl
@@ -231,6 +232,7 @@ module _ (limits : Limits) (allows : 0 < limits.weight) (turns : ℕ) where
 
       go : {l : List Token} {ty : TypeTree} {next : List ℕ} → Typed l ty → (r : List Token) → kind r ≡ k.Name next → length l < turns → p (l ++ r) ≡ more ty r
       go (types.field (types.field_type (types.int t h2) q g few)) r h lt = by_type (types.field (types.field_type (types.int t h2) q g few)) r (ap begins_declaration h2) h lt
+      go (types.field (types.field_type (types.long t h2) q g few)) r h lt = by_type (types.field (types.field_type (types.long t h2) q g few)) r (ap begins_declaration h2) h lt
       go (types.field (types.field_type (types.boolean t h2) q g few)) r h lt = by_type (types.field (types.field_type (types.boolean t h2) q g few)) r (ap begins_declaration h2) h lt
       go (types.field (types.field_type (types.point t h2 n) q g few)) r h lt = by_type (types.field (types.field_type (types.point t h2 n) q g few)) r (ap begins_declaration h2) h lt
       go (types.field (types.field_type (types.rect_domain t h2 n) q g few)) r h lt = by_type (types.field (types.field_type (types.rect_domain t h2 n) q g few)) r (ap begins_declaration h2) h lt
@@ -282,6 +284,7 @@ module _ (limits : Limits) (allows : 0 < limits.weight) (turns : ℕ) where
 
   first_type : (q : TokenKind) (i : List Token) → begins_declaration q ≡ true → spec.first_by (up_to limits) turns q i ≡ and_then (typed (up_to limits) turns i) (λ ty i. and_then (declared (up_to limits) turns ty i) some)
   first_type k.KeywordInt i h = and_then_assoc (typed (up_to limits) turns i) (declared (up_to limits) turns) some
+  first_type k.KeywordLong i h = and_then_assoc (typed (up_to limits) turns i) (declared (up_to limits) turns) some
   first_type k.KeywordBoolean i h = and_then_assoc (typed (up_to limits) turns i) (declared (up_to limits) turns) some
   first_type k.KeywordPoint i h = and_then_assoc (typed (up_to limits) turns i) (declared (up_to limits) turns) some
   first_type k.KeywordRectDomain i h = and_then_assoc (typed (up_to limits) turns i) (declared (up_to limits) turns) some

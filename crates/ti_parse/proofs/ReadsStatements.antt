@@ -13,21 +13,21 @@ use Rattle.ti_syntax.specs.Trees.Statements as tree
 use Rattle.ti_syntax.specs.Spelling.Types.{Typed}
 use Rattle.ti_syntax.specs.Spelling.Types as types
 use Rattle.ti_syntax.specs.Spelling.Expressions.{Whole, Call}
-use Rattle.ti_syntax.specs.Spelling.Statements.{Start, Declared, Changed, Printer, Printed, Condition, First, Test, Update, Stated, Items, starts}
+use Rattle.ti_syntax.specs.Spelling.Statements.{Start, Declared, Changed, Printer, Printed, Condition, First, Optional, Update, Stated, Items, starts}
 use Rattle.ti_syntax.specs.Spelling.Statements as grammar
-use Rattle.ti_syntax.specs.Spelling.Loads.{Load, Free, Level, free, weights, changed_loads, printed_loads, condition_loads, first_loads, test_loads, update_loads, declared_loads, stated_loads, items_loads}
+use Rattle.ti_syntax.specs.Spelling.Loads.{Load, Free, Level, free, weights, changed_loads, printed_loads, condition_loads, first_loads, optional_loads, update_loads, declared_loads, stated_loads, items_loads}
 use Rattle.ti_parse_expr.specs.Input.{Parser, and_then, kind, sees, expect_by, take_token}
 use Rattle.ti_parse_expr.specs.Full.{Limits, operand_to}
 use Rattle.ti_parse_expr.proofs.Follows.{test_reads as same_test, then_ok, is_name, paren_closes}
 use Rattle.ti_parse_expr.proofs.Law.{append_nil}
 use Rattle.ti_parse.specs.Way.{up_to}
 use Rattle.ti_parse.specs.Parts as parts
-use Rattle.ti_parse.specs.Parts.{begins_declaration, typed, declared, simple, print, barrier}
+use Rattle.ti_parse.specs.Parts.{begins_declaration, typed, declared, simple, print, barrier, break_out, continue_on, return_from}
 use Rattle.ti_parse.specs.Statements as spec
-use Rattle.ti_parse.specs.Statements.{is_compound, ends_items, item, items, block, conditional, while_loop, for_loop, foreach_loop, compound, small, stmt}
+use Rattle.ti_parse.specs.Statements.{is_compound, item, items, block, conditional, while_loop, for_loop, foreach_loop, compound, small, stmt}
 use Rattle.ti_parse.proofs.Lengths.{Loaded, stated_loaded, items_loaded}
 use Rattle.ti_parse.proofs.Limits.{IsRead, bounded_reads, same_reads, result_reads, then_reads, done_reads, last_reads, made_reads, ungroup_reads, load_took, took, over_reads, want, want_word, name_took, test_reads, sees_reads, ends, whole}
-use Rattle.ti_parse.proofs.ReadsParts.{semicolon_ends, paren_ends, printer_reads, printed_reads, condition_reads, test_part}
+use Rattle.ti_parse.proofs.ReadsParts.{semicolon_ends, paren_ends, printer_reads, printed_reads, condition_reads, optional_part}
 use Rattle.ti_parse.proofs.ReadsStarts.{StartsWith, DeclaresWith, call_ends, start_reads, changed_reads, declared_reads, declares_with, starts_with, named_starts, first_reads, update_reads, front_starts, starts_change}
 
 -- ---- what items begin with
@@ -45,7 +45,11 @@ begins_item k.LeftParen = true
 begins_item k.KeywordPrintln = true
 begins_item k.KeywordSystem = true
 begins_item k.KeywordTi = true
+begins_item k.KeywordBreak = true
+begins_item k.KeywordContinue = true
+begins_item k.KeywordReturn = true
 begins_item k.KeywordInt = true
+begins_item k.KeywordLong = true
 begins_item k.KeywordBoolean = true
 begins_item k.KeywordPoint = true
 begins_item k.KeywordRectDomain = true
@@ -59,21 +63,17 @@ starts_item k.KeywordThis h = refl
 starts_item k.LeftParen h = refl
 starts_item _ h = cc
 
-not_end : (q : TokenKind) → begins_item q ≡ true → ends_items q ≡ false
+not_end : (q : TokenKind) → begins_item q ≡ true → same_kind q k.RightBrace ≡ false
 not_end k.RightBrace h = cc
-not_end k.KeywordReturn h = cc
 not_end _ h = refl
 
 not_else : (q : TokenKind) → begins_item q ≡ true → same_kind q k.KeywordElse ≡ false
 not_else k.KeywordElse h = cc
 not_else _ h = refl
 
-end_not_else : (q : TokenKind) → ends_items q ≡ true → same_kind q k.KeywordElse ≡ false
-end_not_else k.KeywordElse h = cc
-end_not_else _ h = refl
-
 pub typed_front : {l : List Token} {ty : TypeTree} → Typed l ty → (r : List Token) → begins_item (kind (l ++ r)) ≡ true
 typed_front (types.field (types.field_type (types.int t h) q g few)) r = ap begins_item h
+typed_front (types.field (types.field_type (types.long t h) q g few)) r = ap begins_item h
 typed_front (types.field (types.field_type (types.boolean t h) q g few)) r = ap begins_item h
 typed_front (types.field (types.field_type (types.point t h n) q g few)) r = ap begins_item h
 typed_front (types.field (types.field_type (types.rect_domain t h n) q g few)) r = ap begins_item h
@@ -97,10 +97,13 @@ stated_front (grammar.call t (grammar.start {l = l} s is) h) r = ap (λ z. begin
 stated_front (grammar.print p o c t (grammar.short u h4) h what h2 h3) r = ap begins_item h4
 stated_front (grammar.print p o c t (grammar.long s d u v w h4 h5 h6 h7 h8) h what h2 h3) r = ap begins_item h4
 stated_front (grammar.barrier i d b o c t h h2 h3 h4 h5 h6) r = ap begins_item h
+stated_front (grammar.break b t h h2) r = ap begins_item h
+stated_front (grammar.continue c t h h2) r = ap begins_item h
+stated_front (grammar.return w t h value h2) r = ap begins_item h
 
 -- no `else` stands behind a statement before more items
-items_front : {l : List Token} {xs : List Stm} → Items l xs → (r : List Token) → ends_items (kind r) ≡ true → sees k.KeywordElse (l ++ r) ≡ false
-items_front grammar.no_item r h = end_not_else (kind r) h
+items_front : {l : List Token} {xs : List Stm} → Items l xs → (r : List Token) → kind r ≡ k.RightBrace → sees k.KeywordElse (l ++ r) ≡ false
+items_front grammar.no_item r h = ap (λ q. same_kind q k.KeywordElse) h
 items_front (grammar.declaration {l = l} {m = m} t d h2 xs) r h = not_else (kind ((l ++ t ∷ m) ++ r)) (ap (λ z. begins_item (kind z)) (append_assoc l (t ∷ m) r) ∙ declared_front d (t ∷ (m ++ r)))
 items_front (grammar.statement {l = l} {m = m} x xs) r h = not_else (kind ((l ++ m) ++ r)) (ap (λ z. begins_item (kind z)) (append_assoc l m r) ∙ stated_front x (m ++ r))
 
@@ -131,6 +134,19 @@ module _ (limits : Limits) (allows : 0 < limits.weight) (turns : ℕ) where
       → IsRead limits turns (barrier (up_to limits) turns) (free (d ∷ b ∷ o ∷ c ∷ t ∷ [])) (d ∷ b ∷ o ∷ c ∷ t ∷ []) r (tree.Barrier b.place)
   unfolding barrier
   barrier_reads d b o c t hd hb ho hc ht r = want k.Dot _ hd (want_word (codes "barrier") _ refl hb (want k.LeftParen _ ho (want k.RightParen _ hc (want k.Semicolon _ ht done_reads))))
+
+  break_reads : (b t : Token) → t.kind ≡ k.Semicolon → (r : List Token) → IsRead limits turns (break_out (up_to limits) turns) (free (b ∷ t ∷ [])) (b ∷ t ∷ []) r (tree.Break b.place)
+  unfolding break_out
+  break_reads b t ht r = took (want k.Semicolon _ ht done_reads)
+
+  continue_reads : (c t : Token) → t.kind ≡ k.Semicolon → (r : List Token) → IsRead limits turns (continue_on (up_to limits) turns) (free (c ∷ t ∷ [])) (c ∷ t ∷ []) r (tree.Continue c.place)
+  unfolding continue_on
+  continue_reads c t ht r = took (want k.Semicolon _ ht done_reads)
+
+  return_reads : {l : List Token} {value : Option Exp} (w t : Token) (s : Optional l value) → t.kind ≡ k.Semicolon → (r : List Token)
+      → IsRead limits turns (return_from (up_to limits) turns) (Free ∷ (optional_loads s ++ Free ∷ [])) (w ∷ (l ++ t ∷ [])) r (tree.Return w.place value)
+  unfolding return_from
+  return_reads w t s ht r = took (then_reads _ (optional_part limits turns s _ ht) (want k.Semicolon _ ht done_reads))
 
   small_is : (levels : ℕ) (i : List Token) (q : TokenKind) → kind i ≡ q → is_compound q ≡ false → stmt (up_to limits) turns levels i ≡ spec.small_by (up_to limits) turns q i
   unfolding stmt small
@@ -168,12 +184,12 @@ module _ (limits : Limits) (allows : 0 < limits.weight) (turns : ℕ) where
     unfolding while_loop
     while_reads at s part = then_reads _ (condition_reads limits turns s _) (made_reads _ part refl)
 
-    for_reads : {l m u v r : List Token} {loads : List Load} {begin change : MaybeStm} {test : Option Exp} {x : Stm} (at : Place) (o p q c : Token) → o.kind ≡ k.LeftParen → (f : First l begin) → p.kind ≡ k.Semicolon → (t : Test m test)
+    for_reads : {l m u v r : List Token} {loads : List Load} {begin change : MaybeStm} {test : Option Exp} {x : Stm} (at : Place) (o p q c : Token) → o.kind ≡ k.LeftParen → (f : First l begin) → p.kind ≡ k.Semicolon → (t : Optional m test)
         → q.kind ≡ k.Semicolon → (g : Update u change) → c.kind ≡ k.RightParen → IsRead limits turns inner loads v r x
-        → IsRead limits turns (for_loop (up_to limits) turns inner at) (Free ∷ (first_loads f ++ Free ∷ (test_loads t ++ Free ∷ (update_loads g ++ Free ∷ loads)))) (o ∷ (l ++ p ∷ (m ++ q ∷ (u ++ c ∷ v)))) r (tree.For at begin test change x)
+        → IsRead limits turns (for_loop (up_to limits) turns inner at) (Free ∷ (first_loads f ++ Free ∷ (optional_loads t ++ Free ∷ (update_loads g ++ Free ∷ loads)))) (o ∷ (l ++ p ∷ (m ++ q ∷ (u ++ c ∷ v)))) r (tree.For at begin test change x)
     unfolding for_loop
     for_reads at o p q c ho f hp t hq g hc part =
-        want k.LeftParen _ ho (then_reads _ (first_reads limits allows turns f _ hp (semicolon_ends hp)) (want k.Semicolon _ hp (then_reads _ (test_part limits turns t _ hq) (want k.Semicolon _ hq
+        want k.LeftParen _ ho (then_reads _ (first_reads limits allows turns f _ hp (semicolon_ends hp)) (want k.Semicolon _ hp (then_reads _ (optional_part limits turns t _ hq) (want k.Semicolon _ hq
         (then_reads _ (update_reads limits allows turns g _ hc (paren_ends hc)) (want k.RightParen _ hc (made_reads _ part refl)))))))
 
     foreach_reads : {l m r : List Token} {loads : List Load} {name : List ℕ} {domain : Exp} {x : Stm} (at : Place) (o t i c : Token) → o.kind ≡ k.LeftParen → t.kind ≡ k.Name name → i.kind ≡ k.Name (codes "in") → Whole 1 l domain
@@ -197,6 +213,7 @@ module _ (limits : Limits) (allows : 0 < limits.weight) (turns : ℕ) where
   item_type : (inner : Parser Stm) (q : TokenKind) (i : List Token) → begins_declaration q ≡ true
       → spec.item_by (up_to limits) turns inner q i ≡ and_then (typed (up_to limits) turns i) (λ ty i. and_then (declared (up_to limits) turns ty i) (λ x i. and_then (expect_by take_token k.Semicolon i) (λ _ i. Ok (x, i))))
   item_type inner k.KeywordInt i h = refl
+  item_type inner k.KeywordLong i h = refl
   item_type inner k.KeywordBoolean i h = refl
   item_type inner k.KeywordPoint i h = refl
   item_type inner k.KeywordRectDomain i h = refl
@@ -231,6 +248,9 @@ module _ (limits : Limits) (allows : 0 < limits.weight) (turns : ℕ) where
   leads k.KeywordPrintln = true
   leads k.KeywordSystem = true
   leads k.KeywordTi = true
+  leads k.KeywordBreak = true
+  leads k.KeywordContinue = true
+  leads k.KeywordReturn = true
   leads _ = false
 
   item_leads : (inner : Parser Stm) (q : TokenKind) (i : List Token) → leads q ≡ true → spec.item_by (up_to limits) turns inner q i ≡ inner i
@@ -243,6 +263,9 @@ module _ (limits : Limits) (allows : 0 < limits.weight) (turns : ℕ) where
   item_leads inner k.KeywordPrintln i h = refl
   item_leads inner k.KeywordSystem i h = refl
   item_leads inner k.KeywordTi i h = refl
+  item_leads inner k.KeywordBreak i h = refl
+  item_leads inner k.KeywordContinue i h = refl
+  item_leads inner k.KeywordReturn i h = refl
   item_leads inner _ i h = cc
 
   led_item : {loads : List Load} {l r : List Token} {x : Stm} (inner : Parser Stm) → leads (kind (l ++ r)) ≡ true → IsRead limits turns inner loads l r x → IsRead limits turns (item (up_to limits) turns inner) loads l r x
@@ -262,17 +285,20 @@ module _ (limits : Limits) (allows : 0 < limits.weight) (turns : ℕ) where
   item_reads (grammar.print p o c t (grammar.short u h4) h what h2 h3) levels n r part = led_item (stmt (up_to limits) turns levels) (ap leads h4) part
   item_reads (grammar.print p o c t (grammar.long s d u v w h4 h5 h6 h7 h8) h what h2 h3) levels n r part = led_item (stmt (up_to limits) turns levels) (ap leads h4) part
   item_reads (grammar.barrier i d b o c t h h2 h3 h4 h5 h6) levels n r part = led_item (stmt (up_to limits) turns levels) (ap leads h) part
+  item_reads (grammar.break b t h h2) levels n r part = led_item (stmt (up_to limits) turns levels) (ap leads h) part
+  item_reads (grammar.continue c t h h2) levels n r part = led_item (stmt (up_to limits) turns levels) (ap leads h) part
+  item_reads (grammar.return w t h value h2) levels n r part = led_item (stmt (up_to limits) turns levels) (ap leads h) part
 
-  items_stop : (inner : Parser Stm) (n : ℕ) (found : List Stm) (r : List Token) → 0 < n → ends_items (kind r) ≡ true → IsRead limits turns (items (up_to limits) turns inner n found) [] [] r found
+  items_stop : (inner : Parser Stm) (n : ℕ) (found : List Stm) (r : List Token) → 0 < n → kind r ≡ k.RightBrace → IsRead limits turns (items (up_to limits) turns inner n found) [] [] r found
   unfolding items
   items_stop inner zero found r some h = absurd (omega arith)
-  items_stop inner (suc n) found r some h = test_reads (λ i. ends_items (kind i)) _ _ true h done_reads
+  items_stop inner (suc n) found r some h = sees_reads k.RightBrace _ _ h done_reads
 
-  items_turn : {la lb : List Load} {a b r : List Token} {x : Stm} (inner : Parser Stm) (n : ℕ) (found xs : List Stm) → ends_items (kind ((a ++ b) ++ r)) ≡ false
+  items_turn : {la lb : List Load} {a b r : List Token} {x : Stm} (inner : Parser Stm) (n : ℕ) (found xs : List Stm) → sees k.RightBrace ((a ++ b) ++ r) ≡ false
       → IsRead limits turns (item (up_to limits) turns inner) la a (b ++ r) x → IsRead limits turns (items (up_to limits) turns inner n (found ++ x ∷ [])) lb b r ((found ++ x ∷ []) ++ xs)
       → IsRead limits turns (items (up_to limits) turns inner (suc n) found) (la ++ lb) (a ++ b) r (found ++ x ∷ xs)
   unfolding items
-  items_turn {x = x} inner n found xs h one rest = test_reads (λ i. ends_items (kind i)) _ _ false h (then_reads _ one (result_reads (append_assoc found (x ∷ []) xs) rest))
+  items_turn {x = x} inner n found xs h one rest = test_reads (sees k.RightBrace) _ _ false h (then_reads _ one (result_reads (append_assoc found (x ∷ []) xs) rest))
 
   -- ---- statements and items
 
@@ -280,7 +306,7 @@ module _ (limits : Limits) (allows : 0 < limits.weight) (turns : ℕ) where
     pub stmt_reads : {b : Bool} {l : List Token} {x : Stm} (s : Stated b l x) (levels level : ℕ) → levels + level ≡ suc limits.level → (r : List Token) → (b ≡ true → sees k.KeywordElse r ≡ false) → IsRead limits turns (stmt (up_to limits) turns levels) (stated_loads level s) l r x
     stmt_reads (grammar.block o c h xs h2) levels level all r free =
         compound_reads levels level all o k.LeftBrace h refl (stated_loaded level (grammar.block o c h xs h2))
-        (λ n less. block_reads (stmt (up_to limits) turns n) c h2 (bounded_reads (items_loaded (suc level) xs) (λ lt. items_reads xs n (suc level) less turns [] lt (c ∷ r) (ap ends_items h2))))
+        (λ n less. block_reads (stmt (up_to limits) turns n) c h2 (bounded_reads (items_loaded (suc level) xs) (λ lt. items_reads xs n (suc level) less turns [] lt (c ∷ r) h2)))
     stmt_reads (grammar.empty t h) levels level all r free = same_reads (spec.small_by (up_to limits) turns k.Semicolon) (small_is levels (t ∷ r) k.Semicolon h refl) (took done_reads)
     stmt_reads (grammar.if_alone i h c x) levels level all r free =
         compound_reads levels level all i k.KeywordIf h refl (stated_loaded level (grammar.if_alone i h c x))
@@ -304,15 +330,18 @@ module _ (limits : Limits) (allows : 0 < limits.weight) (turns : ℕ) where
         same_reads _ (small_is levels (s ∷ d ∷ u ∷ v ∷ w ∷ o ∷ ((m ++ c ∷ t ∷ []) ++ r)) k.KeywordSystem h4 refl) (print_reads p o c t (grammar.long s d u v w h4 h5 h6 h7 h8) h what h2 h3 r)
     stmt_reads (grammar.barrier i d b o c t h h2 h3 h4 h5 h6) levels level all r free =
         same_reads (spec.small_by (up_to limits) turns k.KeywordTi) (small_is levels (i ∷ d ∷ b ∷ o ∷ c ∷ t ∷ r) k.KeywordTi h refl) (took (barrier_reads d b o c t h2 h3 h4 h5 h6 r))
+    stmt_reads (grammar.break b t h h2) levels level all r free = same_reads _ (small_is levels (b ∷ t ∷ r) k.KeywordBreak h refl) (break_reads b t h2 r)
+    stmt_reads (grammar.continue c t h h2) levels level all r free = same_reads _ (small_is levels (c ∷ t ∷ r) k.KeywordContinue h refl) (continue_reads c t h2 r)
+    stmt_reads (grammar.return {l = l} w t h value h2) levels level all r free = same_reads _ (small_is levels (w ∷ ((l ++ t ∷ []) ++ r)) k.KeywordReturn h refl) (return_reads w t value h2 r)
 
-    pub items_reads : {l : List Token} {xs : List Stm} (s : Items l xs) (levels level : ℕ) → levels + level ≡ suc limits.level → (n : ℕ) (found : List Stm) → length l < n → (r : List Token) → ends_items (kind r) ≡ true
+    pub items_reads : {l : List Token} {xs : List Stm} (s : Items l xs) (levels level : ℕ) → levels + level ≡ suc limits.level → (n : ℕ) (found : List Stm) → length l < n → (r : List Token) → kind r ≡ k.RightBrace
         → IsRead limits turns (items (up_to limits) turns (stmt (up_to limits) turns levels) n found) (items_loads level s) l r (found ++ xs)
     items_reads grammar.no_item levels level all n found lt r h = result_reads (sym (append_nil found)) (items_stop (stmt (up_to limits) turns levels) n found r (omega arith) h)
     items_reads (grammar.declaration t d h2 xs) levels level all zero found lt r h = absurd (omega arith)
     items_reads (grammar.declaration {l = l} {m = m} t {x = x} {xs = rest} d h2 xs) levels level all (suc n) found lt r h =
         let same = append_assoc l (t ∷ []) m in
         ungroup_reads (declared_loads d) (Free ∷ []) (items_loads level xs) l (t ∷ []) m
-        (items_turn (stmt (up_to limits) turns levels) n found rest (ap (λ z. ends_items (kind (z ++ r))) same ∙ not_end (kind ((l ++ t ∷ m) ++ r)) (ap (λ z. begins_item (kind z)) (append_assoc l (t ∷ m) r) ∙ declared_front d (t ∷ (m ++ r))))
+        (items_turn (stmt (up_to limits) turns levels) n found rest (ap (λ z. sees k.RightBrace (z ++ r)) same ∙ not_end (kind ((l ++ t ∷ m) ++ r)) (ap (λ z. begins_item (kind z)) (append_assoc l (t ∷ m) r) ∙ declared_front d (t ∷ (m ++ r))))
         (declared_reads limits allows turns (item_declares (stmt (up_to limits) turns levels)) (λ x i. and_then (expect_by take_token k.Semicolon i) (λ _ i. Ok (x, i))) (λ ty i. refl) d (semicolon_ends h2) (want k.Semicolon _ h2 done_reads))
         (items_reads xs levels level all n (found ++ x ∷ []) (omega (arith, length-append l (t ∷ m))) r h))
     items_reads (grammar.statement x xs) levels level all zero found lt r h = absurd (omega arith)

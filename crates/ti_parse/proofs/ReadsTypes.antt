@@ -26,6 +26,7 @@ use Rattle.ti_parse.specs.Parts.{Declares, is_wide, wide, wide_by, field, typed,
 
 abbrev pub begins_base : TokenKind → Bool
 begins_base k.KeywordInt = true
+begins_base k.KeywordLong = true
 begins_base k.KeywordBoolean = true
 begins_base k.KeywordPoint = true
 begins_base k.KeywordRectDomain = true
@@ -34,6 +35,7 @@ begins_base _ = false
 
 pub front_based : {l : List Token} {x : Base} → Based l x → (r : List Token) → begins_base (kind (l ++ r)) ≡ true
 front_based (types.int t h) r = ap begins_base h
+front_based (types.long t h) r = ap begins_base h
 front_based (types.boolean t h) r = ap begins_base h
 front_based (types.point t h s) r = ap begins_base h
 front_based (types.rect_domain t h s) r = ap begins_base h
@@ -86,23 +88,23 @@ module _ (limits : Limits) (turns : ℕ) where
   begun_qualified at name i k.KeywordLocal word h = refl
   begun_qualified at name i _ word h = cc
 
-  begun_grids : {l m : List Token} {qs : List Qualifier} {gs : List GridTree} → Qualified l qs → Gridded m gs → length gs ≤ 2 → (at : Place) (name : List ℕ) (o t c : Token) (n : ℕ) (r : List Token) → t.kind ≡ k.Dim n → c.kind ≡ k.RightBracket → EndsType r
+  begun_grids : {l m : List Token} {qs : List Qualifier} {gs : List GridTree} → Qualified l qs → Gridded m gs → length gs ≤ 2 → (at : Place) (name : List ℕ) (o t c : Token) (n : ℕ) (r : List Token) → t.kind ≡ k.Dim n → 1 ≤ n → n ≤ 3 → c.kind ≡ k.RightBracket → EndsType r
       → length (l ++ m) < turns
       → begun_bracket (up_to limits) turns at name o.place (t ∷ c ∷ ((l ++ m) ++ r)) ≡ Ok (Declares (record { base = b.Named at name; qualifiers = []; grids = record { dim = n; qualifiers = qs } ∷ gs }), r)
   unfolding begun_bracket
-  begun_grids {l = l} {m = m} {qs = qs} {gs = gs} s g few at name o t c n r ht hc ends lt =
+  begun_grids {l = l} {m = m} {qs = qs} {gs = gs} s g few at name o t c n r ht low high hc ends lt =
       let one : GridTree = record { dim = n; qualifiers = qs } in
       let long = length-append l m in
       test_reads (is_dim t.kind) true _ _ (t ∷ c ∷ ((l ++ m) ++ r)) (ap is_dim ht)
       ∙ ap (λ z. and_then (grid take_token turns (t ∷ c ∷ z)) (λ g i. and_then (grids take_token turns 2 (g ∷ []) i) (λ gs i. Ok (Declares (record { base = b.Named at name; qualifiers = []; grids = gs }), i)))) (append_assoc l m r)
-      ∙ then_ok (λ g i. and_then (grids take_token turns 2 (g ∷ []) i) (λ gs i. Ok (Declares (record { base = b.Named at name; qualifiers = []; grids = gs }), i))) (grid_reads s turns t c n (m ++ r) ht hc (gridded_front g r ends.qualifier) (omega arith))
+      ∙ then_ok (λ g i. and_then (grids take_token turns 2 (g ∷ []) i) (λ gs i. Ok (Declares (record { base = b.Named at name; qualifiers = []; grids = gs }), i))) (grid_reads s turns t c n (m ++ r) ht low high hc (gridded_front g r ends.qualifier) (omega arith))
       ∙ then_ok (λ gs i. Ok (Declares (record { base = b.Named at name; qualifiers = []; grids = gs }), i)) (grids_read g turns 2 (one ∷ []) r ends few (omega arith))
 
   pub begun_declares : {l m : List Token} {qs : List Qualifier} {gs : List GridTree} {next : List ℕ} → Qualified l qs → Gridded m gs → length gs ≤ 3 → (at : Place) (name : List ℕ) (r : List Token) → kind r ≡ k.Name next → length (l ++ m) < turns
       → begun (up_to limits) turns at name ((l ++ m) ++ r) ≡ Ok (Declares (record { base = b.Named at name; qualifiers = qs; grids = gs }), r)
   unfolding begun
   begun_declares types.none types.none few at name r is lt = ap (λ q. begun_by (up_to limits) turns at name q r) is
-  begun_declares types.none (types.more {l = l} {m = m} o t c {n = n} ho ht hc s g) few at name r is lt =
-      ap (λ q. begun_by (up_to limits) turns at name q (o ∷ t ∷ c ∷ ((l ++ m) ++ r))) ho ∙ begun_grids s g (omega (arith, few)) at name o t c n r ht hc (name_ends is) (omega arith)
+  begun_declares types.none (types.more {l = l} {m = m} o t c {n = n} ho ht low high hc s g) few at name r is lt =
+      ap (λ q. begun_by (up_to limits) turns at name q (o ∷ t ∷ c ∷ ((l ++ m) ++ r))) ho ∙ begun_grids s g (omega (arith, few)) at name o t c n r ht low high hc (name_ends is) (omega arith)
   begun_declares {m = m} (types.more {l = l} t {word = word} h s) g few at name r is lt =
       begun_qualified at name (t ∷ ((l ++ m) ++ r)) t.kind word h ∙ then_ok (λ ty i. Ok (Declares ty, i)) (field_type_reads (types.more t h s) g few turns (b.Named at name) r (name_ends is) lt)

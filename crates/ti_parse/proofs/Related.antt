@@ -16,7 +16,7 @@ use Rattle.ti_syntax.specs.Trees.Expressions.{Exp, RangeTree}
 use Rattle.ti_syntax.specs.Trees.Expressions as e
 use Rattle.ti_syntax.specs.Trees.Statements.{DimsTree, InitTree, PrintTree, Stm, MaybeStm}
 use Rattle.ti_syntax.specs.Trees.Statements as s
-use Rattle.ti_syntax.specs.Trees.Classes.{ParamTree, ParamsTree, ReturnTree, ResultTree, MemberTree, ClassTree, TextTree}
+use Rattle.ti_syntax.specs.Trees.Classes.{ParamTree, ParamsTree, ResultTree, MemberTree, ClassTree, TextTree}
 use Rattle.ti_syntax.specs.Trees.Classes as c
 use Rattle.ti_syntax.specs.Tokens.{same_kind}
 use Rattle.ti_syntax.specs.Spelling.Operators.{update_of, step_of, qualifier_of, modifier_of, class_modifier_of}
@@ -31,11 +31,12 @@ use Rattle.ti_parse_expr.specs.Full.{full, full_operand, full_behind_name, full_
 use Rattle.ti_parse_expr.proofs.Related as expr
 use Rattle.ti_parse.specs.Way.{Way, plain}
 use Rattle.ti_parse.specs.Parts as parts
-use Rattle.ti_parse.specs.Parts.{is_wide, begins_declaration, is_call, Begun, Declares, Starts, class_type, wide, field, typed, range_from, more_ranges, dims, region, new_grid, new_named, made, new_thing, broadcast, initial, declared, changed, simple, change, begun_bracket, begun, printer, printed_text, printed, print, barrier, condition, first, optional, update}
+use Rattle.ti_parse.specs.Parts.{is_wide, begins_declaration, is_call, Begun, Declares, Starts, class_type, wide, field, typed, range_from, more_ranges, dims, region, new_grid, new_named, made, new_thing, broadcast, initial, declared, changed, simple, change, begun_bracket, begun, printer, printed_text, printed, print, barrier, break_out, continue_on, return_from, condition, first, optional, update}
 use Rattle.ti_parse.specs.Statements as statements
-use Rattle.ti_parse.specs.Statements.{is_compound, ends_items, item, items, block, conditional, while_loop, for_loop, foreach_loop, compound, small, stmt, body}
+use Rattle.ti_parse.specs.Statements.{is_compound, item, items, block, conditional, while_loop, for_loop, foreach_loop, compound, small, stmt, body}
 use Rattle.ti_parse.specs.Classes as texts
-use Rattle.ti_parse.specs.Classes.{more_params, words, params, returned, method, method_named, field_or_method, member_from, modifiers, member, members, class_from, class, classes}
+use Rattle.ti_parse.specs.Classes.{more_params, words, params, method, method_named, field_or_method, member_from, modifiers, member, members, class_from, class, classes}
+use Rattle.ti_syntax.specs.Spelling.{most_levels}
 
 -- ---- what is read behind a place
 
@@ -92,6 +93,15 @@ barrier_at w at = do
   expect_by w.take k.Semicolon
   pure (s.Barrier at)
 
+abbrev break_at : Way → Place → Parser Stm
+break_at w at = (do w.take; expect_by w.take k.Semicolon; pure (s.Break at))
+
+abbrev continue_at : Way → Place → Parser Stm
+continue_at w at = (do w.take; expect_by w.take k.Semicolon; pure (s.Continue at))
+
+abbrev return_at : Way → ℕ → Place → Parser Stm
+return_at w turns at = (do w.take; value ← optional w turns; expect_by w.take k.Semicolon; pure (s.Return at value))
+
 abbrev first_at : Way → ℕ → List ℕ → Place → Parser MaybeStm
 first_at w turns name at = (do w.take; x ← begun w turns at name; first ← parts.first_of w turns x; pure (s.SomeStm first))
 
@@ -128,13 +138,10 @@ param_at w next found ty at = do
 abbrev words_at : Way → Place → Parser ParamsTree
 words_at w at = (do name ← name_with w.take; pure (c.Words at name))
 
-abbrev returned_at : Way → ℕ → Place → Parser (Option ReturnTree)
-returned_at w turns at = (do w.take; x ← optional w turns; expect_by w.take k.Semicolon; pure (Some (record { place = at; value = x })))
-
-abbrev method_at : Way → List Modifier → ResultTree → Place → List ℕ → ParamsTree → List Stm → Option ReturnTree → Place → Parser MemberTree
-method_at w ms result at name ps xs last end_at = do
+abbrev method_at : Way → List Modifier → ResultTree → Place → List ℕ → ParamsTree → List Stm → Place → Parser MemberTree
+method_at w ms result at name ps xs end_at = do
   expect_by w.take k.RightBrace
-  pure (c.MethodMember (record { modifiers = ms; result = result; place = at; name = name; params = ps; body = xs; last = last; end = end_at }))
+  pure (c.MethodMember (record { modifiers = ms; result = result; place = at; name = name; params = ps; body = xs; end = end_at }))
 
 abbrev method_named_at : Way → ℕ → List Modifier → ResultTree → Place → Parser MemberTree
 method_named_at w turns ms result at = (do name ← name_with w.take; method w turns ms result at name)
@@ -163,7 +170,7 @@ abbrev class_at : Way → ℕ → List Modifier → Place → Parser ClassTree
 class_at w turns ms word = (do expect_by w.take k.KeywordClass; at ← here; class_named_at w turns ms word at)
 
 -- Q is the relation, T relates the turns that are left, and v is the second way
-module _ (Q : (A : Type 0) → Parser A → Parser A → Type 0) (T : ℕ → ℕ → Type 0) (v : Way) (same_levels : v.levels ≡ 64) (q_pure : (A : Type 0) (x : A) → Q A (λ i. Ok (x, i)) (λ i. Ok (x, i)))
+module _ (Q : (A : Type 0) → Parser A → Parser A → Type 0) (T : ℕ → ℕ → Type 0) (v : Way) (same_levels : v.levels ≡ most_levels) (q_pure : (A : Type 0) (x : A) → Q A (λ i. Ok (x, i)) (λ i. Ok (x, i)))
     (q_refuse : (A : Type 0) → Q A (λ i. Err (At i)) (λ i. Err (At i))) (q_over : (A : Type 0) → Q A (λ i. Err (Over i)) (λ i. Err (Over i))) (q_take : Q (Unit {0}) take_token v.take)
     (q_full : (form : Form) → Q Exp (full form) (v.full form)) (q_operand : Q Operand full_operand v.operand)
     (q_behind_name : (at : Place) (name : List ℕ) → Q Operand (full_behind_name at name) (v.behind_name at name))
@@ -445,6 +452,24 @@ module _ (Q : (A : Type 0) → Parser A → Parser A → Type 0) (T : ℕ → �
         r_then (r_expect k.Dot) (λ _. r_place (barrier_at plain) (barrier_at v)
         (λ at. r_then (r_expect_word (codes "barrier")) (λ _. r_then (r_expect k.LeftParen) (λ _. r_then (r_expect k.RightParen) (λ _. r_then (r_expect k.Semicolon) (λ _. r_pure (s.Barrier at)))))))
 
+    -- ---- jumps
+
+    r_optional : R (optional plain turns) (optional v more)
+    unfolding optional
+    r_optional = r_sees k.Semicolon (r_pure None) (r_then r_whole (λ x. r_pure (Some x)))
+
+    r_break_out : R (break_out plain turns) (break_out v more)
+    unfolding break_out
+    r_break_out = r_place (break_at plain) (break_at v) (λ at. r_then r_take (λ _. r_then (r_expect k.Semicolon) (λ _. r_pure (s.Break at))))
+
+    r_continue_on : R (continue_on plain turns) (continue_on v more)
+    unfolding continue_on
+    r_continue_on = r_place (continue_at plain) (continue_at v) (λ at. r_then r_take (λ _. r_then (r_expect k.Semicolon) (λ _. r_pure (s.Continue at))))
+
+    r_return_from : R (return_from plain turns) (return_from v more)
+    unfolding return_from
+    r_return_from = r_place (return_at plain turns) (return_at v more) (λ at. r_then r_take (λ _. r_then r_optional (λ value. r_then (r_expect k.Semicolon) (λ _. r_pure (s.Return at value)))))
+
     -- ---- the heads of compound statements
 
     r_condition : R (condition plain turns) (condition v more)
@@ -466,10 +491,6 @@ module _ (Q : (A : Type 0) → Parser A → Parser A → Type 0) (T : ℕ → �
     r_first : R (first plain turns) (first v more)
     unfolding first
     r_first = r_kind (parts.first_by plain turns) (parts.first_by v more) r_first_by
-
-    r_tested : R (optional plain turns) (optional v more)
-    unfolding optional
-    r_tested = r_sees k.Semicolon (r_pure None) (r_then r_whole (λ x. r_pure (Some x)))
 
     r_update : R (update plain turns) (update v more)
     unfolding update
@@ -497,7 +518,7 @@ module _ (Q : (A : Type 0) → Parser A → Parser A → Type 0) (T : ℕ → �
       unfolding items
       r_items zero m2 h found = r_spent (λ z. items v more one2 z found) m2 h refl
       r_items (suc m) zero h found = absurd (t_none m h)
-      r_items (suc m) (suc m2) h found = r_test ends_items (r_pure found) (r_then r_item (λ x. r_items m m2 (t_less m m2 h) (found ++ x ∷ [])))
+      r_items (suc m) (suc m2) h found = r_sees k.RightBrace (r_pure found) (r_then r_item (λ x. r_items m m2 (t_less m m2 h) (found ++ x ∷ [])))
 
       r_block : R (block plain turns one1) (block v more one2)
       unfolding block
@@ -514,7 +535,7 @@ module _ (Q : (A : Type 0) → Parser A → Parser A → Type 0) (T : ℕ → �
       r_for_loop : (at : Place) → R (for_loop plain turns one1 at) (for_loop v more one2 at)
       unfolding for_loop
       r_for_loop at =
-          r_then (r_expect k.LeftParen) (λ _. r_then r_first (λ begin. r_then (r_expect k.Semicolon) (λ _. r_then r_tested (λ z. r_then (r_expect k.Semicolon) (λ _. r_then r_update (λ change. r_then (r_expect k.RightParen)
+          r_then (r_expect k.LeftParen) (λ _. r_then r_first (λ begin. r_then (r_expect k.Semicolon) (λ _. r_then r_optional (λ z. r_then (r_expect k.Semicolon) (λ _. r_then r_update (λ change. r_then (r_expect k.RightParen)
           (λ _. r_then r_one (λ x. r_pure (s.For at begin z change x)))))))))
 
       r_foreach_loop : (at : Place) → R (foreach_loop plain turns one1 at) (foreach_loop v more one2 at)
@@ -538,6 +559,9 @@ module _ (Q : (A : Type 0) → Parser A → Parser A → Type 0) (T : ℕ → �
     r_small_by k.KeywordPrintln = r_print
     r_small_by k.KeywordSystem = r_print
     r_small_by k.KeywordTi = r_then r_take (λ _. r_barrier)
+    r_small_by k.KeywordBreak = r_break_out
+    r_small_by k.KeywordContinue = r_continue_on
+    r_small_by k.KeywordReturn = r_return_from
     r_small_by q = r_small_other q
 
     r_small : R (small plain turns) (small v more)
@@ -556,7 +580,7 @@ module _ (Q : (A : Type 0) → Parser A → Parser A → Type 0) (T : ℕ → �
     r_body_of level = r_items (stmt plain turns level) (stmt v more level) (r_stmt level) turns more most []
 
     r_body : R (body plain turns) (body v more)
-    r_body = subst (λ n. R (body plain turns) (items v more (stmt v more n) more [])) (sym same_levels) (r_body_of 64)
+    r_body = subst (λ n. R (body plain turns) (items v more (stmt v more n) more [])) (sym same_levels) (r_body_of most_levels)
 
     -- ---- methods
 
@@ -584,17 +608,12 @@ module _ (Q : (A : Type 0) → Parser A → Parser A → Type 0) (T : ℕ → �
     unfolding params
     r_params = r_kind (texts.params_by plain turns) (texts.params_by v more) r_params_by
 
-    r_returned : R (returned plain turns) (returned v more)
-    unfolding returned
-    r_returned =
-        r_sees k.KeywordReturn (r_place (returned_at plain turns) (returned_at v more) (λ at. r_then r_take (λ _. r_then r_tested (λ x. r_then (r_expect k.Semicolon) (λ _. r_pure (Some (record { place = at; value = x }))))))) (r_pure None)
-
     r_method : (ms : List Modifier) (result : ResultTree) (at : Place) (name : List ℕ) → R (method plain turns ms result at name) (method v more ms result at name)
     unfolding method
     r_method ms result at name =
-        r_then (r_expect k.LeftParen) (λ _. r_then r_params (λ ps. r_then (r_expect k.RightParen) (λ _. r_then (r_expect k.LeftBrace) (λ _. r_then r_body (λ xs. r_then r_returned (λ last.
-        r_place (method_at plain ms result at name ps xs last) (method_at v ms result at name ps xs last)
-        (λ end_at. r_then (r_expect k.RightBrace) (λ _. r_pure (c.MethodMember (record { modifiers = ms; result = result; place = at; name = name; params = ps; body = xs; last = last; end = end_at }))))))))))
+        r_then (r_expect k.LeftParen) (λ _. r_then r_params (λ ps. r_then (r_expect k.RightParen) (λ _. r_then (r_expect k.LeftBrace) (λ _. r_then r_body (λ xs.
+        r_place (method_at plain ms result at name ps xs) (method_at v ms result at name ps xs)
+        (λ end_at. r_then (r_expect k.RightBrace) (λ _. r_pure (c.MethodMember (record { modifiers = ms; result = result; place = at; name = name; params = ps; body = xs; end = end_at })))))))))
 
     -- ---- members
 

@@ -10,14 +10,12 @@ use Rattle.ti_syntax.specs.declared.tree.classes.ModifierWord.{ModifierWord}
 use Rattle.ti_syntax.specs.Trees.Types.{TypeTree}
 use Rattle.ti_syntax.specs.Trees.Expressions.{Exp}
 use Rattle.ti_syntax.specs.Trees.Statements.{Stm}
-use Rattle.ti_syntax.specs.Trees.Classes.{ParamTree, ParamsTree, ReturnTree, ResultTree, MemberTree, ClassTree}
+use Rattle.ti_syntax.specs.Trees.Classes.{ParamTree, ParamsTree, ResultTree, MemberTree, ClassTree}
 use Rattle.ti_syntax.specs.Trees.Classes as tree
 use Rattle.ti_syntax.specs.Spelling.Operators.{modifier_of, class_modifier_of}
 use Rattle.ti_syntax.specs.Spelling.Types.{FieldType, Typed}
 use Rattle.ti_syntax.specs.Spelling.Types as types
-use Rattle.ti_syntax.specs.Spelling.Statements.{Test}
-use Rattle.ti_syntax.specs.Spelling.Statements as statements
-use Rattle.ti_syntax.specs.Spelling.Classes.{ParamList, Parameters, Returned, Method, Modified, Member, Members, ClassModified, Class, AllClasses}
+use Rattle.ti_syntax.specs.Spelling.Classes.{ParamList, Parameters, Method, Modified, Member, Members, ClassModified, Class, AllClasses}
 use Rattle.ti_syntax.specs.Spelling.Classes as grammar
 use Rattle.ti_parse_expr.specs.Input.{Outcome, Parser, ◌>>=◌, ◌>>◌, pure, here, and_then, sees, expect_by, name_with, take_token}
 use Rattle.ti_parse_expr.proofs.TokenKinds.{paren_is, close_is, bracket_is, shut_is, comma_is}
@@ -25,10 +23,10 @@ use Rattle.ti_parse_expr.proofs.Law.{BeginsIn, Said, token, append_nil}
 use Rattle.ti_parse.specs.Way.{plain}
 use Rattle.ti_parse.specs.Parts.{is_wide}
 use Rattle.ti_parse.specs.Classes as spec
-use Rattle.ti_parse.specs.Classes.{more_params, words, params, returned, method, method_named, field_or_method, member_from, modifiers, member, members, class_from, class, classes}
+use Rattle.ti_parse.specs.Classes.{more_params, words, params, method, method_named, field_or_method, member_from, modifiers, member, members, class_from, class, classes}
 use Rattle.ti_parse.proofs.Laws.{Free, Tells, said_of, as_tells, fewer_tells, done_tells, met_tells, spent_tells, if_tells, if_sees, after_tells, after_turn, then_tells, then_turn, map_tells, want_here, want_tells, last_tells, name_here}
-use Rattle.ti_parse.proofs.SoundKinds.{semicolon_is, brace_is, brace_shut_is, class_is, return_is}
-use Rattle.ti_parse.proofs.SoundParts.{wide_tells, field_tells, typed_tells, test_tells}
+use Rattle.ti_parse.proofs.SoundKinds.{semicolon_is, brace_is, brace_shut_is, class_is}
+use Rattle.ti_parse.proofs.SoundParts.{wide_tells, field_tells, typed_tells}
 use Rattle.ti_parse.proofs.SoundStatements.{body_tells}
 
 -- ---- those found, and more, of the phrases of a family
@@ -57,11 +55,6 @@ member_some _ _ (grammar.method {l = l} {m = m} {v = v} t e sm sty ht s) = omega
 class_some : (l : List Token) (x : ClassTree) → Class l x → 0 < length l
 class_some _ _ (grammar.class {l = l} {m = m} c t o e sm hc ht ho sx he) = omega (arith, length-append l (c ∷ t ∷ o ∷ (m ++ e ∷ [])))
 
--- a `return` with what it gives back
-returned_made : (r t : Token) (f : List Token) (x : Option Exp) → r.kind ≡ k.KeywordReturn → Test f x → t.kind ≡ k.Semicolon → Returned (r ∷ (f ++ t ∷ [])) (Some (record { place = r.place; value = x }))
-returned_made r t _ _ hr statements.none ht = grammar.plain r t hr ht
-returned_made r t _ _ hr (statements.some s) ht = grammar.value r t hr s ht
-
 some_param : BeginsIn ParamList []
 some_param =
     let int : Token = token k.KeywordInt in
@@ -74,9 +67,8 @@ some_param =
 abbrev param_tree : TypeTree → Place → List ℕ → ParamTree
 param_tree ty at name = record { ty = ty; place = at; name = name }
 
-abbrev method_tree : List Modifier → ResultTree → Place → List ℕ → ParamsTree → List Stm → Option ReturnTree → Place → MemberTree
-method_tree ms result at name ps xs last end_at =
-    tree.MethodMember (record { modifiers = ms; result = result; place = at; name = name; params = ps; body = xs; last = last; end = end_at })
+abbrev method_tree : List Modifier → ResultTree → Place → List ℕ → ParamsTree → List Stm → Place → MemberTree
+method_tree ms result at name ps xs end_at = tree.MethodMember (record { modifiers = ms; result = result; place = at; name = name; params = ps; body = xs; end = end_at })
 
 abbrev class_tree : List Modifier → Place → Place → List ℕ → List MemberTree → ClassTree
 class_tree ms word at name xs = record { modifiers = ms; word = word; place = at; name = name; members = xs }
@@ -138,33 +130,26 @@ module _ (turns : ℕ) where
 
   -- ---- methods
 
-  pub returned_tells : (l : List Token) → Tells turns Returned Free l (returned plain turns l)
-  unfolding returned
-  returned_tells l =
-      if_sees k.KeywordReturn return_is refl _ _
-      (λ r ts hr. after_tells (then_tells _ (test_tells turns ts) (λ f v x s. last_tells k.Semicolon semicolon_is refl (Some (record { place = r.place; value = x })) (λ t ht. returned_made r t f x hr s ht))))
-      (λ _. done_tells grammar.none)
-
   -- behind the name, where each method makes a phrase of U
   pub method_tells : (U : List Token → MemberTree → Type 0) (ms : List Modifier) (result : ResultTree) (at : Place) (name : List ℕ)
-      → ((f : List Token) (ps : ParamsTree) (xs : List Stm) (last : Option ReturnTree) (e : Token) → Method f ps xs last e → U f (method_tree ms result at name ps xs last e.place))
+      → ((f : List Token) (ps : ParamsTree) (xs : List Stm) (e : Token) → Method f ps xs e → U f (method_tree ms result at name ps xs e.place))
       → (l : List Token) → Tells turns U Free l (method plain turns ms result at name l)
   unfolding method
   method_tells U ms result at name made l =
       want_tells k.LeftParen paren_is refl _ (λ o l2 ho. then_tells _ (params_tell l2) (λ f l3 ps s1.
       want_tells k.RightParen close_is refl _ (λ c l4 hc. want_tells k.LeftBrace brace_is refl _ (λ w l5 hw.
-      then_tells _ (body_tells turns l5) (λ g l6 xs s2. then_tells _ (returned_tells l6) (λ h l7 last s3.
-      want_here k.RightBrace brace_shut_is refl (λ end_at. pure (method_tree ms result at name ps xs last end_at))
-      (λ e l8 he. done_tells (made (o ∷ (f ++ c ∷ w ∷ (g ++ (h ++ e ∷ [])))) ps xs last e (grammar.method o c w e ho s1 hc hw s2 s3 he)))))))))
+      then_tells _ (body_tells turns l5) (λ g l6 xs s2.
+      want_here k.RightBrace brace_shut_is refl (λ end_at. pure (method_tree ms result at name ps xs end_at))
+      (λ e l7 he. done_tells (made (o ∷ (f ++ c ∷ w ∷ (g ++ e ∷ []))) ps xs e (grammar.method o c w e ho s1 hc hw s2 he))))))))
 
   -- behind the result
   pub method_named_tells : (U : List Token → MemberTree → Type 0) (ms : List Modifier) (result : ResultTree)
-      → ((t : Token) (name : List ℕ) (f : List Token) (ps : ParamsTree) (xs : List Stm) (last : Option ReturnTree) (e : Token) → t.kind ≡ k.Name name → Method f ps xs last e → U (t ∷ f) (method_tree ms result t.place name ps xs last e.place))
+      → ((t : Token) (name : List ℕ) (f : List Token) (ps : ParamsTree) (xs : List Stm) (e : Token) → t.kind ≡ k.Name name → Method f ps xs e → U (t ∷ f) (method_tree ms result t.place name ps xs e.place))
       → (l : List Token) → Tells turns U Free l (method_named plain turns ms result l)
   unfolding method_named
   method_named_tells U ms result made l =
       name_here (λ at name. method plain turns ms result at name)
-      (λ t name ts ht. method_tells (λ f x. U (t ∷ f) x) ms result t.place name (λ f ps xs last e s. made t name f ps xs last e ht s) ts)
+      (λ t name ts ht. method_tells (λ f x. U (t ∷ f) x) ms result t.place name (λ f ps xs e s. made t name f ps xs e ht s) ts)
 
   -- ---- members, behind their modifiers, the tokens a
 
@@ -177,16 +162,16 @@ module _ (turns : ℕ) where
       (λ at name i. if◌then◌else◌ {A = Parser MemberTree} (sees k.Semicolon i) (λ i. and_then (take_token i) (λ _. pure (tree.FieldMember (record { modifiers = ms; ty = ty; place = at; name = name }))))
       (method plain turns ms (tree.Typed ty) at name) i)
       (λ t name ts ht. if_sees k.Semicolon semicolon_is refl _ _ (λ s us hs. after_tells (done_tells (grammar.field t s sm sty ht hs)))
-      (λ _. method_tells (λ f x. Member (a ++ (m ++ t ∷ f)) x) ms (tree.Typed ty) t.place name (λ f ps xs last e q. grammar.method t e sm (types.field sty) ht q) ts))
+      (λ _. method_tells (λ f x. Member (a ++ (m ++ t ∷ f)) x) ms (tree.Typed ty) t.place name (λ f ps xs e q. grammar.method t e sm (types.field sty) ht q) ts))
 
   typed_member_tells : (a : List Token) (ms : List Modifier) → Modified a ms → (l : List Token) (is_wide : Bool) → Tells turns (λ f x. Member (a ++ f) x) Free l (spec.typed_member plain turns ms is_wide l)
   typed_member_tells a ms sm l true =
-      then_tells _ (wide_tells turns l) (λ m r ty sty. method_named_tells (λ f x. Member (a ++ (m ++ f)) x) ms (tree.Typed ty) (λ t name f ps xs last e ht q. grammar.method t e sm (types.wide sty) ht q) r)
+      then_tells _ (wide_tells turns l) (λ m r ty sty. method_named_tells (λ f x. Member (a ++ (m ++ f)) x) ms (tree.Typed ty) (λ t name f ps xs e ht q. grammar.method t e sm (types.wide sty) ht q) r)
   typed_member_tells a ms sm l false = then_tells _ (field_tells turns l) (λ m r ty sty. field_or_method_tells a m ms ty sm sty r)
 
   member_by_tells : (a : List Token) (ms : List Modifier) → Modified a ms → (v : Token) (l : List Token) (q : TokenKind) → v.kind ≡ q → Tells turns (λ f x. Member (a ++ f) x) Free (v ∷ l) (spec.member_by plain turns ms q (v ∷ l))
   member_by_tells a ms sm v l k.KeywordVoid h =
-      after_tells (method_named_tells (λ f x. Member (a ++ v ∷ f) x) ms (tree.Void v.place) (λ t name f ps xs last e ht q. grammar.void_method v t e sm h ht q) l)
+      after_tells (method_named_tells (λ f x. Member (a ++ v ∷ f) x) ms (tree.Void v.place) (λ t name f ps xs e ht q. grammar.void_method v t e sm h ht q) l)
   member_by_tells a ms sm v l q h = typed_member_tells a ms sm (v ∷ l) (is_wide q)
 
   pub member_from_tells : (a : List Token) (ms : List Modifier) → Modified a ms → (l : List Token) → Tells turns (λ f x. Member (a ++ f) x) Free l (member_from plain turns ms l)

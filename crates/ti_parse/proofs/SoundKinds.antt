@@ -35,7 +35,3 @@ println_is _ h = cc
 pub class_is : (a : TokenKind) → same_kind a k.KeywordClass ≡ true → a ≡ k.KeywordClass
 class_is k.KeywordClass h = refl
 class_is _ h = cc
-
-pub return_is : (a : TokenKind) → same_kind a k.KeywordReturn ≡ true → a ≡ k.KeywordReturn
-return_is k.KeywordReturn h = refl
-return_is _ h = cc

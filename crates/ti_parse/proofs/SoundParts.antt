@@ -19,7 +19,7 @@ use Rattle.ti_syntax.specs.Spelling.Types.{Arity, Based, Qualified, Gridded, Fie
 use Rattle.ti_syntax.specs.Spelling.Types as types
 use Rattle.ti_syntax.specs.Spelling.Expressions.{Ending, Target, Call, Other, Whole, Postfixed, Ranges, Range}
 use Rattle.ti_syntax.specs.Spelling.Expressions as exprs
-use Rattle.ti_syntax.specs.Spelling.Statements.{starts, starts_so, Start, Region, Dims, Initial, Declared, Changed, Printer, Printed, Condition, First, Test, Update, Stated}
+use Rattle.ti_syntax.specs.Spelling.Statements.{starts, starts_so, Start, Region, Dims, Initial, Declared, Changed, Printer, Printed, Condition, First, Optional, Update, Stated}
 use Rattle.ti_syntax.specs.Spelling.Statements as grammar
 use Rattle.ti_parse_expr.specs.declared.parse.Form.TheVariants as form
 use Rattle.ti_parse_expr.specs.Input.{At, Over, Spent, Outcome, Parser, ◌>>=◌, ◌>>◌, pure, and_then, kind, sees, expect_by, take_token}
@@ -33,7 +33,7 @@ use Rattle.ti_parse_expr.proofs.Phrases.{Post, ranges_snoc, postfixed_some}
 use Rattle.ti_parse_expr.proofs.Sound.{whole_int}
 use Rattle.ti_parse.specs.Way.{plain}
 use Rattle.ti_parse.specs.Parts as spec
-use Rattle.ti_parse.specs.Parts.{is_wide, begins_declaration, Begun, Declares, Starts, wide, field, typed, range_from, more_ranges, dims, region, new_grid, new_named, made, new_thing, broadcast, initial, declared, changed, simple, change, begun_bracket, begun, printer, printed_text, printed, print, barrier, condition, first, optional, update}
+use Rattle.ti_parse.specs.Parts.{is_wide, begins_declaration, Begun, Declares, Starts, wide, field, typed, range_from, more_ranges, dims, region, new_grid, new_named, made, new_thing, broadcast, initial, declared, changed, simple, change, begun_bracket, begun, printer, printed_text, printed, print, barrier, break_out, continue_on, return_from, condition, first, optional, update}
 use Rattle.ti_parse.proofs.Laws.{Free, Tells, told, as_tells, done_tells, refused_tells, if_tells, if_sees, after_tells, then_tells, map_tells, want_here, want_tells, last_tells, word_here, word_tells, name_here}
 use Rattle.ti_parse.proofs.SoundKinds.{assign_is, plus_is, semicolon_is, println_is}
 use Rattle.ti_parse_expr.proofs.FullLaws.{full_says, operand_says, behind_name_is, behind_bracket_is}
@@ -362,7 +362,7 @@ module _ (turns : ℕ) where
       then_tells _ (told some (grid_says turns o ho l)) (λ f r g s. map_tells _ (λ h gs (ys, is, q, few). named_grid t o name ht (f ++ h) g ys gs (gridded_append s q) is few) (told (no_more g) (grids_say turns 2 (g ∷ []) r)))
     where
       some : BeginsIn (GridRest o) []
-      some = (token (k.Dim 1) ∷ token k.RightBracket ∷ [], record { dim = 1; qualifiers = [] }, types.more o (token (k.Dim 1)) (token k.RightBracket) ho refl refl types.none types.none)
+      some = (token (k.Dim 1) ∷ token k.RightBracket ∷ [], record { dim = 1; qualifiers = [] }, types.more o (token (k.Dim 1)) (token k.RightBracket) ho refl (omega arith) (omega arith) refl types.none types.none)
 
       no_more : (g : GridTree) → BeginsIn (MoreGrids 2 (g ∷ [])) []
       no_more g = ([], g ∷ [], ([], refl, types.none, omega arith))
@@ -432,6 +432,25 @@ module _ (turns : ℕ) where
       word_here (codes "barrier") (λ at. expect_by take_token k.LeftParen >> (expect_by take_token k.RightParen >> (expect_by take_token k.Semicolon >> pure (tree.Barrier at)))) (λ w vs hw.
       want_tells k.LeftParen paren_is refl _ (λ o ws ho. want_tells k.RightParen close_is refl _ (λ c xs hc. last_tells k.Semicolon semicolon_is refl (tree.Barrier w.place) (λ t ht. (grammar.barrier i d w o c t hi hd hw ho hc ht, refl))))))
 
+  -- ---- jumps, where their words are the first tokens
+
+  pub optional_tells : (l : List Token) → Tells turns Optional Free l (optional plain turns l)
+  unfolding optional
+  optional_tells l = if_tells (sees k.Semicolon l) _ _ (λ _. done_tells grammar.none) (λ _. map_tells _ (λ f x s. grammar.some s) (whole_tells turns l))
+
+  pub break_tells : (b : Token) → b.kind ≡ k.KeywordBreak → (l : List Token) → Tells turns Shut Free (b ∷ l) (break_out plain turns (b ∷ l))
+  unfolding break_out
+  break_tells b hb l = after_tells (last_tells k.Semicolon semicolon_is refl (tree.Break b.place) (λ t ht. (grammar.break b t hb ht, refl)))
+
+  pub continue_tells : (c : Token) → c.kind ≡ k.KeywordContinue → (l : List Token) → Tells turns Shut Free (c ∷ l) (continue_on plain turns (c ∷ l))
+  unfolding continue_on
+  continue_tells c hc l = after_tells (last_tells k.Semicolon semicolon_is refl (tree.Continue c.place) (λ t ht. (grammar.continue c t hc ht, refl)))
+
+  pub return_tells : (w : Token) → w.kind ≡ k.KeywordReturn → (l : List Token) → Tells turns Shut Free (w ∷ l) (return_from plain turns (w ∷ l))
+  unfolding return_from
+  return_tells w hw l =
+      after_tells (then_tells _ (optional_tells l) (λ f r x s. last_tells k.Semicolon semicolon_is refl (tree.Return w.place x) (λ t ht. (grammar.return w t hw s ht, refl))))
+
   -- ---- the heads of compound statements
 
   pub condition_tells : (l : List Token) → Tells turns Condition Free l (condition plain turns l)
@@ -456,10 +475,6 @@ module _ (turns : ℕ) where
   unfolding first
   first_tells [] = first_unnamed [] false
   first_tells (t ∷ ts) = first_by_tells t ts t.kind refl
-
-  pub test_tells : (l : List Token) → Tells turns Test Free l (optional plain turns l)
-  unfolding optional
-  test_tells l = if_tells (sees k.Semicolon l) _ _ (λ _. done_tells grammar.none) (λ _. map_tells _ (λ f x s. grammar.some s) (whole_tells turns l))
 
   pub update_tells : (l : List Token) → Tells turns Update Free l (update plain turns l)
   unfolding update

@@ -18,10 +18,11 @@ use Rattle.ti_parse_expr.proofs.Law.{BeginsIn, token, append_nil, ended}
 use Rattle.ti_parse.specs.Way.{plain}
 use Rattle.ti_parse.specs.Parts.{begins_declaration, Begun, Declares, Starts, typed, declared, simple}
 use Rattle.ti_parse.specs.Statements as spec
-use Rattle.ti_parse.specs.Statements.{is_compound, ends_items, too_deep, item, items, block, conditional, while_loop, for_loop, foreach_loop, small, stmt, body}
+use Rattle.ti_parse.specs.Statements.{is_compound, too_deep, item, items, block, conditional, while_loop, for_loop, foreach_loop, small, stmt, body}
 use Rattle.ti_parse.proofs.Laws.{Free, Tells, as_tells, so_tells, fewer_tells, done_tells, met_tells, refused_tells, over_tells, spent_tells, if_tells, if_head, after_tells, then_tells, then_met, then_turn, map_met, want_tells, last_tells, word_tells, name_here}
 use Rattle.ti_parse.proofs.SoundKinds.{semicolon_is, brace_shut_is, else_is}
-use Rattle.ti_parse.proofs.SoundParts.{ends_open, Shut, BegunIs, whole_tells, typed_tells, declared_tells, start_tells, simple_tells, begun_tells, print_tells, barrier_tells, condition_tells, first_tells, test_tells, update_tells}
+use Rattle.ti_parse.proofs.SoundParts.{ends_open, Shut, BegunIs, whole_tells, typed_tells, declared_tells, start_tells, simple_tells, begun_tells, print_tells, barrier_tells, break_tells, continue_tells, return_tells, condition_tells, first_tells, optional_tells, update_tells}
+use Rattle.ti_syntax.specs.Spelling.{most_levels}
 
 -- ---- languages
 
@@ -55,6 +56,9 @@ stated_some (grammar.while w h s q) = omega arith
 stated_some (grammar.for f o p q c h h2 s h3 s2 h4 s3 h5 s4) = omega arith
 stated_some (grammar.foreach f o t i c h h2 h3 h4 s h5 s2) = omega arith
 stated_some (grammar.barrier i d b o c t h h2 h3 h4 h5 h6) = omega arith
+stated_some (grammar.break b t h h2) = omega arith
+stated_some (grammar.continue c t h h2) = omega arith
+stated_some (grammar.return w t h s h2) = omega arith
 
 item_some : (l : List Token) (x : Stm) → ItemIs l x → 0 < length l
 item_some _ _ (declaration {l = l} t s h) = omega (arith, length-append l (t ∷ []))
@@ -113,7 +117,7 @@ module _ (turns : ℕ) (stmt : Parser Stm) (stmt_tells : (l : List Token) → Te
   unfolding items
   items_tell zero le found l = spent_tells ([], found, no_more found)
   items_tell (suc m) le found l =
-      if_tells (ends_items (kind l)) _ _ (λ _. done_tells (no_more found))
+      if_tells (sees k.RightBrace l) _ _ (λ _. done_tells (no_more found))
       (λ _. then_turn _ item_some (fewer_tells le (item_tells l))
       (λ f r x s. as_tells (λ g y (ys, is, q). (x ∷ ys, is ∙ append_assoc found (x ∷ []) ys, more_items f g x ys s q)) (items_tell m (omega arith) (found ++ x ∷ []) r)))
 
@@ -145,7 +149,7 @@ module _ (turns : ℕ) (stmt : Parser Stm) (stmt_tells : (l : List Token) → Te
   unfolding for_loop
   for_tells w hw l =
       want_tells k.LeftParen paren_is refl _ (λ o l2 ho. then_tells _ (first_tells turns l2) (λ f l3 begin s1.
-      want_tells k.Semicolon semicolon_is refl _ (λ p l4 hp. then_tells _ (test_tells turns l4) (λ g l5 c s2.
+      want_tells k.Semicolon semicolon_is refl _ (λ p l4 hp. then_tells _ (optional_tells turns l4) (λ g l5 c s2.
       want_tells k.Semicolon semicolon_is refl _ (λ q l6 hq. then_tells _ (update_tells turns l6) (λ h l7 change s3.
       want_tells k.RightParen close_is refl _ (λ d l8 hd.
       map_met _ (λ x _. refl) (λ v x s4. grammar.for w o p q d hw ho s1 hp s2 hq s3 hd s4) (λ x v no_else. no_else) (stmt_tells l8))))))))
@@ -175,6 +179,9 @@ module _ (turns : ℕ) where
   small_by_tells t ts k.KeywordPrintln h = print_tells turns (t ∷ ts)
   small_by_tells t ts k.KeywordSystem h = print_tells turns (t ∷ ts)
   small_by_tells t ts k.KeywordTi h = after_tells (barrier_tells turns t h ts)
+  small_by_tells t ts k.KeywordBreak h = break_tells turns t h ts
+  small_by_tells t ts k.KeywordContinue h = continue_tells turns t h ts
+  small_by_tells t ts k.KeywordReturn h = return_tells turns t h ts
   small_by_tells t ts q h = operand_or_none (t ∷ ts) (starts q) (ap starts h)
 
   pub small_tells : (l : List Token) → Tells turns Shut Free l (small plain turns l)
@@ -212,4 +219,4 @@ module _ (turns : ℕ) where
 
   -- the items of a method
   pub body_tells : (l : List Token) → Tells turns Items Free l (body plain turns l)
-  body_tells l = all_items_tell turns (stmt plain turns 64) (stmt_tells 64) l
+  body_tells l = all_items_tell turns (stmt plain turns most_levels) (stmt_tells most_levels) l

@@ -1,8 +1,8 @@
 -- What `parse` answers.
 use Rattle.std.specs.Prelude.{◌≡◌, List, Some, Result, Ok, Err}
 use Rattle.ti_syntax.specs.declared.token.Token.{Token}
-use Rattle.ti_syntax.specs.declared.tree.classes.Tree.{Tree}
-use Rattle.ti_syntax.specs.Trees.Views.{tree_of}
+use Rattle.ti_syntax.specs.declared.tree.text.Tree.{Tree}
+use Rattle.ti_syntax.specs.Trees.Text.{tree_of}
 use Rattle.ti_syntax.specs.Spelling.{Spells, IsShallow, Misfit, IsGrammarRefusal}
 use Rattle.ti_rules.specs.RefusalOf.{rule_of_misfit}
 use Rattle.ti_parse_expr.specs.declared.error.ParseErr.{ParseErr}

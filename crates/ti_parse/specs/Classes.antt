@@ -6,12 +6,12 @@ use Rattle.ti_syntax.specs.declared.token.TokenKind.TheVariants as k
 use Rattle.ti_syntax.specs.declared.tree.classes.Modifier.{Modifier}
 use Rattle.ti_syntax.specs.declared.tree.classes.ModifierWord.{ModifierWord}
 use Rattle.ti_syntax.specs.Trees.Types.{TypeTree}
-use Rattle.ti_syntax.specs.Trees.Classes.{ParamTree, ParamsTree, ReturnTree, ResultTree, MemberTree, ClassTree, TextTree}
+use Rattle.ti_syntax.specs.Trees.Classes.{ParamTree, ParamsTree, ResultTree, MemberTree, ClassTree, TextTree}
 use Rattle.ti_syntax.specs.Trees.Classes as c
 use Rattle.ti_syntax.specs.Spelling.Operators.{modifier_of, class_modifier_of}
 use Rattle.ti_parse_expr.specs.Input.{Parser, At, Spent, ◌>>=◌, ◌>>◌, ◌<$>◌, pure, peek, here, kind, sees, expect_by, name_with}
 use Rattle.ti_parse.specs.Way.{Way}
-use Rattle.ti_parse.specs.Parts.{is_wide, wide, field, typed, optional}
+use Rattle.ti_parse.specs.Parts.{is_wide, wide, field, typed}
 use Rattle.ti_parse.specs.Statements.{body}
 
 module _ (w : Way) (turns : ℕ) where
@@ -45,12 +45,6 @@ module _ (w : Way) (turns : ℕ) where
   unfoldable pub params : Parser ParamsTree
   params = peek >>= params_by
 
-  -- the last `return` of a method
-  unfoldable pub returned : Parser (Option ReturnTree)
-  returned = do
-    is_there ← (λ i. Ok (sees k.KeywordReturn i, i))
-    if is_there then (do at ← here; w.take; x ← optional w turns; expect_by w.take k.Semicolon; pure (Some (record { place = at; value = x }))) else pure None
-
   -- a method, after its name
   unfoldable pub method : List Modifier → ResultTree → Place → List ℕ → Parser MemberTree
   method ms result at name = do
@@ -59,10 +53,9 @@ module _ (w : Way) (turns : ℕ) where
     expect_by w.take k.RightParen
     expect_by w.take k.LeftBrace
     xs ← body w turns
-    last ← returned
     end_at ← here
     expect_by w.take k.RightBrace
-    pure (c.MethodMember (record { modifiers = ms; result = result; place = at; name = name; params = ps; body = xs; last = last; end = end_at }))
+    pure (c.MethodMember (record { modifiers = ms; result = result; place = at; name = name; params = ps; body = xs; end = end_at }))
 
   -- ---- members
 

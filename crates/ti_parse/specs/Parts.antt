@@ -31,6 +31,7 @@ is_wide _ = false
 -- the words that a declaration can begin with
 abbrev pub begins_declaration : TokenKind → Bool
 begins_declaration k.KeywordInt = true
+begins_declaration k.KeywordLong = true
 begins_declaration k.KeywordBoolean = true
 begins_declaration k.KeywordPoint = true
 begins_declaration k.KeywordRectDomain = true
@@ -260,6 +261,36 @@ module _ (w : Way) (turns : ℕ) where
     expect_by w.take k.Semicolon
     pure (s.Barrier at)
 
+  -- ---- jumps, from their words on
+
+  unfoldable pub break_out : Parser Stm
+  break_out = do
+    at ← here
+    w.take
+    expect_by w.take k.Semicolon
+    pure (s.Break at)
+
+  unfoldable pub continue_on : Parser Stm
+  continue_on = do
+    at ← here
+    w.take
+    expect_by w.take k.Semicolon
+    pure (s.Continue at)
+
+  -- an expression, or none before a semicolon
+  unfoldable pub optional : Parser (Option Exp)
+  optional = do
+    is_none ← (λ i. Ok (sees k.Semicolon i, i))
+    if is_none then pure None else Some <$> w.full form.Whole
+
+  unfoldable pub return_from : Parser Stm
+  return_from = do
+    at ← here
+    w.take
+    value ← optional
+    expect_by w.take k.Semicolon
+    pure (s.Return at value)
+
   -- ---- the heads of compound statements
 
   unfoldable pub condition : Parser Exp
@@ -281,12 +312,6 @@ module _ (w : Way) (turns : ℕ) where
   -- what the head of a `for` begins with
   unfoldable pub first : Parser MaybeStm
   first = peek >>= first_by
-
-  -- an expression, or none before a semicolon
-  unfoldable pub optional : Parser (Option Exp)
-  optional = do
-    is_none ← (λ i. Ok (sees k.Semicolon i, i))
-    if is_none then pure None else Some <$> w.full form.Whole
 
   -- the update of a `for`
   unfoldable pub update : Parser MaybeStm

@@ -9,7 +9,7 @@ use Rattle.ti_syntax.specs.Spelling.Statements.{starts}
 use Rattle.ti_parse_expr.specs.declared.parse.Form.TheVariants as form
 use Rattle.ti_parse_expr.specs.Input.{Parser, Over, Spent, ◌>>=◌, ◌>>◌, pure, refuse, peek, here, kind, sees, expect_by, expect_word_by, name_with}
 use Rattle.ti_parse.specs.Way.{Way}
-use Rattle.ti_parse.specs.Parts.{Begun, Declares, Starts, begins_declaration, typed, declared, simple, begun, print, barrier, condition, first, optional, update}
+use Rattle.ti_parse.specs.Parts.{Begun, Declares, Starts, begins_declaration, typed, declared, simple, begun, print, barrier, break_out, continue_on, return_from, condition, first, optional, update}
 
 -- the tokens that compound statements begin with
 abbrev pub is_compound : TokenKind → Bool
@@ -19,12 +19,6 @@ is_compound k.KeywordWhile = true
 is_compound k.KeywordFor = true
 is_compound k.KeywordForeach = true
 is_compound _ = false
-
--- the tokens behind the last item
-abbrev pub ends_items : TokenKind → Bool
-ends_items k.RightBrace = true
-ends_items k.KeywordReturn = true
-ends_items _ = false
 
 -- the next token is nested too deeply
 abbrev pub too_deep : {A : Type 0} → Parser A
@@ -47,11 +41,11 @@ module _ (w : Way) (turns : ℕ) where
     unfoldable pub item : Parser Stm
     item = peek >>= item_by
 
-    -- as many as there are, in at most so many turns
+    -- as many as there are before a `}`, in at most so many turns
     unfoldable pub items : ℕ → List Stm → Parser (List Stm)
     items zero found = λ i. Err Spent
     items (suc n) found = do
-      is_end ← (λ i. Ok (ends_items (kind i), i))
+      is_end ← (λ i. Ok (sees k.RightBrace i, i))
       if is_end then pure found else (do x ← item; items n (found ++ x ∷ []))
 
     -- after `{`
@@ -117,6 +111,9 @@ module _ (w : Way) (turns : ℕ) where
   small_by k.KeywordPrintln = print w turns
   small_by k.KeywordSystem = print w turns
   small_by k.KeywordTi = w.take >> barrier w turns
+  small_by k.KeywordBreak = break_out w turns
+  small_by k.KeywordContinue = continue_on w turns
+  small_by k.KeywordReturn = return_from w turns
   small_by kind = if starts kind then w.operand >>= simple w turns else refuse
 
   unfoldable pub small : Parser Stm

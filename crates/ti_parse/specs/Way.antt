@@ -6,6 +6,7 @@ use Rattle.ti_parse_expr.specs.declared.parse.Form.{Form}
 use Rattle.ti_parse_expr.specs.Input.{Parser, take_token, take_within}
 use Rattle.ti_parse_expr.specs.Expr.{Operand}
 use Rattle.ti_parse_expr.specs.Full.{Limits, usual, full_to, operand_to, behind_name_to, behind_bracket_to, full_within, operand_within, behind_name_within, behind_bracket_within}
+use Rattle.ti_syntax.specs.Spelling.{most_levels}
 
 -- how a token is taken, how many levels of compound statements are read, and how full expressions are read: one of a form, a
 -- Postfix, a Postfix behind its first name, and one behind its first name and a `[`
@@ -33,4 +34,4 @@ plain = up_to usual
 
 -- the last token stays: the way of the code
 abbrev pub careful : Way
-careful = record { take = take_within; levels = 64; full = full_within; operand = operand_within; behind_name = behind_name_within; behind_bracket = behind_bracket_within }
+careful = record { take = take_within; levels = most_levels; full = full_within; operand = operand_within; behind_name = behind_name_within; behind_bracket = behind_bracket_within }

@@ -1,7 +1,7 @@
 // Classes and their members, by one token of sight.
 
 ghost use Rattle.std.specs.Prelude.{[], ◌≡◌};
-ghost use Rattle.ti_syntax.specs.Trees.Views.{class_of, maybe_of, member_of, params_of, result_of, return_of, type_of};
+ghost use Rattle.ti_syntax.specs.Trees.Views.{class_of, member_of, params_of, result_of, type_of};
 ghost use Rattle.ti_parse.specs.Classes as spec;
 ghost use Rattle.ti_parse.specs.Seen.{classes_of, members_of, modifiers_of, param_list_of, word_of};
 ghost use Rattle.ti_parse.specs.Way.{careful};
@@ -11,7 +11,7 @@ use crate::reader::Reader;
 use crate::words::{Modified, modifier_of};
 use ti_base::Place;
 use ti_syntax::tree::{
-    Class, Field, Member, Method, Modifier, Param, Params, ResultType, Return, TypeName,
+    Class, Field, Member, Method, Modifier, Param, Params, ResultType, TypeName,
 };
 use ti_syntax::{Spelled, TokenKind};
 use ti_parse_expr::{Stop, Tokens};
@@ -65,21 +65,6 @@ impl Reader {
         }
     }
 
-    /// The last `return` of a method.
-    #[tactic(auto, unfolding(crate::specs::Classes::returned))]
-    fn returned(self, tokens: &mut Tokens<'_>) -> Result<Option<Return>, Stop>
-        ensures { ReadsAs (maybe_of return_of) (spec.returned careful self.turns tokens.old) result tokens.new }
-    {
-        if !tokens.sees(TokenKind::KeywordReturn) {
-            return Ok(None);
-        }
-        let place = tokens.place();
-        tokens.take()?;
-        let value = self.optional(tokens)?;
-        tokens.expect(TokenKind::Semicolon)?;
-        Ok(Some(Return { place, value }))
-    }
-
     /// A method, after its name.
     #[tactic(auto, unfolding(crate::specs::Classes::method))]
     fn method(
@@ -97,7 +82,6 @@ impl Reader {
         tokens.expect(TokenKind::RightParen)?;
         tokens.expect(TokenKind::LeftBrace)?;
         let body = self.body(tokens)?;
-        let last = self.returned(tokens)?;
         let end = tokens.place();
         tokens.expect(TokenKind::RightBrace)?;
         Ok(Member::Method(Method {
@@ -107,7 +91,6 @@ impl Reader {
             name,
             params,
             body,
-            last,
             end,
         }))
     }

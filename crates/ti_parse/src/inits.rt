@@ -31,11 +31,11 @@ impl Reader {
         tokens.expect(TokenKind::Colon)?;
         let high = self.expr(tokens)?;
         if !tokens.sees(TokenKind::Colon) {
-            return Ok(Range::Plain(low, high));
+            return Ok(Range::Plain { low, high });
         }
         tokens.take()?;
         let step = self.expr(tokens)?;
-        Ok(Range::Stepped(low, high, step))
+        Ok(Range::Stepped { low, high, step })
     }
 
     /// At most so many more ranges.
@@ -110,7 +110,13 @@ impl Reader {
             qualifiers,
             grids,
         };
-        Ok(Init::NewGrid(place, region, element, bracket, dims))
+        Ok(Init::NewGrid {
+            place,
+            region,
+            element,
+            bracket,
+            dims,
+        })
     }
 
     /// A new object or grid, after the name of a class.
@@ -130,7 +136,12 @@ impl Reader {
         }
         tokens.take()?;
         tokens.expect(TokenKind::RightParen)?;
-        Ok(Init::NewObject(place, region, name_place, name))
+        Ok(Init::NewObject {
+            place,
+            region,
+            name_place,
+            name,
+        })
     }
 
     /// A new object or grid, after its region.
@@ -179,7 +190,7 @@ impl Reader {
         let value = self.expr(tokens)?;
         tokens.expect_word(b"from")?;
         let root = self.expr(tokens)?;
-        Ok(Init::Broadcast(place, value, root))
+        Ok(Init::Broadcast { place, value, root })
     }
 
     /// A right side.

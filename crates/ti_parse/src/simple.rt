@@ -50,8 +50,13 @@ impl Reader {
         let place = tokens.place();
         let name = tokens.name(self.alloc)?;
         tokens.expect(TokenKind::Assign)?;
-        let value = self.initial(tokens)?;
-        Ok(Stmt::Declare(place, ty, name, value))
+        let value = Box::new(self.alloc, self.initial(tokens)?)?;
+        Ok(Stmt::Declare {
+            place,
+            ty,
+            name,
+            value,
+        })
     }
 
     /// A declaration with its semicolon, after its type.
@@ -69,18 +74,31 @@ impl Reader {
         let place = tokens.place();
         if tokens.sees(TokenKind::Assign) {
             tokens.take()?;
-            let value = self.initial(tokens)?;
-            return Ok(Stmt::Assign(place, target, value));
+            let value = Box::new(self.alloc, self.initial(tokens)?)?;
+            return Ok(Stmt::Assign {
+                place,
+                target,
+                value,
+            });
         }
         if let Some(op) = update_of(tokens.peek()) {
             tokens.take()?;
             let value = self.expr(tokens)?;
-            return Ok(Stmt::Update(place, op, target, value));
+            return Ok(Stmt::Update {
+                place,
+                operator: op,
+                target,
+                value,
+            });
         }
         match step_of(tokens.peek()) {
             Some(op) => {
                 tokens.take()?;
-                Ok(Stmt::Step(place, op, target))
+                Ok(Stmt::Step {
+                    place,
+                    operator: op,
+                    target,
+                })
             }
             None => Err(Stop::Refused),
         }
@@ -266,5 +284,41 @@ impl Reader {
         tokens.expect(TokenKind::RightParen)?;
         tokens.expect(TokenKind::Semicolon)?;
         Ok(Stmt::Barrier(place))
+    }
+
+    // ---- jumps, from their words on
+
+    /// `break;`
+    #[tactic(auto, unfolding(crate::specs::Parts::break_out))]
+    pub fn break_out(self, tokens: &mut Tokens<'_>) -> Result<Stmt, Stop>
+        ensures { ReadsAs stm_of (spec.break_out careful self.turns tokens.old) result tokens.new }
+    {
+        let place = tokens.place();
+        tokens.take()?;
+        tokens.expect(TokenKind::Semicolon)?;
+        Ok(Stmt::Break(place))
+    }
+
+    /// `continue;`
+    #[tactic(auto, unfolding(crate::specs::Parts::continue_on))]
+    pub fn continue_on(self, tokens: &mut Tokens<'_>) -> Result<Stmt, Stop>
+        ensures { ReadsAs stm_of (spec.continue_on careful self.turns tokens.old) result tokens.new }
+    {
+        let place = tokens.place();
+        tokens.take()?;
+        tokens.expect(TokenKind::Semicolon)?;
+        Ok(Stmt::Continue(place))
+    }
+
+    /// `return;` or `return e;`
+    #[tactic(auto, unfolding(crate::specs::Parts::return_from))]
+    pub fn return_from(self, tokens: &mut Tokens<'_>) -> Result<Stmt, Stop>
+        ensures { ReadsAs stm_of (spec.return_from careful self.turns tokens.old) result tokens.new }
+    {
+        let place = tokens.place();
+        tokens.take()?;
+        let value = self.optional(tokens)?;
+        tokens.expect(TokenKind::Semicolon)?;
+        Ok(Stmt::Return(place, value))
     }
 }

@@ -11,7 +11,7 @@ ghost use Rattle.ti_parse_expr.specs.Input.{ReadsAs};
 
 use crate::reader::Reader;
 use crate::simple::Begun;
-use crate::words::{begins_declaration, ends_items, is_compound, starts};
+use crate::words::{begins_declaration, is_compound, starts};
 use ti_base::Place;
 use ti_syntax::TokenKind;
 use ti_syntax::tree::Stmt;
@@ -90,7 +90,7 @@ impl<F: Fn(Reader, &mut Tokens<'_>, u32) -> Result<Stmt, Stop>> Statements<F> {
     {
         let mut found = Vec::new(self.reader.alloc);
         for _turn in 0..self.reader.turns {
-            if ends_items(tokens.peek()) {
+            if tokens.sees(TokenKind::RightBrace) {
                 return Ok(found);
             }
             found.push(self.item(tokens)?)?;
@@ -120,11 +120,21 @@ impl<F: Fn(Reader, &mut Tokens<'_>, u32) -> Result<Stmt, Stop>> Statements<F> {
         let condition = self.reader.condition(tokens)?;
         let then = self.boxed_stmt(tokens)?;
         if !tokens.sees(TokenKind::KeywordElse) {
-            return Ok(Stmt::If(place, condition, then, None));
+            return Ok(Stmt::If {
+                place,
+                condition,
+                then,
+                otherwise: None,
+            });
         }
         tokens.take()?;
-        let other = self.boxed_stmt(tokens)?;
-        Ok(Stmt::If(place, condition, then, Some(other)))
+        let otherwise = Some(self.boxed_stmt(tokens)?);
+        Ok(Stmt::If {
+            place,
+            condition,
+            then,
+            otherwise,
+        })
     }
 
     /// What stands behind `while`.
@@ -135,7 +145,11 @@ impl<F: Fn(Reader, &mut Tokens<'_>, u32) -> Result<Stmt, Stop>> Statements<F> {
     {
         let condition = self.reader.condition(tokens)?;
         let body = self.boxed_stmt(tokens)?;
-        Ok(Stmt::While(place, condition, body))
+        Ok(Stmt::While {
+            place,
+            condition,
+            body,
+        })
     }
 
     /// What stands behind `for`.
@@ -152,7 +166,13 @@ impl<F: Fn(Reader, &mut Tokens<'_>, u32) -> Result<Stmt, Stop>> Statements<F> {
         let update = self.reader.update(tokens)?;
         tokens.expect(TokenKind::RightParen)?;
         let body = self.boxed_stmt(tokens)?;
-        Ok(Stmt::For(place, first, condition, update, body))
+        Ok(Stmt::For {
+            place,
+            first,
+            condition,
+            update,
+            body,
+        })
     }
 
     /// What stands behind `foreach`.
@@ -168,7 +188,13 @@ impl<F: Fn(Reader, &mut Tokens<'_>, u32) -> Result<Stmt, Stop>> Statements<F> {
         let domain = self.reader.expr(tokens)?;
         tokens.expect(TokenKind::RightParen)?;
         let body = self.boxed_stmt(tokens)?;
-        Ok(Stmt::Foreach(place, name_place, name, domain, body))
+        Ok(Stmt::Foreach {
+            place,
+            name_place,
+            name,
+            domain,
+            body,
+        })
     }
 
     /// A compound statement, after its first token.
@@ -207,6 +233,9 @@ impl Reader {
                 tokens.take()?;
                 self.barrier(tokens)
             }
+            TokenKind::KeywordBreak => self.break_out(tokens),
+            TokenKind::KeywordContinue => self.continue_on(tokens),
+            TokenKind::KeywordReturn => self.return_from(tokens),
             kind => {
                 if !starts(kind) {
                     return Err(Stop::Refused);

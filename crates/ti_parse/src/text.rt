@@ -4,7 +4,7 @@ ghost use Rattle.std.specs.Prelude.{◌≡◌, List, Option};
 ghost use Rattle.ti_base.specs.declared.place.Place.{Place as PlaceSeen};
 ghost use Rattle.ti_syntax.specs.declared.token.Token.{Token as TokenSeen};
 ghost use Rattle.ti_syntax.specs.Trees.Classes.{TextTree};
-ghost use Rattle.ti_syntax.specs.Trees.Views.{tree_of};
+ghost use Rattle.ti_syntax.specs.Trees.Views.{text_tree_of};
 ghost use Rattle.ti_syntax.specs.Spelling.{Spells, Misfit, IsGrammarRefusal};
 ghost use Rattle.ti_parse.specs.Answer.{Parsed};
 ghost use Rattle.ti_parse.specs.Classes as spec;
@@ -16,21 +16,21 @@ use crate::reader::Reader;
 use std::alloc::Global;
 use ti_base::Place;
 use ti_syntax::Token;
-use ti_syntax::tree::Tree;
+use ti_syntax::tree::{Class, Tree};
 use ti_parse_expr::{ParseErr, Stop, Tokens};
 use ti_rules::{Refusal, Rule};
 
 /// The classes up to the end, which nothing follows.
 #[tactic(auto, unfolding(crate::specs::Classes::text))]
-fn read_text(alloc: Global, tokens: &mut Tokens<'_>, turns: usize) -> Result<Tree, Stop>
-    ensures { ReadsAs tree_of (spec.text careful turns tokens.old) result tokens.new }
+fn read_text(alloc: Global, tokens: &mut Tokens<'_>, turns: usize) -> Result<Vec<Class>, Stop>
+    ensures { ReadsAs text_tree_of (spec.text careful turns tokens.old) result tokens.new }
 {
     let classes = Reader { alloc, turns }.classes(tokens)?;
     if tokens.left() > 1 {
         tokens.take()?;
         return Err(Stop::Refused);
     }
-    Ok(Tree { classes })
+    Ok(classes)
 }
 
 fn refused(rule: Rule, place: Place) -> ParseErr
@@ -49,7 +49,7 @@ pub fn parse(alloc: Global, toks: &[Token]) -> Result<Tree, ParseErr>
 {
     let mut tokens = Tokens::new(toks);
     match read_text(alloc, &mut tokens, toks.len() + 1) {
-        Ok(tree) => Ok(tree),
+        Ok(classes) => Ok(Tree { classes }),
         Err(Stop::Memory) => Err(ParseErr::Memory),
         Err(Stop::Refused) => Err(refused(Rule::G1, tokens.place())),
         Err(Stop::TooDeep) => Err(refused(Rule::G2, tokens.place())),

@@ -98,7 +98,7 @@ pub fn begins_declaration(kind: &TokenKind) -> bool
     ensures { result ≡ parts.begins_declaration kind.now }
 {
     match kind {
-        TokenKind::KeywordInt | TokenKind::KeywordBoolean => true,
+        TokenKind::KeywordInt | TokenKind::KeywordLong | TokenKind::KeywordBoolean => true,
         TokenKind::KeywordPoint | TokenKind::KeywordRectDomain => true,
         _ => is_wide(kind),
     }
@@ -130,11 +130,4 @@ pub fn is_compound(kind: &TokenKind) -> bool
         TokenKind::KeywordWhile | TokenKind::KeywordFor | TokenKind::KeywordForeach => true,
         _ => false,
     }
-}
-
-/// Whether it stands behind the last item.
-pub fn ends_items(kind: &TokenKind) -> bool
-    ensures { result ≡ statements.ends_items kind.now }
-{
-    matches!(kind, TokenKind::RightBrace | TokenKind::KeywordReturn)
 }

@@ -6,7 +6,8 @@ use Rattle.ti_syntax.specs.Trees.Expressions.{Exp}
 use Rattle.ti_syntax.specs.Spelling.Weights.{weigh}
 use Rattle.ti_parse_expr.specs.declared.parse.Form.{Form}
 use Rattle.ti_parse_expr.specs.declared.parse.Form.TheVariants as form
-use Rattle.ti_parse_expr.specs.Answers.{Phrase, BeginsPhrase, IsLight, IsPhrase, IsNoPhrase, IsTooHeavy, most_weight}
+use Rattle.ti_parse_expr.specs.Answers.{Phrase, BeginsPhrase, IsLight, IsPhrase, IsNoPhrase, IsTooHeavy}
+use Rattle.ti_syntax.specs.Spelling.{most_weight}
 use Rattle.ti_parse_expr.specs.Input.{At, Over, Spent, Outcome, place, take_token, take_within}
 use Rattle.ti_parse_expr.specs.Reach.{IsCut, ends_expression}
 use Rattle.ti_parse_expr.specs.Expr.{phrase}

@@ -9,18 +9,19 @@ use Rattle.ti_parse_expr.specs.declared.stop.Stop.TheVariants as stop
 use Rattle.ti_parse_expr.specs.Input.{At, Over, Spent, Outcome, Parser, ReadsAs}
 use Rattle.ti_parse_expr.specs.Full.{widened, within}
 use Rattle.ti_parse_expr.specs.ByFront.{Widens, ByFront}
+use Rattle.ti_syntax.specs.Spelling.{most_weight}
 
 module _ {T B : Type 0} (view : T → B) (weight : ℕ) (list front : List Token) where
   spent_reads : (o : Outcome B) (left new : List Token) (result : Result T Stop) → o ≡ Err Spent → Widens weight list front (Err stop.Spent) left result new
-      → (heavy : Bool) → nat_lt 256 (weight + weigh front) ≡ heavy → ReadsAs view (widened weight list front o) result new
+      → (heavy : Bool) → nat_lt most_weight (weight + weigh front) ≡ heavy → ReadsAs view (widened weight list front o) result new
   spent_reads o left new result is (deep, spent) true h =
-      let (same, at) = deep (ltb-true 256 (weight + weigh front) h) in
+      let (same, at) = deep (ltb-true most_weight (weight + weigh front) h) in
       let e : widened weight list front o ≡ Err (Over new) =
       ap (widened weight list front) is ∙ ap (λ b. if b then Err (Over (drop (length front - 1) list)) else Err Spent) h ∙ ap (λ z. Err (Over z)) (sym at) in
       subst (λ z. ReadsAs view (widened weight list front o) z new) (sym same) e
   spent_reads o left new result is (deep, spent) false h =
       let e : widened weight list front o ≡ Err Spent = ap (widened weight list front) is ∙ ap (λ b. if b then Err (Over (drop (length front - 1) list)) else Err Spent) h in
-      subst (λ z. ReadsAs view (widened weight list front o) z new) (sym (spent (ltb-false 256 (weight + weigh front) h))) e
+      subst (λ z. ReadsAs view (widened weight list front o) z new) (sym (spent (ltb-false most_weight (weight + weigh front) h))) e
 
   widens_reads : (o : Outcome B) (answer : Result T Stop) (left new : List Token) (result : Result T Stop) → ReadsAs view o answer left → Widens weight list front answer left result new
       → ReadsAs view (widened weight list front o) result new
@@ -33,7 +34,7 @@ module _ {T B : Type 0} (view : T → B) (weight : ℕ) (list front : List Token
   widens_reads o (Err stop.TooDeep) left new result is (same, at) =
       let e : widened weight list front o ≡ Err (Over new) = ap (widened weight list front) is ∙ ap (λ z. Err (Over z)) (sym at) in
       subst (λ z. ReadsAs view (widened weight list front o) z new) (sym same) e
-  widens_reads o (Err stop.Spent) left new result is widens = spent_reads o left new result is widens (nat_lt 256 (weight + weigh front)) refl
+  widens_reads o (Err stop.Spent) left new result is widens = spent_reads o left new result is widens (nat_lt most_weight (weight + weigh front)) refl
   widens_reads o (Err stop.Memory) left new result is same = subst (λ z. ReadsAs view (widened weight list front o) z new) (sym same) tt
 
 -- where each answer of the function value is what a parser reads

@@ -311,6 +311,7 @@ module _ (turns : ℕ) (expr : ℕ → Parser Exp)
   -- a token that begins an operand and is no parenthesis
   abbrev leads : TokenKind → Bool
   leads (k.Int n) = true
+  leads (k.LongInt n) = true
   leads k.KeywordTrue = true
   leads k.KeywordFalse = true
   leads k.KeywordNull = true
@@ -322,6 +323,7 @@ module _ (turns : ℕ) (expr : ℕ → Parser Exp)
 
   prefix_leads : (q : TokenKind) (i : List Token) → leads q ≡ true → spec.prefix_by take_token turns expr q i ≡ dropped (operand take_token turns expr i)
   prefix_leads (k.Int n) i h = refl
+  prefix_leads (k.LongInt n) i h = refl
   prefix_leads k.KeywordTrue i h = refl
   prefix_leads k.KeywordFalse i h = refl
   prefix_leads k.KeywordNull i h = refl
@@ -449,6 +451,7 @@ module _ (turns : ℕ) (expr : ℕ → Parser Exp)
 
   paren_type : (at : Place) (i : List Token) (q : TokenKind) → kind i ≡ q → begins_type q ≡ true → paren take_token turns expr at i ≡ and_then (type_base take_token i) (cast_from take_token turns expr at)
   paren_type at i k.KeywordInt h is = paren_turn at i k.KeywordInt h
+  paren_type at i k.KeywordLong h is = paren_turn at i k.KeywordLong h
   paren_type at i k.KeywordBoolean h is = paren_turn at i k.KeywordBoolean h
   paren_type at i k.KeywordPoint h is = paren_turn at i k.KeywordPoint h
   paren_type at i k.KeywordRectDomain h is = paren_turn at i k.KeywordRectDomain h
@@ -471,22 +474,22 @@ module _ (turns : ℕ) (expr : ℕ → Parser Exp)
 
   -- a cast whose type is a name and grids
   grid_cast_reads : {l m : List Token} {qs : List Qualifier} {gs : List GridTree} → Qualified l qs → Gridded m gs → length gs ≤ 2 → (at name_at : Place) (name : List ℕ) (o t c : Token) (n : ℕ) (i : List Token) → o.kind ≡ k.LeftBracket → t.kind ≡ k.Dim n
-      → c.kind ≡ k.RightBracket → EndsType i → length (l ++ m) < turns
+      → 1 ≤ n → n ≤ 3 → c.kind ≡ k.RightBracket → EndsType i → length (l ++ m) < turns
       → paren_name_bracket take_token turns expr at name_at name (o ∷ t ∷ c ∷ ((l ++ m) ++ i)) ≡ cast take_token turns expr at (record { base = b.Named name_at name; qualifiers = []; grids = record { dim = n; qualifiers = qs } ∷ gs }) i
   unfolding paren_name_bracket cast_from_grid
-  grid_cast_reads {l = l} {m = m} {qs = qs} {gs = gs} s g few at name_at name o t c n i ho ht hc ends lt =
+  grid_cast_reads {l = l} {m = m} {qs = qs} {gs = gs} s g few at name_at name o t c n i ho ht low high hc ends lt =
       let one : GridTree = record { dim = n; qualifiers = qs } in
       let long = length-append l m in
       test_reads (is_dim t.kind) true _ _ (t ∷ c ∷ ((l ++ m) ++ i)) (ap is_dim ht)
       ∙ ap (λ z. and_then (grid take_token turns (t ∷ c ∷ z)) (λ g i. and_then (grids take_token turns 2 (g ∷ []) i) (λ gs. cast take_token turns expr at (record { base = b.Named name_at name; qualifiers = []; grids = gs })))) (append_assoc l m i)
-      ∙ then_ok (λ g i. and_then (grids take_token turns 2 (g ∷ []) i) (λ gs. cast take_token turns expr at (record { base = b.Named name_at name; qualifiers = []; grids = gs }))) (grid_reads s turns t c n (m ++ i) ht hc (gridded_front g i ends.qualifier) (omega arith))
+      ∙ then_ok (λ g i. and_then (grids take_token turns 2 (g ∷ []) i) (λ gs. cast take_token turns expr at (record { base = b.Named name_at name; qualifiers = []; grids = gs }))) (grid_reads s turns t c n (m ++ i) ht low high hc (gridded_front g i ends.qualifier) (omega arith))
       ∙ then_ok (λ gs. cast take_token turns expr at (record { base = b.Named name_at name; qualifiers = []; grids = gs })) (grids_read g turns 2 (one ∷ []) i ends few (omega arith))
 
   paren_name_reads_cast : {l m : List Token} {qs : List Qualifier} {gs : List GridTree} → Qualified l qs → Gridded m gs → length gs ≤ 3 → (at name_at : Place) (name : List ℕ) → is_name_alone (b.Named name_at name) qs gs ≡ false → (i : List Token) → EndsType i
       → length (l ++ m) < turns → paren_name take_token turns expr at name_at name ((l ++ m) ++ i) ≡ cast take_token turns expr at (record { base = b.Named name_at name; qualifiers = qs; grids = gs }) i
   paren_name_reads_cast types.none types.none few at name_at name proper i ends lt = cc
-  paren_name_reads_cast types.none (types.more {l = l} {m = m} {qs = qs} {gs = gs} o t c {n = n} ho ht hc s g) few at name_at name proper i ends lt =
-      paren_name_turn at name_at name (o ∷ t ∷ c ∷ ((l ++ m) ++ i)) k.LeftBracket ho ∙ grid_cast_reads s g (omega (arith, few)) at name_at name o t c n i ho ht hc ends (omega arith)
+  paren_name_reads_cast types.none (types.more {l = l} {m = m} {qs = qs} {gs = gs} o t c {n = n} ho ht low high hc s g) few at name_at name proper i ends lt =
+      paren_name_turn at name_at name (o ∷ t ∷ c ∷ ((l ++ m) ++ i)) k.LeftBracket ho ∙ grid_cast_reads s g (omega (arith, few)) at name_at name o t c n i ho ht low high hc ends (omega arith)
   paren_name_reads_cast {m = m} (types.more {l = l} t {word = word} is s) g few at name_at name proper i ends lt =
       paren_name_turn at name_at name (t ∷ ((l ++ m) ++ i)) t.kind refl
       ∙ paren_name_qualified at name_at name (t ∷ ((l ++ m) ++ i)) t.kind word is
@@ -502,6 +505,7 @@ module _ (turns : ℕ) (expr : ℕ → Parser Exp)
   paren_based : {a l m : List Token} {begin : Base} {qs : List Qualifier} {gs : List GridTree} → Based a begin → Qualified l qs → Gridded m gs → length gs ≤ 3 → is_name_alone begin qs gs ≡ false → (at : Place) (i : List Token) → EndsType i → length (l ++ m) < turns
       → paren take_token turns expr at (a ++ ((l ++ m) ++ i)) ≡ cast take_token turns expr at (record { base = begin; qualifiers = qs; grids = gs }) i
   paren_based (types.int t h) q g few proper at i ends lt = paren_reserved (types.int t h) q g few at i ends lt (ap begins_type h)
+  paren_based (types.long t h) q g few proper at i ends lt = paren_reserved (types.long t h) q g few at i ends lt (ap begins_type h)
   paren_based (types.boolean t h) q g few proper at i ends lt = paren_reserved (types.boolean t h) q g few at i ends lt (ap begins_type h)
   paren_based (types.point t h s) q g few proper at i ends lt = paren_reserved (types.point t h s) q g few at i ends lt (ap begins_type h)
   paren_based (types.rect_domain t h s) q g few proper at i ends lt = paren_reserved (types.rect_domain t h s) q g few at i ends lt (ap begins_type h)
@@ -662,6 +666,7 @@ module _ (turns : ℕ) (expr : ℕ → Parser Exp)
     mutual
       pub postfixed_law : {ending : Ending} {l : List Token} {x : Exp} → Postfixed ending l x → (r : List Token) → NoCall l r → length (l ++ r) ≤ turns → PostfixLeft l (x, ending) r
       postfixed_law (grammar.int t {n = n} h) r call le = led t r (t ∷ []) (e.Int t.place n, Other) r (k.Int n) refl h refl (omega arith) refl
+      postfixed_law (grammar.long t {n = n} h) r call le = led t r (t ∷ []) (e.Long t.place n, Other) r (k.LongInt n) refl h refl (omega arith) refl
       postfixed_law (grammar.truth t h) r call le = led t r (t ∷ []) (e.Truth t.place true, Other) r k.KeywordTrue refl h refl (omega arith) refl
       postfixed_law (grammar.falsehood t h) r call le = led t r (t ∷ []) (e.Truth t.place false, Other) r k.KeywordFalse refl h refl (omega arith) refl
       postfixed_law (grammar.null t h) r call le = led t r (t ∷ []) (e.Null t.place, Other) r k.KeywordNull refl h refl (omega arith) refl

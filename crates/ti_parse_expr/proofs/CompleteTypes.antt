@@ -14,7 +14,7 @@ use Rattle.ti_syntax.specs.Spelling.Types.{Arity, Based, Qualified, Gridded, Fie
 use Rattle.ti_syntax.specs.Spelling.Types as grammar
 use Rattle.ti_parse_expr.specs.Input.{and_then, kind, sees, expect_by, take_token}
 use Rattle.ti_parse_expr.specs.Types as spec
-use Rattle.ti_parse_expr.specs.Types.{dim_of, dimension, arity, base, qualifiers, grid, grids, field_type}
+use Rattle.ti_parse_expr.specs.Types.{dim_of, dimension, arity, base, qualifiers, grid_dimension, grid, grids, field_type}
 use Rattle.ti_parse_expr.proofs.Law.{append_nil}
 use Rattle.ti_parse_expr.proofs.Follows.{then_ok, test_reads, expect_reads}
 
@@ -35,6 +35,7 @@ base_turn t ts q h = ap (λ z. spec.base_by take_token z (t ∷ ts)) h
 
 pub base_reads : {l : List Token} {x : Base} → Based l x → (r : List Token) → base take_token (l ++ r) ≡ Ok (x, r)
 base_reads (grammar.int t h) r = base_turn t r k.KeywordInt h
+base_reads (grammar.long t h) r = base_turn t r k.KeywordLong h
 base_reads (grammar.boolean t h) r = base_turn t r k.KeywordBoolean h
 base_reads (grammar.point {l = l} t h s) r = base_turn t (l ++ r) k.KeywordPoint h ∙ then_ok (λ n i. Ok (b.Point t.place n, i)) (arity_reads s r)
 base_reads (grammar.rect_domain {l = l} t h s) r = base_turn t (l ++ r) k.KeywordRectDomain h ∙ then_ok (λ n i. Ok (b.RectDomain t.place n, i)) (arity_reads s r)
@@ -55,11 +56,14 @@ qualifiers_read (grammar.more {l = l} {qs = qs} t {word = word} is s) (suc m) fo
 
 -- ---- grids
 
-pub grid_reads : {l : List Token} {qs : List Qualifier} → Qualified l qs → (turns : ℕ) (t c : Token) (n : ℕ) (r : List Token) → t.kind ≡ k.Dim n → c.kind ≡ k.RightBracket → qualifier_of (kind r) ≡ None → length l < turns
+grid_dimension_reads : (t : Token) (n : ℕ) (r : List Token) → t.kind ≡ k.Dim n → 1 ≤ n → n ≤ 3 → grid_dimension take_token (t ∷ r) ≡ Ok (n, r)
+grid_dimension_reads t n r h low high = ap (λ q. spec.grid_dimension_by take_token q (t ∷ r)) h ∙ ap (λ d. spec.dimension_if take_token d (t ∷ r)) (dim_of_small n low high)
+
+pub grid_reads : {l : List Token} {qs : List Qualifier} → Qualified l qs → (turns : ℕ) (t c : Token) (n : ℕ) (r : List Token) → t.kind ≡ k.Dim n → 1 ≤ n → n ≤ 3 → c.kind ≡ k.RightBracket → qualifier_of (kind r) ≡ None → length l < turns
     → grid take_token turns (t ∷ c ∷ (l ++ r)) ≡ Ok (record { dim = n; qualifiers = qs }, r)
 unfolding grid
-grid_reads {l = l} {qs = qs} s turns t c n r ht hc free lt =
-    ap (λ q. and_then (spec.dim_by take_token q (t ∷ c ∷ (l ++ r))) (λ n i. and_then (expect_by take_token k.RightBracket i) (λ _ i. and_then (qualifiers take_token turns [] i) (λ qs j. Ok (record { dim = n; qualifiers = qs }, j))))) ht
+grid_reads {l = l} {qs = qs} s turns t c n r ht low high hc free lt =
+    then_ok _ (grid_dimension_reads t n (c ∷ (l ++ r)) ht low high)
     ∙ then_ok _ (expect_reads k.RightBracket c (l ++ r) refl hc)
     ∙ then_ok (λ qs j. Ok (record { dim = n; qualifiers = qs }, j)) (qualifiers_read s turns [] r free lt)
 
@@ -70,20 +74,20 @@ pub record EndsType (r : List Token) : Type 0 where
 
 pub gridded_front : {l : List Token} {gs : List GridTree} → Gridded l gs → (r : List Token) → qualifier_of (kind r) ≡ None → qualifier_of (kind (l ++ r)) ≡ None
 gridded_front grammar.none r h = h
-gridded_front (grammar.more o t c ho ht hc qs s) r h = ap qualifier_of ho
+gridded_front (grammar.more o t c ho ht low high hc qs s) r h = ap qualifier_of ho
 
 pub grids_read : {l : List Token} {gs : List GridTree} → Gridded l gs → (turns n : ℕ) (found : List GridTree) (r : List Token) → EndsType r → length gs ≤ n → length l < turns
     → grids take_token turns n found (l ++ r) ≡ Ok (found ++ gs, r)
 unfolding grids
 grids_read grammar.none turns zero found r free few lt = ap (λ z. Ok (z, r)) (sym (append_nil found))
 grids_read grammar.none turns (suc n) found r free few lt = test_reads (sees k.LeftBracket r) false _ _ r free.bracket ∙ ap (λ z. Ok (z, r)) (sym (append_nil found))
-grids_read (grammar.more o t c ho ht hc qs s) turns zero found r free few lt = absurd (omega (arith, few))
-grids_read (grammar.more {l = l} {m = m} {qs = words} {gs = gs} o t c {n = d} ho ht hc qs s) turns (suc n) found r free few lt =
+grids_read (grammar.more o t c ho ht low high hc qs s) turns zero found r free few lt = absurd (omega (arith, few))
+grids_read (grammar.more {l = l} {m = m} {qs = words} {gs = gs} o t c {n = d} ho ht low high hc qs s) turns (suc n) found r free few lt =
     let g : GridTree = record { dim = d; qualifiers = words } in
     let long = length-append l m in
     test_reads (same_kind o.kind k.LeftBracket) true _ _ (o ∷ t ∷ c ∷ ((l ++ m) ++ r)) (ap (λ q. same_kind q k.LeftBracket) ho)
     ∙ ap (λ z. and_then (grid take_token turns (t ∷ c ∷ z)) (λ g. grids take_token turns n (found ++ g ∷ []))) (append_assoc l m r)
-    ∙ then_ok (λ g. grids take_token turns n (found ++ g ∷ [])) (grid_reads qs turns t c d (m ++ r) ht hc (gridded_front s r free.qualifier) (omega arith))
+    ∙ then_ok (λ g. grids take_token turns n (found ++ g ∷ [])) (grid_reads qs turns t c d (m ++ r) ht low high hc (gridded_front s r free.qualifier) (omega arith))
     ∙ grids_read s turns n (found ++ g ∷ []) r free (omega (arith, few)) (omega arith)
     ∙ ap (λ z. Ok (z, r)) (append_assoc found (g ∷ []) gs)
 

@@ -58,6 +58,7 @@ arity_ends (types.arity o t c h h2 low high h3) = omega (arith, ap end_of h, ap 
 
 pub based_ends : {l : List Token} {x : Base} → Based l x → ends l ≡ 0
 based_ends (types.int t h) = omega (arith, ap end_of h)
+based_ends (types.long t h) = omega (arith, ap end_of h)
 based_ends (types.boolean t h) = omega (arith, ap end_of h)
 based_ends (types.point t h s) = omega (arith, ap end_of h, arity_ends s)
 based_ends (types.rect_domain t h s) = omega (arith, ap end_of h, arity_ends s)
@@ -69,7 +70,7 @@ qualified_ends (types.more t {word = word} h s) = omega (arith, qualifier_goes_o
 
 pub gridded_ends : {l : List Token} {gs : List GridTree} → Gridded l gs → ends l ≡ 0
 gridded_ends types.none = refl
-gridded_ends (types.more {l = l} {m = m} o t c h h2 h3 s g) = omega (arith, ends-append l m, ap end_of h, ap end_of h2, ap end_of h3, qualified_ends s, gridded_ends g)
+gridded_ends (types.more {l = l} {m = m} o t c h h2 low high h3 s g) = omega (arith, ends-append l m, ap end_of h, ap end_of h2, ap end_of h3, qualified_ends s, gridded_ends g)
 
 cast_ends : {l : List Token} {ty : TypeTree} → CastType l ty → ends l ≡ 0
 cast_ends (types.cast_type (types.field_type {a = a} {l = l} {m = m} s q g few) proper) = omega (arith, ends-append a (l ++ m), ends-append l m, based_ends s, qualified_ends q, gridded_ends g)
@@ -88,6 +89,7 @@ mutual
 
   pub postfixed_ends : {ending : Ending} {l : List Token} {x : Exp} → Postfixed ending l x → ends l ≡ 0
   postfixed_ends (grammar.int t h) = omega (arith, ap end_of h)
+  postfixed_ends (grammar.long t h) = omega (arith, ap end_of h)
   postfixed_ends (grammar.truth t h) = omega (arith, ap end_of h)
   postfixed_ends (grammar.falsehood t h) = omega (arith, ap end_of h)
   postfixed_ends (grammar.null t h) = omega (arith, ap end_of h)

@@ -20,6 +20,7 @@ begins k.Tilde = true
 begins k.LeftParen = true
 begins k.LeftBracket = true
 begins (k.Int n) = true
+begins (k.LongInt n) = true
 begins k.KeywordTrue = true
 begins k.KeywordFalse = true
 begins k.KeywordNull = true
@@ -37,6 +38,7 @@ prefix_begins _ op h = cc
 
 pub front_postfixed : {ending : Ending} {l : List Token} {x : Exp} → Postfixed ending l x → (r : List Token) → begins (kind (l ++ r)) ≡ true
 front_postfixed (grammar.int t h) r = ap begins h
+front_postfixed (grammar.long t h) r = ap begins h
 front_postfixed (grammar.truth t h) r = ap begins h
 front_postfixed (grammar.falsehood t h) r = ap begins h
 front_postfixed (grammar.null t h) r = ap begins h
@@ -67,6 +69,7 @@ not_close _ h = refl
 
 pub not_type : (q : TokenKind) → begins q ≡ true → begins_type q ≡ false
 not_type k.KeywordInt h = cc
+not_type k.KeywordLong h = cc
 not_type k.KeywordBoolean h = cc
 not_type k.KeywordPoint h = cc
 not_type k.KeywordRectDomain h = cc

@@ -82,6 +82,7 @@ single_unnamed c q h other named = let wrong : true ≡ false = sym named ∙ ap
 
 call_post : (t : Token) → t.kind ≡ k.LeftParen → (ending : Ending) (l : List Token) (x : Exp) → Postfixed ending l x → Named l → BeginsIn AnyPostfix (l ++ t ∷ [])
 call_post t h _ _ _ (grammar.int u {n = n} h2) named = absurd (single_unnamed u (k.Int n) h2 refl named)
+call_post t h _ _ _ (grammar.long u {n = n} h2) named = absurd (single_unnamed u (k.LongInt n) h2 refl named)
 call_post t h _ _ _ (grammar.truth u h2) named = absurd (single_unnamed u k.KeywordTrue h2 refl named)
 call_post t h _ _ _ (grammar.falsehood u h2) named = absurd (single_unnamed u k.KeywordFalse h2 refl named)
 call_post t h _ _ _ (grammar.null u h2) named = absurd (single_unnamed u k.KeywordNull h2 refl named)

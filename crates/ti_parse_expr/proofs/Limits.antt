@@ -5,7 +5,7 @@ use Rattle.std.proofs.lemmas.Bool.{le-ltb, lt-ltb}
 use Rattle.ti_syntax.specs.declared.token.Token.{Token}
 use Rattle.ti_syntax.specs.Spelling.Loads.{Load, Weight, weights_behind, weights}
 use Rattle.ti_syntax.specs.Spelling.Weights.{counts, arity_behind, weigh_behind}
-use Rattle.ti_parse_expr.specs.Answers.{most_weight}
+use Rattle.ti_syntax.specs.Spelling.{most_weight}
 use Rattle.ti_parse_expr.specs.Input.{Halt, Over, Outcome, Parser, and_then, next}
 use Rattle.ti_parse_expr.specs.Full.{Limits, usual, above, is_above, limited_to, limited, rest_of}
 
@@ -64,7 +64,7 @@ pub limited_heavy : {A : Type 0} (n w : ℕ) (f : List Token) (t : Token) (h r :
 limited_heavy (suc n) w [] t h r out small above = absurd (omega (arith, small, above))
 limited_heavy zero w [] t h r out small above =
     let v : ℕ = (if counts t.kind then 1 else 0) + w in
-    ap (λ c. if c then Err (Over (t ∷ (h ++ r))) else limited (weights_behind (arity_behind t.kind) v h) (h ++ r) out) (lt-ltb 256 v (omega (arith, above)))
+    ap (λ c. if c then Err (Over (t ∷ (h ++ r))) else limited (weights_behind (arity_behind t.kind) v h) (h ++ r) out) (lt-ltb most_weight v (omega (arith, above)))
 limited_heavy (suc n) w (x ∷ f) t h r out small above =
     below usual w (weights_behind n w (f ++ t ∷ h)) (x ∷ ((f ++ t ∷ h) ++ r)) out (omega (arith, small)) ∙ limited_heavy n w f t h r out small above
 limited_heavy zero w (x ∷ f) t h r out small above =
@@ -94,13 +94,13 @@ one_further : (n w n2 w2 : ℕ) (t : Token) (f : List Token) → ((g : List Toke
 one_further n w n2 w2 t f weighs (all_light small) = all_light (omega (arith, weighs f, small))
 one_further n w n2 w2 t f weighs (heavy g u h is small above) = heavy (t ∷ g) u h (ap (λ z. t ∷ z) is) (omega (arith, weighs g, small)) (omega (arith, weighs (g ++ u ∷ []), above))
 
-loaded_if : (w : ℕ) (t : Token) (f : List Token) → w ≤ most_weight → ((n v : ℕ) → v ≤ most_weight → Loaded n v f) → (c : Bool) → nat_lt 256 ((if counts t.kind then 1 else 0) + w) ≡ c → Loaded 0 w (t ∷ f)
-loaded_if w t f small rec true h = heavy [] t f refl (omega (arith, small)) (omega (arith, ltb-true 256 ((if counts t.kind then 1 else 0) + w) h))
+loaded_if : (w : ℕ) (t : Token) (f : List Token) → w ≤ most_weight → ((n v : ℕ) → v ≤ most_weight → Loaded n v f) → (c : Bool) → nat_lt most_weight ((if counts t.kind then 1 else 0) + w) ≡ c → Loaded 0 w (t ∷ f)
+loaded_if w t f small rec true h = heavy [] t f refl (omega (arith, small)) (omega (arith, ltb-true most_weight ((if counts t.kind then 1 else 0) + w) h))
 loaded_if w t f small rec false h =
     let v : ℕ = (if counts t.kind then 1 else 0) + w in
-    one_further 0 w (arity_behind t.kind) v t f (λ g. omega arith) (rec (arity_behind t.kind) v (ltb-false 256 v h))
+    one_further 0 w (arity_behind t.kind) v t f (λ g. omega arith) (rec (arity_behind t.kind) v (ltb-false most_weight v h))
 
 pub loaded : (n w : ℕ) (f : List Token) → w ≤ most_weight → Loaded n w f
 loaded n w [] small = all_light (omega (arith, small))
 loaded (suc n) w (t ∷ f) small = one_further (suc n) w n w t f (λ g. refl) (loaded n w f small)
-loaded zero w (t ∷ f) small = loaded_if w t f small (λ n v h. loaded n v f h) (nat_lt 256 ((if counts t.kind then 1 else 0) + w)) refl
+loaded zero w (t ∷ f) small = loaded_if w t f small (λ n v h. loaded n v f h) (nat_lt most_weight ((if counts t.kind then 1 else 0) + w)) refl

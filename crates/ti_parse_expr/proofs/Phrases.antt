@@ -106,6 +106,7 @@ whole_prefixed (grammar.operation t {op = op} is above a b) = absurd (omega (ari
 
 pub postfixed_some : {ending : Ending} {l : List Token} {x : Exp} → Postfixed ending l x → 0 < length l
 postfixed_some (grammar.int t h) = omega arith
+postfixed_some (grammar.long t h) = omega arith
 postfixed_some (grammar.truth t h) = omega arith
 postfixed_some (grammar.falsehood t h) = omega arith
 postfixed_some (grammar.null t h) = omega arith

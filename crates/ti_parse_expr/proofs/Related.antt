@@ -1,5 +1,5 @@
 -- A relation between parsers that the steps keep holds between two ways to read expressions.
-use Rattle.std.proofs.Common.{◌≡◌, ℕ, zero, suc, ◌+◌, List, [], ◌∷◌, ◌++◌, Option, Some, None, is_some, Ok, Err, refl, true, false, Bool, nat_lt, if◌then◌else◌, codes}
+use Rattle.std.proofs.Common.{◌≡◌, ℕ, zero, suc, pos, ◌+◌, List, [], ◌∷◌, ◌++◌, Option, Some, None, is_some, Ok, Err, refl, true, false, Bool, nat_lt, if◌then◌else◌, codes}
 use Rattle.ti_base.specs.declared.place.Place.{Place}
 use Rattle.ti_syntax.specs.declared.token.TokenKind.{TokenKind}
 use Rattle.ti_syntax.specs.declared.token.TokenKind.TheVariants as k
@@ -108,6 +108,7 @@ module _ (Q : (A : Type 0) → Parser A → Parser A → Type 0) (T : ℕ → �
 
   r_base_by : (q : TokenKind) → R (types.base_by take_token q) (types.base_by take q)
   r_base_by k.KeywordInt = r_place (λ at i. and_then (take_token i) (λ _ j. Ok (b.Int at, j))) (λ at i. and_then (take i) (λ _ j. Ok (b.Int at, j))) (λ at. r_then r_take (λ _. r_pure (b.Int at)))
+  r_base_by k.KeywordLong = r_place (λ at i. and_then (take_token i) (λ _ j. Ok (b.Long at, j))) (λ at i. and_then (take i) (λ _ j. Ok (b.Long at, j))) (λ at. r_then r_take (λ _. r_pure (b.Long at)))
   r_base_by k.KeywordBoolean = r_place (λ at i. and_then (take_token i) (λ _ j. Ok (b.Boolean at, j))) (λ at i. and_then (take i) (λ _ j. Ok (b.Boolean at, j))) (λ at. r_then r_take (λ _. r_pure (b.Boolean at)))
   r_base_by k.KeywordPoint =
       r_place (λ at i. and_then (take_token i) (λ _ i. and_then (arity take_token i) (λ n j. Ok (b.Point at n, j)))) (λ at i. and_then (take i) (λ _ i. and_then (arity take i) (λ n j. Ok (b.Point at n, j))))
@@ -135,14 +136,14 @@ module _ (Q : (A : Type 0) → Parser A → Parser A → Type 0) (T : ℕ → �
       r_kind (λ q. types.qualifiers_if take_token (qualifiers take_token m) found (qualifier_of q)) (λ q. types.qualifiers_if take (qualifiers take m2) found (qualifier_of q))
       (λ q. r_qualifiers_if (qualifiers take_token m) (qualifiers take m2) (r_qualifiers m m2 (t_less m m2 h)) found (qualifier_of q))
 
-  r_dim_by : (q : TokenKind) → R (types.dim_by take_token q) (types.dim_by take q)
-  r_dim_by (k.Dim n) = r_then r_take (λ _. r_pure n)
-  r_dim_by _ = r_refuse
+  r_grid_dimension_by : (q : TokenKind) → R (types.grid_dimension_by take_token q) (types.grid_dimension_by take q)
+  r_grid_dimension_by (k.Dim n) = r_dimension_if (dim_of (pos n))
+  r_grid_dimension_by _ = r_refuse
 
   module _ (turns more : ℕ) (most : T turns more) where
     pub r_grid : R (grid take_token turns) (grid take more)
     unfolding grid
-    r_grid = r_then (r_kind (types.dim_by take_token) (types.dim_by take) r_dim_by) (λ n. r_then (r_expect k.RightBracket) (λ _. r_then (r_qualifiers turns more most []) (λ qs. r_pure (record { dim = n; qualifiers = qs }))))
+    r_grid = r_then (r_kind (types.grid_dimension_by take_token) (types.grid_dimension_by take) r_grid_dimension_by) (λ n. r_then (r_expect k.RightBracket) (λ _. r_then (r_qualifiers turns more most []) (λ qs. r_pure (record { dim = n; qualifiers = qs }))))
 
     pub r_grids : (n : ℕ) (found : List GridTree) → R (grids take_token turns n found) (grids take more n found)
     unfolding grids
@@ -256,6 +257,7 @@ module _ (Q : (A : Type 0) → Parser A → Parser A → Type 0) (T : ℕ → �
 
       r_operand_by : (q : TokenKind) → R (spec.operand_by take_token turns expr1 q) (spec.operand_by take more expr2 q)
       r_operand_by (k.Int n) = r_literal (λ at. e.Int at n)
+      r_operand_by (k.LongInt n) = r_literal (λ at. e.Long at n)
       r_operand_by k.KeywordTrue = r_literal (λ at. e.Truth at true)
       r_operand_by k.KeywordFalse = r_literal (λ at. e.Truth at false)
       r_operand_by k.KeywordNull = r_literal (λ at. e.Null at)

@@ -358,6 +358,7 @@ module _ (turns : ℕ) (expr : ℕ → Parser Exp)
 
   operand_by_says : (t : Token) (ts : List Token) (q : TokenKind) → t.kind ≡ q → Said (suc turns) Post Any (t ∷ ts) (spec.operand_by take_token turns expr q (t ∷ ts))
   operand_by_says t ts (k.Int n) h = literal_says t (e.Int t.place n) (grammar.int t h) ts
+  operand_by_says t ts (k.LongInt n) h = literal_says t (e.Long t.place n) (grammar.long t h) ts
   operand_by_says t ts k.KeywordTrue h = literal_says t (e.Truth t.place true) (grammar.truth t h) ts
   operand_by_says t ts k.KeywordFalse h = literal_says t (e.Truth t.place false) (grammar.falsehood t h) ts
   operand_by_says t ts k.KeywordNull h = literal_says t (e.Null t.place) (grammar.null t h) ts

@@ -78,6 +78,7 @@ with_arity {m = m} t ts make made =
 
 base_by_says : {m : ℕ} (t : Token) (ts : List Token) (q : TokenKind) → t.kind ≡ q → Said m Based Any (t ∷ ts) (spec.base_by take_token q (t ∷ ts))
 base_by_says {m = m} t ts k.KeywordInt h = after_said {m = m} (omega arith) (done_said (grammar.int t h) tt)
+base_by_says {m = m} t ts k.KeywordLong h = after_said {m = m} (omega arith) (done_said (grammar.long t h) tt)
 base_by_says {m = m} t ts k.KeywordBoolean h = after_said {m = m} (omega arith) (done_said (grammar.boolean t h) tt)
 base_by_says {m = m} t ts k.KeywordPoint h = after_said {m = m} (omega arith) (with_arity t ts (b.Point t.place) (λ f n s. grammar.point t h s))
 base_by_says {m = m} t ts k.KeywordRectDomain h = after_said {m = m} (omega arith) (with_arity t ts (b.RectDomain t.place) (λ f n s. grammar.rect_domain t h s))
@@ -122,32 +123,41 @@ abbrev pub GridRest : Token → List Token → GridTree → Type 0
 GridRest o f g = Gridded (o ∷ f) (g ∷ [])
 
 grid_some : (o : Token) → o.kind ≡ k.LeftBracket → BeginsIn (GridRest o) []
-grid_some o ho = (token (k.Dim 1) ∷ token k.RightBracket ∷ [], record { dim = 1; qualifiers = [] }, grammar.more o (token (k.Dim 1)) (token k.RightBracket) ho refl refl grammar.none grammar.none)
+grid_some o ho = (token (k.Dim 1) ∷ token k.RightBracket ∷ [], record { dim = 1; qualifiers = [] }, grammar.more o (token (k.Dim 1)) (token k.RightBracket) ho refl (omega arith) (omega arith) refl grammar.none grammar.none)
 
-grid_made : (o t c : Token) (n : ℕ) (f : List Token) (qs : List Qualifier) → o.kind ≡ k.LeftBracket → t.kind ≡ k.Dim n → c.kind ≡ k.RightBracket → Qualified f qs
+grid_made : (o t c : Token) (n : ℕ) (f : List Token) (qs : List Qualifier) → o.kind ≡ k.LeftBracket → t.kind ≡ k.Dim n → 1 ≤ n → n ≤ 3 → c.kind ≡ k.RightBracket → Qualified f qs
     → GridRest o (t ∷ c ∷ (f ++ [])) (record { dim = n; qualifiers = qs })
-grid_made o t c n f qs ho ht hc s = grammar.more o t c ho ht hc s grammar.none
+grid_made o t c n f qs ho ht low high hc s = grammar.more o t c ho ht low high hc s grammar.none
 
 module _ (turns : ℕ) where
   abbrev rest_of_grid : ℕ → Parser GridTree
   rest_of_grid n i = and_then (expect_by take_token k.RightBracket i) (λ _ i. and_then (qualifiers take_token turns [] i) (λ qs j. Ok (record { dim = n; qualifiers = qs }, j)))
 
-  dim_by_says : (o t : Token) (ts : List Token) (q : TokenKind) → o.kind ≡ k.LeftBracket → t.kind ≡ q → Said turns (GridRest o) Any (t ∷ ts) (and_then (spec.dim_by take_token q (t ∷ ts)) rest_of_grid)
-  dim_by_says o t ts (k.Dim n) ho ht =
-      after_said {m = turns} (omega arith) (want_said {m = turns} k.RightBracket shut_is refl (omega arith) ([], record { dim = n; qualifiers = [] }, grid_made o t (token k.RightBracket) n [] [] ho ht refl grammar.none) _
-      (λ c us hc. then_said {m = turns} {S = Qualified} {Q = Any} (λ f x s. omega arith) (λ f qs s. ([], record { dim = n; qualifiers = qs }, grid_made o t c n f qs ho ht hc s)) _ (all_qualifiers_say turns us)
-      (λ f r qs s _. done_said (grid_made o t c n f qs ho ht hc s) tt)))
-  dim_by_says o t ts _ ho h = refused_said (grid_some o ho)
+  grid_dimension_if_says : (o t : Token) (ts : List Token) (d : ℕ) (q : Option ℕ) → o.kind ≡ k.LeftBracket → t.kind ≡ k.Dim d → dim_of (pos d) ≡ q
+      → Said turns (GridRest o) Any (t ∷ ts) (and_then (spec.dimension_if take_token q (t ∷ ts)) rest_of_grid)
+  grid_dimension_if_says o t ts d None ho ht is = refused_said (grid_some o ho)
+  grid_dimension_if_says o t ts d (Some n) ho hd is =
+      let (same, low, high) = dim_is_by d n (nat_le 1 d) (nat_le d 3) refl refl is in
+      let ht : t.kind ≡ k.Dim n = hd ∙ ap k.Dim same in
+      let more : 1 ≤ n = omega (arith, same, low) in
+      let few : n ≤ 3 = omega (arith, same, high) in
+      after_said {m = turns} (omega arith) (want_said {m = turns} k.RightBracket shut_is refl (omega arith) ([], record { dim = n; qualifiers = [] }, grid_made o t (token k.RightBracket) n [] [] ho ht more few refl grammar.none) _
+      (λ c us hc. then_said {m = turns} {S = Qualified} {Q = Any} (λ f x s. omega arith) (λ f qs s. ([], record { dim = n; qualifiers = qs }, grid_made o t c n f qs ho ht more few hc s)) _ (all_qualifiers_say turns us)
+      (λ f r qs s _. done_said (grid_made o t c n f qs ho ht more few hc s) tt)))
+
+  grid_dimension_by_says : (o t : Token) (ts : List Token) (q : TokenKind) → o.kind ≡ k.LeftBracket → t.kind ≡ q → Said turns (GridRest o) Any (t ∷ ts) (and_then (spec.grid_dimension_by take_token q (t ∷ ts)) rest_of_grid)
+  grid_dimension_by_says o t ts (k.Dim d) ho ht = grid_dimension_if_says o t ts d (dim_of (pos d)) ho ht refl
+  grid_dimension_by_says o t ts _ ho h = refused_said (grid_some o ho)
 
   pub grid_says : (o : Token) → o.kind ≡ k.LeftBracket → (l : List Token) → Said turns (GridRest o) Any l (grid take_token turns l)
   unfolding grid
   grid_says o ho [] = refused_said (grid_some o ho)
-  grid_says o ho (t ∷ ts) = dim_by_says o t ts t.kind ho refl
+  grid_says o ho (t ∷ ts) = grid_dimension_by_says o t ts t.kind ho refl
 
 pub gridded_append : {l m : List Token} {gs hs : List GridTree} → Gridded l gs → Gridded m hs → Gridded (l ++ m) (gs ++ hs)
 gridded_append grammar.none s = s
-gridded_append {m = m} {hs = hs} (grammar.more {l = l} {m = v} {qs = words} {gs = gs} o t c {n = n} ho ht hc qs rest) s =
-    subst (λ z. Gridded (o ∷ t ∷ c ∷ z) (record { dim = n; qualifiers = words } ∷ (gs ++ hs))) (sym (append_assoc l v m)) (grammar.more o t c ho ht hc qs (gridded_append rest s))
+gridded_append {m = m} {hs = hs} (grammar.more {l = l} {m = v} {qs = words} {gs = gs} o t c {n = n} ho ht low high hc qs rest) s =
+    subst (λ z. Gridded (o ∷ t ∷ c ∷ z) (record { dim = n; qualifiers = words } ∷ (gs ++ hs))) (sym (append_assoc l v m)) (grammar.more o t c ho ht low high hc qs (gridded_append rest s))
 
 -- those found, and at most so many more
 abbrev pub MoreGrids : ℕ → List GridTree → List Token → List GridTree → Type 0
@@ -231,6 +241,7 @@ reserved_arity {m = m} t ts make plain made =
 
 reserved_by : {m : ℕ} (t : Token) (ts : List Token) (q : TokenKind) → t.kind ≡ q → begins_type q ≡ true → Said m (λ f x. Based f x × (is_named x ≡ false)) Any (t ∷ ts) (spec.base_by take_token q (t ∷ ts))
 reserved_by {m = m} t ts k.KeywordInt h r = after_said {m = m} (omega arith) (done_said (grammar.int t h, refl) tt)
+reserved_by {m = m} t ts k.KeywordLong h r = after_said {m = m} (omega arith) (done_said (grammar.long t h, refl) tt)
 reserved_by {m = m} t ts k.KeywordBoolean h r = after_said {m = m} (omega arith) (done_said (grammar.boolean t h, refl) tt)
 reserved_by {m = m} t ts k.KeywordPoint h r = after_said {m = m} (omega arith) (reserved_arity t ts (b.Point t.place) (λ n. refl) (λ f n s. grammar.point t h s))
 reserved_by {m = m} t ts k.KeywordRectDomain h r = after_said {m = m} (omega arith) (reserved_arity t ts (b.RectDomain t.place) (λ n. refl) (λ f n s. grammar.rect_domain t h s))

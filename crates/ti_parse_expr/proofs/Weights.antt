@@ -4,7 +4,8 @@ use Rattle.std.proofs.Math.Seq.{take-append_seam}
 use Rattle.std.proofs.lemmas.List.{take_all, length-drop}
 use Rattle.ti_syntax.specs.declared.token.Token.{Token}
 use Rattle.ti_syntax.specs.Spelling.Weights.{counts, arity_behind, weigh, weigh_behind}
-use Rattle.ti_parse_expr.specs.Answers.{EndsAtEnd, IsLight, most_weight}
+use Rattle.ti_parse_expr.specs.Answers.{EndsAtEnd, IsLight}
+use Rattle.ti_syntax.specs.Spelling.{most_weight}
 use Rattle.ti_parse_expr.proofs.Follows.{last_kind, last_append}
 use Rattle.ti_parse_expr.specs.Reach.{ends_expression, weighed, onward, reach, reach_by, IsCut}
 

@@ -6,7 +6,7 @@ use Rattle.ti_syntax.specs.declared.token.Token.{Token}
 use Rattle.ti_syntax.specs.declared.token.TokenKind.TheVariants as k
 use Rattle.ti_syntax.specs.Spelling.Loads.{Load, Weight, weights_behind}
 use Rattle.ti_syntax.specs.Spelling.Weights.{counts, arity_behind, weigh}
-use Rattle.ti_parse_expr.specs.Answers.{most_weight}
+use Rattle.ti_syntax.specs.Spelling.{most_weight}
 use Rattle.ti_parse_expr.specs.Input.{At, Over, Spent, Outcome, Parser}
 use Rattle.ti_parse_expr.specs.Reach.{ends_expression}
 use Rattle.ti_parse_expr.specs.Full as spec
@@ -412,15 +412,15 @@ module _ {A : Type 0} (S : List Token → A → Type 0) (raw cut : ℕ → Parse
     light_passed passed light (inr (inl ends_it)) = absurd (no_end (begins_front passed) ends_it)
     light_passed passed light (inr (inr above)) = absurd (omega (arith, light, above, ap weigh at.made))
 
-    spent_if : Passed of_front → (c : Bool) → nat_lt 256 (weight + weigh front) ≡ c → Alike (reads l) (if c then Err (Over (drop (length front - 1) l)) else Err Spent)
-    spent_if passed true h = heavy_alike passed (ltb-true 256 (weight + weigh front) h)
-    spent_if passed false h = light_passed passed (ltb-false 256 (weight + weigh front) h) at.stops
+    spent_if : Passed of_front → (c : Bool) → nat_lt most_weight (weight + weigh front) ≡ c → Alike (reads l) (if c then Err (Over (drop (length front - 1) l)) else Err Spent)
+    spent_if passed true h = heavy_alike passed (ltb-true most_weight (weight + weigh front) h)
+    spent_if passed false h = light_passed passed (ltb-false most_weight (weight + weigh front) h) at.stops
 
     alike_by : (o : Outcome A) → Alike of_front o → Alike (reads l) (widened weight l front o)
     alike_by (Ok p) (is, some) = subst (λ z. Alike (reads l) (widened weight l front z)) is (front_alike (subst (λ z. 0 < length (rest_of z)) (sym is) some))
     alike_by (Err (At r)) (is, some) = subst (λ z. Alike (reads l) (widened weight l front z)) is (front_alike (subst (λ z. 0 < length (rest_of z)) (sym is) some))
     alike_by (Err (Over r)) (is, some) = subst (λ z. Alike (reads l) (widened weight l front z)) is (front_alike (subst (λ z. 0 < length (rest_of z)) (sym is) some))
-    alike_by (Err Spent) passed = spent_if passed (nat_lt 256 (weight + weigh front)) refl
+    alike_by (Err Spent) passed = spent_if passed (nat_lt most_weight (weight + weigh front)) refl
 
   whole_alike : (l : List Token) → 0 < length l → Alike (reads l) (spec.within weight cut l)
   whole_alike l some =

@@ -14,14 +14,11 @@ use Rattle.ti_parse_expr.specs.declared.parse.Form.{Form}
 use Rattle.ti_parse_expr.specs.declared.parse.Form.TheVariants as form
 use Rattle.ti_parse_expr.specs.declared.error.ParseErr.{ParseErr}
 use Rattle.ti_parse_expr.specs.declared.error.ParseErr.TheVariants.{Refused, Memory}
+use Rattle.ti_syntax.specs.Spelling.{most_weight}
 
 -- the last token is the end of the text
 abbrev pub EndsAtEnd : List Token → Type 0
 EndsAtEnd list = (front : List Token) × (last : Token) × (list ≡ front ++ last ∷ []) × (last.kind ≡ k.End)
-
--- the most that a token may weigh
-abbrev pub most_weight : ℕ
-most_weight = 256
 
 -- the phrases of each form
 abbrev pub Phrase : Form → List Token → Exp → Type 0

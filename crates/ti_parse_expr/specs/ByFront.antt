@@ -5,7 +5,7 @@ use Rattle.ti_syntax.specs.declared.token.Token.{Token}
 use Rattle.ti_syntax.specs.Spelling.Weights.{weigh}
 use Rattle.ti_parse_expr.specs.declared.stop.Stop.{Stop}
 use Rattle.ti_parse_expr.specs.declared.stop.Stop.TheVariants as stop
-use Rattle.ti_parse_expr.specs.Answers.{most_weight}
+use Rattle.ti_syntax.specs.Spelling.{most_weight}
 use Rattle.ti_parse_expr.specs.Full.{front_of}
 
 -- The answer for a front of the list, with some tokens of it left, is that for the list, with as many tokens taken. But where

@@ -24,6 +24,7 @@ Operand = Exp × Ending
 -- the words that begin a type but no expression
 abbrev pub begins_type : TokenKind → Bool
 begins_type k.KeywordInt = true
+begins_type k.KeywordLong = true
 begins_type k.KeywordBoolean = true
 begins_type k.KeywordPoint = true
 begins_type k.KeywordRectDomain = true
@@ -155,6 +156,7 @@ module _ (take : Parser (Unit {0})) (turns : ℕ) (expr : ℕ → Parser Exp) wh
 
   abbrev pub operand_by : TokenKind → Parser Operand
   operand_by (k.Int n) = (do at ← here; take; postfix turns (e.Int at n, Other))
+  operand_by (k.LongInt n) = (do at ← here; take; postfix turns (e.Long at n, Other))
   operand_by k.KeywordTrue = (do at ← here; take; postfix turns (e.Truth at true, Other))
   operand_by k.KeywordFalse = (do at ← here; take; postfix turns (e.Truth at false, Other))
   operand_by k.KeywordNull = (do at ← here; take; postfix turns (e.Null at, Other))

@@ -10,6 +10,7 @@ use Rattle.ti_parse_expr.specs.declared.parse.Form.{Form}
 use Rattle.ti_parse_expr.specs.Input.{At, Over, Spent, Outcome, Parser, next, take_token, take_within}
 use Rattle.ti_parse_expr.specs.Reach.{reach}
 use Rattle.ti_parse_expr.specs.Expr.{Operand, operand, expr, phrase, behind_name, behind_bracket}
+use Rattle.ti_syntax.specs.Spelling.{most_levels, most_weight}
 
 -- the highest level and the greatest weight of a token that is read
 pub record Limits : Type 0 where
@@ -18,7 +19,7 @@ pub record Limits : Type 0 where
 
 -- those of the language
 abbrev pub usual : Limits
-usual = record { level = 64; weight = 256 }
+usual = record { level = most_levels; weight = most_weight }
 
 -- whether a load is above its limit
 abbrev pub above : Limits → Load → Bool
@@ -84,14 +85,14 @@ full_behind_bracket = behind_bracket_to usual
 
 -- the front up to and including the first token that weighs too much or stands in no expression
 abbrev pub front_of : ℕ → List Token → List Token
-front_of weight l = take (reach 0 (256 - weight) l) l
+front_of weight l = take (reach 0 (most_weight - weight) l) l
 
 -- what the outcome for a front of the list is for the list
 abbrev pub widened : {A : Type 0} → ℕ → List Token → List Token → Outcome A → Outcome A
 widened weight l front (Ok p) = Ok (p.0, drop (length front - length p.1) l)
 widened weight l front (Err (At r)) = Err (At (drop (length front - length r) l))
 widened weight l front (Err (Over r)) = Err (Over (drop (length front - length r) l))
-widened weight l front (Err Spent) = if nat_lt 256 (weight + weigh front) then Err (Over (drop (length front - 1) l)) else Err Spent
+widened weight l front (Err Spent) = if nat_lt most_weight (weight + weigh front) then Err (Over (drop (length front - 1) l)) else Err Spent
 
 -- a reader of the front, given one turn more than the front has tokens
 abbrev pub within : {A : Type 0} → ℕ → (ℕ → Parser A) → Parser A

@@ -4,7 +4,8 @@ use Rattle.ti_syntax.specs.declared.token.Token.{Token}
 use Rattle.ti_syntax.specs.declared.token.TokenKind.{TokenKind}
 use Rattle.ti_syntax.specs.declared.token.TokenKind.TheVariants as k
 use Rattle.ti_syntax.specs.Spelling.Weights.{counts, arity_behind, weigh}
-use Rattle.ti_parse_expr.specs.Answers.{IsLight, most_weight}
+use Rattle.ti_parse_expr.specs.Answers.{IsLight}
+use Rattle.ti_syntax.specs.Spelling.{most_weight}
 
 -- tokens that stand in no expression
 abbrev pub ends_expression : TokenKind → Bool

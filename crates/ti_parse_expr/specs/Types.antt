@@ -10,7 +10,7 @@ use Rattle.ti_syntax.specs.Trees.Types.{GridTree, TypeTree}
 use Rattle.ti_syntax.specs.Spelling.Operators.{qualifier_of}
 use Rattle.ti_parse_expr.specs.Input.{Parser, Spent, ◌>>=◌, ◌>>◌, pure, refuse, peek, here, sees, expect_by}
 
--- a number of dimensions
+-- a number of dimensions, from 1 to 3
 abbrev pub dim_of : ℤ → Option ℕ
 dim_of (pos n) = if nat_le 1 n && nat_le n 3 then Some n else None
 dim_of (negsuc n) = None
@@ -39,6 +39,7 @@ module _ (take : Parser (Unit {0})) where
 
   abbrev pub base_by : TokenKind → Parser Base
   base_by k.KeywordInt = (do at ← here; take; pure (b.Int at))
+  base_by k.KeywordLong = (do at ← here; take; pure (b.Long at))
   base_by k.KeywordBoolean = (do at ← here; take; pure (b.Boolean at))
   base_by k.KeywordPoint = (do at ← here; take; n ← arity; pure (b.Point at n))
   base_by k.KeywordRectDomain = (do at ← here; take; n ← arity; pure (b.RectDomain at n))
@@ -57,14 +58,18 @@ module _ (take : Parser (Unit {0})) where
   qualifiers zero found = λ i. Err Spent
   qualifiers (suc n) found = (do kind ← peek; qualifiers_if (qualifiers n) found (qualifier_of kind))
 
-  abbrev pub dim_by : TokenKind → Parser ℕ
-  dim_by (k.Dim n) = take >> pure n
-  dim_by _ = refuse
+  abbrev pub grid_dimension_by : TokenKind → Parser ℕ
+  grid_dimension_by (k.Dim n) = dimension_if (dim_of (pos n))
+  grid_dimension_by _ = refuse
+
+  -- the number of dimensions of a grid
+  abbrev pub grid_dimension : Parser ℕ
+  grid_dimension = peek >>= grid_dimension_by
 
   -- after the opening bracket
   unfoldable pub grid : ℕ → Parser GridTree
   grid turns = do
-    n ← peek >>= dim_by
+    n ← grid_dimension
     expect_by take k.RightBracket
     qs ← qualifiers turns []
     pure (record { dim = n; qualifiers = qs })

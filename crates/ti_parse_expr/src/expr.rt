@@ -117,11 +117,11 @@ impl<F: Fn(Global, &mut Tokens<'_>, usize, u8) -> Result<Expr, Stop>> Grammar<F>
         tokens.expect(TokenKind::Colon)?;
         let high = self.expr(tokens, 1)?;
         if !tokens.sees(TokenKind::Colon) {
-            return Ok(Range::Plain(low, high));
+            return Ok(Range::Plain { low, high });
         }
         tokens.take()?;
         let step = self.expr(tokens, 1)?;
-        Ok(Range::Stepped(low, high, step))
+        Ok(Range::Stepped { low, high, step })
     }
 
     #[tactic(auto, unfolding(crate::specs::Expr::more_ranges))]
@@ -193,7 +193,7 @@ impl<F: Fn(Global, &mut Tokens<'_>, usize, u8) -> Result<Expr, Stop>> Grammar<F>
         tokens.take()?;
         let args = self.args(tokens)?;
         Ok(Operand {
-            expr: Expr::Call(place, name, args),
+            expr: Expr::Call { place, name, args },
             ending: Ending::Call,
         })
     }
@@ -208,14 +208,23 @@ impl<F: Fn(Global, &mut Tokens<'_>, usize, u8) -> Result<Expr, Stop>> Grammar<F>
         let name = tokens.name(self.alloc)?;
         if !tokens.sees(TokenKind::LeftParen) {
             return Ok(Operand {
-                expr: Expr::Select(place, left, name),
+                expr: Expr::Select {
+                    place,
+                    receiver: left,
+                    name,
+                },
                 ending: Ending::Target,
             });
         }
         tokens.take()?;
         let args = self.args(tokens)?;
         Ok(Operand {
-            expr: Expr::Member(place, left, name, args),
+            expr: Expr::Member {
+                place,
+                receiver: left,
+                name,
+                args,
+            },
             ending: Ending::Call,
         })
     }
@@ -227,9 +236,13 @@ impl<F: Fn(Global, &mut Tokens<'_>, usize, u8) -> Result<Expr, Stop>> Grammar<F>
         ensures { ReadsAs operand_of (spec.index take_within self.now.turns (spec.expr take_within self.now.turns) place (exp_of left) tokens.old) result tokens.new }
     {
         let left = Box::new(self.alloc, left)?;
-        let parts = self.parts(tokens)?;
+        let indices = self.parts(tokens)?;
         Ok(Operand {
-            expr: Expr::Index(place, left, parts),
+            expr: Expr::Index {
+                place,
+                receiver: left,
+                indices,
+            },
             ending: Ending::Target,
         })
     }
@@ -291,6 +304,10 @@ impl<F: Fn(Global, &mut Tokens<'_>, usize, u8) -> Result<Expr, Stop>> Grammar<F>
             TokenKind::Int(n) => {
                 tokens.take()?;
                 Expr::Int(place, *n)
+            }
+            TokenKind::LongInt(n) => {
+                tokens.take()?;
+                Expr::Long(place, *n)
             }
             TokenKind::KeywordTrue => {
                 tokens.take()?;
@@ -354,7 +371,12 @@ impl<F: Fn(Global, &mut Tokens<'_>, usize, u8) -> Result<Expr, Stop>> Grammar<F>
         let place = tokens.place();
         tokens.take()?;
         let right = Box::new(self.alloc, self.expr(tokens, strength(op) + 1)?)?;
-        Ok(Expr::Binary(place, op, left, right))
+        Ok(Expr::Binary {
+            place,
+            operator: op,
+            left,
+            right,
+        })
     }
 
     #[tactic(auto, unfolding(crate::specs::Expr::climb))]
@@ -381,8 +403,9 @@ impl<F: Fn(Global, &mut Tokens<'_>, usize, u8) -> Result<Expr, Stop>> Grammar<F>
         ensures { ReadsAs exp_of (spec.cast take_within self.now.turns (spec.expr take_within self.now.turns) place (type_of ty) tokens.old) result tokens.new }
     {
         tokens.expect(TokenKind::RightParen)?;
-        let inner = Box::new(self.alloc, self.expr(tokens, 11)?)?;
-        Ok(Expr::Cast(place, ty, inner))
+        let to = Box::new(self.alloc, ty)?;
+        let operand = Box::new(self.alloc, self.expr(tokens, 11)?)?;
+        Ok(Expr::Cast { place, to, operand })
     }
 
     #[tactic(auto, unfolding(crate::specs::Expr::cast_from))]
@@ -486,6 +509,7 @@ impl<F: Fn(Global, &mut Tokens<'_>, usize, u8) -> Result<Expr, Stop>> Grammar<F>
                 self.paren_name(tokens, place, name_place, name)
             }
             TokenKind::KeywordInt
+            | TokenKind::KeywordLong
             | TokenKind::KeywordBoolean
             | TokenKind::KeywordPoint
             | TokenKind::KeywordRectDomain => {
@@ -504,7 +528,11 @@ impl<F: Fn(Global, &mut Tokens<'_>, usize, u8) -> Result<Expr, Stop>> Grammar<F>
         let place = tokens.place();
         tokens.take()?;
         let operand = Box::new(self.alloc, self.expr(tokens, 11)?)?;
-        Ok(Expr::Unary(place, op, operand))
+        Ok(Expr::Unary {
+            place,
+            operator: op,
+            operand,
+        })
     }
 
     #[tactic(auto, unfolding(crate::specs::Expr::prefix))]

@@ -2,7 +2,7 @@
 
 ghost use Rattle.std.specs.Prelude.{ℕ, ◌+◌, ◌<◌, ◌≤◌, ◌^◌};
 ghost use Rattle.ti_syntax.specs.Trees.Views.{exp_of};
-ghost use Rattle.ti_parse_expr.specs.Answers.{most_weight};
+ghost use Rattle.ti_syntax.specs.Spelling.{most_weight};
 ghost use Rattle.ti_parse_expr.specs.ByFront.{ByFront};
 ghost use Rattle.ti_parse_expr.specs.Full as spec;
 ghost use Rattle.ti_parse_expr.specs.Input.{ReadsAs};

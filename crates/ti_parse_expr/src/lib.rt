@@ -9,8 +9,6 @@ pub mod operators;
 pub mod parse;
 pub mod reach;
 mod stop;
-#[cfg(test)]
-mod tests;
 mod tokens;
 pub mod types;
 

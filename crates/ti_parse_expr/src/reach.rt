@@ -2,7 +2,8 @@
 
 ghost use Rattle.std.specs.Prelude.{[], ◌≡◌, ◌≤◌, ◌<◌, ◌+◌, ◌^◌, length};
 ghost use Rattle.ti_syntax.specs.Spelling.Weights.{weigh as weigh_spec};
-ghost use Rattle.ti_parse_expr.specs.Answers.{EndsAtEnd, most_weight};
+ghost use Rattle.ti_parse_expr.specs.Answers.{EndsAtEnd};
+ghost use Rattle.ti_syntax.specs.Spelling.{most_weight};
 ghost use Rattle.ti_parse_expr.specs.Reach.{IsCut};
 ghost use Rattle.ti_parse_expr.specs.Reach as spec;
 ghost use Rattle.ti_parse_expr.specs.Full as full;

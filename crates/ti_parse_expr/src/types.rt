@@ -13,7 +13,7 @@ use std::alloc::Global;
 use ti_syntax::TokenKind;
 use ti_syntax::tree::{Base, Brackets, Qualifier, TypeName};
 
-/// A number of dimensions.
+/// A number of dimensions, from 1 to 3.
 fn dim_of(n: i32) -> Option<u8>
     ensures { result ≡ spec.dim_of n }
 {
@@ -24,17 +24,24 @@ fn dim_of(n: i32) -> Option<u8>
     }
 }
 
+/// Takes the next token, which is a number, if it is one of dimensions.
+fn dimension_if(tokens: &mut Tokens<'_>, dim: Option<u8>) -> Result<u8, Stop>
+    ensures { Reads (spec.dimension_if take_within dim tokens.old) result tokens.new }
+{
+    match dim {
+        Some(dim) => {
+            tokens.take()?;
+            Ok(dim)
+        }
+        None => Err(Stop::Refused),
+    }
+}
+
 fn dimension(tokens: &mut Tokens<'_>) -> Result<u8, Stop>
     ensures { Reads (spec.dimension take_within tokens.old) result tokens.new }
 {
     match tokens.peek() {
-        TokenKind::Int(n) => match dim_of(*n) {
-            Some(dim) => {
-                tokens.take()?;
-                Ok(dim)
-            }
-            None => Err(Stop::Refused),
-        },
+        TokenKind::Int(n) => dimension_if(tokens, dim_of(*n)),
         _ => Err(Stop::Refused),
     }
 }
@@ -60,6 +67,10 @@ pub fn base(alloc: Global, tokens: &mut Tokens<'_>) -> Result<Base, Stop>
         TokenKind::KeywordInt => {
             tokens.take()?;
             Ok(Base::Int(place))
+        }
+        TokenKind::KeywordLong => {
+            tokens.take()?;
+            Ok(Base::Long(place))
         }
         TokenKind::KeywordBoolean => {
             tokens.take()?;
@@ -103,16 +114,22 @@ pub fn qualifiers(
     Err(Stop::Spent)
 }
 
+/// How many dimensions a grid has.
+fn grid_dimension(tokens: &mut Tokens<'_>) -> Result<u8, Stop>
+    ensures { Reads (spec.grid_dimension take_within tokens.old) result tokens.new }
+{
+    match tokens.peek() {
+        TokenKind::Dim(n) => dimension_if(tokens, dim_of(i32::from(*n))),
+        _ => Err(Stop::Refused),
+    }
+}
+
 /// The brackets of a grid after the opening one, and what qualifies the grid.
 #[tactic(auto, unfolding(crate::specs::Types::grid))]
 pub fn grid(alloc: Global, tokens: &mut Tokens<'_>, turns: usize) -> Result<Brackets, Stop>
     ensures { ReadsAs grid_of (spec.grid take_within turns tokens.old) result tokens.new }
 {
-    let dim = match tokens.peek() {
-        TokenKind::Dim(dim) => *dim,
-        _ => return Err(Stop::Refused),
-    };
-    tokens.take()?;
+    let dim = grid_dimension(tokens)?;
     tokens.expect(TokenKind::RightBracket)?;
     let qualifiers = qualifiers(alloc, tokens, turns)?;
     Ok(Brackets { dim, qualifiers })

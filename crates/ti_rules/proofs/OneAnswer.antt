@@ -6,7 +6,7 @@ use Rattle.ti_syntax.specs.declared.token.Token.{Token}
 use Rattle.ti_syntax.specs.Tokenizing.{IsTokenized}
 use Rattle.ti_syntax.specs.Trees.Classes.{TextTree}
 use Rattle.ti_syntax.specs.Spelling.{Spells, Misfit, IsGrammarRefusal, fits}
-use Rattle.ti_lang.specs.Programs.{Program}
+use Rattle.ti_lang.specs.Listed.{ListedProgram}
 use Rattle.ti_lang.specs.Program.Classes.{NumberedProgram}
 use Rattle.ti_lang.specs.Numbering.{Numbers}
 use Rattle.ti_lang.specs.Listings.{IsListing}
@@ -78,7 +78,7 @@ one_program known text p q has other =
     let same = one_tree_of known text has.tree other.tree has.has_tree other.has_tree in
     known.one_numbered other.tree p q (subst (λ (t : TextTree). Numbers t p) same has.numbers) other.numbers
 
-pub one_listing : OneReading → (text : List ℕ) (p q : Program) → HasListing text p → HasListing text q → p ≡ q
+pub one_listing : OneReading → (text : List ℕ) (p q : ListedProgram) → HasListing text p → HasListing text q → p ≡ q
 one_listing known text p q has other =
     let same = one_program known text has.program other.program has.has_program other.has_program in
     one_listing_of other.program p q (subst (λ (x : NumberedProgram). IsListing x p) same has.is_listing) other.is_listing

@@ -6,7 +6,7 @@ use Rattle.ti_syntax.specs.declared.token.Token.{Token}
 use Rattle.ti_syntax.specs.Tokenizing.{IsTokenized}
 use Rattle.ti_syntax.specs.Trees.Classes.{TextTree}
 use Rattle.ti_syntax.specs.Spelling.{Spells, IsShallow, Misfit, Unexpected, TooDeep, IsGrammarRefusal}
-use Rattle.ti_lang.specs.Programs.{Program}
+use Rattle.ti_lang.specs.Listed.{ListedProgram}
 use Rattle.ti_lang.specs.Listings.{IsListing}
 use Rattle.ti_lang.specs.Program.Classes.{NumberedProgram}
 use Rattle.ti_lang.specs.Numbering.{Numbers}
@@ -72,7 +72,7 @@ pub record HasProgram (text : List ℕ) (program : NumberedProgram) : Type 0 whe
   pub numbers : Numbers tree program
 
 -- what the `main` of the program of a text does
-pub record HasListing (text : List ℕ) (listing : Program) : Type 0 where
+pub record HasListing (text : List ℕ) (listing : ListedProgram) : Type 0 where
   pub program : NumberedProgram
   pub has_program : HasProgram text program
   pub is_listing : IsListing program listing

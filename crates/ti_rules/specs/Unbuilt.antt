@@ -1,6 +1,6 @@
 -- The forms of the language that aren't built yet. Where one stands, the text is refused at its first token that has a place in the
 -- tree; the parentheses of a group have none.
-use Rattle.std.specs.Prelude.{◌≡◌, ℕ, List, [], ◌∷◌, ◌++◌, Contains, Option, Some, None, slice_get}
+use Rattle.std.specs.Prelude.{Bool, false, if◌then◌else◌, List, [], ◌∷◌, ◌++◌, Contains, bytes_eq, codes}
 use Rattle.std.specs.List.{flat_map}
 use Rattle.ti_base.specs.declared.place.Place.{Place}
 use Rattle.ti_syntax.specs.declared.tree.classes.Modifier.{Modifier}
@@ -9,8 +9,7 @@ use Rattle.ti_syntax.specs.Trees.Expressions.{Exp, place_of_exp}
 use Rattle.ti_syntax.specs.Trees.Expressions as e
 use Rattle.ti_syntax.specs.Trees.Statements.{PrintTree, Stm, Stms}
 use Rattle.ti_syntax.specs.Trees.Statements as s
-use Rattle.ti_syntax.specs.Trees.Classes.{ResultTree, Void, Typed, MethodTree, MemberTree, FieldMember, MethodMember, ClassTree, TextTree}
-use Rattle.ti_lang.specs.MainMethod.{IsFirst, IsMainClass, IsNamedMain, IsMainOf}
+use Rattle.ti_syntax.specs.Trees.Classes.{ResultTree, Void, Typed, MemberTree, FieldMember, MethodMember, ClassTree, TextTree}
 
 -- ---- first tokens
 
@@ -41,62 +40,83 @@ member_place (MethodMember m) = modified_place m.modifiers (result_place m.resul
 abbrev pub class_place : ClassTree → Place
 class_place c = modified_place c.modifiers c.word
 
--- ---- unbuilt forms
+-- ---- statements
+
+-- a printed expression is built only where it is an int literal, `Ti.thisProc()` or `Ti.numProcs()`
+abbrev pub unbuilt_value : Exp → List Place
+unbuilt_value (e.Int at n) = []
+unbuilt_value (e.ThisProc at) = []
+unbuilt_value (e.NumProcs at) = []
+unbuilt_value x = place_of_first x ∷ []
+
+abbrev pub unbuilt_print : PrintTree → List Place
+unbuilt_print s.Nothing = []
+unbuilt_print (s.Text text) = []
+unbuilt_print (s.Expression x) = unbuilt_value x
+unbuilt_print (s.TextAndExpression text x) = unbuilt_value x
 
 abbrev mutual
-  -- the statements that a statement comes to: those of a block, none for `;`, or itself
-  pub opened : Stm → List Stm
-  opened s.Empty = []
-  opened (s.Block body) = all_opened body
-  opened other = other ∷ []
+  -- where a statement, or one in its blocks, is refused: barriers, prints, blocks and `;` are built
+  pub unbuilt_statement : Stm → List Place
+  unbuilt_statement s.Empty = []
+  unbuilt_statement (s.Declare at type name value) = type_place type ∷ []
+  unbuilt_statement (s.Assign at target value) = place_of_first target ∷ []
+  unbuilt_statement (s.Update at op target x) = place_of_first target ∷ []
+  unbuilt_statement (s.Step at op target) = place_of_first target ∷ []
+  unbuilt_statement (s.Call x) = place_of_first x ∷ []
+  unbuilt_statement (s.Print at what) = unbuilt_print what
+  unbuilt_statement (s.Barrier at) = []
+  unbuilt_statement (s.Break at) = at ∷ []
+  unbuilt_statement (s.Continue at) = at ∷ []
+  unbuilt_statement (s.Return at value) = at ∷ []
+  unbuilt_statement (s.Block body) = unbuilt_row body
+  unbuilt_statement (s.If at c x) = at ∷ []
+  unbuilt_statement (s.IfElse at c x y) = at ∷ []
+  unbuilt_statement (s.While at c body) = at ∷ []
+  unbuilt_statement (s.For at first c update body) = at ∷ []
+  unbuilt_statement (s.Foreach at name_at name domain body) = at ∷ []
 
-  pub all_opened : Stms → List Stm
-  all_opened s.Nil = []
-  all_opened (s.Cons first rest) = opened first ++ all_opened rest
+  pub unbuilt_row : Stms → List Place
+  unbuilt_row s.Nil = []
+  unbuilt_row (s.Cons first rest) = unbuilt_statement first ++ unbuilt_row rest
 
--- the statements of a body in order, with blocks opened and `;` dropped
-abbrev pub body_opened : List Stm → List Stm
-body_opened body = flat_map opened body
+-- ---- classes and members
 
--- where a printed expression is refused: it is built only where it is a number, `Ti.thisProc()` or `Ti.numProcs()`
-abbrev pub refused_value : Exp → Option Place
-refused_value (e.Int at n) = None
-refused_value (e.ThisProc at) = None
-refused_value (e.NumProcs at) = None
-refused_value x = Some (place_of_first x)
+-- what the first element that passes the test gives, and what each other element gives
+abbrev pub first_apart : {A B : Type 0} → (A → Bool) → (A → List B) → (A → List B) → List A → List B
+first_apart test first other [] = []
+first_apart test first other (x ∷ rest) = if test x then first x ++ flat_map other rest else other x ++ first_apart test first other rest
 
-abbrev pub refused_print : PrintTree → Option Place
-refused_print s.Nothing = None
-refused_print (s.Text text) = None
-refused_print (s.Expression x) = refused_value x
-refused_print (s.TextAndExpression text x) = refused_value x
+-- a method with the name main
+abbrev pub is_main_method : MemberTree → Bool
+is_main_method (FieldMember f) = false
+is_main_method (MethodMember m) = bytes_eq m.name (codes "main")
 
--- where a statement is refused, apart from the statements of a block: barriers, prints, blocks and `;` are built
-abbrev pub refused_statement : Stm → Option Place
-refused_statement s.Empty = None
-refused_statement (s.Declare at type name value) = Some (type_place type)
-refused_statement (s.Assign at target value) = Some (place_of_first target)
-refused_statement (s.Update at op target x) = Some (place_of_first target)
-refused_statement (s.Step at op target) = Some (place_of_first target)
-refused_statement (s.Call x) = Some (place_of_first x)
-refused_statement (s.Print at what) = refused_print what
-refused_statement (s.Barrier at) = None
-refused_statement (s.Break at) = Some at
-refused_statement (s.Continue at) = Some at
-refused_statement (s.Return at value) = Some at
-refused_statement (s.Block body) = None
-refused_statement (s.If at c x) = Some at
-refused_statement (s.IfElse at c x y) = Some at
-refused_statement (s.While at c body) = Some at
-refused_statement (s.For at first c update body) = Some at
-refused_statement (s.Foreach at name_at name domain body) = Some at
+-- a class with the name Main
+abbrev pub is_main_class : ClassTree → Bool
+is_main_class c = bytes_eq c.name (codes "Main")
+
+-- in the method main its statements
+abbrev pub unbuilt_in_method : MemberTree → List Place
+unbuilt_in_method (FieldMember f) = []
+unbuilt_in_method (MethodMember m) = flat_map unbuilt_statement m.body
+
+-- any other member
+abbrev pub unbuilt_member : MemberTree → List Place
+unbuilt_member m = member_place m ∷ []
+
+-- in the class Main each member but the first method main, and what is refused in that
+abbrev pub unbuilt_in_class : ClassTree → List Place
+unbuilt_in_class c = first_apart is_main_method unbuilt_in_method unbuilt_member c.members
+
+-- any other class
+abbrev pub unbuilt_class : ClassTree → List Place
+unbuilt_class c = class_place c ∷ []
+
+-- where the forms of a text stand that aren't built: each class but the first Main, and what is refused in that
+abbrev pub unbuilt_places : TextTree → List Place
+unbuilt_places tree = first_apart is_main_class unbuilt_in_class unbuilt_class tree
 
 -- an unbuilt form of the text has its first token at this place
-pub data IsUnbuilt (tree : TextTree) : Place → Type 0 where
-  -- a class other than the first Main
-  another_class : (i : ℕ) {c : ClassTree} → slice_get tree i ≡ Some c → (IsMainClass tree i c → ⊥) → IsUnbuilt tree (class_place c)
-  -- a member of Main other than its first method main
-  another_member : {i : ℕ} (j : ℕ) {c : ClassTree} {m : MemberTree} → IsMainClass tree i c → slice_get c.members j ≡ Some m
-      → (IsFirst IsNamedMain c.members j m → ⊥) → IsUnbuilt tree (member_place m)
-  -- a statement of main, in blocks or not
-  statement : {m : MethodTree} {x : Stm} {place : Place} → IsMainOf tree m → Contains (body_opened m.body) x → refused_statement x ≡ Some place → IsUnbuilt tree place
+abbrev pub IsUnbuilt : TextTree → Place → Type 0
+IsUnbuilt tree place = Contains (unbuilt_places tree) place

@@ -68,10 +68,10 @@ OpensComment l = (back : List ℕ) × (l ≡ codes "/*" ++ back)
 abbrev pub ClosesAtEnd : List ℕ → Type 0
 ClosesAtEnd l = (front back : List ℕ) → l ≡ front ++ (codes "*/" ++ back) → back ≡ []
 
--- a piece of a text is blank or a comment, or it spells a token
+-- a piece of a text is blank or a comment, or the lexeme of a token
 pub data Piece : Type 0 where
   Space : Piece
-  Spells : (kind : TokenKind) → Piece
+  Lexeme : (kind : TokenKind) → Piece
 
 -- these bytes, with this rest of the text behind them, are a piece
 pub data IsPiece : List ℕ → List ℕ → Piece → Type 0 where
@@ -84,27 +84,27 @@ pub data IsPiece : List ℕ → List ℕ → Piece → Type 0 where
   -- what looks like a name and is no reserved word
   name : (b : ℕ) (more : List ℕ) {rest : List ℕ} → begins_name b ≡ true → list_all is_name_byte more ≡ true
       → ((kind : TokenKind) → word_of kind ≢ Some (b ∷ more))
-      → IsPiece (b ∷ more) rest (Spells (k.Name (b ∷ more)))
-  reserved : (kind : TokenKind) {word rest : List ℕ} → word_of kind ≡ Some word → IsPiece word rest (Spells kind)
+      → IsPiece (b ∷ more) rest (Lexeme (k.Name (b ∷ more)))
+  reserved : (kind : TokenKind) {word rest : List ℕ} → word_of kind ≡ Some word → IsPiece word rest (Lexeme kind)
   -- a digit from 1 to 3 and a `d`, behind which no name could go on
   dimension : (n : ℕ) {rest : List ℕ} → 1 ≤ n → n ≤ 3 → first_passes is_name_byte rest ≡ false
-      → IsPiece ((n + 48) ∷ 100 ∷ []) rest (Spells (k.Dim n))
+      → IsPiece ((n + 48) ∷ 100 ∷ []) rest (Lexeme (k.Dim n))
   -- a whole run of digits with no 0 in front, behind which no letter of a long number stands
   number : (digit : ℕ) (more : List ℕ) {rest : List ℕ} → list_all is_ascii_digit (digit ∷ more) ≡ true
       → first_passes goes_on_number rest ≡ false → (digit ≡ 48 → more ≡ [])
       → digits_value 10 (digit ∷ more) ≤ 2147483647
-      → IsPiece (digit ∷ more) rest (Spells (k.Int (pos (digits_value 10 (digit ∷ more)))))
+      → IsPiece (digit ∷ more) rest (Lexeme (k.Int (pos (digits_value 10 (digit ∷ more)))))
   -- such a run, and the letter
   long_number : (digit : ℕ) (more : List ℕ) (letter : ℕ) {rest : List ℕ} → list_all is_ascii_digit (digit ∷ more) ≡ true
       → is_long_letter letter ≡ true → (digit ≡ 48 → more ≡ [])
       → digits_value 10 (digit ∷ more) ≤ 9223372036854775807
-      → IsPiece ((digit ∷ more) ++ letter ∷ []) rest (Spells (k.LongInt (pos (digits_value 10 (digit ∷ more)))))
+      → IsPiece ((digit ∷ more) ++ letter ∷ []) rest (Lexeme (k.LongInt (pos (digits_value 10 (digit ∷ more)))))
   -- items between two quotes
   string : {items bytes rest : List ℕ} → AreItems items bytes
-      → IsPiece (34 ∷ (items ++ 34 ∷ [])) rest (Spells (k.Str bytes))
+      → IsPiece (34 ∷ (items ++ 34 ∷ [])) rest (Lexeme (k.Str bytes))
   -- an operator or a mark, but where `/*` stands only a whole comment is a piece
   sign : (kind : TokenKind) {sign rest : List ℕ} → sign_of kind ≡ Some sign → (OpensComment (sign ++ rest) → ⊥)
-      → IsPiece sign rest (Spells kind)
+      → IsPiece sign rest (Lexeme kind)
 
 -- the first `size` bytes of the list are the longest piece at its front
 pub record IsLongest (list : List ℕ) (size : ℕ) (piece : Piece) : Type 0 where
@@ -118,7 +118,7 @@ pub data Pieces (text : List ℕ) : ℕ → List Token → ℕ → Type 0 where
   no_piece : {i : ℕ} → Pieces text i [] i
   space_and : {i size j : ℕ} {tokens : List Token} → IsLongest (drop i text) size Space
       → Pieces text (i + size) tokens j → Pieces text i tokens j
-  token_and : {i size j : ℕ} {kind : TokenKind} {tokens : List Token} → IsLongest (drop i text) size (Spells kind)
+  token_and : {i size j : ℕ} {kind : TokenKind} {tokens : List Token} → IsLongest (drop i text) size (Lexeme kind)
       → Pieces text (i + size) tokens j
       → Pieces text i (record { kind = kind; place = place_of text i } ∷ tokens) j
 

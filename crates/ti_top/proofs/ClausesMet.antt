@@ -1,5 +1,5 @@
 -- From what was done and how the line on err was written to the clauses of the command.
-use Rattle.std.proofs.Common.{◌≡◌, ◌⊎◌, inl, inr, ℕ, ◌≤◌, true, List, [], ◌∷◌, ◌++◌, Some, refl, sym, ◌∙◌, ap, subst, arith, append-nil}
+use Rattle.std.proofs.Common.{◌≡◌, ◌⊎◌, inl, inr, ℕ, ◌≤◌, true, List, [], ◌∷◌, ◌++◌, refl, sym, ◌∙◌, ap, subst, arith, append-nil}
 use Rattle.ti_base.specs.declared.entry.Entry.{Entry}
 use Rattle.ti_io.specs.Source.{IsMissing}
 use Rattle.ti_io.specs.Sink.{GrewBy, GrewByFront}
@@ -14,16 +14,16 @@ use Rattle.ti_top.specs.declared.reading.ReadEnd.{ReadEnd}
 use Rattle.ti_top.specs.declared.reading.ReadEnd.TheVariants as Read
 use Rattle.ti_top.specs.declared.ending.Ending.{Ending}
 use Rattle.ti_top.specs.declared.ending.Ending.TheVariants.{Done, Refused, Faulted, NoCommand, CantRead, CantWrite, NoMemory}
-use Rattle.ti_top.specs.Job.{Job, job_of}
-use Rattle.ti_top.specs.Reading.{ReadsWhole}
+use Rattle.ti_top.specs.Job.{Job}
+use Rattle.ti_top.specs.Mirrors.Reading.{ReadsWhole}
 use Rattle.ti_top.specs.Ending.{status_of}
-use Rattle.ti_top.specs.Ended.{Ended}
-use Rattle.ti_top.specs.RunEnds.{fault_entry, EndsWithFault}
-use Rattle.ti_top.specs.Compiling.{IsRefusedAs}
-use Rattle.ti_top.specs.Setting.{run_of}
-use Rattle.ti_top.specs.Work.{RanNothing, Ran, ReadsFile, FileSays, SaysNoCommand, WorkSays}
-use Rattle.ti_top.specs.Call.{Call, IsCommand, file_of, work_of, SourceRose, ErrRose, Yields}
-use Rattle.ti_top.specs.Clauses.{IsReadWhole, ReadsText, IsRefused, RefusesExactly, KeepsRun, WritesLines, WritesOutput, IsAlignedRun, EndsRun, NothingFailed, IsComplete, Says, Meets}
+use Rattle.ti_top.specs.Mirrors.Ended.{Ended}
+use Rattle.ti_top.specs.Run.{fault_entry, EndsWithFault}
+use Rattle.ti_top.specs.Mirrors.Compiling.{IsRefusedAs}
+use Rattle.ti_top.specs.Run.{run_of}
+use Rattle.ti_top.specs.Mirrors.Work.{RanNothing, Ran, FileSays, WorkSays, work_of, DidNothing}
+use Rattle.ti_top.specs.Call.{Call, IsCommand, IsNoCommand, file_in, SourceRose, ErrRose, Yields}
+use Rattle.ti_top.specs.Clauses.{IsReadWhole, ReadsText, RefusesExactly, KeepsRun, WritesLines, WritesOutput, IsAlignedRun, EndsRun, NothingFailed, IsComplete, MeetsBesideErr, Says, before_err, Meets}
 use Rattle.ti_top.proofs.StatusFrom.{StatusFrom, status_from, not_five, is_done, is_faulted, is_no_memory}
 use Rattle.ti_top.proofs.WordsAnswered.{not_both, no_command_answers, command_answers}
 use Rattle.ti_top.proofs.TextRead.{EndsAs, read_whole, reads_text}
@@ -82,33 +82,29 @@ fault_is_there : (es : List Entry) (fault : Fault) → EndsWithFault es fault �
 fault_is_there es fault e = ap has_fault e.last ∙ fault_more e.before (fault_entry fault) ∙ or_right (has_fault e.before) true refl
 
 -- the words are no command
-meets_no_command : (c : Call) → SaysNoCommand (work_of c) → Ended NoCommand (file_of c) c.err c.err_after c.status → Meets c
-meets_no_command c x ended =
-    let from = status_from NoCommand c ended in
-    record {
-      words = no_command_answers c x.words x.source x.text x.nothing.no_entry from;
-      text = λ job some. absurd (not_both c job some x.words);
-      refusal = λ job some. absurd (not_both c job some x.words);
-      run = λ job some. absurd (not_both c job some x.words);
-      output = output_nothing c x.nothing;
-      alignment = record {
-        done = λ is. absurd (never NoCommand c 0 from (λ e. omega arith) (λ e. omega arith) is);
-        faulted = λ is. absurd (never NoCommand c 2 from (λ e. omega arith) (λ e. omega arith) is);
-      };
-      end = λ job some. absurd (not_both c job some x.words);
-      err = writes_err c NoCommand x.words ended;
-      completeness = λ job some. absurd (not_both c job some x.words);
-    }
+beside_no_command : (c : Call) → IsNoCommand c → DidNothing c → StatusFrom NoCommand c → MeetsBesideErr c
+beside_no_command c no_job x from = record {
+  words = no_command_answers c no_job x.source x.text x.nothing.no_entry from;
+  text = λ job some. absurd (not_both c job some no_job);
+  refusal = λ job some. absurd (not_both c job some no_job);
+  run = λ job some. absurd (not_both c job some no_job);
+  output = output_nothing c x.nothing;
+  alignment = record {
+    done = λ is. absurd (never NoCommand c 0 from (λ e. omega arith) (λ e. omega arith) is);
+    faulted = λ is. absurd (never NoCommand c 2 from (λ e. omega arith) (λ e. omega arith) is);
+  };
+  end = λ job some. absurd (not_both c job some no_job);
+}
 
--- what is known of a call whose words are a command, and what its clauses are
-record Commanded (before : Ending) (end : ReadEnd) (job : Job) (c : Call) : Type 0 where
-  pub words : job_of c.words ≡ Some job
-  pub some : 1 ≤ job.procs
-  pub read : ReadsWhole job.file c.source c.source_after c.text end
-  pub fits : EndsAs end before
-  pub ended : Ended before (file_of c) c.err c.err_after c.status
+pub meets_no_command : (c : Call) → IsNoCommand c → DidNothing c → Ended NoCommand [] c.err c.err_after c.status → Meets c
+meets_no_command c no_job x told = let ended = subst (λ file. Ended NoCommand file c.err c.err_after c.status) (sym (ap file_in no_job)) told in record {
+  beside_err = beside_no_command c no_job x (status_from NoCommand c ended);
+  err = writes_err c NoCommand no_job (beside_no_command (before_err c NoCommand) no_job (record { source = x.source; text = x.text; nothing = x.nothing }) (inl refl)) ended;
+  completeness = λ job some. absurd (not_both c job some no_job);
+}
 
-record Clauses (job : Job) (c : Call) : Type 0 where
+-- the clauses of a call whose words are a command
+pub record Clauses (job : Job) (c : Call) : Type 0 where
   pub refusal : RefusesExactly job c
   pub run : KeepsRun job c
   pub output : WritesOutput c
@@ -123,21 +119,6 @@ not_no_command : (end : ReadEnd) (before : Ending) → EndsAs end before → bef
 not_no_command Read.Whole before fits is = fits.0 is
 not_no_command Read.CantRead before fits is = let x = sym fits ∙ is in cc
 not_no_command Read.NoMemory before fits is = let x = sym fits ∙ is in cc
-
-meets_command : (before : Ending) (end : ReadEnd) (job : Job) (c : Call) → Commanded before end job c → Says c before → Clauses job c → Meets c
-meets_command before end job c x says k =
-    let from = status_from before c x.ended in
-    record {
-      words = command_answers before c job x.words (not_no_command end before x.fits) from;
-      text = λ other some. subst (λ j. ReadsText j c) (job_same c job other x.words some) (reads_text end before job c x.read x.fits from);
-      refusal = λ other some. subst (λ j. RefusesExactly j c) (job_same c job other x.words some) k.refusal;
-      run = λ other some. subst (λ j. KeepsRun j c) (job_same c job other x.words some) k.run;
-      output = k.output;
-      alignment = k.alignment;
-      end = λ other some. subst (λ j. EndsRun j c) (job_same c job other x.words some) k.end;
-      err = writes_err c before says x.ended;
-      completeness = λ other some. subst (λ j. NothingFailed j c → IsComplete j c) (job_same c job other x.words some) k.completeness;
-    }
 
 -- the text is refused
 clauses_refused : (refusal : Refusal) (job : Job) (c : Call) → StatusFrom (Refused refusal) c → IsReadWhole job c → IsRefusedAs c.text refusal → RanNothing c.out c.out_after c.history → Clauses job c
@@ -198,7 +179,7 @@ clauses_cant_read job c from cause x = record {
   completeness = λ nothing. elim cause [ inl missing ↦ absurd (nothing.there missing) | inr rose ↦ absurd (nothing.source rose) ];
 }
 
--- memory was wanting before the run
+-- out of memory before the run
 clauses_no_memory : (job : Job) (c : Call) → 1 ≤ job.procs → StatusFrom NoMemory c → RanNothing c.out c.out_after c.history → Clauses job c
 clauses_no_memory job c some from x = record {
   refusal = record {
@@ -334,50 +315,77 @@ clauses_ran before job c command from whole x =
     lines : (before ≡ CantWrite → ⊥) → c.out.tells ≡ true → WritesLines c
     lines whole told p has = subst (λ q. GrewBy c.out c.out_after (lines_of q c.history)) (sym (x.compiled.only p has)) (x.says.lines whole told)
 
--- the words are a command, and the text was read whole
-meets_text : (before : Ending) (job : Job) (c : Call) → ReadsFile job Read.Whole (work_of c) → FileSays Read.Whole before job (work_of c) → Ended before (file_of c) c.err c.err_after c.status → Meets c
-meets_text Done job c file says ended =
-    let from = status_from Done c ended in
-    let fits : EndsAs Read.Whole Done = (λ e. let x = e in cc, λ e. let x = e in cc) in
-    let whole = read_whole Done job c file.read fits from in
-    meets_command Done Read.Whole job c (record { words = file.words; some = file.some; read = file.read; fits = fits; ended = ended }) (job, file.words, (says.program, says.compiled.has)) (clauses_ran Done job c file.words from whole says)
-meets_text (Refused refusal) job c file says ended =
-    let from = status_from (Refused refusal) c ended in
-    let fits : EndsAs Read.Whole (Refused refusal) = (λ e. let x = e in cc, λ e. let x = e in cc) in
-    let whole = read_whole (Refused refusal) job c file.read fits from in
-    let refused : IsRefused job c refusal = record { whole = whole; refused = says.0.is } in
-    meets_command (Refused refusal) Read.Whole job c (record { words = file.words; some = file.some; read = file.read; fits = fits; ended = ended }) (job, file.words, refused) (clauses_refused refusal job c from whole says.0 says.1)
-meets_text (Faulted fault) job c file says ended =
-    let from = status_from (Faulted fault) c ended in
-    let fits : EndsAs Read.Whole (Faulted fault) = (λ e. let x = e in cc, λ e. let x = e in cc) in
-    let whole = read_whole (Faulted fault) job c file.read fits from in
-    meets_command (Faulted fault) Read.Whole job c (record { words = file.words; some = file.some; read = file.read; fits = fits; ended = ended }) (job, file.words, says.says.faulted fault refl) (clauses_ran (Faulted fault) job c file.words from whole says)
-meets_text NoCommand job c file says ended = absurd says
-meets_text CantRead job c file says ended = absurd says
-meets_text CantWrite job c file says ended =
-    let from = status_from CantWrite c ended in
-    let fits : EndsAs Read.Whole CantWrite = (λ e. let x = e in cc, λ e. let x = e in cc) in
-    let whole = read_whole CantWrite job c file.read fits from in
-    meets_command CantWrite Read.Whole job c (record { words = file.words; some = file.some; read = file.read; fits = fits; ended = ended }) (job, file.words, says.says.rose refl) (clauses_ran CantWrite job c file.words from whole says)
-meets_text NoMemory job c file says ended =
-    let from = status_from NoMemory c ended in
-    let fits : EndsAs Read.Whole NoMemory = (λ e. let x = e in cc, λ e. let x = e in cc) in
-    let whole = read_whole NoMemory job c file.read fits from in
-    meets_command NoMemory Read.Whole job c (record { words = file.words; some = file.some; read = file.read; fits = fits; ended = ended }) (job, file.words)
-    (elim says [ inl nothing ↦ clauses_no_memory job c file.some from nothing | inr ran ↦ clauses_ran NoMemory job c file.words from whole ran ])
+-- ---- a call whose words are a command
 
--- the words are a command
-meets_file : (before : Ending) (end : ReadEnd) (job : Job) (c : Call) → ReadsFile job end (work_of c) → FileSays end before job (work_of c) → Ended before (file_of c) c.err c.err_after c.status → Meets c
-meets_file before Read.Whole job c file says ended = meets_text before job c file says ended
-meets_file before Read.CantRead job c file says ended =
-    let e' = subst (λ b. Ended b (file_of c) c.err c.err_after c.status) says.0 ended in
-    let cause = file.read.cause refl in
-    meets_command CantRead Read.CantRead job c (record { words = file.words; some = file.some; read = file.read; fits = refl; ended = e' }) (job, file.words, cause) (clauses_cant_read job c (status_from CantRead c e') cause says.1)
-meets_file before Read.NoMemory job c file says ended =
-    let e' = subst (λ b. Ended b (file_of c) c.err c.err_after c.status) says.0 ended in
-    meets_command NoMemory Read.NoMemory job c (record { words = file.words; some = file.some; read = file.read; fits = refl; ended = e' }) (job, file.words) (clauses_no_memory job c file.some (status_from NoMemory c e') says.1)
+-- what was done in it
+record Commanded (before : Ending) (job : Job) (c : Call) : Type 0 where
+  pub command : IsCommand c job
+  pub some : 1 ≤ job.procs
+  pub work : WorkSays job before (work_of c)
+
+ends_as : (end : ReadEnd) (before : Ending) (job : Job) (c : Call) → FileSays end before job (work_of c) → EndsAs end before
+ends_as Read.Whole Done job c says = (λ e. let x = e in cc, λ e. let x = e in cc)
+ends_as Read.Whole (Refused refusal) job c says = (λ e. let x = e in cc, λ e. let x = e in cc)
+ends_as Read.Whole (Faulted fault) job c says = (λ e. let x = e in cc, λ e. let x = e in cc)
+ends_as Read.Whole NoCommand job c says = absurd says
+ends_as Read.Whole CantRead job c says = absurd says
+ends_as Read.Whole CantWrite job c says = (λ e. let x = e in cc, λ e. let x = e in cc)
+ends_as Read.Whole NoMemory job c says = (λ e. let x = e in cc, λ e. let x = e in cc)
+ends_as Read.CantRead before job c says = says.0
+ends_as Read.NoMemory before job c says = says.0
+
+-- the clauses and what the ending says, by how the reading ended
+pub record Told (before : Ending) (job : Job) (c : Call) : Type 0 where
+  pub clauses : Clauses job c
+  pub says : Says c before
+
+told_text : (before : Ending) (job : Job) (c : Call) → IsCommand c job → 1 ≤ job.procs → IsReadWhole job c → FileSays Read.Whole before job (work_of c) → StatusFrom before c → Told before job c
+told_text Done job c command some whole says from = record { clauses = clauses_ran Done job c command from whole says; says = (job, command, (says.program, says.compiled.has)) }
+told_text (Refused refusal) job c command some whole says from = record { clauses = clauses_refused refusal job c from whole says.0 says.1; says = (job, command, record { whole = whole; refused = says.0.is }) }
+told_text (Faulted fault) job c command some whole says from = record { clauses = clauses_ran (Faulted fault) job c command from whole says; says = (job, command, says.says.faulted fault refl) }
+told_text NoCommand job c command some whole says from = absurd says
+told_text CantRead job c command some whole says from = absurd says
+told_text CantWrite job c command some whole says from = record { clauses = clauses_ran CantWrite job c command from whole says; says = (job, command, says.says.rose refl) }
+told_text NoMemory job c command some whole says from =
+    record { clauses = elim says [ inl nothing ↦ clauses_no_memory job c some from nothing | inr ran ↦ clauses_ran NoMemory job c command from whole ran ]; says = (job, command) }
+
+told_file : (before : Ending) (end : ReadEnd) (job : Job) (c : Call) → IsCommand c job → 1 ≤ job.procs → ReadsWhole job.file c.source c.source_after c.text end → FileSays end before job (work_of c) → StatusFrom before c → Told before job c
+told_file before Read.Whole job c command some read says from = told_text before job c command some (read_whole before job c read (ends_as Read.Whole before job c says) from) says from
+told_file before Read.CantRead job c command some read says from =
+    let cause = read.cause refl in
+    let from' = subst (λ b. StatusFrom b c) says.0 from in
+    subst (λ b. Told b job c) (sym says.0) (record { clauses = clauses_cant_read job c from' cause says.1; says = (job, command, cause) })
+told_file before Read.NoMemory job c command some read says from =
+    let from' = subst (λ b. StatusFrom b c) says.0 from in
+    subst (λ b. Told b job c) (sym says.0) (record { clauses = clauses_no_memory job c some from' says.1; says = (job, command) })
+
+told : (before : Ending) (job : Job) (c : Call) → Commanded before job c → StatusFrom before c → Told before job c
+told before job c x from = told_file before x.work.end job c x.command x.some x.work.read x.work.says from
+
+beside_command : (before : Ending) (job : Job) (c : Call) → Commanded before job c → StatusFrom before c → MeetsBesideErr c
+beside_command before job c x from =
+    let k = (told before job c x from).clauses in
+    let fits = ends_as x.work.end before job c x.work.says in
+    record {
+      words = command_answers before c job x.command (not_no_command x.work.end before fits) from;
+      text = λ other some. subst (λ j. ReadsText j c) (job_same c job other x.command some) (reads_text x.work.end before job c x.work.read fits from);
+      refusal = λ other some. subst (λ j. RefusesExactly j c) (job_same c job other x.command some) k.refusal;
+      run = λ other some. subst (λ j. KeepsRun j c) (job_same c job other x.command some) k.run;
+      output = k.output;
+      alignment = k.alignment;
+      end = λ other some. subst (λ j. EndsRun j c) (job_same c job other x.command some) k.end;
+    }
 
 -- what was done, and how the line on err was written, meet the clauses
-pub meets : (before : Ending) (c : Call) → WorkSays before (work_of c) → Ended before (file_of c) c.err c.err_after c.status → Meets c
-meets before c (inl x) ended = meets_no_command c x.1 (subst (λ b. Ended b (file_of c) c.err c.err_after c.status) x.0 ended)
-meets before c (inr x) ended = meets_file before x.end x.job c x.file x.says ended
+pub meets_command : (before : Ending) (job : Job) (c : Call) → IsCommand c job → 1 ≤ job.procs → WorkSays job before (work_of c) → Ended before job.file c.err c.err_after c.status → Meets c
+meets_command before job c command some work written =
+    let ended = subst (λ file. Ended before file c.err c.err_after c.status) (sym (ap file_in command)) written in
+    let x : Commanded before job c = record { command = command; some = some; work = work } in
+    let from = status_from before c ended in
+    let all = told before job c x from in
+    let earlier : Commanded before job (before_err c before) = record { command = command; some = some; work = work } in
+    record {
+      beside_err = beside_command before job c x from;
+      err = writes_err c before all.says (beside_command before job (before_err c before) earlier (inl refl)) ended;
+      completeness = λ other some. subst (λ j. NothingFailed j c → IsComplete j c) (job_same c job other command some) all.clauses.completeness;
+    }

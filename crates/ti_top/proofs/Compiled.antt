@@ -4,13 +4,13 @@ use Rattle.std.specs.declared.vec.Vec.{Vec}
 use Rattle.std.specs.declared.alloc.Global.{Global}
 use Rattle.ti_base.specs.declared.place.Place.{Place}
 use Rattle.ti_syntax.specs.declared.token.Token.{Token}
-use Rattle.ti_syntax.specs.declared.tree.classes.Tree.{Tree}
+use Rattle.ti_syntax.specs.declared.tree.text.Tree.{Tree}
 use Rattle.ti_lang.specs.declared.listing.Listing.{Listing}
-use Rattle.ti_lang.specs.Programs.{Program, listed_program}
+use Rattle.ti_lang.specs.Listed.{ListedProgram, listed_program}
 use Rattle.ti_lang.specs.Program.Classes.{NumberedProgram}
 use Rattle.ti_lang.specs.Numbering.{Numbers}
 use Rattle.ti_lang.specs.Listings.{IsListing}
-use Rattle.ti_syntax.specs.Trees.Views.{tree_of}
+use Rattle.ti_syntax.specs.Trees.Text.{tree_of}
 use Rattle.ti_rules.specs.declared.rule.Rule.{Rule}
 use Rattle.ti_rules.specs.declared.refusal.Refusal.{Refusal}
 use Rattle.ti_rules.specs.RefusalOf.{IsTreeRefusal, of_names as of_names_first, IsAccepted, HasTokens, HasTree, rule_of_misfit, IsRefusal, of_bytes, of_tokens, of_tree, HasProgram, HasListing}
@@ -24,11 +24,11 @@ use Rattle.ti_names.specs.declared.error.NameErr.{NameErr}
 use Rattle.ti_names.specs.declared.error.NameErr.TheVariants as names
 use Rattle.ti_names.specs.Answer.{Resolves}
 use Rattle.ti_top.specs.declared.compiling.CompileErr.TheVariants.{Refused}
-use Rattle.ti_top.specs.Compiling.{IsRefusedAs, Compiles, of_lexer, of_parser, of_names}
+use Rattle.ti_top.specs.Mirrors.Compiling.{IsRefusedAs, Compiles, of_lexer, of_parser, of_names}
 
 -- that a text has one answer
 pub record OneAnswer : Type 0 where
-  pub one_listing : (text : List ℕ) (p q : Program) → HasListing text p → HasListing text q → p ≡ q
+  pub one_listing : (text : List ℕ) (p q : ListedProgram) → HasListing text p → HasListing text q → p ≡ q
   pub never_both : (text : List ℕ) (program : NumberedProgram) (refusal : Refusal) → HasProgram text program → IsRefusal text refusal → ⊥
 
 -- a refused text has no listing

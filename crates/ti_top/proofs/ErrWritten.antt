@@ -3,10 +3,10 @@ use Rattle.std.proofs.Common.{◌≡◌, inl, inr, [], arith, sym, ◌∙◌, ap
 use Rattle.std.proofs.lemmas.List.{append-nil}
 use Rattle.ti_top.specs.declared.ending.Ending.{Ending}
 use Rattle.ti_top.specs.declared.ending.Ending.TheVariants.{Done, Refused, Faulted, NoCommand, CantRead, CantWrite, NoMemory}
-use Rattle.ti_top.specs.Ended.{Ended, EndedWhole, EndedCut}
+use Rattle.ti_top.specs.Mirrors.Ended.{Ended, EndedWhole, EndedCut}
 use Rattle.ti_top.specs.Call.{Call, file_of, SinkRose}
 use Rattle.ti_top.proofs.StatusFrom.{is_done, is_cant_write}
-use Rattle.ti_top.specs.Clauses.{Says, WritesErr, line}
+use Rattle.ti_top.specs.Clauses.{MeetsBesideErr, Says, before_err, WritesErr, line}
 
 -- the output failed before the line on err
 out_rose : (c : Call) (before : Ending) → before ≡ CantWrite → Says c before → SinkRose c
@@ -18,25 +18,25 @@ out_rose c NoCommand is says = absurd (let x = is in cc)
 out_rose c CantRead is says = absurd (let x = is in cc)
 out_rose c NoMemory is says = absurd (let x = is in cc)
 
-written_whole : (c : Call) (before : Ending) → Says c before → EndedWhole before (file_of c) c.err c.err_after c.status → WritesErr c
-written_whole c before says ended = record {
+written_whole : (c : Call) (before : Ending) → Says c before → MeetsBesideErr (before_err c before) → EndedWhole before (file_of c) c.err c.err_after c.status → WritesErr c
+written_whole c before says met ended = record {
   nothing = λ is. ap (λ s. s.taken) (ended.nothing (is_done before (sym ended.same ∙ is)));
   whole = λ _ told. (before, ended.same, says, ended.grew told);
   five_only_where = λ is. out_rose c before (is_cant_write before (sym ended.same ∙ is)) says;
   five = λ is _ told. rw (is_cant_write before (sym ended.same ∙ is)) at (ended.grew told);
-  cut = λ is _ told. inr (before, says, (line c before, ([], append-nil (line c before)), ended.grew told));
+  cut = λ is _ told. inr (before, says, met, (line c before, ([], append-nil (line c before)), ended.grew told));
 }
 
-written_cut : (c : Call) (before : Ending) → Says c before → EndedCut before (file_of c) c.err c.err_after c.status → WritesErr c
-written_cut c before says ended = record {
+written_cut : (c : Call) (before : Ending) → Says c before → MeetsBesideErr (before_err c before) → EndedCut before (file_of c) c.err c.err_after c.status → WritesErr c
+written_cut c before says met ended = record {
   nothing = λ is. absurd (let five = ended.five in omega arith);
   whole = λ other _. absurd (other ended.five);
   five_only_where = λ _. inr ended.rose;
   five = λ _ calm _. absurd (calm ended.rose);
-  cut = λ _ _ told. inr (before, says, ended.grew told);
+  cut = λ _ _ told. inr (before, says, met, ended.grew told);
 }
 
--- an ending that is true of the call, and how its line was written
-pub writes_err : (c : Call) (before : Ending) → Says c before → Ended before (file_of c) c.err c.err_after c.status → WritesErr c
-writes_err c before says ended =
-    elim ended.written [ inl whole ↦ written_whole c before says whole | inr cut ↦ written_cut c before says cut ]
+-- an ending that is true of the call, with which it kept its other promises, and how its line was written
+pub writes_err : (c : Call) (before : Ending) → Says c before → MeetsBesideErr (before_err c before) → Ended before (file_of c) c.err c.err_after c.status → WritesErr c
+writes_err c before says met ended =
+    elim ended.written [ inl whole ↦ written_whole c before says met whole | inr cut ↦ written_cut c before says met cut ]

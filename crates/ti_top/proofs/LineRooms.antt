@@ -1,7 +1,7 @@
 -- Room for the lines of a run.
 use Rattle.std.proofs.Common.{ℕ, ◌+◌, ◌≤◌, List, length, Option, Some, None, arith}
 use Rattle.ti_lang.specs.Lines.{literal_text}
-use Rattle.ti_top.specs.Line.{RoomyLine, HasRoom}
+use Rattle.ti_top.specs.Mirrors.Line.{RoomyLine, HasRoom}
 
 -- behind each literal, or none, there is room for a value and a line end
 pub room_behind : (literals : List (List ℕ)) (literal : Option ℕ) (line : RoomyLine) → HasRoom literals line → length (literal_text literals literal) + 12 ≤ line.room

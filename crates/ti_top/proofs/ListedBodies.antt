@@ -4,7 +4,7 @@ use Rattle.std.proofs.lemmas.List.{append-nil, take_more, map-append}
 use Rattle.ti_lang.specs.declared.listing.Statement.{Statement}
 use Rattle.ti_lang.specs.Program.Statements.{NumberedStm}
 use Rattle.ti_lang.specs.Listings.{in_turn, listed}
-use Rattle.ti_top.specs.Flattening.{body_listed, IsBuilt, Adds}
+use Rattle.ti_top.specs.Mirrors.Flattening.{body_listed, IsBuilt, Adds}
 
 in_turn_assoc : (a b c : Option (List Statement)) → in_turn (in_turn a b) c ≡ in_turn a (in_turn b c)
 in_turn_assoc None b c = refl

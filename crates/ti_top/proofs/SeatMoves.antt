@@ -12,8 +12,8 @@ use Rattle.ti_lang.specs.Runs.{is_arrival}
 use Rattle.ti_lang.proofs.Moves.{acts}
 use Rattle.ti_top.specs.declared.seat.Seat.{Seat}
 use Rattle.ti_top.specs.declared.walker.Walker.{Walker}
-use Rattle.ti_top.specs.Walking.{wait_at, waits, process_of, Walks}
-use Rattle.ti_top.specs.Team.{GoesOn}
+use Rattle.ti_top.specs.Mirrors.Walking.{wait_at, waits, process_of, Walks}
+use Rattle.ti_top.specs.Mirrors.Team.{GoesOn}
 
 -- a process at an action waits, or has a statement left
 at_statement : (s : Setting) (w : Walker) (v : Option Place) (at : Place) (a : Action) → shown (steps (process_of s w) (wait_at v)) ≡ Some (next.Act at a) → (waits v ≡ 1) ⊎ (w.at < length s.program.statements)

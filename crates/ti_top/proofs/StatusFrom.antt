@@ -4,7 +4,7 @@ use Rattle.ti_top.specs.declared.fault.Fault.{Fault}
 use Rattle.ti_top.specs.declared.ending.Ending.{Ending}
 use Rattle.ti_top.specs.declared.ending.Ending.TheVariants.{Done, Refused, Faulted, NoCommand, CantRead, CantWrite, NoMemory}
 use Rattle.ti_top.specs.Ending.{status_of}
-use Rattle.ti_top.specs.Ended.{Ended}
+use Rattle.ti_top.specs.Mirrors.Ended.{Ended}
 use Rattle.ti_top.specs.Call.{Call, file_of, ErrRose}
 
 -- the status is that of the ending, or 5 where err failed

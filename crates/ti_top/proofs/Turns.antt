@@ -1,7 +1,7 @@
 -- One more entry of the lowest process that can take one.
-use Rattle.std.proofs.Common.{◌≡◌, ℕ, zero, suc, ◌+◌, ◌<◌, ◌≤◌, nat_lt, nat_le, Bool, true, false, not, ◌||◌, ◌&&◌, ◌==◌, is_none, if◌then◌else◌, Option, Some, None, Ok, List, [], ◌∷◌, ◌++◌, length, get_or, slice_set, position, map, count_by, ◌⊎◌, inl, inr, ⊎_elim, refl, sym, ◌∙◌, ap, subst, arith, eqb-true, length-set, length-append, get_or-set_same, get_or-set_other}
+use Rattle.std.proofs.Common.{◌≡◌, ℕ, zero, suc, ◌+◌, ◌<◌, ◌≤◌, nat_lt, nat_le, Bool, true, false, not, ◌||◌, ◌&&◌, ◌==◌, is_none, if◌then◌else◌, Option, Some, None, Ok, List, [], ◌∷◌, ◌++◌, length, get_or, slice_set, position, count_by, ◌⊎◌, inl, inr, ⊎_elim, refl, sym, ◌∙◌, ap, subst, arith, eqb-true, length-set, length-append, get_or-set_same, get_or-set_other}
 use Rattle.std.specs.List.{list_any, list_all, prefix_len}
-use Rattle.std.proofs.lemmas.List.{map-append, get_or_append_left}
+use Rattle.std.proofs.lemmas.List.{get_or_append_left}
 use Rattle.std.proofs.Math.Seq.{get_or-append_seam}
 use Rattle.std.proofs.lemmas.List.Quantifiers.{position-Some}
 use Rattle.std.proofs.lemmas.List.Sums.{sum_by-set}
@@ -20,18 +20,18 @@ use Rattle.ti_base.specs.declared.entry.Next.TheVariants as next
 use Rattle.ti_lang.specs.Processes.{Setting, Process, begin}
 use Rattle.ti_lang.specs.NextStep.{At, Faults, step, steps, shown, Reaches, here, After, IsNext}
 use Rattle.ti_lang.specs.NextStep as st
-use Rattle.ti_lang.specs.Runs.{is_end, is_fault, is_arrival, is_departure, entries_of, answers_of, arrivals, departures, IsReady, FitsNext, entry_of, CanTake, IsSolo, AllEnded, IsComplete, none, more}
+use Rattle.ti_lang.specs.Runs.{is_end, is_fault, is_arrival, is_departure, entries_of, answers_in, answers_of, arrivals, departures, IsReady, FitsNext, entry_of, CanTake, IsSolo, AllEnded, IsComplete, none, more}
 use Rattle.ti_lang.specs.Alignment.{IsAlignedRun}
 use Rattle.ti_lang.proofs.Steps.{after_same, after_more, shows_at, next_same}
-use Rattle.ti_lang.proofs.Entries.{one, entries_own, entries_other, count_more, end_more, fault_more}
+use Rattle.ti_lang.proofs.Entries.{one, entries_own, entries_other, answers_more, answers_still, count_more, end_more, fault_more}
 use Rattle.ti_lang.proofs.Moves as m
-use Rattle.ti_lang.proofs.Standing.{entry_proc, plain, true_false}
+use Rattle.ti_lang.proofs.Standing.{entry_proc, plain, acting, true_false}
 use Rattle.ti_top.specs.declared.fault.Fault.{Fault}
 use Rattle.ti_top.specs.declared.seat.Seat.{Seat}
 use Rattle.ti_top.specs.declared.walker.Walker.{Walker}
-use Rattle.ti_top.specs.Walking.{wait_at, waits, process_of, after_step}
-use Rattle.ti_top.specs.RunEnds.{fault_entry}
-use Rattle.ti_top.specs.Team.{is_able, Seated, Standing, steps_left, all_steps_left, GoesOn, Ends, Moves, Stops, TurnLeaves}
+use Rattle.ti_top.specs.Mirrors.Walking.{wait_at, waits, process_of, after_step}
+use Rattle.ti_top.specs.Run.{fault_entry}
+use Rattle.ti_top.specs.Mirrors.Team.{is_able, Seated, Standing, steps_left, all_steps_left, GoesOn, Ends, Moves, Stops, TurnLeaves}
 
 and_true : (a b : Bool) → (a && b) ≡ true → (a ≡ true) × (b ≡ true)
 and_true true b h = (refl, h)
@@ -153,9 +153,8 @@ takes_none s es seats j seat e x y h t =
     ⊎_elim
     (λ ended. true_false (sym ended ∙ sym y.ended ∙ t.unended))
     (λ w.
-    let open_ : seat.ended ≡ false = sym y.ended ∙ t.unended in
     let p = process_of s seat.walker in
-    let same : t.process ≡ p = after_same (begin s j) t.process p (answers_of j es) t.world (y.world open_) in
+    let same : t.process ≡ p = after_same (begin s j) t.process p (answers_of j es) t.world y.world in
     let d = departs p seat.walker.wait (lt_true seat.walker.spent s.fuel (le_false s.fuel seat.walker.spent w.1)) w.0 in
     let n : t.next ≡ next.Act d.0 act.Depart = next_same p t.next (next.Act d.0 act.Depart) (subst (λ q. IsNext q t.next) same t.is_next) (p, record { reaches = here; stands = d.1 }) in
     let r : IsReady s es j (next.Act d.0 act.Depart) = subst (IsReady s es j) n t.ready in
@@ -180,7 +179,7 @@ seated_act s i own old new at a y going e g =
     record {
       number = g.number ∙ y.number;
       ended = end_more own entry ∙ ap (λ b. list_any (λ (e : Entry). is_end e.act) own || b) (plain a Done moves.fits).0 ∙ or_none (list_any (λ (e : Entry). is_end e.act) own) ∙ y.ended ∙ sym g.ended;
-      world = λ _. subst (After (begin s i) (map (λ (e : Entry). e.answer) (own ++ entry ∷ []))) (sym done) (subst (λ rs. After (begin s i) rs (stands.0 Done)) (sym (map-append (λ (e : Entry). e.answer) own (entry ∷ []))) (after_more (begin s i) p p (map (λ (e : Entry). e.answer) own) at a Done stands.0 (y.world going) here stands.1));
+      world = subst (After (begin s i) (answers_in (own ++ entry ∷ []))) (sym done) (subst (λ rs. After (begin s i) rs (stands.0 Done)) (sym (answers_more own entry (acting a Done moves.fits))) (after_more (begin s i) p p (answers_in own) at a Done stands.0 y.world here stands.1));
       arrived = count_more (λ e. is_arrival e.act) own entry ∙ ap (λ k. k + one (is_arrival a)) y.arrived ∙ sym g.arrivals;
       departed =
           let w : waits new.walker.wait ≡ m.waiting (stands.0 Done).wait = sym (waits_same new.walker.wait) ∙ ap (λ (q : Process). m.waiting q.wait) done in
@@ -209,7 +208,7 @@ seated_end s i own old new at y g =
     record {
       number = ap (λ (w : Walker). w.number) g.walker ∙ y.number;
       ended = end_more own entry ∙ or_some (list_any (λ (e : Entry). is_end e.act) own) ∙ sym g.ended;
-      world = λ h. absurd (true_false (sym g.ended ∙ h));
+      world = subst (λ (w : Walker). After (begin s i) (answers_in (own ++ entry ∷ [])) (process_of s w)) (sym g.walker) (subst (λ rs. After (begin s i) rs (process_of s old.walker)) (sym (answers_still own entry refl)) y.world);
       arrived = count_more (λ e. is_arrival e.act) own entry ∙ plus_none (count_by (λ e. is_arrival e.act) own) ∙ y.arrived ∙ sym g.arrivals;
       departed = rw (count_more (λ e. is_departure e.act) own entry) (departed_still _ _ _ _ _ y.departed (ap (λ (w : Walker). waits w.wait) g.walker) g.arrivals);
       within = subst (λ (w : Walker). w.at ≤ length s.program.statements) (sym g.walker) y.within;
@@ -287,7 +286,7 @@ taken s es seats i seat n t =
       goes_on = t.standing.goes_on;
       unended = y.ended ∙ l.1.going;
       process = process_of s seat.walker;
-      world = y.world l.1.going;
+      world = y.world;
       next = n;
       is_next = (process_of s seat.walker, record { reaches = here; stands = t.next });
       ready = ready s es seats i seat n t.standing y l.1 t.next;
@@ -362,7 +361,7 @@ seated_fresh s i seat x =
     record {
       number = ap (λ (p : Process). p.number) x.process;
       ended = sym x.ended;
-      world = λ _. subst (After (begin s i) []) (sym x.process) st.none;
+      world = subst (After (begin s i) []) (sym x.process) st.none;
       arrived = sym x.arrivals;
       departed = wait_none _ _ wait x.arrivals;
       within = below_all _ _ x.at;

@@ -1,12 +1,16 @@
 -- One call of the command, by what went in and what came out.
-use Rattle.std.specs.Prelude.{◌≡◌, ◌⊎◌, ℕ, List, [], None, Some}
+use Rattle.std.specs.Prelude.{◌≡◌, ◌⊎◌, ℕ, ◌+◌, List, [], None, Some}
 use Rattle.std.specs.declared.option.Option.{Option}
 use Rattle.ti_base.specs.declared.entry.Entry.{Entry}
 use Rattle.ti_io.specs.Faults.{Rose}
 use Rattle.ti_io.specs.Source.{SourceState}
 use Rattle.ti_io.specs.Sink.{SinkState}
+use Rattle.ti_rules.specs.LexicalRefusals.{most_bytes}
 use Rattle.ti_top.specs.Job.{Job, job_of}
-use Rattle.ti_top.specs.Work.{Work}
+
+-- at most so many bytes of a file are read: one more than a text may have
+abbrev pub most_read : ℕ
+most_read = most_bytes + 1
 
 -- the words; the source and the sinks before and after the call; and the call's outcome
 pub record Call : Type 0 where
@@ -52,18 +56,6 @@ ErrRose c = Rose c.err.faults c.err_after.faults
 abbrev pub SinkRose : Call → Type 0
 SinkRose c = OutRose c ⊎ ErrRose c
 
--- where the words or the text ask for a status, one of these may stand in its place: memory was wanting, or a sink failed
+-- where the words or the text ask for a status, one of these may stand in its place: it ran out of memory, or a sink failed
 abbrev pub Yields : Call → Type 0
 Yields c = (c.status ≡ 6) ⊎ ((c.status ≡ 5) × SinkRose c)
-
--- what was done in the call before the line on err
-abbrev pub work_of : Call → Work
-work_of c = record {
-  words = c.words;
-  source = c.source;
-  source_after = c.source_after;
-  out = c.out;
-  out_after = c.out_after;
-  text = c.text;
-  history = c.history;
-}

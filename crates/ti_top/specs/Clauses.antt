@@ -2,7 +2,7 @@
 use Rattle.std.specs.Prelude.{◌≡◌, ◌⊎◌, ℕ, ◌≤◌, true, false, List, [], length, take}
 use Rattle.ti_io.specs.Source.{SameFiles, IsMissing, Holds}
 use Rattle.ti_io.specs.Sink.{IsFront, GrewBy, GrewByFront}
-use Rattle.ti_lang.specs.Programs.{Program}
+use Rattle.ti_lang.specs.Listed.{ListedProgram}
 use Rattle.ti_lang.specs.Runs.{AllEnded, IsRun, IsSolo, IsComplete as IsCompleteRun}
 use Rattle.ti_lang.specs.Lines.{lines_of}
 use Rattle.ti_lang.specs.Alignment.{IsAligned}
@@ -12,11 +12,10 @@ use Rattle.ti_top.specs.declared.fault.Fault.{Fault}
 use Rattle.ti_top.specs.declared.ending.Ending.{Ending}
 use Rattle.ti_top.specs.declared.ending.Ending.TheVariants.{Done, Refused, Faulted, NoCommand, CantRead, CantWrite, NoMemory}
 use Rattle.ti_top.specs.Job.{Job}
-use Rattle.ti_top.specs.Reading.{most_read}
-use Rattle.ti_top.specs.RunEnds.{EndsWithFault}
+use Rattle.ti_top.specs.Run.{EndsWithFault}
 use Rattle.ti_top.specs.Ending.{status_of, err_line}
-use Rattle.ti_top.specs.Setting.{run_of}
-use Rattle.ti_top.specs.Call.{Call, IsCommand, IsNoCommand, file_of, SourceRose, OutRose, ErrRose, SinkRose, Yields}
+use Rattle.ti_top.specs.Run.{run_of}
+use Rattle.ti_top.specs.Call.{most_read, Call, IsCommand, IsNoCommand, file_of, SourceRose, OutRose, ErrRose, SinkRose, Yields}
 
 -- The words: status 3 says that they are no command, and then nothing was read.
 pub record AnswersWords (c : Call) : Type 0 where
@@ -57,23 +56,23 @@ pub record IsRefused (job : Job) (c : Call) (refusal : Refusal) : Type 0 where
 -- has a program.
 pub record RefusesExactly (job : Job) (c : Call) : Type 0 where
   pub only_where : c.status ≡ 1 → (refusal : Refusal) × IsRefused job c refusal
-  -- memory may be wanting, a sink or a reading may fail
+  -- it may run out of memory, and a sink or a reading may fail
   pub everywhere : (refusal : Refusal) → IsRefused job c refusal → (c.status ≡ 1) ⊎ (Yields c ⊎ ((c.status ≡ 4) × SourceRose c))
   pub no_history : (refusal : Refusal) → IsRefusal c.text refusal → c.history ≡ []
   pub no_output : (refusal : Refusal) → IsRefusal c.text refusal → c.out_after.taken ≡ c.out.taken
-  pub program_at_zero : c.status ≡ 0 → (program : Program) × HasListing c.text program
-  pub program_at_two : c.status ≡ 2 → (program : Program) × HasListing c.text program
+  pub program_at_zero : c.status ≡ 0 → (program : ListedProgram) × HasListing c.text program
+  pub program_at_two : c.status ≡ 2 → (program : ListedProgram) × HasListing c.text program
 
 -- The run: whatever the status, the history is a run of the text's program, and as far as it goes the one in which each
 -- entry is that of the lowest-numbered process that can take one; where there is no program it is empty.
 pub record KeepsRun (job : Job) (c : Call) : Type 0 where
-  pub run : (program : Program) → HasListing c.text program → IsRun (run_of program job.procs) c.history
-  pub solo : (program : Program) → HasListing c.text program → IsSolo (run_of program job.procs) c.history
-  pub none : ((program : Program) → HasListing c.text program → ⊥) → c.history ≡ []
+  pub run : (program : ListedProgram) → HasListing c.text program → IsRun (run_of program job.procs) c.history
+  pub solo : (program : ListedProgram) → HasListing c.text program → IsSolo (run_of program job.procs) c.history
+  pub none : ((program : ListedProgram) → HasListing c.text program → ⊥) → c.history ≡ []
 
 -- out grew by the lines of the history
 abbrev pub WritesLines : Call → Type 0
-WritesLines c = (program : Program) → HasListing c.text program → GrewBy c.out c.out_after (lines_of program c.history)
+WritesLines c = (program : ListedProgram) → HasListing c.text program → GrewBy c.out c.out_after (lines_of program c.history)
 
 -- The output: what out has taken in the call.
 pub record WritesOutput (c : Call) : Type 0 where
@@ -84,30 +83,40 @@ pub record WritesOutput (c : Call) : Type 0 where
   pub nothing_at_four : c.status ≡ 4 → c.out_after.taken ≡ c.out.taken
   pub no_command : IsNoCommand c → c.out_after.taken ≡ c.out.taken
   pub not_whole : (job : Job) → IsCommand c job → (IsReadWhole job c → ⊥) → c.out_after.taken ≡ c.out.taken
-  pub no_program : ((program : Program) → HasListing c.text program → ⊥) → c.out_after.taken ≡ c.out.taken
+  pub no_program : ((program : ListedProgram) → HasListing c.text program → ⊥) → c.out_after.taken ≡ c.out.taken
   -- a write to out or err failed
-  pub failed : c.status ≡ 5 → c.out.tells ≡ true → (program : Program) → HasListing c.text program
+  pub failed : c.status ≡ 5 → c.out.tells ≡ true → (program : ListedProgram) → HasListing c.text program
       → GrewByFront c.out c.out_after (lines_of program c.history)
   -- the lines of the kept history are written
   pub no_memory : c.status ≡ 6 → c.out.tells ≡ true → WritesLines c
 
 -- Alignment: with status 0 or 2 the program of the text is aligned.
 pub record IsAlignedRun (c : Call) : Type 0 where
-  pub done : c.status ≡ 0 → (program : Program) → HasListing c.text program → IsAligned program
-  pub faulted : c.status ≡ 2 → (program : Program) → HasListing c.text program → IsAligned program
+  pub done : c.status ≡ 0 → (program : ListedProgram) → HasListing c.text program → IsAligned program
+  pub faulted : c.status ≡ 2 → (program : ListedProgram) → HasListing c.text program → IsAligned program
 
 -- The end: with status 0 all processes have their end; status 2 says that the last entry is a fault, which the line on err
 -- names with its process and place; status 6 never comes with a complete history.
 pub record EndsRun (job : Job) (c : Call) : Type 0 where
-  pub ended : c.status ≡ 0 → (program : Program) → HasListing c.text program → AllEnded (run_of program job.procs) c.history
+  pub ended : c.status ≡ 0 → (program : ListedProgram) → HasListing c.text program → AllEnded (run_of program job.procs) c.history
   pub fault_only_where : c.status ≡ 2 → (fault : Fault) × EndsWithFault c.history fault
   -- a sink may fail
   pub fault_everywhere : (fault : Fault) → EndsWithFault c.history fault → (c.status ≡ 2) ⊎ ((c.status ≡ 5) × SinkRose c)
-  pub unfinished : c.status ≡ 6 → (program : Program) → HasListing c.text program → IsCompleteRun (run_of program job.procs) c.history → ⊥
+  pub unfinished : c.status ≡ 6 → (program : ListedProgram) → HasListing c.text program → IsCompleteRun (run_of program job.procs) c.history → ⊥
+
+-- What the command promises of everything but its line on err.
+pub record MeetsBesideErr (c : Call) : Type 0 where
+  pub words : AnswersWords c
+  pub text : (job : Job) → IsCommand c job → ReadsText job c
+  pub refusal : (job : Job) → IsCommand c job → RefusesExactly job c
+  pub run : (job : Job) → IsCommand c job → KeepsRun job c
+  pub output : WritesOutput c
+  pub alignment : IsAlignedRun c
+  pub end : (job : Job) → IsCommand c job → EndsRun job c
 
 -- What an ending says of the call.
 abbrev pub Says : Call → Ending → Type 0
-Says c Done = (job : Job) × IsCommand c job × ((program : Program) × HasListing c.text program)
+Says c Done = (job : Job) × IsCommand c job × ((program : ListedProgram) × HasListing c.text program)
 Says c (Refused refusal) = (job : Job) × IsCommand c job × IsRefused job c refusal
 Says c (Faulted fault) = (job : Job) × IsCommand c job × EndsWithFault c.history fault
 Says c NoCommand = IsNoCommand c
@@ -123,9 +132,14 @@ line c ending = err_line ending (file_of c)
 abbrev pub TellsEnding : Call → Type 0
 TellsEnding c = (ending : Ending) × (c.status ≡ status_of ending) × Says c ending × GrewBy c.err c.err_after (line c ending)
 
--- err grew by a front of the line of the ending that the call had before err failed
+-- the call with the status of an ending, before its line on err was written
+abbrev pub before_err : Call → Ending → Call
+before_err c ending = record c { status = status_of ending; err_after = c.err }
+
+-- err grew by a front of the line of the ending that the call had before err failed: one that is true of the call, and with whose
+-- status the call kept its promises on everything else
 abbrev pub TellsFront : Call → Type 0
-TellsFront c = (before : Ending) × Says c before × GrewByFront c.err c.err_after (line c before)
+TellsFront c = (before : Ending) × Says c before × MeetsBesideErr (before_err c before) × GrewByFront c.err c.err_after (line c before)
 
 -- The line on err: that of the status. Status 5 says that a sink failed; where err did, a front of a line stands there.
 pub record WritesErr (c : Call) : Type 0 where
@@ -135,7 +149,7 @@ pub record WritesErr (c : Call) : Type 0 where
   pub five : c.status ≡ 5 → (ErrRose c → ⊥) → c.err.tells ≡ true → GrewBy c.err c.err_after (line c CantWrite)
   pub cut : c.status ≡ 5 → ErrRose c → c.err.tells ≡ true → GrewByFront c.err c.err_after (line c CantWrite) ⊎ TellsFront c
 
--- nothing failed: no count of faults rose, the file is there, and memory was not wanting
+-- nothing failed: no count of faults rose, the file is there, and it didn't run out of memory
 pub record NothingFailed (job : Job) (c : Call) : Type 0 where
   pub source : SourceRose c → ⊥
   pub out : OutRose c → ⊥
@@ -148,17 +162,11 @@ pub record NothingFailed (job : Job) (c : Call) : Type 0 where
 pub record IsComplete (job : Job) (c : Call) : Type 0 where
   pub refused : (refusal : Refusal) → IsRefusal c.text refusal → c.status ≡ 1
   pub accepted : HasNone (IsRefusal c.text) → (c.status ≡ 0) ⊎ (c.status ≡ 2)
-  pub program : HasNone (IsRefusal c.text) → (program : Program) × HasListing c.text program
-  pub ended : (program : Program) → HasListing c.text program → IsCompleteRun (run_of program job.procs) c.history
+  pub program : HasNone (IsRefusal c.text) → (program : ListedProgram) × HasListing c.text program
+  pub ended : (program : ListedProgram) → HasListing c.text program → IsCompleteRun (run_of program job.procs) c.history
 
 -- What the command promises.
 pub record Meets (c : Call) : Type 0 where
-  pub words : AnswersWords c
-  pub text : (job : Job) → IsCommand c job → ReadsText job c
-  pub refusal : (job : Job) → IsCommand c job → RefusesExactly job c
-  pub run : (job : Job) → IsCommand c job → KeepsRun job c
-  pub output : WritesOutput c
-  pub alignment : IsAlignedRun c
-  pub end : (job : Job) → IsCommand c job → EndsRun job c
+  pub beside_err : MeetsBesideErr c
   pub err : WritesErr c
   pub completeness : (job : Job) → IsCommand c job → NothingFailed job c → IsComplete job c

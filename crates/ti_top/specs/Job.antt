@@ -5,6 +5,7 @@ use Rattle.std.specs.Char.{is_ascii_digit}
 use Rattle.std.specs.List.{list_all}
 use Rattle.std.specs.Str.{bytes_eq}
 use Rattle.std.specs.Str.Parse.{digits_value}
+use Rattle.ti_lang.specs.Processes.{most_procs}
 
 -- what is to be run: the text of this file, by so many processes
 pub record Job : Type 0 where
@@ -24,12 +25,12 @@ is_number word = nat_lt 0 (length word) && nat_le (length word) 10 && list_all i
 abbrev pub number_of : List ℕ → ℕ
 number_of word = digits_value 10 word
 
--- how many processes a word asks for, 1 to 32, or nothing where it is no such number
+-- how many processes a word asks for, from 1 on and no more than a run may have, or nothing where it is no such number
 abbrev pub procs_of : List ℕ → Option ℕ
 procs_of word =
-    if is_number word && nat_le 1 (number_of word) && nat_le (number_of word) 32 then Some (number_of word) else None
+    if is_number word && nat_le 1 (number_of word) && nat_le (number_of word) most_procs then Some (number_of word) else None
 
--- the job of so many processes and a file, or nothing where one of them is wanting
+-- the job of so many processes and a file, or nothing where one of them is missing
 abbrev pub job_with : Option ℕ → List ℕ → Option Job
 job_with None file = None
 job_with (Some procs) file = if is_file file then Some (record { procs = procs; file = file }) else None

@@ -1,15 +1,6 @@
 pub mod Call
 pub mod Clauses
-pub mod Compiling
-pub mod Ended
 pub mod Ending
-pub mod Flattening
 pub mod Job
-pub mod Judging
-pub mod Line
-pub mod Reading
-pub mod RunEnds
-pub mod Setting
-pub mod Team
-pub mod Walking
-pub mod Work
+pub mod Mirrors
+pub mod Run

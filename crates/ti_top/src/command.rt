@@ -1,10 +1,8 @@
 // The whole command.
-ghost use Rattle.std.specs.Prelude.{◌≡◌, map, string_bytes, None, Some};
-ghost use Rattle.ti_top.specs.Call.{file_in};
+ghost use Rattle.std.specs.Prelude.{map, string_bytes};
 ghost use Rattle.ti_top.specs.Clauses.{Meets};
-ghost use Rattle.ti_top.specs.Job.{job_of};
 
-use crate::ending::end_with;
+use crate::ending::{Ending, end_with};
 use crate::words::read_words;
 use crate::work::work;
 use std::alloc::AllocGlobal;
@@ -15,23 +13,13 @@ use ti_io::{Sink, Source};
 #[derive(Drop)]
 pub struct Outcome {
     /// How it ended: 0 the command was done, 1 the text is refused, 2 the run ended with a fault, 3 the
-    /// words are no command, 4 the source can't be read, 5 the output can't be written, 6 memory was
-    /// wanting.
+    /// words are no command, 4 the source can't be read, 5 the output can't be written, 6 it ran out of
+    /// memory.
     pub status: u8,
     /// What was read.
     pub text: Vec<u8>,
     /// The entries of the run, in order.
     pub history: Vec<Entry>,
-}
-
-// The file that the words name.
-fn file_of(words: &[String]) -> &str
-    ensures { result.now ≡ file_in (job_of (map string_bytes words.now)) }
-{
-    match read_words(words) {
-        Some(command) => command.file,
-        None => "",
-    }
 }
 
 /// The command of these words, those after the program's name: reads the file that they name, refuses
@@ -59,8 +47,16 @@ pub fn titan_top<R: AllocGlobal, S: Source, K: Sink>(
       history = result.history.items;
     }) }
 {
-    let worked = work(rt.alloc(), words, source, out);
-    let status = end_with(err, worked.ending, file_of(words));
+    let alloc = rt.alloc();
+    let Some(command) = read_words(words) else {
+        return Outcome {
+            status: end_with(err, Ending::NoCommand, ""),
+            text: Vec::new(alloc),
+            history: Vec::new(alloc),
+        };
+    };
+    let worked = work(alloc, command, source, out);
+    let status = end_with(err, worked.ending, command.file);
     Outcome {
         status,
         text: worked.text,

@@ -1,36 +1,33 @@
 // From a text to its program.
-ghost use Rattle.std.specs.Prelude.{◌≡◌, ◌⊎◌, ℕ, List, IfSome, IfNone};
-ghost use Rattle.ti_syntax.specs.Trees.Views.{tree_of};
-ghost use Rattle.ti_lang.specs.Programs.{Program as ListingSeen};
+ghost use Rattle.std.specs.Prelude.{◌≡◌, ◌⊎◌, ℕ, List};
+ghost use Rattle.ti_lang.specs.Listed.{ListedProgram};
 ghost use Rattle.ti_lang.specs.Program.Classes.{NumberedProgram};
 ghost use Rattle.ti_rules.specs.declared.refusal.Refusal.{Refusal as RefusalSeen};
-ghost use Rattle.ti_rules.specs.BrokenNames.{BreaksNames};
-ghost use Rattle.ti_rules.specs.RefusalOf.{HasNone, HasProgram, HasListing, IsAccepted, IsRefusal, IsTreeRefusal};
-ghost use Rattle.ti_top.specs.Compiling.{Compiles};
+ghost use Rattle.ti_rules.specs.RefusalOf.{HasProgram, HasListing, IsRefusal};
+ghost use Rattle.ti_top.specs.Mirrors.Compiling.{Compiles};
 
 use crate::flatten::flatten;
-use crate::unbuilt::unbuilt_form;
+use crate::unbuilt::unbuilt;
 use std::alloc::Global;
 use ti_base::Memory;
 use ti_lang::Listing;
-use ti_syntax::tree::Tree;
 use ti_lex::{LexErr, lex, one_reading};
 use ti_names::{NameErr, one_program, resolve};
 use ti_parse::{ParseErr, one_text, parse};
-use ti_rules::{Refusal, Rule};
+use ti_rules::Refusal;
 
 /// Why a text has no program.
 #[derive(Clone, Copy, Debug, PartialEq, Eq)]
 pub enum CompileErr {
     /// It is refused.
     Refused(Refusal),
-    /// Memory was wanting.
+    /// Out of memory.
     Memory,
 }
 
 impl From<LexErr> for CompileErr {
     ghost use Rattle.std.specs.Prelude.{◌≡◌};
-    ghost use Rattle.ti_top.specs.Compiling.{of_lexer};
+    ghost use Rattle.ti_top.specs.Mirrors.Compiling.{of_lexer};
 
     ghost from_gives = { λ e found. found ≡ of_lexer e };
 
@@ -44,7 +41,7 @@ impl From<LexErr> for CompileErr {
 
 impl From<ParseErr> for CompileErr {
     ghost use Rattle.std.specs.Prelude.{◌≡◌};
-    ghost use Rattle.ti_top.specs.Compiling.{of_parser};
+    ghost use Rattle.ti_top.specs.Mirrors.Compiling.{of_parser};
 
     ghost from_gives = { λ e found. found ≡ of_parser e };
 
@@ -58,7 +55,7 @@ impl From<ParseErr> for CompileErr {
 
 impl From<NameErr> for CompileErr {
     ghost use Rattle.std.specs.Prelude.{◌≡◌};
-    ghost use Rattle.ti_top.specs.Compiling.{of_names};
+    ghost use Rattle.ti_top.specs.Mirrors.Compiling.{of_names};
 
     ghost from_gives = { λ e found. found ≡ of_names e };
 
@@ -83,30 +80,15 @@ impl From<Memory> for CompileErr {
 
 /// That a text has one program, with one listing, or one refusal, and never both.
 pub fn one_answer()
-    ensures some { (text : List ℕ) → ((listing : ListingSeen) × HasListing text listing) ⊎ ((refusal : RefusalSeen) × IsRefusal text refusal) }
+    ensures some { (text : List ℕ) → ((listing : ListedProgram) × HasListing text listing) ⊎ ((refusal : RefusalSeen) × IsRefusal text refusal) }
     ensures one_program { (text : List ℕ) (p q : NumberedProgram) → HasProgram text p → HasProgram text q → p ≡ q }
-    ensures one_listing { (text : List ℕ) (p q : ListingSeen) → HasListing text p → HasListing text q → p ≡ q }
+    ensures one_listing { (text : List ℕ) (p q : ListedProgram) → HasListing text p → HasListing text q → p ≡ q }
     ensures one_refusal { (text : List ℕ) (a b : RefusalSeen) → IsRefusal text a → IsRefusal text b → a ≡ b }
     ensures never_both { (text : List ℕ) (program : NumberedProgram) (refusal : RefusalSeen) → HasProgram text program → IsRefusal text refusal → ⊥ }
 {
     one_reading();
     one_text();
     one_program();
-}
-
-/// The refusal of a form that isn't built, in a tree that breaks no rule of names.
-fn unbuilt(tree: &Tree) -> Option<Refusal>
-    requires { HasNone (BreaksNames (tree_of tree.now)) }
-    ensures refused { IfSome result (λ refusal. IsTreeRefusal (tree_of tree.now) refusal) }
-    ensures accepted { IfNone result (IsAccepted (tree_of tree.now)) }
-{
-    match unbuilt_form(&tree.classes) {
-        Some(place) => Some(Refusal {
-            rule: Rule::Y1,
-            place,
-        }),
-        None => None,
-    }
 }
 
 /// What the program of a text does: the text becomes tokens, these become a tree, the tree becomes a program with a number

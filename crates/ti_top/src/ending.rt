@@ -3,7 +3,7 @@ ghost use Rattle.std.specs.Prelude.{◌≡◌, ◌≤◌, length};
 ghost use Rattle.ti_base.specs.FaultNames.{name_of};
 ghost use Rattle.ti_io.specs.Sink.{Writes};
 ghost use Rattle.ti_rules.specs.Rules.{code_of, text_of};
-ghost use Rattle.ti_top.specs.Ended.{Ended};
+ghost use Rattle.ti_top.specs.Mirrors.Ended.{Ended};
 ghost use Rattle.ti_top.specs.Ending.{status_of, refused_as, fault_line as fault_spec, err_line};
 
 use crate::fault::Fault;
@@ -27,7 +27,7 @@ pub enum Ending {
     CantRead,
     /// The output can't be written.
     CantWrite,
-    /// Memory was wanting.
+    /// Out of memory.
     NoMemory,
 }
 
@@ -48,7 +48,7 @@ impl Ending {
     }
 }
 
-// The code of a rule.
+// The code of a rule, which is short enough for a line.
 fn code_bytes(rule: Rule) -> &'static [u8]
     ensures value { result.now ≡ code_of rule }
     ensures short { length result.now ≤ 2 }
@@ -56,7 +56,7 @@ fn code_bytes(rule: Rule) -> &'static [u8]
     rule.code().as_bytes()
 }
 
-// The text of a rule.
+// The text of a rule, which is short enough for a line.
 fn text_bytes(rule: Rule) -> &'static [u8]
     ensures value { result.now ≡ text_of rule }
     ensures short { length result.now ≤ 64 }
@@ -64,7 +64,7 @@ fn text_bytes(rule: Rule) -> &'static [u8]
     rule_text(rule).as_bytes()
 }
 
-// The name of a fault.
+// The name of a fault, which is short enough for a line.
 fn name_bytes(kind: FaultKind) -> &'static [u8]
     ensures value { result.now ≡ name_of kind }
     ensures short { length result.now ≤ 16 }
@@ -129,7 +129,7 @@ fn write_line<K: Sink>(err: &mut K, ending: Ending, file: &str) -> Result<(), Fa
     }
 }
 
-// Writes the line of an ending, and hands it on.
+// Writes the line of an ending, and flushes err.
 fn write_through<K: Sink>(err: &mut K, ending: Ending, file: &str) -> Result<(), Failed>
     ensures { Writes (err_line ending file.now) (K.state err.old) (K.state err.new) result }
 {

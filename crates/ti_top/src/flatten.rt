@@ -1,9 +1,9 @@
 // The listing of a program: what its `main` does.
 ghost use Rattle.std.specs.Prelude.{◌≡◌, ◌∷◌, [], ◌++◌, map, is_some, true, Some, IfOk, OnOk};
-ghost use Rattle.ti_lang.specs.Programs.{Program as ListingSeen, listed_program};
+ghost use Rattle.ti_lang.specs.Listed.{ListedProgram, listed_program};
 ghost use Rattle.ti_lang.specs.Program.Views.{expression_of, printed_of, statement_of, program_of};
 ghost use Rattle.ti_lang.specs.Listings.{operand_of, listed_print as print_spec, listed, IsListing};
-ghost use Rattle.ti_top.specs.Flattening.{body_listed, IsBuilt, Adds};
+ghost use Rattle.ti_top.specs.Mirrors.Flattening.{body_listed, IsBuilt, Adds};
 
 use std::alloc::Global;
 use ti_base::{Memory, Place};
@@ -75,7 +75,7 @@ fn add_body(statements: &mut Vec<Statement>, body: &[Stmt]) -> Result<(), Memory
 
 /// The listing of a program that has one.
 pub fn flatten(alloc: Global, program: Program) -> Result<Listing, Memory>
-    requires { (listing : ListingSeen) × IsListing (program_of program.parts) listing }
+    requires { (listing : ListedProgram) × IsListing (program_of program.parts) listing }
     ensures { IfOk result (λ listing. IsListing (program_of program.parts) (listed_program listing)) }
 {
     let parts = program.parts;

@@ -3,12 +3,10 @@
 
 mod command;
 mod compiling;
-mod earliest;
 mod ending;
 mod fault;
 mod flatten;
 mod line;
-mod main_method;
 mod printing;
 mod reading;
 mod run_line;
@@ -21,10 +19,3 @@ mod work;
 
 pub use command::{Outcome, titan_top};
 pub use compiling::one_answer;
-
-#[cfg(test)]
-mod name_tests;
-#[cfg(test)]
-mod tests;
-#[cfg(test)]
-mod tree_tests;

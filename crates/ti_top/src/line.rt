@@ -1,7 +1,7 @@
 // A line that is formed without taking memory.
 ghost use Rattle.std.specs.Prelude.{◌≡◌, ◌+◌, ◌≤◌, [], ◌++◌, length, decimal};
 ghost use Rattle.std.specs.Fmt.{signed_decimal};
-ghost use Rattle.ti_top.specs.Line.{line_room};
+ghost use Rattle.ti_top.specs.Mirrors.Line.{line_room};
 
 use arrayvec::ArrayVec;
 use itoa::Buffer;
@@ -22,6 +22,7 @@ impl Model for Line {
 }
 
 impl Line {
+    /// An empty line.
     pub fn new() -> Self
         ensures { result ≡ [] }
     {
@@ -30,6 +31,7 @@ impl Line {
         }
     }
 
+    /// The bytes of the line.
     pub fn as_slice(&self) -> &[u8]
         ensures { result.now ≡ self.now }
     {

@@ -1,9 +1,9 @@
 // Writing the lines of a run.
 ghost use Rattle.std.specs.Prelude.{◌≡◌, ◌≤◌, ◌++◌, ◌∷◌, [], length};
 ghost use Rattle.ti_io.specs.Sink.{Writes};
-ghost use Rattle.ti_lang.specs.Programs.{listed_program};
+ghost use Rattle.ti_lang.specs.Listed.{listed_program};
 ghost use Rattle.ti_lang.specs.Lines.{line_of as line_spec, lines_of, literal_text, printed_text};
-ghost use Rattle.ti_top.specs.Line.{HasRoom};
+ghost use Rattle.ti_top.specs.Mirrors.Line.{HasRoom};
 
 use crate::line::Line;
 use crate::run_line::RunLine;
@@ -68,7 +68,7 @@ fn write_entries<K: Sink>(
     Ok(())
 }
 
-/// Writes the lines of a history, each as one piece, and hands them on.
+/// Writes the lines of a history, each as one piece, and flushes out.
 pub fn write_lines<K: Sink>(
     out: &mut K,
     line: &mut RunLine,

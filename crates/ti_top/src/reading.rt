@@ -1,13 +1,14 @@
 // Reading a file whole.
 ghost use Rattle.std.specs.Prelude.{◌≡◌, [], true, Some};
 ghost use Rattle.ti_io.specs.Source.{content_of};
-ghost use Rattle.ti_top.specs.Reading.{ReadsWhole};
+ghost use Rattle.ti_top.specs.Mirrors.Reading.{ReadsWhole};
 
 use ti_io::Source;
 
 /// At most so many bytes are read: one more than a text may have.
 pub const MOST_READ: usize = 1_048_577;
 
+// A file is read in pieces of so many bytes.
 const PIECE: usize = 4096;
 
 /// How the reading ended.
@@ -17,7 +18,7 @@ pub enum ReadEnd {
     Whole,
     /// The file is missing, or a call failed.
     CantRead,
-    /// Memory was wanting.
+    /// Out of memory.
     NoMemory,
 }
 

@@ -1,6 +1,6 @@
 // A line of a run, in room that is taken before the run.
 ghost use Rattle.std.specs.Prelude.{◌≡◌, ℕ, ◌+◌, ◌^◌, ◌<◌, ◌≤◌, [], ◌++◌, length, slice_index_or, IfOk};
-ghost use Rattle.ti_top.specs.Line.{HasRoom};
+ghost use Rattle.ti_top.specs.Mirrors.Line.{HasRoom};
 
 use std::alloc::Global;
 use std::marker::Model;
@@ -18,7 +18,7 @@ pub struct RunLine {
 
 impl Model for RunLine {
     ghost use Rattle.std.specs.Prelude.{vec_capacity};
-    ghost use Rattle.ti_top.specs.Line.{RoomyLine};
+    ghost use Rattle.ti_top.specs.Mirrors.Line.{RoomyLine};
 
     ghost Value = { RoomyLine };
 
@@ -46,6 +46,7 @@ impl RunLine {
         Ok(RunLine { bytes })
     }
 
+    /// The bytes of the line.
     pub fn as_slice(&self) -> &[u8]
         ensures { result.now ≡ self.now.taken }
     {

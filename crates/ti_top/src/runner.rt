@@ -1,10 +1,11 @@
 // Running a list of statements on one thread.
 ghost use Rattle.std.specs.Prelude.{◌≡◌, ◌⊎◌, ℕ, ◌+◌, ◌*◌, ◌^◌, ◌<◌, ◌≤◌, [], true, length, vec_len, position, IfOk};
 ghost use Rattle.ti_base.specs.declared.entry.Answer.TheVariants.{Done};
+ghost use Rattle.ti_lang.specs.Processes.{most_procs};
 ghost use Rattle.ti_lang.specs.Runs.{IsSolo, entry_of as entry_spec};
-ghost use Rattle.ti_top.specs.Walking.{setting_of};
-ghost use Rattle.ti_top.specs.Team.{Standing, TurnLeaves, is_able};
-ghost use Rattle.ti_top.specs.RunEnds.{RunEnds};
+ghost use Rattle.ti_top.specs.Mirrors.Walking.{setting_of};
+ghost use Rattle.ti_top.specs.Mirrors.Team.{Standing, TurnLeaves, is_able};
+ghost use Rattle.ti_top.specs.Mirrors.RunEnds.{RunEnds};
 
 use crate::fault::Fault;
 use crate::seat::Seat;
@@ -23,7 +24,7 @@ pub enum How {
     Ended,
     /// With a fault.
     Faulted(Fault),
-    /// Memory was wanting.
+    /// Out of memory.
     Memory,
 }
 
@@ -74,7 +75,7 @@ fn first_able(seats: &[Seat]) -> Option<usize>
     seats.iter().position(|seat| seat.is_able(seats, FUEL))
 }
 
-// The lowest process that can take an entry takes it. Ok(Some): it is a fault, which ends the run.
+// The lowest process that can take an entry takes it. The answer `Some` says that it is a fault, which ends the run.
 fn turn(
     listing: &Listing,
     procs: u32,
@@ -82,7 +83,7 @@ fn turn(
     history: &mut Vec<Entry>,
     lowest: usize,
 ) -> Result<Option<Fault>, Memory>
-    requires procs { procs ≤ 32 }
+    requires procs { procs ≤ most_procs }
     requires standing { Standing (setting_of listing.now procs FUEL) history.old.items seats.old.items }
     requires lowest { position (is_able FUEL seats.old.items) seats.old.items ≡ Some lowest }
     ensures { TurnLeaves (setting_of listing.now procs FUEL) history.old.items seats.old.items history.new.items seats.new.items result }
@@ -100,10 +101,10 @@ fn turn(
 
 /// Runs a list of statements: each entry is that of the lowest-numbered process that can take one.
 ///
-/// The first fault ends the run. Want of memory ends it early, and the entries so far are kept.
+/// The first fault ends the run. Out of memory, it ends early and keeps the entries so far.
 pub fn run(alloc: Global, listing: &Listing, procs: u32) -> RunEnd
     requires some { 1 ≤ procs }
-    requires procs { procs ≤ 32 }
+    requires procs { procs ≤ most_procs }
     ensures solo { IsSolo (setting_of listing.now procs FUEL) result.history.items }
     ensures end { RunEnds (setting_of listing.now procs FUEL) result.history.items result.how }
 {

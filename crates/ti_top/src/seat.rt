@@ -3,8 +3,8 @@ ghost use Rattle.std.specs.Prelude.{◌≡◌, ℕ, ◌+◌, ◌^◌, ◌<◌, �
 ghost use Rattle.std.specs.List.{list_all};
 ghost use Rattle.ti_lang.specs.NextStep.{step, shown};
 ghost use Rattle.ti_lang.specs.Runs.{is_arrival as arrives_spec};
-ghost use Rattle.ti_top.specs.Walking.{setting_of, process_of};
-ghost use Rattle.ti_top.specs.Team.{is_able as able_spec, Moves};
+ghost use Rattle.ti_top.specs.Mirrors.Walking.{setting_of, process_of};
+ghost use Rattle.ti_top.specs.Mirrors.Team.{is_able as able_spec, Moves};
 
 use crate::fault::Fault;
 use crate::walker::Walker;
@@ -57,7 +57,7 @@ impl Seat {
                 || all_have_arrived(self.arrivals, seats))
     }
 
-    /// Goes on from the next step. Some: that is a fault, which ends the run.
+    /// Goes on from the next step. The answer `Some` says that it is a fault, which ends the run.
     pub fn go_on(&mut self, next: Next, listing: &Listing, procs: u32, fuel: u32) -> Option<Fault>
         requires stands { shown (step (process_of (setting_of listing.now procs fuel) self.old.walker)) ≡ Some next }
         requires going { self.old.ended ≡ false }

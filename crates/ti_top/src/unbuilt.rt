@@ -1,28 +1,27 @@
 // Forms that aren't built yet.
 //
-// A tree is judged part by part: each function answers the earliest place of its part at which a form isn't built.
-ghost use Rattle.std.specs.Prelude.{◌≡◌, ◌<◌, length, map};
+// A tree is judged part by part: each function answers what counts of the forms of its part that aren't built.
+ghost use Rattle.std.specs.Prelude.{◌≡◌, ◌∷◌, [], map, bytes_eq, if◌then◌else◌};
 ghost use Rattle.std.specs.List.{flat_map};
-ghost use Rattle.ti_base.specs.declared.place.Place.{Place as PlaceSeen};
-ghost use Rattle.ti_syntax.specs.Trees.Views.{class_of, member_of, method_of, stm_of, exp_of, result_of, print_of, return_of, maybe_of};
-ghost use Rattle.ti_rules.specs.MainForm.{BreaksMainForm};
-ghost use Rattle.ti_rules.specs.Unbuilt.{place_of_first, modified_place, class_place, member_place, result_place, refused_value as value_spec, refused_print, IsUnbuilt};
-ghost use Rattle.ti_top.specs.Judging.{earlier_of, earliest, IsFirstPlace, class_places, member_places, refused_in, return_places, OfAnother};
+ghost use Rattle.ti_syntax.specs.Trees.Views.{class_of, member_of, stm_of, exp_of, result_of, print_of};
+ghost use Rattle.ti_syntax.specs.Trees.Text.{tree_of};
+ghost use Rattle.ti_rules.specs.Unbuilt.{place_of_first, modified_place, class_place, member_place, result_place, unbuilt_value as value_spec, unbuilt_print as print_spec, unbuilt_statement as statement_spec, is_main_method as main_spec, unbuilt_in_method as method_spec, unbuilt_member, unbuilt_in_class, unbuilt_class, first_apart, unbuilt_places};
+ghost use Rattle.ti_top.specs.Mirrors.Unbuilt.{first_unbuilt};
 
-use crate::earliest::earlier;
-use crate::main_method::{main_class, main_method};
 use ti_base::Place;
-use ti_syntax::tree::{Class, Expr, Member, Method, Modifier, Printed, ResultType, Return, Stmt};
+use ti_rules::{Refusal, Rule, refused_if, sooner};
+use ti_syntax::Spelled;
+use ti_syntax::tree::{Class, Expr, Member, Modifier, Printed, ResultType, Stmt, Tree};
 
 // The first token of an expression.
 fn first_place(x: &Expr) -> Place
     ensures { result ≡ place_of_first (exp_of x.now) }
 {
     match x {
-        Expr::Binary(_, _, left, _) => first_place(left),
-        Expr::Select(_, object, _) => first_place(object),
-        Expr::Member(_, object, _, _) => first_place(object),
-        Expr::Index(_, object, _) => first_place(object),
+        Expr::Binary { left, .. } => first_place(left),
+        Expr::Select { receiver, .. } => first_place(receiver),
+        Expr::Member { receiver, .. } => first_place(receiver),
+        Expr::Index { receiver, .. } => first_place(receiver),
         _ => x.place(),
     }
 }
@@ -37,6 +36,7 @@ fn modified(modifiers: &[Modifier], behind: Place) -> Place
     }
 }
 
+// The first token of what a method is declared to give back.
 fn result_start(result_type: &ResultType) -> Place
     ensures { result ≡ result_place (result_of result_type.now) }
 {
@@ -63,130 +63,156 @@ fn class_start(class: &Class) -> Place
     modified(&class.modifiers, class.word)
 }
 
-fn members_start(members: &[Member]) -> Option<Place>
-    ensures { result ≡ earliest (flat_map member_places (map member_of members.now)) }
+// A form that isn't built, with its first token at this place.
+fn refused(place: Place) -> Option<Refusal>
+    ensures { result ≡ first_unbuilt (place ∷ []) }
 {
-    let mut first = None;
-    'members: for member in members {
-        first = earlier(first, Some(member_start(member)));
-    }
-    first
+    refused_if(true, Rule::Y1, place)
 }
 
-fn classes_start(classes: &[Class]) -> Option<Place>
-    ensures { result ≡ earliest (flat_map class_places (map class_of classes.now)) }
-{
-    let mut first = None;
-    'classes: for class in classes {
-        first = earlier(first, Some(class_start(class)));
-    }
-    first
-}
-
-fn other_members_start(members: &[Member], at: usize) -> Option<Place>
-    requires { at < length members.now }
-    ensures { IsFirstPlace (OfAnother member_places (map member_of members.now) at) result }
-{
-    let front = members_start(&members[..at]);
-    let back = members_start(&members[at + 1..]);
-    earlier(front, back)
-}
-
-fn other_classes_start(classes: &[Class], at: usize) -> Option<Place>
-    requires { at < length classes.now }
-    ensures { IsFirstPlace (OfAnother class_places (map class_of classes.now) at) result }
-{
-    let front = classes_start(&classes[..at]);
-    let back = classes_start(&classes[at + 1..]);
-    earlier(front, back)
-}
-
-// Where a printed expression is refused.
-fn refused_value(x: &Expr) -> Option<Place>
-    ensures { result ≡ value_spec (exp_of x.now) }
+// In a printed expression.
+#[tactic(auto, unfolding(ti_rules::specs::First::first_of))]
+fn unbuilt_value(x: &Expr) -> Option<Refusal>
+    ensures { result ≡ first_unbuilt (value_spec (exp_of x.now)) }
 {
     match x {
         Expr::Int(_, _) | Expr::ThisProc(_) | Expr::NumProcs(_) => None,
-        _ => Some(first_place(x)),
+        _ => refused(first_place(x)),
     }
 }
 
-// Where a print is refused.
-fn refused_printed(what: &Printed) -> Option<Place>
-    ensures { result ≡ refused_print (print_of what.now) }
+// In what a print writes.
+#[tactic(auto, unfolding(ti_rules::specs::First::first_of))]
+fn unbuilt_print(what: &Printed) -> Option<Refusal>
+    ensures { result ≡ first_unbuilt (print_spec (print_of what.now)) }
 {
     match what {
         Printed::Nothing => None,
         Printed::Text(_) => None,
-        Printed::Value(x) => refused_value(x),
-        Printed::TextAndValue(_, x) => refused_value(x),
+        Printed::Value(x) => unbuilt_value(x),
+        Printed::TextAndValue(_, x) => unbuilt_value(x),
     }
 }
 
-// Where a statement is refused, or one in its blocks.
-#[cycle(refused)]
-fn refused_by(statement: &Stmt) -> Option<Place>
-    ensures { result ≡ earliest (refused_in (stm_of statement.now)) }
+// In a statement, with what stands in its blocks.
+#[cycle(unbuilt)]
+#[tactic(auto, unfolding(ti_rules::specs::First::first_of))]
+fn unbuilt_statement(statement: &Stmt) -> Option<Refusal>
+    ensures { result ≡ first_unbuilt (statement_spec (stm_of statement.now)) }
 {
     match statement {
         Stmt::Empty => None,
         Stmt::Barrier(_) => None,
-        Stmt::Print(_, what) => refused_printed(what),
-        Stmt::Block(body) => refused_in_body(body),
-        Stmt::Declare(_, ty, _, _) => Some(ty.base.place()),
-        Stmt::Assign(_, target, _) => Some(first_place(target)),
-        Stmt::Update(_, _, target, _) => Some(first_place(target)),
-        Stmt::Step(_, _, target) => Some(first_place(target)),
-        Stmt::Call(x) => Some(first_place(x)),
-        Stmt::If(place, _, _, None) => Some(*place),
-        Stmt::If(place, _, _, Some(_)) => Some(*place),
-        Stmt::While(place, _, _) => Some(*place),
-        Stmt::For(place, _, _, _, _) => Some(*place),
-        Stmt::Foreach(place, _, _, _, _) => Some(*place),
+        Stmt::Print(_, what) => unbuilt_print(what),
+        Stmt::Block(body) => unbuilt_body(body),
+        Stmt::Declare { ty, .. } => refused(ty.base.place()),
+        Stmt::Assign { target, .. } => refused(first_place(target)),
+        Stmt::Update { target, .. } => refused(first_place(target)),
+        Stmt::Step { target, .. } => refused(first_place(target)),
+        Stmt::Call(x) => refused(first_place(x)),
+        Stmt::Break(place) => refused(*place),
+        Stmt::Continue(place) => refused(*place),
+        Stmt::Return(place, _) => refused(*place),
+        Stmt::If { place, .. } => refused(*place),
+        Stmt::While { place, .. } => refused(*place),
+        Stmt::For { place, .. } => refused(*place),
+        Stmt::Foreach { place, .. } => refused(*place),
     }
 }
 
-// Where a body is refused.
-#[cycle(refused)]
-fn refused_in_body(body: &[Stmt]) -> Option<Place>
-    ensures { result ≡ earliest (flat_map refused_in (map stm_of body.now)) }
+// In the statements of a body.
+#[cycle(unbuilt)]
+fn unbuilt_body(body: &[Stmt]) -> Option<Refusal>
+    ensures { result ≡ first_unbuilt (flat_map statement_spec (map stm_of body.now)) }
 {
-    let mut first = None;
+    let mut found = None;
     'statements: for statement in body {
-        first = earlier(first, refused_by(statement));
+        found = sooner(found, unbuilt_statement(statement));
     }
-    first
+    found
 }
 
-// Where the last `return` of a method stands.
-fn return_place(last: &Option<Return>) -> Option<Place>
-    ensures { result ≡ earliest (return_places (maybe_of return_of last.now)) }
+// Whether a name is spelled so.
+fn is_spelled(name: &Spelled, text: &[u8]) -> bool
+    ensures { result ≡ bytes_eq name.now text.now }
 {
-    match last {
-        Some(last) => Some(last.place),
-        None => None,
+    name.as_bytes() == text
+}
+
+// Whether a member is a method with the name main.
+fn is_main_method(member: &Member) -> bool
+    ensures { result ≡ main_spec (member_of member.now) }
+{
+    match member {
+        Member::Method(method) => is_spelled(&method.name, b"main"),
+        Member::Field(_) => false,
     }
 }
 
-// Where main has forms that aren't built.
-fn unbuilt_in_main(method: &Method) -> Option<Place>
-    ensures { result ≡ earlier_of (earliest (flat_map refused_in (method_of method.now).body)) (earliest (return_places (method_of method.now).last)) }
+// In the method main.
+#[tactic(auto, unfolding(ti_rules::specs::First::first_of))]
+fn unbuilt_in_method(member: &Member) -> Option<Refusal>
+    ensures { result ≡ first_unbuilt (method_spec (member_of member.now)) }
 {
-    earlier(refused_in_body(&method.body), return_place(&method.last))
+    match member {
+        Member::Method(method) => unbuilt_body(&method.body),
+        Member::Field(_) => None,
+    }
 }
 
-/// Where a form stands first that isn't built, in a tree whose main has its form.
-pub fn unbuilt_form(classes: &[Class]) -> Option<Place>
-    requires { (p : PlaceSeen) → BreaksMainForm (map class_of classes.now) p → ⊥ }
-    ensures { IsFirstPlace (IsUnbuilt (map class_of classes.now)) result }
+// In a member of Main, which is its method main or another one.
+fn judged_member(member: &Member, is_main: bool) -> Option<Refusal>
+    ensures { result ≡ first_unbuilt (if is_main then method_spec (member_of member.now) else unbuilt_member (member_of member.now)) }
 {
-    let Some((at, class)) = main_class(classes) else {
-        unreachable!()
-    };
-    let Some((method_at, method)) = main_method(class) else {
-        unreachable!()
-    };
-    let elsewhere = other_classes_start(classes, at);
-    let beside = other_members_start(&class.members, method_at);
-    earlier(earlier(elsewhere, beside), unbuilt_in_main(method))
+    if is_main {
+        unbuilt_in_method(member)
+    } else {
+        refused(member_start(member))
+    }
+}
+
+// In the members of Main, of which the first method main alone is built.
+fn judged_members(members: &[Member]) -> Option<Refusal>
+    ensures { result ≡ first_unbuilt (first_apart main_spec method_spec unbuilt_member (map member_of members.now)) }
+{
+    let mut found = None;
+    let mut passed = false;
+    'members: for member in members {
+        let is_main = !passed && is_main_method(member);
+        found = sooner(found, judged_member(member, is_main));
+        passed = passed || is_main;
+    }
+    found
+}
+
+// In a class, which is Main or another one.
+fn judged_class(class: &Class, is_main: bool) -> Option<Refusal>
+    ensures { result ≡ first_unbuilt (if is_main then unbuilt_in_class (class_of class.now) else unbuilt_class (class_of class.now)) }
+{
+    if is_main {
+        judged_members(&class.members)
+    } else {
+        refused(class_start(class))
+    }
+}
+
+// In the classes of a text, of which the first Main alone is built.
+fn judged_classes(classes: &[Class]) -> Option<Refusal>
+    ensures { result ≡ first_unbuilt (unbuilt_places (map class_of classes.now)) }
+{
+    let mut found = None;
+    let mut passed = false;
+    'classes: for class in classes {
+        let is_main = !passed && is_spelled(&class.name, b"Main");
+        found = sooner(found, judged_class(class, is_main));
+        passed = passed || is_main;
+    }
+    found
+}
+
+/// The refusal of the forms of a tree that aren't built.
+pub fn unbuilt(tree: &Tree) -> Option<Refusal>
+    ensures { result ≡ first_unbuilt (unbuilt_places (tree_of tree.now)) }
+{
+    judged_classes(&tree.classes)
 }

@@ -8,7 +8,7 @@ ghost use Rattle.ti_base.specs.declared.fault.FaultKind.TheVariants.{Fuel};
 ghost use Rattle.ti_lang.specs.Processes.{Setting, begin};
 ghost use Rattle.ti_lang.specs.Evaluation.{Gives, eval};
 ghost use Rattle.ti_lang.specs.NextStep.{step, shown};
-ghost use Rattle.ti_top.specs.Walking.{setting_of, process_of, Walks};
+ghost use Rattle.ti_top.specs.Mirrors.Walking.{setting_of, process_of, Walks};
 
 use ti_base::{Action, CollKind, Deposit, FaultKind, Next, Place, Value};
 use ti_lang::{Listing, Operand, Statement};

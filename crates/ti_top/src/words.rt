@@ -2,13 +2,14 @@
 ghost use Rattle.std.specs.Prelude.{◌≡◌, map, string_bytes, None, Some, MatchOption, IfSome, ◌≤◌};
 ghost use Rattle.std.specs.Char.{is_ascii_digit};
 ghost use Rattle.std.specs.List.{list_all};
+ghost use Rattle.ti_lang.specs.Processes.{most_procs};
 ghost use Rattle.ti_top.specs.Job.{job_of, is_file, is_number, procs_of};
 
 // A number has at most so many digits.
 const MOST_DIGITS: usize = 10;
 
-/// A run has at most so many processes.
-pub const MOST_PROCS: u32 = 32;
+// A run has at most so many processes.
+const MOST_PROCS: u32 = 32;
 
 /// What the words ask for.
 #[derive(Clone, Copy)]
@@ -66,7 +67,7 @@ pub fn read_words(words: &[String]) -> Option<Command<'_>>
     ensures job { MatchOption result (job_of (map string_bytes words.now) ≡ None)
         (λ c. job_of (map string_bytes words.now) ≡ Some (record { procs = c.procs; file = c.file.now })) }
     ensures some { IfSome result (λ c. 1 ≤ c.procs) }
-    ensures most { IfSome result (λ c. c.procs ≤ MOST_PROCS) }
+    ensures most { IfSome result (λ c. c.procs ≤ most_procs) }
 {
     let (procs, file) = match words {
         [file] => (1, file.as_str()),

@@ -1,9 +1,9 @@
 // What is done before the line on err.
-ghost use Rattle.std.specs.Prelude.{◌≡◌, ◌≤◌, [], map, string_bytes};
-ghost use Rattle.ti_lang.specs.Programs.{listed_program};
-ghost use Rattle.ti_top.specs.declared.words.TheConstants.{MOST_PROCS};
-ghost use Rattle.ti_top.specs.Line.{HasRoom};
-ghost use Rattle.ti_top.specs.Work.{ending_of, RunSays, TextSays, WorkSays};
+ghost use Rattle.std.specs.Prelude.{◌≡◌, ◌≤◌, []};
+ghost use Rattle.ti_lang.specs.Listed.{listed_program};
+ghost use Rattle.ti_lang.specs.Processes.{most_procs};
+ghost use Rattle.ti_top.specs.Mirrors.Line.{HasRoom};
+ghost use Rattle.ti_top.specs.Mirrors.Work.{ending_of, RunSays, TextSays, WorkSays};
 
 use crate::compiling::{CompileErr, compile};
 use crate::ending::Ending;
@@ -11,7 +11,7 @@ use crate::printing::write_lines;
 use crate::reading::{ReadEnd, read_whole};
 use crate::run_line::RunLine;
 use crate::runner::{How, run};
-use crate::words::read_words;
+use crate::words::Command;
 use std::alloc::Global;
 use ti_base::{Entry, Memory};
 use ti_io::{Failed, Sink, Source};
@@ -25,7 +25,7 @@ pub struct Worked {
     pub history: Vec<Entry>,
 }
 
-// A run, and how the writing of its lines ended.
+// How what was done with a text ended, and the entries of its run.
 #[derive(Drop)]
 struct Written {
     ending: Ending,
@@ -33,7 +33,7 @@ struct Written {
 }
 
 impl Written {
-    // Where nothing was run.
+    // Nothing was run and nothing written.
     fn nothing(alloc: Global, ending: Ending) -> Self
         ensures ending { result.ending ≡ ending }
         ensures history { result.history.items ≡ [] }
@@ -45,8 +45,8 @@ impl Written {
     }
 }
 
-// Runs a program and writes its lines, for which there is room. A want of memory in the run lets the
-// lines of the entries so far be written.
+// Runs a program and writes its lines, for which there is room. Where the run runs out of memory, the
+// lines of the entries so far are written.
 fn run_program<K: Sink>(
     alloc: Global,
     procs: u32,
@@ -55,7 +55,7 @@ fn run_program<K: Sink>(
     out: &mut K,
 ) -> Written
     requires some { 1 ≤ procs }
-    requires procs { procs ≤ MOST_PROCS }
+    requires procs { procs ≤ most_procs }
     requires room { HasRoom listing.now.literals.items line.old }
     ensures { RunSays (listed_program listing.now) procs (K.state out.old) (K.state out.new) result.history.items result.ending }
 {
@@ -86,7 +86,7 @@ fn run_ending(how: How, lines: Result<(), Failed>) -> Ending
 // Compiles and runs a text that was read whole. Room for its lines is taken before the run.
 fn run_text<K: Sink>(alloc: Global, procs: u32, text: &[u8], out: &mut K) -> Written
     requires some { 1 ≤ procs }
-    requires procs { procs ≤ MOST_PROCS }
+    requires procs { procs ≤ most_procs }
     ensures { TextSays result.ending procs text.now (K.state out.old) (K.state out.new) result.history.items }
 {
     match compile(alloc, text) {
@@ -99,15 +99,16 @@ fn run_text<K: Sink>(alloc: Global, procs: u32, text: &[u8], out: &mut K) -> Wri
     }
 }
 
-/// Reads the words, the file and the program, runs it, and writes its lines.
+/// Does what a command asks for: reads its file, compiles the text and runs the program, and writes the lines of the run.
 pub fn work<S: Source, K: Sink>(
     alloc: Global,
-    words: &[String],
+    command: Command<'_>,
     source: &mut S,
     out: &mut K,
 ) -> Worked
-    ensures { WorkSays result.ending (record {
-      words = map string_bytes words.now;
+    requires some { 1 ≤ command.procs }
+    requires procs { command.procs ≤ most_procs }
+    ensures { WorkSays (record { procs = command.entry.procs; file = command.entry.file.now }) result.ending (record {
       source = S.state source.old;
       source_after = S.state source.new;
       out = K.state out.old;
@@ -117,23 +118,11 @@ pub fn work<S: Source, K: Sink>(
     }) }
 {
     let mut text = Vec::new(alloc);
-    let Some(command) = read_words(words) else {
-        return with_text(text, Written::nothing(alloc, Ending::NoCommand));
-    };
     let written = match read_whole(source, command.file, &mut text) {
         ReadEnd::Whole => run_text(alloc, command.procs, &text, out),
         ReadEnd::CantRead => Written::nothing(alloc, Ending::CantRead),
         ReadEnd::NoMemory => Written::nothing(alloc, Ending::NoMemory),
     };
-    with_text(text, written)
-}
-
-// What was done with a text.
-fn with_text(text: Vec<u8>, written: Written) -> Worked
-    ensures ending { result.ending ≡ written.ending }
-    ensures text { result.text ≡ text }
-    ensures history { result.history ≡ written.history }
-{
     Worked {
         ending: written.ending,
         text,

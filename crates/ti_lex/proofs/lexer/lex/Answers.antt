@@ -4,7 +4,7 @@ use Rattle.ti_rules.specs.declared.rule.Rule.TheVariants.{X5}
 use Rattle.ti_rules.specs.LexicalRefusals as refusals
 use Rattle.ti_rules.specs.LexicalRefusals.{IsLexicalRefusal}
 use Rattle.ti_lex.specs.Answer.{Lexes}
-use Rattle.ti_lex.specs.Cursor.{Spot}
+use Rattle.ti_lex.specs.Mirrors.Cursor.{Spot}
 use Rattle.ti_lex.proofs.Only.{only_tokens, only_refusal}
 use Rattle.ti_lex.proofs.lexer.lex.Goals as goal
 

@@ -3,7 +3,7 @@ use Rattle.std.proofs.lemmas.List.{drop_all}
 use Rattle.std.specs.Map.{lookup}
 use Rattle.std.specs.Str.{bytes_eq}
 use Rattle.ti_syntax.specs.declared.token.TokenKind.{TokenKind}
-use Rattle.ti_lex.specs.Reading.{reserved}
+use Rattle.ti_lex.specs.Mirrors.Reading.{reserved}
 use Rattle.ti_lex.proofs.Tables.{found, passed}
 use Rattle.ti_lex.proofs.word.reserved_word.Goals as goal
 

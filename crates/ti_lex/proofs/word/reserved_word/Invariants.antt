@@ -1,7 +1,7 @@
 use Rattle.std.proofs.Common.{◌≡◌, drop}
 use Rattle.std.specs.Map.{lookup}
 use Rattle.std.specs.Str.{bytes_eq}
-use Rattle.ti_lex.specs.Reading.{reserved}
+use Rattle.ti_lex.specs.Mirrors.Reading.{reserved}
 use Rattle.ti_lex.proofs.word.reserved_word.Given as goal
 
 abbrev pub invariant-loop-number : goal.invariant-loop-number

@@ -1,6 +1,6 @@
 use Rattle.std.proofs.Common.{◌≡◌, [], map, drop}
 use Rattle.ti_syntax.specs.Trees.Views.{class_of}
-use Rattle.ti_names.specs.Tables.{with_numbered, class_names}
+use Rattle.ti_names.specs.Mirrors.Tables.{with_numbered, class_names}
 use Rattle.ti_names.proofs.build.class_table.Given as goal
 
 abbrev pub invariant-loop-class : goal.invariant-loop-class

@@ -1,6 +1,6 @@
 use Rattle.std.proofs.Common.{◌≡◌, [], map, drop}
 use Rattle.ti_syntax.specs.Trees.Views.{member_of}
-use Rattle.ti_names.specs.Tables.{with_numbered, field_names}
+use Rattle.ti_names.specs.Mirrors.Tables.{with_numbered, field_names}
 use Rattle.ti_lang.specs.Members.{fields_in}
 use Rattle.ti_names.proofs.build.field_table.Given as goal
 

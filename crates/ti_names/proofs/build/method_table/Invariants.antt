@@ -1,6 +1,6 @@
 use Rattle.std.proofs.Common.{◌≡◌, ◌+◌, [], map, drop, length}
 use Rattle.ti_syntax.specs.Trees.Views.{member_of}
-use Rattle.ti_names.specs.Tables.{with_numbered, method_names}
+use Rattle.ti_names.specs.Mirrors.Tables.{with_numbered, method_names}
 use Rattle.ti_names.proofs.build.method_table.Given as goal
 
 abbrev pub invariant-loop-member : goal.invariant-loop-member

@@ -1,6 +1,6 @@
 use Rattle.std.proofs.Common.{◌≡◌, ◌++◌, map, drop}
 use Rattle.ti_syntax.specs.Trees.Views.{class_of}
-use Rattle.ti_names.specs.Tables.{method_tables}
+use Rattle.ti_names.specs.Mirrors.Tables.{method_tables}
 use Rattle.ti_names.proofs.build.method_tables.Given as goal
 
 abbrev pub invariant-loop-class : goal.invariant-loop-class

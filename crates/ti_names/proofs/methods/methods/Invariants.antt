@@ -4,15 +4,16 @@ use Rattle.ti_lang.specs.Program.Views.{numbered_method_of}
 use Rattle.ti_lang.specs.Members.{OwnMethod}
 use Rattle.ti_lang.specs.Scopes.{literals_in}
 use Rattle.ti_lang.specs.Nodes.{methods_nodes}
-use Rattle.ti_names.specs.Faults.{noted}
-use Rattle.ti_names.specs.Numbered.{number_methods}
+use Rattle.ti_rules.specs.First.{sooner}
+use Rattle.ti_names.specs.Found.{first_in}
+use Rattle.ti_names.specs.Mirrors.Numbered.{number_methods}
 use Rattle.ti_names.specs.Own.{own_of}
 use Rattle.ti_names.specs.Seen.{text_of}
 use Rattle.ti_names.proofs.methods.methods.Given as goal
 
 abbrev pub invariant-loop-own : goal.invariant-loop-own
 invariant-loop-own l = record {
-  value : map numbered_method_of l.done.items ++ number_methods (text_of l.tables) (length l.literals.items) (map own_of (drop l.own-index l.methods)) ≡ number_methods (text_of l.tables) 0 (map own_of l.methods);
-  literals : l.literals.items ++ flat_map (λ (own : OwnMethod). literals_in (stms own.method.body)) (map own_of (drop l.own-index l.methods)) ≡ flat_map (λ (own : OwnMethod). literals_in (stms own.method.body)) (map own_of l.methods);
-  found : noted l.found (methods_nodes (text_of l.tables) l.number (length l.literals.items) (map own_of (drop l.own-index l.methods))) ≡ noted l.initial.found (methods_nodes (text_of l.tables) 0 0 (map own_of l.methods));
+  part : map numbered_method_of l.done.items ++ number_methods (text_of l.tables) (length l.literals.texts.items) (map own_of (drop l.own-index l.methods)) ≡ number_methods (text_of l.tables) 0 (map own_of l.methods);
+  literals : l.literals.texts.items ++ flat_map (λ (own : OwnMethod). literals_in (stms own.method.body)) (map own_of (drop l.own-index l.methods)) ≡ flat_map (λ (own : OwnMethod). literals_in (stms own.method.body)) (map own_of l.methods);
+  refusal : sooner l.refusal (first_in (methods_nodes (text_of l.tables) l.number (length l.literals.texts.items) (map own_of (drop l.own-index l.methods)))) ≡ first_in (methods_nodes (text_of l.tables) 0 0 (map own_of l.methods));
 }

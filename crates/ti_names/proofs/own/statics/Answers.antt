@@ -5,7 +5,7 @@ use Rattle.ti_syntax.specs.declared.tree.classes.Modifier.{Modifier}
 use Rattle.ti_lang.specs.Members.{is_static, is_static_word}
 use Rattle.ti_names.specs.declared.own.Own.{Own}
 use Rattle.ti_names.specs.Own.{own_of}
-use Rattle.ti_names.specs.Tables.{static_table}
+use Rattle.ti_names.specs.Mirrors.Tables.{static_table}
 use Rattle.ti_names.proofs.own.statics.Goals as goal
 
 statics_last : (xs : List Own) (own : Own) → static_table (map own_of (xs ++ own ∷ [])) ≡ static_table (map own_of xs) ++ is_static (own_of own).method ∷ []

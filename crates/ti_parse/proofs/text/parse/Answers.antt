@@ -1,5 +1,5 @@
 use Rattle.std.proofs.Common.{Some, Err, refl, ap, sym, ◌∙◌, subst, ◌+◌, length}
-use Rattle.ti_syntax.specs.Trees.Views.{tree_of}
+use Rattle.ti_syntax.specs.Trees.Views.{text_tree_of}
 use Rattle.ti_syntax.specs.Spelling.{Unexpected, TooDeep, IsGrammarRefusal}
 use Rattle.ti_parse_expr.specs.Input.{Fails}
 use Rattle.ti_parse.specs.Answer.{Parsed}
@@ -15,7 +15,7 @@ unreachable-requires c =
     ∙ subst (λ e. Fails (text careful (length c.args.toks.now + 1) c.new-tokens.result) e c.read_text.new.tokens) c.in-Err-Spent.field-0-is c.in-Err-Spent.ensures)
 
 pub returns-in-Ok : goal.returns-in-Ok
-returns-in-Ok c = spelled c.args.toks.now c.requires (tree_of c.in-Ok.tree) c.read_text.new.tokens (ap (text careful (length c.args.toks.now + 1)) (sym c.new-tokens.ensures) ∙ c.in-Ok.ensures)
+returns-in-Ok c = spelled c.args.toks.now c.requires (text_tree_of c.in-Ok.classes) c.read_text.new.tokens (ap (text careful (length c.args.toks.now + 1)) (sym c.new-tokens.ensures) ∙ c.in-Ok.ensures)
 
 pub returns-in-Err-Refused : goal.returns-in-Err-Refused
 returns-in-Err-Refused c =
@@ -33,3 +33,8 @@ returns-in-Err-TooDeep c =
     ∙ subst (λ e. Fails (text careful (length c.args.toks.now + 1) c.new-tokens.result) e c.read_text.new.tokens) c.in-Err-TooDeep.field-0-is c.in-Err-TooDeep.ensures) in
     subst (λ e. Parsed c.args.toks.now (Err e)) (sym c.refused-in-Err-TooDeep.ensures)
     (TooDeep, refl, subst (λ p. IsGrammarRefusal c.args.toks.now (Some (TooDeep, p))) (sym c.place-in-Err-TooDeep.ensures) said)
+
+pub invariant_of-result : goal.invariant_of-result
+invariant_of-result c =
+    let (s, _) = spelled c.args.toks.now c.requires (text_tree_of c.in-Ok.classes) c.read_text.new.tokens (ap (text careful (length c.args.toks.now + 1)) (sym c.new-tokens.ensures) ∙ c.in-Ok.ensures) in
+    record { spelled = ∣ (c.args.toks.now, s) ∣₁ }

@@ -1,7 +1,7 @@
 use Rattle.std.proofs.Common.{rules, ◌≡◌, ℕ, ◌+◌, ◌-◌, ◌<◌, ◌≤◌, List, length, drop, Result, Ok, Err, refl, sym, ap, ◌∙◌, subst, arith}
 use Rattle.ti_syntax.specs.declared.token.Token.{Token}
 use Rattle.ti_syntax.specs.Spelling.Weights.{weigh}
-use Rattle.ti_parse_expr.specs.Answers.{most_weight}
+use Rattle.ti_syntax.specs.Spelling.{most_weight}
 use Rattle.ti_parse_expr.specs.declared.stop.Stop.{Stop}
 use Rattle.ti_parse_expr.specs.declared.stop.Stop.TheVariants as stop
 use Rattle.ti_parse_expr.specs.contracts.full.within.F-FnOnce.{words}

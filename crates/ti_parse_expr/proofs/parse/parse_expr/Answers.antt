@@ -2,7 +2,8 @@ use Rattle.std.proofs.Common.{rules, length, Err, ap, sym, ◌∙◌, subst, ◌
 use Rattle.std.proofs.lemmas.Grind.{common_steps}
 use Rattle.ti_syntax.specs.Trees.Views.{exp_of}
 use Rattle.ti_syntax.specs.Spelling.Weights.{weigh}
-use Rattle.ti_parse_expr.specs.Answers.{Answers, IsPhrase, IsNoPhrase, IsTooHeavy, most_weight}
+use Rattle.ti_parse_expr.specs.Answers.{Answers, IsPhrase, IsNoPhrase, IsTooHeavy}
+use Rattle.ti_syntax.specs.Spelling.{most_weight}
 use Rattle.ti_parse_expr.specs.Input.{Fails, take_within}
 use Rattle.ti_parse_expr.specs.Expr.{phrase}
 use Rattle.ti_parse_expr.proofs.Answered.{SaysOk, ok_answer, refused_answer, heavy_answer, never_deep}
@@ -31,7 +32,7 @@ weigh-requires c = omega (arith, run_small c)
 pub overflow_add-used : goal.overflow_add-used
 overflow_add-used c =
     let small = run_small (goal.at.overflow_add-used c).After-left in
-    let few : c.args.weight + c.weigh.result ≤ 256 = omega (arith, small, c.weigh.ensures) in
+    let few : c.args.weight + c.weigh.result ≤ most_weight = omega (arith, small, c.weigh.ensures) in
     first_of (search rules, grind (arith, common_steps))
 
 pub returns-in-Ok : goal.returns-in-Ok

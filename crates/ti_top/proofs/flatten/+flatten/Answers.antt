@@ -6,7 +6,7 @@ use Rattle.ti_lang.specs.Program.Statements.{NumberedStm, numbered_stms}
 use Rattle.ti_lang.specs.Program.Views.{statement_of}
 use Rattle.ti_lang.specs.Listings.{listed}
 use Rattle.ti_lang.proofs.ProgramBridges.{seen_numbered_block}
-use Rattle.ti_top.specs.Flattening.{body_listed, IsBuilt, Adds}
+use Rattle.ti_top.specs.Mirrors.Flattening.{body_listed, IsBuilt, Adds}
 use Rattle.ti_top.proofs.BodySizes.{sizes, size_within, size_block}
 use Rattle.ti_top.proofs.ListedBodies.{adds_nothing, adds_one, adds_step, built_at}
 use Rattle.ti_top.proofs.flatten.+flatten.Goals as goal

@@ -1,7 +1,7 @@
 use Rattle.std.proofs.Common.{◌+◌, ◌*◌, take, map}
 use Rattle.ti_lang.specs.Program.Views.{statement_of}
 use Rattle.ti_lang.specs.Program.Statements.{numbered_stms}
-use Rattle.ti_top.specs.Flattening.{body_listed, Adds}
+use Rattle.ti_top.specs.Mirrors.Flattening.{body_listed, Adds}
 use Rattle.ti_top.proofs.BodySizes.{size, sizes}
 use Rattle.ti_top.proofs.flatten.+flatten.Given as goal
 

@@ -1,6 +1,6 @@
 use Rattle.std.proofs.Common.{◌∙◌}
 use Rattle.std.proofs.lemmas.Result.{err_from_is_err_and}
-use Rattle.ti_lang.specs.Programs.{listed_program}
+use Rattle.ti_lang.specs.Listed.{listed_program}
 use Rattle.ti_top.proofs.LinesWritten.{lines_step, lines_stop}
 use Rattle.ti_top.proofs.printing.write_entries.Goals as goal
 

@@ -1,9 +1,9 @@
 use Rattle.std.proofs.Common.{take, Ok}
 use Rattle.ti_io.specs.Sink.{Writes}
 use Rattle.ti_io.specs.declared.source.Failed.{Failed}
-use Rattle.ti_lang.specs.Programs.{listed_program}
+use Rattle.ti_lang.specs.Listed.{listed_program}
 use Rattle.ti_lang.specs.Lines.{lines_of}
-use Rattle.ti_top.specs.Line.{HasRoom}
+use Rattle.ti_top.specs.Mirrors.Line.{HasRoom}
 use Rattle.ti_top.proofs.printing.write_entries.Given as goal
 
 abbrev pub invariant-entries : goal.invariant-entries

@@ -1,6 +1,6 @@
 use Rattle.std.proofs.Common.{sym, subst, lit≤}
 use Rattle.ti_lang.specs.Runs.{none, IsComplete, IsSolo}
-use Rattle.ti_top.specs.Walking.{setting_of}
+use Rattle.ti_top.specs.Mirrors.Walking.{setting_of}
 use Rattle.ti_top.specs.declared.runner.TheConstants.{FUEL}
 use Rattle.ti_top.proofs.Turns.{all_ended, unbegun, unfinished}
 use Rattle.ti_top.proofs.runner.run.Goals as goal

@@ -1,5 +1,5 @@
-use Rattle.ti_top.specs.Walking.{setting_of}
-use Rattle.ti_top.specs.Team.{Standing, all_steps_left}
+use Rattle.ti_top.specs.Mirrors.Walking.{setting_of}
+use Rattle.ti_top.specs.Mirrors.Team.{Standing, all_steps_left}
 use Rattle.ti_top.specs.declared.runner.TheConstants.{FUEL}
 use Rattle.ti_top.proofs.runner.run.Given as goal
 

@@ -1,5 +1,5 @@
 use Rattle.std.proofs.Common.{refl, arith, ◌∙◌, ap, ◌+◌, length, length-append}
-use Rattle.ti_top.specs.Walking.{setting_of}
+use Rattle.ti_top.specs.Mirrors.Walking.{setting_of}
 use Rattle.ti_top.specs.declared.runner.TheConstants.{FUEL}
 use Rattle.ti_top.proofs.Turns.{fresh_more, begins}
 use Rattle.ti_top.proofs.runner.take_seats.Goals as goal

@@ -1,5 +1,5 @@
 use Rattle.std.proofs.Common.{◌≡◌, ℕ, ◌<◌, length, get_or}
-use Rattle.ti_top.specs.Walking.{setting_of}
+use Rattle.ti_top.specs.Mirrors.Walking.{setting_of}
 use Rattle.ti_top.specs.declared.runner.TheConstants.{FUEL}
 use Rattle.ti_top.specs.declared.seat.Seat.{Seat}
 use Rattle.ti_top.proofs.Turns.{IsFresh}

@@ -1,5 +1,5 @@
 use Rattle.ti_base.specs.declared.memory.Memory.{Memory}
-use Rattle.ti_top.specs.Walking.{setting_of}
+use Rattle.ti_top.specs.Mirrors.Walking.{setting_of}
 use Rattle.ti_top.specs.declared.runner.TheConstants.{FUEL}
 use Rattle.ti_top.proofs.Turns.{Turn, open_seat, pushed, leaves}
 use Rattle.ti_top.proofs.runner.turn.Goals as goal

@@ -1,6 +1,6 @@
 use Rattle.std.proofs.Common.{◌≡◌, length}
-use Rattle.ti_lex.specs.Cursor.{rest}
-use Rattle.ti_lex.specs.Reading.{comment_from}
+use Rattle.ti_lex.specs.Mirrors.Cursor.{rest}
+use Rattle.ti_lex.specs.Mirrors.Reading.{comment_from}
 use Rattle.ti_lex.proofs.cursor.Cursor.block_comment.Given as goal
 
 abbrev pub invariant-loop-byte : goal.invariant-loop-byte

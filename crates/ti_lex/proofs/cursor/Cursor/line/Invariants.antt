@@ -1,6 +1,6 @@
 use Rattle.std.proofs.Common.{◌≡◌, ◌+◌, length}
-use Rattle.ti_lex.specs.Cursor.{rest}
-use Rattle.ti_lex.specs.Reading.{line_left}
+use Rattle.ti_lex.specs.Mirrors.Cursor.{rest}
+use Rattle.ti_lex.specs.Mirrors.Reading.{line_left}
 use Rattle.ti_lex.proofs.cursor.Cursor.line.Given as goal
 
 abbrev pub invariant-loop-byte : goal.invariant-loop-byte

@@ -1,7 +1,7 @@
 use Rattle.std.proofs.Common.{◌≡◌, ◌+◌, ◌≤◌, length}
 use Rattle.std.specs.List.{prefix_len}
 use Rattle.ti_syntax.specs.Tokenizing.{is_name_byte}
-use Rattle.ti_lex.specs.Cursor.{rest, moved}
+use Rattle.ti_lex.specs.Mirrors.Cursor.{rest, moved}
 use Rattle.ti_lex.proofs.cursor.Cursor.name.Given as goal
 
 abbrev pub invariant-loop-byte : goal.invariant-loop-byte

@@ -1,9 +1,9 @@
 use Rattle.std.proofs.Common.{◌≡◌, ◌+◌, [], drop, Ok, Err, sym, ap, ◌∙◌, subst}
 use Rattle.std.proofs.lemmas.Result.{err_from_is_err_and}
 use Rattle.ti_base.specs.Places.{place_of}
-use Rattle.ti_lex.specs.Answer.{Reads, ReadsItem}
-use Rattle.ti_lex.specs.Cursor.{Spot, rest}
-use Rattle.ti_lex.specs.Reading.{item, string_from}
+use Rattle.ti_lex.specs.Mirrors.Answers.{Reads, ReadsItem}
+use Rattle.ti_lex.specs.Mirrors.Cursor.{Spot, rest}
+use Rattle.ti_lex.specs.Mirrors.Reading.{item, string_from}
 use Rattle.ti_lex.proofs.Strings.{item_given, item_refused}
 use Rattle.ti_lex.proofs.cursor.Cursor.string.Goals as goal
 

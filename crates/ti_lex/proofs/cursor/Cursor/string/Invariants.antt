@@ -1,6 +1,6 @@
 use Rattle.std.proofs.Common.{◌≡◌, length}
-use Rattle.ti_lex.specs.Cursor.{rest}
-use Rattle.ti_lex.specs.Reading.{string_from}
+use Rattle.ti_lex.specs.Mirrors.Cursor.{rest}
+use Rattle.ti_lex.specs.Mirrors.Reading.{string_from}
 use Rattle.ti_lex.proofs.cursor.Cursor.string.Given as goal
 
 abbrev pub invariant-loop-bytes : goal.invariant-loop-bytes

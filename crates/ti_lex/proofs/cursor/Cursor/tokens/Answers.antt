@@ -4,9 +4,9 @@ use Rattle.ti_base.specs.declared.place.Place.{Place}
 use Rattle.ti_base.specs.Places.{place_of}
 use Rattle.ti_syntax.specs.declared.token.TokenKind.TheVariants as k
 use Rattle.ti_syntax.specs.Tokenizing.{IsTokenized}
-use Rattle.ti_lex.specs.Answer.{Reads}
-use Rattle.ti_lex.specs.Cursor.{rest}
-use Rattle.ti_lex.specs.Reading.{first}
+use Rattle.ti_lex.specs.Mirrors.Answers.{Reads}
+use Rattle.ti_lex.specs.Mirrors.Cursor.{rest}
+use Rattle.ti_lex.specs.Mirrors.Reading.{first}
 use Rattle.ti_lex.proofs.Texts.{IsReadTo, some, nothing_read, all_read, space_read, token_read, error_read, reads_further}
 use Rattle.ti_lex.proofs.cursor.Cursor.tokens.Goals as goal
 

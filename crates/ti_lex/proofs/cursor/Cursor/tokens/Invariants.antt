@@ -1,5 +1,5 @@
 use Rattle.std.proofs.Common.{length}
-use Rattle.ti_lex.specs.Cursor.{rest}
+use Rattle.ti_lex.specs.Mirrors.Cursor.{rest}
 use Rattle.ti_lex.proofs.Texts.{IsReadTo}
 use Rattle.ti_lex.proofs.cursor.Cursor.tokens.Given as goal
 

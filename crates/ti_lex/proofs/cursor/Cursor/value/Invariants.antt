@@ -1,8 +1,8 @@
 use Rattle.std.proofs.Common.{◌≡◌, ◌≤◌, ◌+◌, length}
 use Rattle.std.specs.Char.{is_ascii_digit}
 use Rattle.std.specs.List.{prefix_len}
-use Rattle.ti_lex.specs.Cursor.{rest}
-use Rattle.ti_lex.specs.Reading.{value_from, too_large}
+use Rattle.ti_lex.specs.Mirrors.Cursor.{rest}
+use Rattle.ti_lex.specs.Mirrors.Reading.{value_from, too_large}
 use Rattle.ti_lex.proofs.cursor.Cursor.value.Given as goal
 
 abbrev pub invariant-loop-byte : goal.invariant-loop-byte

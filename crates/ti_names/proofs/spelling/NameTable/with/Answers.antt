@@ -2,7 +2,7 @@ use Rattle.std.proofs.Common.{sym, ap, ◌∙◌, ◌≡◌, is_some, true, fals
 use Rattle.std.specs.Map.{lookup}
 use Rattle.std.specs.Option.{option_copied}
 use Rattle.std.specs.Str.{bytes_eq}
-use Rattle.ti_names.specs.Tables.{numbered, with_first}
+use Rattle.ti_names.specs.Mirrors.Tables.{numbered, with_first}
 use Rattle.ti_names.proofs.TableLookups.{names_kept, names_more, table_more}
 use Rattle.ti_names.proofs.spelling.NameTable.with.Goals as goal
 

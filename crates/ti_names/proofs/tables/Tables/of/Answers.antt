@@ -2,9 +2,9 @@ use Rattle.std.proofs.Common.{◌≡◌, ◌∙◌, ap, length, slice_get, false
 use Rattle.std.specs.Map.{lookup}
 use Rattle.std.specs.Option.{unwrap_or}
 use Rattle.std.specs.Str.{bytes_eq}
-use Rattle.ti_syntax.specs.Trees.Views.{tree_of}
+use Rattle.ti_syntax.specs.Trees.Text.{tree_of}
 use Rattle.ti_lang.specs.Members.{names_of}
-use Rattle.ti_names.specs.Tables.{found_in, numbered, static_table}
+use Rattle.ti_names.specs.Mirrors.Tables.{found_in, numbered, static_table}
 use Rattle.ti_names.proofs.TableLookups.{class_told, field_told, method_told, static_told, name_told}
 use Rattle.ti_names.proofs.tables.Tables.of.Goals as goal
 

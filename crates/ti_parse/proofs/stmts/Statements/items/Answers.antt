@@ -12,9 +12,9 @@ loop-turn-preserved g c =
     let e = one_more (λ n. items careful c.args.self.now.reader.turns (stmt careful c.args.self.now.reader.turns c.args.self.now.levels) n (stms_of c.loop-turn.found) c.loop-turn.tokens) _ c.loop-turn._turn c.loop-turn-test.true c.loop-turn.invariant in
     first_of (search rules, grind (arith, common_steps))
 
-pub returns-then-ends_items : goal.returns-then-ends_items
+pub returns-then-sees : goal.returns-then-sees
 unfolding items
-returns-then-ends_items g c =
+returns-then-sees g c =
     let e = one_more (λ n. items careful c.args.self.now.reader.turns (stmt careful c.args.self.now.reader.turns c.args.self.now.levels) n (stms_of c.loop-turn.found) c.loop-turn.tokens) _ c.loop-turn._turn c.loop-turn-test.true c.loop-turn.invariant in
     first_of (search rules, grind (arith, common_steps))
 

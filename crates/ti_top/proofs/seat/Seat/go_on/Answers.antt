@@ -1,5 +1,5 @@
 use Rattle.std.proofs.Common.{Some, refl, ◌∙◌, ap, arith}
-use Rattle.ti_top.specs.Walking.{setting_of}
+use Rattle.ti_top.specs.Mirrors.Walking.{setting_of}
 use Rattle.ti_top.proofs.SeatMoves.{went_on}
 use Rattle.ti_top.proofs.seat.Seat.go_on.Goals as goal
 

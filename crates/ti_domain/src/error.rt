@@ -1,0 +1,24 @@
+// Why there is no domain.
+
+use ti_base::Memory;
+
+/// Why a rectangle or a union is no domain.
+#[derive(Clone, Copy, Debug, PartialEq, Eq)]
+pub enum DomErr {
+    /// It has more than 1,048,576 points.
+    TooLarge,
+    /// Memory was wanting.
+    Memory,
+}
+
+/// Want of memory stays that, so that `?` hands it on.
+impl From<Memory> for DomErr {
+    ghost use Rattle.std.specs.Prelude.{◌≡◌};
+    ghost use Rattle.ti_domain.specs.declared.error.DomErr.TheVariants.{Memory};
+
+    ghost from_gives = { λ _ e. e ≡ Memory };
+
+    fn from(_: Memory) -> DomErr {
+        DomErr::Memory
+    }
+}

@@ -1,0 +1,66 @@
+// How many points rectangles have.
+
+ghost use Rattle.std.specs.Prelude.{◌≡◌, ◌≤◌, All, sum_by, length};
+ghost use Rattle.ti_base.specs.Rects.{IsRect, points_of};
+ghost use Rattle.ti_base.specs.Rects as rects;
+ghost use Rattle.ti_domain.specs.Pieces.{IsShape, point_count, total_count};
+
+use ti_base::Rect;
+use ti_rect::{rect_meet, rect_size};
+
+/// The most points that a domain has.
+pub const MAX_POINTS: u64 = 1_048_576;
+
+/// How many points a rectangle has that has few enough for a domain.
+pub fn size(r: &Rect) -> u64
+    requires form { IsRect r.now }
+    requires small { point_count r.now ≤ 1048576 }
+    ensures { result ≡ point_count r.now }
+{
+    match rect_size(r) {
+        Ok(count) => count as u64,
+        Err(_) => unreachable!(),
+    }
+}
+
+/// How many points the rectangles have together.
+pub fn total(pieces: &[Rect]) -> u64
+    requires form { All IsRect pieces.now }
+    requires small { total_count pieces.now ≤ 1048576 }
+    ensures { result ≡ total_count pieces.now }
+{
+    let mut total = 0;
+    for r in pieces {
+        total += size(r);
+    }
+    total
+}
+
+/// How many points one rectangle has in common with the others together.
+fn common_with(r: &Rect, others: &[Rect]) -> u64
+    requires form { IsRect r.now }
+    requires others { All (IsShape r.now.dim) others.now }
+    requires small { sum_by (λ s. point_count (rects.meet r.now s)) others.now ≤ 1048576 }
+    ensures { result ≡ sum_by (λ s. point_count (rects.meet r.now s)) others.now }
+{
+    let mut total = 0;
+    for other in others {
+        total += size(&rect_meet(r, other));
+    }
+    total
+}
+
+/// How many points the rectangles have in common with the others.
+pub fn common(dim: u8, pieces: &[Rect], others: &[Rect]) -> u64
+    requires pieces { All (IsShape dim) pieces.now }
+    requires others { All (IsShape dim) others.now }
+    requires small { sum_by (λ r. sum_by (λ s. point_count (rects.meet r s)) others.now) pieces.now ≤ 1048576 }
+    ensures { result ≡ sum_by (λ r. sum_by (λ s. point_count (rects.meet r s)) others.now) pieces.now }
+{
+    let _ = dim;
+    let mut total = 0;
+    for r in pieces {
+        total += common_with(r, others);
+    }
+    total
+}

@@ -1,0 +1,14 @@
+use Rattle.std.proofs.Common.{◌≡◌, map, drop}
+use Rattle.ti_syntax.specs.Trees.Views.{exp_of, range_of}
+use Rattle.ti_syntax.specs.Trees.Expressions.{exps, ranges_tree}
+use Rattle.ti_lang.specs.Nodes.{exps_nodes, ranges_nodes}
+use Rattle.ti_rules.specs.First.{sooner}
+use Rattle.ti_names.specs.Found.{first_in}
+use Rattle.ti_names.specs.Seen.{site_of}
+use Rattle.ti_names.proofs.site.Site.+check_expr.Given as goal
+
+abbrev pub invariant-check_exps-loop-x : goal.invariant-check_exps-loop-x
+invariant-check_exps-loop-x l = sooner l.found (first_in (exps_nodes (site_of l.self) (exps (map exp_of (drop l.x-index l.xs))))) ≡ first_in (exps_nodes (site_of l.self) (exps (map exp_of l.xs)))
+
+abbrev pub invariant-check_ranges-loop-range : goal.invariant-check_ranges-loop-range
+invariant-check_ranges-loop-range l = sooner l.found (first_in (ranges_nodes (site_of l.self) (ranges_tree (map range_of (drop l.range-index l.ranges))))) ≡ first_in (ranges_nodes (site_of l.self) (ranges_tree (map range_of l.ranges)))

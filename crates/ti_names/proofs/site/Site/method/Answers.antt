@@ -1,0 +1,25 @@
+use Rattle.std.proofs.Common.{◌≡◌, [], ◌∷◌, ◌++◌, map, ap, sym, ◌∙◌}
+use Rattle.ti_syntax.specs.Trees.Statements.{stms}
+use Rattle.ti_syntax.specs.Trees.Views.{stm_of}
+use Rattle.ti_lang.specs.Program.Views.{statement_of, numbered_params_of, numbered_result_of}
+use Rattle.ti_lang.specs.Members.{is_single, name_number}
+use Rattle.ti_lang.specs.Scopes.{body_site}
+use Rattle.ti_lang.specs.Nodes.{node, MethodName, result_nodes, params_nodes, stms_nodes}
+use Rattle.ti_rules.specs.First.{sooner}
+use Rattle.ti_names.specs.Found.{first_in}
+use Rattle.ti_names.specs.Mirrors.Numbered.{number_result, number_params, number_list}
+use Rattle.ti_names.specs.Own.{own_of}
+use Rattle.ti_names.specs.Seen.{site_of}
+use Rattle.ti_names.proofs.Firsts.{in_append}
+use Rattle.ti_names.proofs.site.Site.method.Goals as goal
+
+pub returns-clause-refusal : goal.returns-clause-refusal
+returns-clause-refusal c =
+    let own = own_of c.args.own in
+    let site = site_of c.args.self.now in
+    let head = node site (MethodName c.args.number own) ∷ result_nodes site own.method.result in
+    let params = params_nodes site own.method.params in
+    let body = stms_nodes (body_site site own.method.params) (stms own.method.body) in
+    let is_body : c.in_ok-body.body.refusal ≡ first_in body = c.in_ok-body.ensures.refusal ∙ (λ j. first_in (stms_nodes (c.in_ok-params.ensures.site j) (stms (map stm_of (c.deref.ensures.value j))))) in
+    c.sooner-2.ensures ∙ ap (λ z. sooner z c.in_ok-body.body.refusal) c.sooner.ensures ∙ (λ j. sooner (sooner (c.check_head-head.ensures j) (c.in_ok-params.ensures.refusal j)) (is_body j))
+    ∙ ap (λ z. sooner z (first_in body)) (sym (in_append head params)) ∙ sym (in_append (head ++ params) body)

@@ -1,0 +1,101 @@
+// The string literals of a method, in the order of the text.
+
+ghost use Rattle.std.specs.Prelude.{◌≡◌, ◌++◌, ◌∷◌, [], map, OnOk};
+ghost use Rattle.ti_syntax.specs.Trees.Views.{stm_of, print_of};
+ghost use Rattle.ti_syntax.specs.Trees.Statements.{stms};
+ghost use Rattle.ti_lang.specs.Scopes.{printed_text, literals, literals_of, literals_in};
+ghost use Rattle.ti_names.specs.Seen.{tree_maybe};
+
+use std::alloc::Global;
+use ti_base::Memory;
+use ti_syntax::Spelled;
+use ti_syntax::tree::{Printed, Stmt};
+
+/// String literals, in the order of the text.
+#[derive(Drop)]
+pub struct Literals {
+    pub alloc: Global,
+    pub texts: Vec<Spelled>,
+}
+
+impl Literals {
+    fn text(&mut self, text: &Spelled) -> Result<(), Memory>
+        ensures { OnOk result (self.new.texts.items ≡ self.old.texts.items ++ text.now ∷ []) }
+    {
+        let text = text.copy(self.alloc)?;
+        Ok(self.texts.push(text)?)
+    }
+
+    fn print(&mut self, what: &Printed) -> Result<(), Memory>
+        ensures { OnOk result (self.new.texts.items ≡ self.old.texts.items ++ printed_text (print_of what.now)) }
+    {
+        match what {
+            Printed::Nothing => Ok(()),
+            Printed::Text(text) => self.text(text),
+            Printed::Value(_) => Ok(()),
+            Printed::TextAndValue(text, _) => self.text(text),
+        }
+    }
+
+    #[cycle(literals)]
+    fn maybe(&mut self, x: &Option<Box<Stmt>>) -> Result<(), Memory>
+        ensures { OnOk result (self.new.texts.items ≡ self.old.texts.items ++ literals_of (tree_maybe x.now)) }
+    {
+        match x {
+            Some(x) => self.stmt(x),
+            None => Ok(()),
+        }
+    }
+
+    #[cycle(literals)]
+    #[tactic(auto, using(ti_syntax::proofs::Bridges::bridges))]
+    fn stmt(&mut self, x: &Stmt) -> Result<(), Memory>
+        ensures { OnOk result (self.new.texts.items ≡ self.old.texts.items ++ literals (stm_of x.now)) }
+    {
+        match x {
+            Stmt::Print(_, what) => self.print(what),
+            Stmt::Block(body) => self.body(body),
+            Stmt::If {
+                then,
+                otherwise,
+                ..
+            } => {
+                self.stmt(then)?;
+                self.maybe(otherwise)
+            }
+            Stmt::While { body, .. } => self.stmt(body),
+            Stmt::For {
+                first,
+                update,
+                body,
+                ..
+            } => {
+                self.maybe(first)?;
+                self.maybe(update)?;
+                self.stmt(body)
+            }
+            Stmt::Foreach { body, .. } => self.stmt(body),
+            Stmt::Empty
+            | Stmt::Declare { .. }
+            | Stmt::Assign { .. }
+            | Stmt::Update { .. }
+            | Stmt::Step { .. }
+            | Stmt::Call(_)
+            | Stmt::Barrier(_)
+            | Stmt::Break(_)
+            | Stmt::Continue(_)
+            | Stmt::Return(_, _) => Ok(()),
+        }
+    }
+
+    /// Those of statements, behind those before.
+    #[cycle(literals)]
+    pub fn body(&mut self, xs: &[Stmt]) -> Result<(), Memory>
+        ensures { OnOk result (self.new.texts.items ≡ self.old.texts.items ++ literals_in (stms (map stm_of xs.now))) }
+    {
+        for x in xs {
+            self.stmt(x)?;
+        }
+        Ok(())
+    }
+}

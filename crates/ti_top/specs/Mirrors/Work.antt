@@ -1,0 +1,104 @@
+-- Nobody has to believe this: it mirrors code, and only contracts of private functions speak of it.
+-- What was done before the line on err, for each way in which it may end.
+use Rattle.std.specs.Prelude.{◌≡◌, ◌⊎◌, ℕ, ◌≤◌, true, false, List, [], Result, Ok, Err}
+use Rattle.ti_base.specs.declared.entry.Entry.{Entry}
+use Rattle.ti_io.specs.Faults.{Rose}
+use Rattle.ti_io.specs.Source.{SourceState}
+use Rattle.ti_io.specs.Sink.{SinkState, GrewBy, GrewByFront}
+use Rattle.ti_lang.specs.Listed.{ListedProgram}
+use Rattle.ti_lang.specs.Runs.{AllEnded, IsComplete, IsRun, IsSolo, has_fault}
+use Rattle.ti_lang.specs.Lines.{lines_of}
+use Rattle.ti_lang.specs.Alignment.{IsAligned}
+use Rattle.ti_top.specs.declared.fault.Fault.{Fault}
+use Rattle.ti_top.specs.declared.reading.ReadEnd.{ReadEnd}
+use Rattle.ti_top.specs.declared.reading.ReadEnd.TheVariants as Read
+use Rattle.ti_top.specs.declared.runner.How.{How}
+use Rattle.ti_top.specs.declared.ending.Ending.{Ending}
+use Rattle.ti_top.specs.declared.ending.Ending.TheVariants.{Done, Refused, Faulted, NoCommand, CantRead, CantWrite, NoMemory}
+use Rattle.ti_top.specs.Mirrors.Compiling.{HasListingAlone, IsRefusedAs}
+use Rattle.ti_top.specs.Job.{Job}
+use Rattle.ti_top.specs.Call.{Call}
+use Rattle.ti_top.specs.Mirrors.Reading.{ReadsWhole}
+use Rattle.ti_top.specs.Run.{run_of, EndsWithFault}
+
+-- the source and out before and after, what was read, and the entries of the run
+pub record Work : Type 0 where
+  pub source : SourceState
+  pub source_after : SourceState
+  pub out : SinkState
+  pub out_after : SinkState
+  pub text : List ℕ
+  pub history : List Entry
+
+-- how the work ends, by how the run and the writing of its lines ended
+abbrev pub ending_of : {E : Type 0} → How → Result (Unit {0}) E → Ending
+ending_of How.Ended (Ok done) = Done
+ending_of (How.Faulted fault) (Ok done) = Faulted fault
+ending_of How.Memory (Ok done) = NoMemory
+ending_of how (Err e) = CantWrite
+
+-- nothing was run and nothing written
+pub record RanNothing (out out_after : SinkState) (history : List Entry) : Type 0 where
+  pub unwritten : out_after ≡ out
+  pub no_entry : history ≡ []
+
+-- the program was run, and its lines were written up to the first call that failed
+pub record RunSays (program : ListedProgram) (procs : ℕ) (out out_after : SinkState) (history : List Entry) (ending : Ending) : Type 0 where
+  pub aligned : IsAligned program
+  pub run : IsRun (run_of program procs) history
+  pub solo : IsSolo (run_of program procs) history
+  pub ended : ending ≡ Done → AllEnded (run_of program procs) history
+  pub no_fault : ending ≡ Done → has_fault history ≡ false
+  pub faulted : (fault : Fault) → ending ≡ Faulted fault → EndsWithFault history fault
+  pub unfinished : ending ≡ NoMemory → IsComplete (run_of program procs) history → ⊥
+  pub known : (ending ≡ Done) ⊎ ((fault : Fault) × (ending ≡ Faulted fault)) ⊎ (ending ≡ NoMemory) ⊎ (ending ≡ CantWrite)
+  pub never_falls : out.faults ≤ out_after.faults
+  pub tells : out_after.tells ≡ out.tells
+  pub rose : ending ≡ CantWrite → Rose out.faults out_after.faults
+  pub lines : (ending ≡ CantWrite → ⊥) → out.tells ≡ true → GrewBy out out_after (lines_of program history)
+  pub part : out.tells ≡ true → GrewByFront out out_after (lines_of program history)
+
+-- so was the program of the text
+pub record Ran (procs : ℕ) (text : List ℕ) (out out_after : SinkState) (history : List Entry) (ending : Ending) : Type 0 where
+  pub program : ListedProgram
+  pub compiled : HasListingAlone text program
+  pub says : RunSays program procs out out_after history ending
+
+-- what became of a text that was read whole
+abbrev pub TextSays : Ending → ℕ → List ℕ → SinkState → SinkState → List Entry → Type 0
+TextSays Done procs text out out_after history = Ran procs text out out_after history Done
+TextSays (Refused refusal) procs text out out_after history = IsRefusedAs text refusal × RanNothing out out_after history
+TextSays (Faulted fault) procs text out out_after history = Ran procs text out out_after history (Faulted fault)
+TextSays CantWrite procs text out out_after history = Ran procs text out out_after history CantWrite
+TextSays NoMemory procs text out out_after history = RanNothing out out_after history ⊎ Ran procs text out out_after history NoMemory
+TextSays NoCommand procs text out out_after history = ⊥
+TextSays CantRead procs text out out_after history = ⊥
+
+-- what a reading that ended so leads to
+abbrev pub FileSays : ReadEnd → Ending → Job → Work → Type 0
+FileSays Read.Whole ending job w = TextSays ending job.procs w.text w.out w.out_after w.history
+FileSays Read.CantRead ending job w = (ending ≡ CantRead) × RanNothing w.out w.out_after w.history
+FileSays Read.NoMemory ending job w = (ending ≡ NoMemory) × RanNothing w.out w.out_after w.history
+
+-- what was done for a command
+pub record WorkSays (job : Job) (ending : Ending) (w : Work) : Type 0 where
+  pub end : ReadEnd
+  pub read : ReadsWhole job.file w.source w.source_after w.text end
+  pub says : FileSays end ending job w
+
+-- what was done in a call before the line on err
+abbrev pub work_of : Call → Work
+work_of c = record {
+  source = c.source;
+  source_after = c.source_after;
+  out = c.out;
+  out_after = c.out_after;
+  text = c.text;
+  history = c.history;
+}
+
+-- nothing was done where the words are no command
+pub record DidNothing (c : Call) : Type 0 where
+  pub source : c.source_after ≡ c.source
+  pub text : c.text ≡ []
+  pub nothing : RanNothing c.out c.out_after c.history
