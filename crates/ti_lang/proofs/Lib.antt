@@ -1,6 +1,7 @@
 pub mod Copies
 pub mod Counting
 pub mod Entries
+pub mod MeaningLaws
 pub mod Moves
 pub mod OneListing
 pub mod ProgramBridges

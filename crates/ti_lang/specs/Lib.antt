@@ -6,6 +6,7 @@ pub mod Lines
 pub mod Listed
 pub mod Listings
 pub mod MainForm
+pub mod Meaning
 pub mod Members
 pub mod NextStep
 pub mod Nodes
@@ -14,3 +15,4 @@ pub mod Processes
 pub mod Program
 pub mod Runs
 pub mod Scopes
+pub mod Typing

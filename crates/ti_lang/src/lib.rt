@@ -3,6 +3,7 @@
 
 mod laws;
 mod listing;
+pub mod meaning;
 pub mod program;
 
 pub use laws::{aligned, one_next, one_process, solo_is_run};

@@ -1,0 +1,12 @@
+pub mod Falling
+pub mod Forms
+pub mod Grids
+pub mod Limits
+pub mod NewThings
+pub mod Requests
+pub mod Running
+pub mod Sizes
+pub mod Steps
+pub mod Things
+pub mod TextAgrees
+pub mod Total

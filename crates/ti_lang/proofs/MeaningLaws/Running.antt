@@ -1,0 +1,151 @@
+-- A process takes at most one entry; fronts of runs are runs; the entries of a run are answered.
+use Rattle.std.proofs.Common.{◌≡◌, ◌⊎◌, inl, inr, ℕ, Some, List, [], ◌∷◌, ◌++◌, map, reverse, refl, sym, ◌∙◌, ap, subst}
+use Rattle.std.proofs.lemmas.List.{reverse-append, reverse-reverse, map-append}
+use Rattle.ti_base.specs.declared.place.Place.{Place}
+use Rattle.ti_base.specs.declared.action.Action.{Action}
+use Rattle.ti_base.specs.declared.entry.Answer.{Answer}
+use Rattle.ti_base.specs.declared.entry.Entry.{Entry}
+use Rattle.ti_base.specs.declared.entry.Next.{Next}
+use Rattle.ti_base.specs.declared.entry.Next.TheVariants as next
+use Rattle.ti_lang.specs.Program.Classes.{NumberedProgram}
+use Rattle.ti_lang.specs.Meaning.Processes.{Setting, Process}
+use Rattle.ti_lang.specs.Meaning.NextStep.{IsNext, After, more, none}
+use Rattle.ti_lang.specs.Meaning.Answers.{FitsAction}
+use Rattle.ti_lang.specs.Meaning.Histories.{History, history_of}
+use Rattle.ti_lang.specs.Meaning.HeapAnswers.{Outcome, Answers, Faults, Impossible, heap_answer, IsAnswered}
+use Rattle.ti_lang.specs.Meaning.HeapAnswers as heap
+use Rattle.ti_lang.specs.Meaning.Runs.{World, entry_with, entry_of, CanTake, IsRun, IsSolo}
+use Rattle.ti_lang.specs.Meaning.Runs as r
+use Rattle.ti_lang.proofs.MeaningLaws.Steps.{next_same, after_same}
+
+some_entry : (d e : Entry) → Some d ≡ Some e → d ≡ e
+some_entry d e h = cc
+
+pub entry_same : (s : Setting) (es : List Entry) (i : ℕ) (d e : Entry) → CanTake s es i d → CanTake s es i e → d ≡ e
+entry_same s es i d e x y =
+    let same : x.process ≡ y.process = after_same _ _ _ _ x.world y.world in
+    let next : x.next ≡ y.next = next_same y.process _ _ (subst (λ p. IsNext p x.next) same x.is_next) y.is_next in
+    some_entry d e (sym x.entry ∙ ap (entry_of s es i) next ∙ y.entry)
+
+pub world_same : (s : Setting) (es : List Entry) (i : ℕ) (p q : Process) → World s es i p → World s es i q → p ≡ q
+world_same s es i p q x y = after_same _ _ _ _ x y
+
+pub goes_on : (p : Process) (r : Answer) → FitsAction p r → (q : Process) × After p (r ∷ []) q
+goes_on p r f = (f.go r, more f.reaches f.stands none)
+
+pub solo_run : (s : Setting) (es : List Entry) → IsSolo s es → IsRun s es
+solo_run s es r.none = r.none
+solo_run s es (r.more w t l z) = r.more (solo_run s _ w) t z
+
+-- ---- fronts
+
+same_tail : (x y : Entry) (xs ys : List Entry) → x ∷ xs ≡ y ∷ ys → xs ≡ ys
+same_tail x y xs ys e = cc
+
+same_head : (x y : Entry) (xs ys : List Entry) → x ∷ xs ≡ y ∷ ys → x ≡ y
+same_head x y xs ys e = cc
+
+both_same : (x y : Entry) (xs ys : List Entry) → x ≡ y → xs ≡ ys → x ∷ xs ≡ y ∷ ys
+both_same x y xs ys e f = cc
+
+none_more : (x : Entry) (xs : List Entry) → [] ≡ x ∷ xs → ⊥
+none_more x xs e = cc
+
+-- the front of a list that ends in one entry is all of it, or a front of what is before that entry
+front : (bs : List Entry) (b : Entry) (xs ys : List Entry) → bs ++ b ∷ [] ≡ xs ++ ys → (xs ≡ bs ++ b ∷ []) ⊎ ((zs : List Entry) × (bs ≡ xs ++ zs))
+front bs b [] ys e = inr (bs, refl)
+front [] b (x ∷ []) ys e = inl (both_same x b [] [] (sym (same_head b x [] ys e)) refl)
+front [] b (x ∷ y ∷ xs) ys e = absurd (none_more y (xs ++ ys) (same_tail b x [] _ e))
+front (c ∷ bs) b (x ∷ xs) ys e = by (front bs b xs ys (same_tail c x _ _ e))
+  where
+    by : (xs ≡ bs ++ b ∷ []) ⊎ ((zs : List Entry) × (bs ≡ xs ++ zs)) → (x ∷ xs ≡ c ∷ bs ++ b ∷ []) ⊎ ((zs : List Entry) × (c ∷ bs ≡ x ∷ xs ++ zs))
+    by (inl k) = inl (both_same x c xs _ (sym (same_head c x _ _ e)) k)
+    by (inr k) = inr (k.0, both_same c x bs _ (same_head c x _ _ e) k.1)
+
+front_run : (s : Setting) (es all : List Entry) → IsRun s all → (rest : List Entry) → all ≡ es ++ rest → IsRun s es
+front_run s [] all run rest e = r.none
+front_run s (x ∷ es) all r.none rest e = absurd (none_more x (es ++ rest) e)
+front_run s (x ∷ es) all (r.more {es = before} {e = last} run take z) rest e = by (λ zs k. front_run s (x ∷ es) before run zs k) (front before last (x ∷ es) rest (sym z ∙ e))
+  where
+    by : ((zs : List Entry) → before ≡ x ∷ es ++ zs → IsRun s (x ∷ es)) → (x ∷ es ≡ before ++ last ∷ []) ⊎ ((zs : List Entry) × (before ≡ x ∷ es ++ zs)) → IsRun s (x ∷ es)
+    by earlier (inl k) = r.more run take k
+    by earlier (inr k) = earlier k.0 k.1
+
+pub fronts : (s : Setting) (es rest : List Entry) → IsRun s (es ++ rest) → IsRun s es
+fronts s es rest run = front_run s es (es ++ rest) run rest refl
+
+-- ---- answers
+
+-- the entry says what the history before it gives
+abbrev IsSaid : NumberedProgram → History → Entry → Type 0
+IsSaid program h e = heap_answer program h e.proc e.act ≡ Answers e.answer
+
+said_with : (program : NumberedProgram) (h : History) (i : ℕ) (at : Place) (a : Action) (o : Outcome) (e : Entry) → heap_answer program h i a ≡ o → entry_with i at a o ≡ Some e → IsSaid program h e
+said_with program h i at a (Answers answer) e k m = subst (IsSaid program h) (some_entry _ e m) k
+said_with program h i at a (Faults kind) e k m = subst (IsSaid program h) (some_entry _ e m) refl
+said_with program h i at a Impossible e k m = cc
+
+said : (s : Setting) (es : List Entry) (i : ℕ) (n : Next) (e : Entry) → entry_of s es i n ≡ Some e → IsSaid s.program (history_of es) e
+said s es i (next.Act at a) e m = said_with s.program (history_of es) i at a (heap_answer s.program (history_of es) i a) e refl m
+said s es i (next.End at) e m = subst (IsSaid s.program (history_of es)) (some_entry _ e m) refl
+said s es i (next.Fault kind at) e m = subst (IsSaid s.program (history_of es)) (some_entry _ e m) refl
+
+pub history_grows : (es : List Entry) (e : Entry) → history_of (es ++ e ∷ []) ≡ e ∷ history_of es
+history_grows es e = reverse-append es (e ∷ [])
+
+pub run_answered : (s : Setting) (es : List Entry) → IsRun s es → IsAnswered s.program (history_of es)
+run_answered s es r.none = heap.none
+run_answered s all (r.more {es = es} {i = i} {e = e} run take z) =
+    subst (λ x. IsAnswered s.program (history_of x)) (sym z)
+    (subst (IsAnswered s.program) (sym (history_grows es e)) (heap.more (run_answered s es run) (said s es i take.next e take.entry)))
+
+-- ---- who takes the entries decides the run
+
+-- the process of an entry is the one that takes it
+taker_with : (i : ℕ) (at : Place) (a : Action) (o : Outcome) (e : Entry) → entry_with i at a o ≡ Some e → e.proc ≡ i
+taker_with i at a (Answers answer) e m = sym (ap (λ (x : Entry). x.proc) (some_entry _ e m))
+taker_with i at a (Faults kind) e m = sym (ap (λ (x : Entry). x.proc) (some_entry _ e m))
+taker_with i at a Impossible e m = cc
+
+taker_of : (s : Setting) (es : List Entry) (i : ℕ) (n : Next) (e : Entry) → entry_of s es i n ≡ Some e → e.proc ≡ i
+taker_of s es i (next.Act at a) e m = taker_with i at a (heap_answer s.program (history_of es) i a) e m
+taker_of s es i (next.End at) e m = sym (ap (λ (x : Entry). x.proc) (some_entry _ e m))
+taker_of s es i (next.Fault kind at) e m = sym (ap (λ (x : Entry). x.proc) (some_entry _ e m))
+
+pub taker : (s : Setting) (es : List Entry) (i : ℕ) (e : Entry) → CanTake s es i e → e.proc ≡ i
+taker s es i e take = taker_of s es i take.next e take.entry
+
+same_first : (x y : ℕ) (xs ys : List ℕ) → x ∷ xs ≡ y ∷ ys → x ≡ y
+same_first x y xs ys e = cc
+
+same_rest : (x y : ℕ) (xs ys : List ℕ) → x ∷ xs ≡ y ∷ ys → xs ≡ ys
+same_rest x y xs ys e = cc
+
+-- lists of numbers that end in one number
+last_same : (xs ys : List ℕ) (x y : ℕ) → xs ++ x ∷ [] ≡ ys ++ y ∷ [] → (xs ≡ ys) × (x ≡ y)
+last_same xs ys x y e =
+    let back : x ∷ reverse xs ≡ y ∷ reverse ys = sym (reverse-append xs (x ∷ [])) ∙ ap reverse e ∙ reverse-append ys (y ∷ []) in
+    (sym (reverse-reverse xs) ∙ ap reverse (same_rest x y _ _ back) ∙ reverse-reverse ys, same_first x y _ _ back)
+
+none_end : (xs : List ℕ) (x : ℕ) → [] ≡ xs ++ x ∷ [] → ⊥
+none_end [] x e = cc
+none_end (y ∷ xs) x e = cc
+
+-- the processes of the entries
+abbrev procs_of : List Entry → List ℕ
+procs_of es = map (λ (x : Entry). x.proc) es
+
+procs_more : (es : List Entry) (e : Entry) → procs_of (es ++ e ∷ []) ≡ procs_of es ++ e.proc ∷ []
+procs_more es e = map-append (λ (x : Entry). x.proc) es (e ∷ [])
+
+pub decided : (s : Setting) (es ds : List Entry) → IsRun s es → IsRun s ds → procs_of es ≡ procs_of ds → es ≡ ds
+decided s es ds r.none r.none h = refl
+decided s es ds r.none (r.more {es = b} {e = y} run take z) h = absurd (none_end (procs_of b) y.proc (h ∙ ap procs_of z ∙ procs_more b y))
+decided s es ds (r.more {es = a} {e = x} run take z) r.none h = absurd (none_end (procs_of a) x.proc (sym h ∙ ap procs_of z ∙ procs_more a x))
+decided s es ds (r.more {es = a} {i = i} {e = x} run take z) (r.more {es = b} {i = j} {e = y} ran took w) h =
+    let ends = last_same (procs_of a) (procs_of b) x.proc y.proc (sym (procs_more a x) ∙ ap procs_of (sym z) ∙ h ∙ ap procs_of w ∙ procs_more b y) in
+    let before : a ≡ b = decided s a b run ran ends.0 in
+    let who : j ≡ i = sym (taker s b j y took) ∙ sym ends.1 ∙ taker s a i x take in
+    let own : CanTake s a i y = subst (λ es. CanTake s es i y) (sym before) (subst (λ k. CanTake s b k y) who took) in
+    let last : x ≡ y = entry_same s a i x y take own in
+    z ∙ ap (λ es. es ++ x ∷ []) before ∙ ap (λ d. b ++ d ∷ []) last ∙ sym w

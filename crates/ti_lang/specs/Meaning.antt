@@ -1,0 +1,35 @@
+-- What a program means, in the order in which it is read: values and computations, processes, what work comes to, steps; the heap,
+-- the regions and the rounds of a history; runs and their lines.
+pub mod Held
+pub mod Asking
+pub mod Conversions
+pub mod Operands
+pub mod Operators
+pub mod Literals
+pub mod Zeros
+pub mod Processes
+pub mod Turns
+pub mod Scoping
+pub mod Parts
+pub mod MemberForms
+pub mod Evaluation
+pub mod Targets
+pub mod Moves
+pub mod Calls
+pub mod Makers
+pub mod Copies
+pub mod Collectives
+pub mod Statements
+pub mod Performing
+pub mod Jumps
+pub mod Steps
+pub mod NextStep
+pub mod Histories
+pub mod RoundsOf
+pub mod RegionsOf
+pub mod HeapOf
+pub mod RegionUse
+pub mod HeapAnswers
+pub mod Answers
+pub mod Runs
+pub mod Lines

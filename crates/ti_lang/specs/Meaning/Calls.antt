@@ -1,0 +1,85 @@
+-- Calls of declared methods.
+use Rattle.std.specs.Prelude.{ℕ, ◌+◌, List, [], ◌∷◌, option_map, Option, None, Some}
+use Rattle.ti_base.specs.declared.place.Place.{Place}
+use Rattle.ti_base.specs.declared.value.Id.{Id}
+use Rattle.ti_lang.specs.Program.Types.{VariableUse, Typed, Void}
+use Rattle.ti_lang.specs.Program.Expressions.{NumberedExp, NumberedExps, place_of_numbered}
+use Rattle.ti_lang.specs.Program.Expressions as e
+use Rattle.ti_lang.specs.Program.Classes.{NumberedMethod, NumberedParam, NumberedParams, Words, Params}
+use Rattle.ti_lang.specs.Program.Scope.{this_of}
+use Rattle.ti_lang.specs.Typing.Called.{called_method}
+use Rattle.ti_lang.specs.Meaning.Held.{Held}
+use Rattle.ti_lang.specs.Meaning.Asking.{Asking, ◌>>=◌, gives, needed}
+use Rattle.ti_lang.specs.Meaning.Conversions.{converted}
+use Rattle.ti_lang.specs.Meaning.Processes.{Variable, Receiver}
+use Rattle.ti_lang.specs.Meaning.Scoping.{Env, with_new, declared_type}
+use Rattle.ti_lang.specs.Meaning.Evaluation.{eval}
+use Rattle.ti_lang.specs.Meaning.Moves.{Move, Calls}
+
+-- ---- which call
+
+-- a call of a declared method: its place, the method, the object on which an instance method is called, and the arguments
+pub record Call : Type 0 where
+  pub place : Place
+  pub method : NumberedMethod
+  pub object : Option NumberedExp
+  pub args : NumberedExps
+
+-- the call of a method
+abbrev pub call_of : Place → Option NumberedExp → NumberedExps → NumberedMethod → Call
+call_of at object args method = record { place = at; method = method; object = object; args = args }
+
+-- the call that an expression is, given the method that it calls, if it calls one
+abbrev pub call_by : NumberedExp → Option NumberedMethod → Option Call
+call_by (e.Call at method args) m = option_map (call_of at None args) m
+call_by (e.OwnCall at method args) m = option_map (call_of at (Some (e.This at)) args) m
+call_by (e.Member at x name args) m = option_map (call_of at (Some x) args) m
+call_by other m = None
+
+-- the call that an expression is, if it is one
+abbrev pub called : Env → NumberedExp → Option Call
+called env x = call_by x (called_method env.program (this_of env.method) x)
+
+-- ---- parameters
+
+-- parameters, numbered from a number on
+abbrev pub parameters_from : ℕ → List NumberedParam → List VariableUse
+parameters_from number [] = []
+parameters_from number (p ∷ rest) = record { number = number; declared = Typed p.ty.is_single p.ty.type } ∷ parameters_from (number + 1) rest
+
+-- the parameters of a method; `String[] x` is no variable
+abbrev pub parameters_of : NumberedParams → List VariableUse
+parameters_of Words = []
+parameters_of (Params params) = parameters_from 0 params
+
+-- the parameters with the values of their arguments, each made one of its type at once
+abbrev pub bound : Env → List VariableUse → NumberedExps → List Variable → Asking (List Variable)
+bound env (p ∷ ps) (e.MoreExp x xs) found = do
+  h ← eval env x
+  k ← converted (place_of_numbered x) (declared_type p.declared) h
+  bound env ps xs (with_new p k found)
+bound env ps xs found = gives found
+
+-- ---- the call
+
+-- the value of an expression, where there is one
+abbrev pub maybe_eval : Env → Option NumberedExp → Asking (Option Held)
+maybe_eval env None = gives None
+maybe_eval env (Some x) = do
+  h ← eval env x
+  gives (Some h)
+
+-- the object that an instance method needs
+abbrev pub maybe_needed : Place → Option Held → Asking (Option Id)
+maybe_needed at None = gives None
+maybe_needed at (Some h) = do
+  r ← needed at Void h
+  gives (Some r.thing)
+
+-- the object and the arguments are evaluated in order, and then `null` is refused
+abbrev pub calling : Env → Receiver → Call → Asking Move
+calling env receiver c = do
+  object ← maybe_eval env c.object
+  parameters ← bound env (parameters_of c.method.params) c.args []
+  this ← maybe_needed c.place object
+  gives (Calls c.place c.method this parameters receiver)

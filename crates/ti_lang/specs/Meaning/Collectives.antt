@@ -1,0 +1,77 @@
+-- What processes do together, up to their arrival.
+use Rattle.std.specs.Prelude.{ℕ, ◌==◌, ◌&&◌, int_le, int_lt, if◌then◌else◌, pos, ◌-ℤ◌, [], ◌∷◌, slice_index_or, None, Some}
+use Rattle.ti_base.specs.declared.place.Place.{Place}
+use Rattle.ti_base.specs.declared.point.Rect.{Rect}
+use Rattle.ti_base.specs.declared.fault.FaultKind.TheVariants.{BadRoot, ExchangeDomain}
+use Rattle.ti_base.specs.declared.action.CollKind.TheVariants as coll
+use Rattle.ti_base.specs.declared.action.Deposit.{Deposit}
+use Rattle.ti_base.specs.declared.action.Deposit.TheVariants as deposit
+use Rattle.ti_base.specs.Ranges.{natural}
+use Rattle.ti_base.specs.Rects.{points_of, made}
+use Rattle.ti_lang.specs.Program.Types as t
+use Rattle.ti_lang.specs.Program.Expressions.{NumberedExp, NumberedExps}
+use Rattle.ti_lang.specs.Typing.Kinds.{element_of}
+use Rattle.ti_lang.specs.Meaning.Held.{Held, nothing, whole_of, rect_of, region_of, plain_of, as_type}
+use Rattle.ti_lang.specs.Meaning.Asking.{ToBeDone, ValueOf, Asking, ◌>>=◌, gives, guarded, needed}
+use Rattle.ti_lang.specs.Meaning.Literals.{point_of_numbers}
+use Rattle.ti_lang.specs.Meaning.Operands.{same_points}
+use Rattle.ti_lang.specs.Meaning.Processes.{Receiver, Nowhere, TakeAll}
+use Rattle.ti_lang.specs.Meaning.Scoping.{Env, type_of, type_here}
+use Rattle.ti_lang.specs.Meaning.Parts.{domain_asked}
+use Rattle.ti_lang.specs.Meaning.Evaluation.{eval, eval_all}
+use Rattle.ti_lang.specs.Meaning.Copies.{element_at, counted}
+use Rattle.ti_lang.specs.Meaning.Moves.{Move, Meets, Deletes}
+
+-- ---- barriers and regions
+
+-- `Ti.barrier()`
+abbrev pub meets : Place → Asking Move
+meets at = gives (Meets (record { place = at; kind = coll.Barrier; arg = None; wanted = ToBeDone; receiver = Nowhere }) deposit.Nothing [])
+
+-- `new SharedRegion()`, whose departure gives the region
+abbrev pub makes_region : Receiver → Place → Asking Move
+makes_region receiver at =
+    gives (Meets (record { place = at; kind = coll.MakeRegion; arg = None; wanted = ValueOf t.Region; receiver = receiver }) deposit.Nothing [])
+
+-- `r.delete()`
+abbrev pub deletes : Env → Place → NumberedExp → Asking Move
+deletes env at x = do
+  h ← eval env x
+  gives (Deletes at (region_of h))
+
+-- ---- broadcasts
+
+-- the number of a process, or else the fault
+abbrev pub root_among : ℕ → Place → Held → Asking ℕ
+root_among procs at h = guarded (int_le (pos 0) (whole_of h) && int_lt (whole_of h) (pos procs)) BadRoot at (natural (whole_of h))
+
+-- the root evaluates the expression, and no other process does
+abbrev pub root_deposit : Env → ℕ → NumberedExp → Asking Deposit
+root_deposit env root x =
+    if env.number == root then (eval env x >>= λ h. gives (deposit.One (plain_of h))) else gives deposit.Nothing
+
+-- `broadcast e from p`, whose departure gives the root's value
+abbrev pub broadcasts : Env → Receiver → Place → NumberedExp → NumberedExp → Asking Move
+broadcasts env receiver at x p = do
+  h ← eval env p
+  root ← root_among env.procs at h
+  given ← root_deposit env root x
+  gives (Meets (record { place = at; kind = coll.Broadcast; arg = Some root; wanted = ValueOf (type_here env x); receiver = receiver }) given [])
+
+-- ---- exchanges
+
+-- one element for each process
+abbrev pub team : ℕ → Rect
+team procs = made (element_at 0) (point_of_numbers ((pos procs -ℤ pos 1) ∷ [])) (element_at 1)
+
+-- `a.exchange(e)`: the grid has the domain of the team, and behind the departure the values of all are taken into it
+abbrev pub exchanges : Env → Place → NumberedExp → NumberedExps → Asking Move
+exchanges env at x args = do
+  h ← eval env x
+  hs ← eval_all env args
+  grid ← needed at (type_of env x) h
+  d ← domain_asked at grid
+  guarded (same_points (points_of (rect_of d)) (points_of (team env.procs))) ExchangeDomain at
+      (Meets (record { place = at; kind = coll.Exchange; arg = None; wanted = ToBeDone; receiver = Nowhere })
+      (deposit.One (plain_of (as_type (element_of (type_of env x)) (slice_index_or hs 0 nothing))))
+      (TakeAll at grid (counted 0 env.procs) ∷ []))

@@ -1,0 +1,63 @@
+-- Copies of grids, and what an exchange puts into its grid.
+use Rattle.std.specs.Prelude.{ℕ, zero, suc, ◌+◌, pos, List, [], ◌∷◌, slice_index_or}
+use Rattle.ti_base.specs.declared.place.Place.{Place}
+use Rattle.ti_base.specs.declared.point.Point.{Point}
+use Rattle.ti_base.specs.declared.action.Action.TheVariants as act
+use Rattle.ti_base.specs.Rects.{points_of, meet}
+use Rattle.ti_lang.specs.Program.Types.{ValueType, Void}
+use Rattle.ti_lang.specs.Program.Expressions.{NumberedExp, NumberedExps, NoExp, MoreExp}
+use Rattle.ti_lang.specs.Typing.Kinds.{element_of}
+use Rattle.ti_lang.specs.Typing.TextTypes.{element_seen}
+use Rattle.ti_lang.specs.Meaning.Held.{nothing, plain_of, rect_of}
+use Rattle.ti_lang.specs.Meaning.Asking.{ToBeDone, ValueOf, Reference, request, request_through, Asking, ◌>>=◌, gives, asked, needed}
+use Rattle.ti_lang.specs.Meaning.Literals.{point_of_numbers}
+use Rattle.ti_lang.specs.Meaning.Processes.{CopyAll, TakeAll}
+use Rattle.ti_lang.specs.Meaning.Scoping.{Env, type_of}
+use Rattle.ti_lang.specs.Meaning.Parts.{domain_asked}
+use Rattle.ti_lang.specs.Meaning.Evaluation.{eval, eval_all}
+use Rattle.ti_lang.specs.Meaning.Moves.{Move, Goes, goes_on}
+
+-- ---- copies
+
+-- the type that the first of these expressions has in the text
+abbrev pub first_type : Env → NumberedExps → ValueType
+first_type env NoExp = Void
+first_type env (MoreExp x xs) = type_of env x
+
+-- `a.copy(b)`: both grids, then the domain of each; the points of both are left to be copied
+abbrev pub copies : Env → Place → NumberedExp → NumberedExps → Asking Move
+copies env at x args = do
+  h ← eval env x
+  hs ← eval_all env args
+  to ← needed at (type_of env x) h
+  from ← needed at (first_type env args) (slice_index_or hs 0 nothing)
+  d ← domain_asked at to
+  e ← domain_asked at from
+  gives (Goes env.variables (CopyAll at to from (points_of (meet (rect_of d) (rect_of e))) ∷ []))
+
+-- the element of the first point that is left is read and written, and the others are left
+abbrev pub copied : Env → Place → Reference → Reference → List Point → Asking Move
+copied env at to from [] = goes_on env
+copied env at to from (p ∷ ps) = do
+  h ← asked (request_through from at (act.GetElem from.thing p) (ValueOf (element_seen from.type)))
+  done ← asked (request_through to at (act.PutElem to.thing p (plain_of h)) ToBeDone)
+  gives (Goes env.variables (CopyAll at to from ps ∷ []))
+
+-- ---- exchanges
+
+-- the element of a process in a grid of one dimension
+abbrev pub element_at : ℕ → Point
+element_at i = point_of_numbers (pos i ∷ [])
+
+-- so many numbers from one on
+abbrev pub counted : ℕ → ℕ → List ℕ
+counted i zero = []
+counted i (suc n) = i ∷ counted (i + 1) n
+
+-- the value of the first process that is left is taken and written, and the others are left
+abbrev pub taken : Env → Place → Reference → List ℕ → Asking Move
+taken env at grid [] = goes_on env
+taken env at grid (i ∷ is) = do
+  h ← asked (request at (act.Take i) (ValueOf (element_of grid.type)))
+  done ← asked (request_through grid at (act.PutElem grid.thing (element_at i) (plain_of h)) ToBeDone)
+  gives (Goes env.variables (TakeAll at grid is ∷ []))

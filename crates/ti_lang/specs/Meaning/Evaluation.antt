@@ -1,0 +1,123 @@
+-- The value of an expression, from the answers that its actions have got so far.
+use Rattle.std.specs.Prelude.{ℕ, ℤ, pos, Bool, true, not, ◌||◌, ◌==◌, List, [], ◌∷◌, ◌++◌, Option, Some, None}
+use Rattle.ti_base.specs.declared.place.Place.{Place}
+use Rattle.ti_base.specs.declared.value.Id.{Id}
+use Rattle.ti_base.specs.declared.value.Value.TheVariants as v
+use Rattle.ti_base.specs.declared.fault.FaultKind.TheVariants.{NotLocal}
+use Rattle.ti_syntax.specs.declared.tree.exprs.BinaryOperator.{BinaryOperator}
+use Rattle.ti_lang.specs.Program.Types.{ValueType}
+use Rattle.ti_lang.specs.Program.Expressions.{NumberedExp, NumberedExps, NumberedRange, NumberedRanges}
+use Rattle.ti_lang.specs.Program.Expressions as e
+use Rattle.ti_lang.specs.Program.Scope.{this_of}
+use Rattle.ti_lang.specs.Typing.Kinds.{is_local, is_point}
+use Rattle.ti_lang.specs.Typing.Called.{member_called}
+use Rattle.ti_lang.specs.Meaning.Held.{Held, Plain, nothing, truth, thing_of}
+use Rattle.ti_lang.specs.Meaning.Asking.{Asking, ◌>>=◌, gives, guarded}
+use Rattle.ti_lang.specs.Meaning.Literals as literal
+use Rattle.ti_lang.specs.Meaning.Conversions.{converted}
+use Rattle.ti_lang.specs.Meaning.Operators.{operated, settled, operated_alone}
+use Rattle.ti_lang.specs.Meaning.Scoping.{Env, value_by, type_of, field_selected}
+use Rattle.ti_lang.specs.Meaning.Parts.{Field, fetched, indexed}
+use Rattle.ti_lang.specs.Meaning.MemberForms.{member}
+
+-- ---- casts
+
+-- the thing, if one is named, lies in the memory of this process
+abbrev pub is_own : ℕ → Option Id → Bool
+is_own number None = true
+is_own number (Some id) = id.owner == number
+
+-- a reference of local type names a thing of the own process, or nothing
+abbrev pub kept_local : ℕ → Place → ValueType → Held → Asking Held
+kept_local number at type h = guarded (not (is_local type) || is_own number (thing_of h)) NotLocal at h
+
+-- ---- operators that may leave out their right operand
+
+-- the result, where it is settled, and else what more comes to
+abbrev pub unless_settled : Option Held → Asking Held → Asking Held
+unless_settled (Some result) more = gives result
+unless_settled None more = more
+
+-- what an operator comes to behind its left operand, given what its right one comes to
+abbrev pub with_right : Place → BinaryOperator → Held → Asking Held → Asking Held
+with_right at op x right = unless_settled (settled op x) (right >>= λ y. operated at op x y)
+
+-- ---- expressions
+
+abbrev mutual
+  -- the value of an expression; operands go from left to right; a call of a declared method has none here
+  pub eval : Env → NumberedExp → Asking Held
+  eval env (e.Int at n) = gives (Plain (v.Int n))
+  eval env (e.Long at n) = gives (Plain (v.Long n))
+  eval env (e.Truth at b) = gives (truth b)
+  eval env (e.Null at) = gives (Plain (v.Obj None))
+  eval env (e.This at) = gives (Plain (v.Obj env.this))
+  eval env (e.Variable at variable) = gives (value_by variable.declared env variable)
+  eval env (e.OwnField at field) = fetched at (type_of env (e.OwnField at field)) (Field (Plain (v.Obj env.this)) (type_of env (e.This at)) field)
+  eval env (e.ThisProc at) = gives (Plain (v.Int (pos env.number)))
+  eval env (e.NumProcs at) = gives (Plain (v.Int (pos env.procs)))
+  eval env (e.Point at parts) = do
+    xs ← eval_numbers env parts
+    gives (Plain (v.Pt (literal.point_of_numbers xs)))
+  eval env (e.Rect at ranges) = do
+    bounds ← eval_ranges env ranges
+    literal.rect_within at bounds
+  eval env (e.Unary at op x) = do
+    h ← eval env x
+    gives (operated_alone op h)
+  eval env (e.Binary at op x y) = do
+    h ← eval env x
+    with_right at op h (eval env y)
+  eval env (e.Cast at to x) = do
+    h ← eval env x
+    k ← converted at to.type h
+    kept_local env.number at to.type k
+  eval env (e.Select at x name) = do
+    h ← eval env x
+    fetched at (type_of env (e.Select at x name)) (Field h (type_of env x) (field_selected env x name))
+  eval env (e.Member at x name args) = do
+    h ← eval env x
+    hs ← eval_all env args
+    member at (type_of env (e.Member at x name args)) (member_called env.program (this_of env.method) x name) (type_of env x) h hs
+  eval env (e.Index at x parts) = do
+    h ← eval env x
+    indices ← eval_numbers env parts
+    indexed (is_point (type_of env x)) at (type_of env (e.Index at x parts)) (type_of env x) h indices
+  eval env (e.Call at method args) = gives nothing
+  eval env (e.OwnCall at method args) = gives nothing
+
+  -- the values of expressions, in order
+  pub eval_all : Env → NumberedExps → Asking (List Held)
+  eval_all env e.NoExp = gives []
+  eval_all env (e.MoreExp x xs) = do
+    h ← eval env x
+    hs ← eval_all env xs
+    gives (h ∷ hs)
+
+  -- the numbers that expressions come to, or the coordinates of points
+  pub eval_numbers : Env → NumberedExps → Asking (List ℤ)
+  eval_numbers env e.NoExp = gives []
+  eval_numbers env (e.MoreExp x xs) = do
+    h ← eval env x
+    rest ← eval_numbers env xs
+    gives (literal.numbers_in h ++ rest)
+
+  -- the bounds of a range, of numbers or of points
+  pub eval_range : Env → NumberedRange → Asking literal.Bounds
+  eval_range env (e.Plain low high) = do
+    a ← eval env low
+    b ← eval env high
+    gives (literal.plain_bounds a b)
+  eval_range env (e.Stepped low high step) = do
+    a ← eval env low
+    b ← eval env high
+    c ← eval env step
+    gives (literal.stepped_bounds a b c)
+
+  -- the bounds of ranges, coordinate by coordinate
+  pub eval_ranges : Env → NumberedRanges → Asking literal.Bounds
+  eval_ranges env e.NoRange = gives literal.no_bounds
+  eval_ranges env (e.MoreRange r rs) = do
+    first ← eval_range env r
+    rest ← eval_ranges env rs
+    gives (literal.joined first rest)

@@ -1,0 +1,103 @@
+-- What variables hold, and how a value becomes one of a type.
+use Rattle.std.specs.Prelude.{ℕ, ℤ, pos, Bool, false, List, [], Option, None}
+use Rattle.ti_base.specs.declared.point.Point.{Point}
+use Rattle.ti_base.specs.declared.point.Rect.{Rect}
+use Rattle.ti_base.specs.declared.value.Id.{Id}
+use Rattle.ti_base.specs.declared.value.Value.{Value}
+use Rattle.ti_base.specs.declared.value.Value.TheVariants as v
+use Rattle.ti_base.specs.WholeNumbers.{to_long, to_int}
+use Rattle.ti_base.specs.Rects.{points_of, empty_rect}
+use Rattle.ti_base.specs.Cells.{named_by}
+use Rattle.ti_lang.specs.Program.Types.{ValueType}
+use Rattle.ti_lang.specs.Program.Types as t
+
+-- a value, or a domain: the list of its points, which rises
+pub data Held : Type 0 where
+  Plain : (value : Value) → Held
+  Dm : (dim : ℕ) (points : List Point) → Held
+
+-- what stands where there is no value
+abbrev pub nothing : Held
+nothing = Plain (v.Bool false)
+
+-- a boolean
+abbrev pub truth : Bool → Held
+truth b = Plain (v.Bool b)
+
+-- the point whose coordinates are 0
+abbrev pub zero_point : ℕ → Point
+zero_point dim = record { dim = dim; x1 = pos 0; x2 = pos 0; x3 = pos 0 }
+
+-- ---- the parts of a value; of another form, which no program without a broken rule gives, a zero
+
+-- the number that an int or a long is
+abbrev pub whole_of : Held → ℤ
+whole_of (Plain (v.Int n)) = n
+whole_of (Plain (v.Long n)) = n
+whole_of h = pos 0
+
+-- whether a boolean is true
+abbrev pub truth_of : Held → Bool
+truth_of (Plain (v.Bool b)) = b
+truth_of h = false
+
+-- the point that it is
+abbrev pub point_of : Held → Point
+point_of (Plain (v.Pt p)) = p
+point_of h = zero_point 1
+
+-- the rectangular domain that it is
+abbrev pub rect_of : Held → Rect
+rect_of (Plain (v.Rc r)) = r
+rect_of h = empty_rect 1
+
+-- the number of the region that it is
+abbrev pub region_of : Held → ℕ
+region_of (Plain (v.Region n)) = n
+region_of h = 0
+
+-- the object or the grid that it names, if it names one
+abbrev pub thing_of : Held → Option Id
+thing_of (Plain value) = named_by value
+thing_of (Dm dim points) = None
+
+-- the value that goes into a cell or an action
+abbrev pub plain_of : Held → Value
+plain_of (Plain value) = value
+plain_of (Dm dim points) = v.Bool false
+
+-- the points of a domain, rectangular or not, in lexicographic order
+abbrev pub points_in : Held → List Point
+points_in (Plain (v.Rc r)) = points_of r
+points_in (Dm dim points) = points
+points_in h = []
+
+-- the dimension of a domain, rectangular or not
+abbrev pub dim_of : Held → ℕ
+dim_of (Plain (v.Rc r)) = r.dim
+dim_of (Dm dim points) = dim
+dim_of h = 1
+
+-- ---- values of types
+
+-- the zero of a type
+abbrev pub zero_of : ValueType → Held
+zero_of t.Int = Plain (v.Int (pos 0))
+zero_of t.Long = Plain (v.Long (pos 0))
+zero_of t.Boolean = Plain (v.Bool false)
+zero_of (t.Pt dim) = Plain (v.Pt (zero_point dim))
+zero_of (t.Rc dim) = Plain (v.Rc (empty_rect dim))
+zero_of (t.Dm dim) = Dm dim []
+zero_of t.Region = Plain (v.Region 0)
+zero_of (t.Class class is_local) = Plain (v.Obj None)
+zero_of (t.Grid element dim is_local) = Plain (v.Grid None)
+zero_of t.Null = Plain (v.Obj None)
+zero_of t.Void = nothing
+
+-- an int becomes the long of the same number, a long the int that is left of it, and `null` that of the type; other values stay
+abbrev pub as_type : ValueType → Held → Held
+as_type t.Long (Plain (v.Int n)) = Plain (v.Long (to_long n))
+as_type t.Int (Plain (v.Long n)) = Plain (v.Int (to_int n))
+as_type (t.Class class is_local) h = Plain (v.Obj (thing_of h))
+as_type (t.Grid element dim is_local) h = Plain (v.Grid (thing_of h))
+as_type type h = h

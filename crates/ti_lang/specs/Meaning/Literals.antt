@@ -1,0 +1,55 @@
+-- Points and rectangular domains from their numbers.
+use Rattle.std.specs.Prelude.{ℤ, pos, int_le, List, [], ◌∷◌, ◌++◌, take, map, length, slice_index_or}
+use Rattle.std.specs.List.{list_all}
+use Rattle.ti_base.specs.declared.place.Place.{Place}
+use Rattle.ti_base.specs.declared.point.Point.{Point}
+use Rattle.ti_base.specs.declared.value.Value.TheVariants as v
+use Rattle.ti_base.specs.declared.fault.FaultKind.TheVariants.{BadStride}
+use Rattle.ti_base.specs.Rects.{made}
+use Rattle.ti_lang.specs.Meaning.Held.{Held, Plain, whole_of}
+use Rattle.ti_lang.specs.Meaning.Asking.{Asking, guarded}
+
+-- the coordinates of a point that are used
+abbrev pub coordinates_of : Point → List ℤ
+coordinates_of p = take p.dim (p.x1 ∷ p.x2 ∷ p.x3 ∷ [])
+
+-- the coordinates of a point, or a number alone
+abbrev pub numbers_in : Held → List ℤ
+numbers_in (Plain (v.Pt p)) = coordinates_of p
+numbers_in h = whole_of h ∷ []
+
+-- the point of these coordinates
+abbrev pub point_of_numbers : List ℤ → Point
+point_of_numbers xs = record {
+  dim = length xs;
+  x1 = slice_index_or xs 0 (pos 0);
+  x2 = slice_index_or xs 1 (pos 0);
+  x3 = slice_index_or xs 2 (pos 0);
+}
+
+-- from where to where, and by which steps, coordinate by coordinate
+pub record Bounds : Type 0 where
+  pub low : List ℤ
+  pub high : List ℤ
+  pub step : List ℤ
+
+-- no coordinate
+abbrev pub no_bounds : Bounds
+no_bounds = record { low = []; high = []; step = [] }
+
+-- the coordinates of the first, and then those of the second
+abbrev pub joined : Bounds → Bounds → Bounds
+joined a b = record { low = a.low ++ b.low; high = a.high ++ b.high; step = a.step ++ b.step }
+
+-- `low:high`, by steps of 1
+abbrev pub plain_bounds : Held → Held → Bounds
+plain_bounds low high = record { low = numbers_in low; high = numbers_in high; step = map (λ x. pos 1) (numbers_in low) }
+
+-- `low:high:step`
+abbrev pub stepped_bounds : Held → Held → Held → Bounds
+stepped_bounds low high step = record { low = numbers_in low; high = numbers_in high; step = numbers_in step }
+
+-- the rectangular domain within the bounds, unless a step is below 1
+abbrev pub rect_within : Place → Bounds → Asking Held
+rect_within at b =
+    guarded (list_all (int_le (pos 1)) b.step) BadStride at (Plain (v.Rc (made (point_of_numbers b.low) (point_of_numbers b.high) (point_of_numbers b.step))))

@@ -1,0 +1,47 @@
+-- The members of the language that have a value: of domains and of grids.
+use Rattle.std.specs.Prelude.{ℕ, nat_le, pos, Bool, false, not, List, length, slice_index_or, Option, Some}
+use Rattle.ti_base.specs.declared.place.Place.{Place}
+use Rattle.ti_base.specs.declared.point.Point.{Point}
+use Rattle.ti_base.specs.declared.value.Value.TheVariants as v
+use Rattle.ti_base.specs.declared.fault.FaultKind.TheVariants.{EmptyDomain, DomainSize}
+use Rattle.ti_base.specs.declared.action.ViewHow.TheVariants as how
+use Rattle.ti_base.specs.PointSets.{is_among}
+use Rattle.ti_base.specs.Rects.{is_in, is_empty, size_of}
+use Rattle.ti_lang.specs.Program.Types.{ValueType}
+use Rattle.ti_lang.specs.Typing.BuiltIn.{BuiltIn, Size, Min, Max, Contains, Domain, Restrict, Translate, Slice}
+use Rattle.ti_lang.specs.Meaning.Held.{Held, Plain, Dm, nothing, truth, whole_of, point_of, rect_of}
+use Rattle.ti_lang.specs.Meaning.Asking.{Asking, gives, guarded}
+use Rattle.ti_lang.specs.Meaning.Parts.{viewed, domain_of}
+
+-- how large the size of a rectangular domain may be
+abbrev pub greatest_size : ℕ
+greatest_size = 2147483647
+
+-- how many points a domain has
+abbrev pub sized : Place → Held → Asking Held
+sized at (Plain (v.Rc r)) = guarded (nat_le (size_of r) greatest_size) DomainSize at (Plain (v.Int (pos (size_of r))))
+sized at (Dm dim points) = gives (Plain (v.Int (pos (length points))))
+sized at h = gives nothing
+
+-- the point, which is the least or the greatest of a rectangular domain, unless this is empty
+abbrev pub extreme : Place → Held → Point → Asking Held
+extreme at h p = guarded (not (is_empty (rect_of h))) EmptyDomain at (Plain (v.Pt p))
+
+-- whether a domain has a point
+abbrev pub contained : Held → Point → Bool
+contained (Plain (v.Rc r)) p = is_in r p
+contained (Dm dim points) p = is_among points p
+contained h p = false
+
+-- a member form: its result has the first type, its receiver the second; `copy`, `exchange` and `delete` have no value
+abbrev pub member : Place → ValueType → Option BuiltIn → ValueType → Held → List Held → Asking Held
+member at type (Some Size) through h args = sized at h
+member at type (Some Min) through h args = extreme at h (rect_of h).lo
+member at type (Some Max) through h args = extreme at h (rect_of h).hi
+member at type (Some Contains) through h args = gives (truth (contained h (point_of (slice_index_or args 0 nothing))))
+member at type (Some Domain) through h args = domain_of at through h
+member at type (Some Restrict) through h args = viewed at type (how.Restrict (rect_of (slice_index_or args 0 nothing))) through h
+member at type (Some Translate) through h args = viewed at type (how.Translate (point_of (slice_index_or args 0 nothing))) through h
+member at type (Some Slice) through h args =
+    viewed at type (how.Slice (whole_of (slice_index_or args 0 nothing)) (whole_of (slice_index_or args 1 nothing))) through h
+member at type other through h args = gives nothing

@@ -1,0 +1,75 @@
+-- The two operands of an operator, brought to one type, and what is made of them.
+use Rattle.std.specs.Prelude.{ℕ, ◌^◌, nat_lt, ℤ, pos, Bool, true, false, ◌&&◌, ◌||◌, ◌==◌, List, [], ◌∷◌, Option, Some, None}
+use Rattle.std.specs.Int.{Width, w32, w64}
+use mir.Val.{bits}
+use Rattle.ti_base.specs.declared.point.Point.{Point}
+use Rattle.ti_base.specs.declared.point.Rect.{Rect}
+use Rattle.ti_base.specs.declared.value.Id.{Id}
+use Rattle.ti_base.specs.declared.value.Value.{Value}
+use Rattle.ti_base.specs.declared.value.Value.TheVariants as v
+use Rattle.ti_base.specs.WholeNumbers.{modulo, wrap}
+use Rattle.ti_base.specs.PointSets.{same_point}
+use Rattle.ti_lang.specs.Meaning.Held.{Held, Plain}
+
+-- two operands of one type: whole numbers of a width, booleans, points, rectangular domains, domains of which not both are
+-- rectangular, references, regions
+pub data Operands : Type 0 where
+  Wholes : (w : Width) (a b : ℤ) → Operands
+  Truths : (a b : Bool) → Operands
+  Points : (p q : Point) → Operands
+  Rects : (r s : Rect) → Operands
+  Domains : Operands
+  Things : (a b : Option Id) → Operands
+  Regions : (a b : ℕ) → Operands
+  -- of no program without a broken rule
+  Others : Operands
+
+-- two values; an int beside a long becomes one
+abbrev pub plain_operands : Value → Value → Operands
+plain_operands (v.Int a) (v.Int b) = Wholes w32 a b
+plain_operands (v.Int a) (v.Long b) = Wholes w64 a b
+plain_operands (v.Long a) (v.Int b) = Wholes w64 a b
+plain_operands (v.Long a) (v.Long b) = Wholes w64 a b
+plain_operands (v.Bool a) (v.Bool b) = Truths a b
+plain_operands (v.Pt p) (v.Pt q) = Points p q
+plain_operands (v.Rc r) (v.Rc s) = Rects r s
+plain_operands (v.Obj a) (v.Obj b) = Things a b
+plain_operands (v.Obj a) (v.Grid b) = Things a b
+plain_operands (v.Grid a) (v.Obj b) = Things a b
+plain_operands (v.Grid a) (v.Grid b) = Things a b
+plain_operands (v.Region a) (v.Region b) = Regions a b
+plain_operands x y = Others
+
+-- two operands
+abbrev pub operands : Held → Held → Operands
+operands (Plain x) (Plain y) = plain_operands x y
+operands x y = Domains
+
+-- ---- results
+
+-- a whole number of a width
+abbrev pub number : Width → ℤ → Held
+number w32 n = Plain (v.Int n)
+number w n = Plain (v.Long n)
+
+-- an operator on the bits of two numbers
+abbrev pub on_bits : (ℕ → ℕ → ℕ) → Width → ℤ → ℤ → ℤ
+on_bits f w a b = wrap w (pos (f (modulo a (2 ^ bits w)) (modulo b (2 ^ bits w))))
+
+-- the same thing, or neither names one
+abbrev pub same_thing : Option Id → Option Id → Bool
+same_thing None None = true
+same_thing None (Some b) = false
+same_thing (Some a) None = false
+same_thing (Some a) (Some b) = a.maker == b.maker && a.serial == b.serial
+
+-- the same points in the same order
+abbrev pub same_points : List Point → List Point → Bool
+same_points [] [] = true
+same_points [] (q ∷ qs) = false
+same_points (p ∷ ps) [] = false
+same_points (p ∷ ps) (q ∷ qs) = same_point p q && same_points ps qs
+
+-- a test that holds in each coordinate that is used
+abbrev pub in_each : (ℤ → ℤ → Bool) → Point → Point → Bool
+in_each test p q = test p.x1 q.x1 && (nat_lt p.dim 2 || test p.x2 q.x2) && (nat_lt p.dim 3 || test p.x3 q.x3)

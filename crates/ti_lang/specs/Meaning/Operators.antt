@@ -1,0 +1,122 @@
+-- The operators, on the values of their operands.
+use Rattle.std.specs.Prelude.{ℕ, ℤ, pos, ◌-ℤ◌, neg_ℤ, int_lt, int_le, Bool, true, false, not, ◌&&◌, ◌||◌, ◌==◌, if◌then◌else◌, bit_and, bit_or, bit_xor, Option, Some, None}
+use Rattle.std.specs.Int.{Width, w32, w64}
+use Rattle.ti_base.specs.declared.place.Place.{Place}
+use Rattle.ti_base.specs.declared.value.Value.TheVariants as v
+use Rattle.ti_base.specs.declared.fault.FaultKind.TheVariants.{DivZero}
+use Rattle.ti_base.specs.WholeNumbers.{wrap, sum, difference, product, negation, quotient, remainder, shift_left, shift_right, shift_right_unsigned}
+use Rattle.ti_base.specs.Points.{pt_sum, pt_difference}
+use Rattle.ti_base.specs.PointSets.{same_number, same_point, meet, minus, union}
+use Rattle.ti_base.specs.Rects.{points_of}
+use Rattle.ti_base.specs.Rects as rect
+use Rattle.ti_syntax.specs.declared.tree.exprs.UnaryOperator.{UnaryOperator}
+use Rattle.ti_syntax.specs.declared.tree.exprs.UnaryOperator.TheVariants as un
+use Rattle.ti_syntax.specs.declared.tree.exprs.BinaryOperator.{BinaryOperator}
+use Rattle.ti_syntax.specs.declared.tree.exprs.BinaryOperator.TheVariants as op
+use Rattle.ti_lang.specs.Typing.Kinds.{same_truth}
+use Rattle.ti_lang.specs.Meaning.Held.{Held, Plain, truth, truth_of, whole_of, points_in}
+use Rattle.ti_lang.specs.Meaning.Asking.{Asking, ◌>>=◌, gives, guarded}
+use Rattle.ti_lang.specs.Meaning.Conversions.{to_domain, of_domains}
+use Rattle.ti_lang.specs.Meaning.Operands.{Operands, Wholes, Truths, Points, Rects, Domains, Things, Regions, Others, operands, number, on_bits, same_thing, same_points, in_each}
+
+-- ---- sums, products and quotients
+
+-- `x + y`: a sum, or a union
+abbrev pub added : Place → Held → Held → Operands → Asking Held
+added at x y (Wholes w a b) = gives (number w (sum w a b))
+added at x y (Points p q) = gives (Plain (v.Pt (pt_sum p q)))
+added at x y _ = of_domains union at x y
+
+-- `x - y`: a difference, of numbers or of sets
+abbrev pub subtracted : Place → Held → Held → Operands → Asking Held
+subtracted at x y (Wholes w a b) = gives (number w (difference w a b))
+subtracted at x y (Points p q) = gives (Plain (v.Pt (pt_difference p q)))
+subtracted at x y _ = of_domains minus at x y
+
+-- `x * y`: a product, or a meet, which of rectangular domains is rectangular
+abbrev pub multiplied : Place → Held → Held → Operands → Asking Held
+multiplied at x y (Wholes w a b) = gives (number w (product w a b))
+multiplied at x y (Rects r s) = gives (Plain (v.Rc (rect.meet r s)))
+multiplied at x y _ = of_domains meet at x y
+
+-- `x / y` or `x % y`, which a zero divisor refuses
+abbrev pub divided : (Width → ℤ → ℤ → ℤ) → Place → Operands → Asking Held
+divided result at (Wholes w a b) = guarded (not (same_number b (pos 0))) DivZero at (number w (result w a b))
+divided result at _ = gives (truth false)
+
+-- ---- bits
+
+-- an operator on the bits of numbers, or on booleans
+abbrev pub combined : (ℕ → ℕ → ℕ) → (Bool → Bool → Bool) → Operands → Held
+combined f g (Wholes w a b) = number w (on_bits f w a b)
+combined f g (Truths a b) = truth (g a b)
+combined f g _ = truth false
+
+-- a shift, which has the type of its left operand
+abbrev pub shifted : (Width → ℤ → ℤ → ℤ) → Held → Held → Held
+shifted f (Plain (v.Long a)) y = number w64 (f w64 a (whole_of y))
+shifted f x y = number w32 (f w32 (whole_of x) (whole_of y))
+
+-- ---- comparisons
+
+-- a comparison of numbers, or of points, where it holds in every coordinate
+abbrev pub compared : (ℤ → ℤ → Bool) → Operands → Held
+compared test (Wholes w a b) = truth (test a b)
+compared test (Points p q) = truth (in_each test p q)
+compared test _ = truth false
+
+-- whether two operands are equal; two domains are where they have the same points
+abbrev pub equal : Place → Held → Held → Operands → Asking Bool
+equal at x y (Wholes w a b) = gives (same_number a b)
+equal at x y (Truths a b) = gives (same_truth a b)
+equal at x y (Points p q) = gives (same_point p q)
+equal at x y (Rects r s) = gives (same_points (points_of r) (points_of s))
+equal at x y Domains = do
+  d ← to_domain at x
+  e ← to_domain at y
+  gives (same_points (points_in d) (points_in e))
+equal at x y (Things a b) = gives (same_thing a b)
+equal at x y (Regions a b) = gives (a == b)
+equal at x y Others = gives false
+
+-- ---- all operators
+
+-- an operator of two operands; what `&&` and `||` come to behind their right operand is that operand
+abbrev pub operated : Place → BinaryOperator → Held → Held → Asking Held
+operated at op.OrElse x y = gives y
+operated at op.AndThen x y = gives y
+operated at op.Or x y = gives (combined bit_or (λ a b. a || b) (operands x y))
+operated at op.Xor x y = gives (combined bit_xor (λ a b. not (same_truth a b)) (operands x y))
+operated at op.And x y = gives (combined bit_and (λ a b. a && b) (operands x y))
+operated at op.Equal x y = equal at x y (operands x y) >>= λ b. gives (truth b)
+operated at op.NotEqual x y = equal at x y (operands x y) >>= λ b. gives (truth (not b))
+operated at op.Less x y = gives (compared int_lt (operands x y))
+operated at op.LessEqual x y = gives (compared int_le (operands x y))
+operated at op.Greater x y = gives (compared (λ a b. int_lt b a) (operands x y))
+operated at op.GreaterEqual x y = gives (compared (λ a b. int_le b a) (operands x y))
+operated at op.ShiftLeft x y = gives (shifted shift_left x y)
+operated at op.ShiftRight x y = gives (shifted shift_right x y)
+operated at op.UnsignedShiftRight x y = gives (shifted shift_right_unsigned x y)
+operated at op.Add x y = added at x y (operands x y)
+operated at op.Subtract x y = subtracted at x y (operands x y)
+operated at op.Multiply x y = multiplied at x y (operands x y)
+operated at op.Divide x y = divided (λ w a b. wrap w (quotient a b)) at (operands x y)
+operated at op.Remainder x y = divided (λ w a b. remainder a b) at (operands x y)
+
+-- the result that needs no right operand, if the left one tells it
+abbrev pub settled : BinaryOperator → Held → Option Held
+settled op.OrElse x = if truth_of x then Some (truth true) else None
+settled op.AndThen x = if truth_of x then None else Some (truth false)
+settled o x = None
+
+-- an operator on the number of one operand, in its own width
+abbrev pub signed : (Width → ℤ → ℤ) → Held → Held
+signed f (Plain (v.Long n)) = number w64 (f w64 n)
+signed f h = number w32 (f w32 (whole_of h))
+
+-- an operator of one operand
+abbrev pub operated_alone : UnaryOperator → Held → Held
+operated_alone un.Minus h = signed negation h
+operated_alone un.Plus h = h
+operated_alone un.Not h = truth (not (truth_of h))
+operated_alone un.Complement h = signed (λ w n. neg_ℤ n -ℤ pos 1) h

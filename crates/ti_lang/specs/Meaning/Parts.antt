@@ -1,0 +1,62 @@
+-- Cells of things, and views.
+use Rattle.std.specs.Prelude.{Bool, true, false, ℕ, pred, ℤ, pos, if◌then◌else◌, int_le, List, slice_get, slice_index_or, None}
+use Rattle.ti_base.specs.declared.place.Place.{Place}
+use Rattle.ti_base.specs.declared.point.Point.{Point}
+use Rattle.ti_base.specs.declared.value.Value.TheVariants as v
+use Rattle.ti_base.specs.declared.fault.FaultKind.TheVariants.{Bounds}
+use Rattle.ti_base.specs.declared.action.Action.TheVariants as act
+use Rattle.ti_base.specs.declared.action.ViewHow.{ViewHow}
+use Rattle.ti_base.specs.Ranges.{natural}
+use Rattle.ti_lang.specs.Program.Types.{ValueType}
+use Rattle.ti_lang.specs.Program.Types as t
+use Rattle.ti_lang.specs.Typing.Kinds.{dim_of_type}
+use Rattle.ti_lang.specs.Meaning.Held.{Held, Plain, point_of}
+use Rattle.ti_lang.specs.Meaning.Asking.{ValueOf, NewThing, Reference, request_through, Asking, ◌>>=◌, gives, found_or, asked, needed}
+use Rattle.ti_lang.specs.Meaning.Literals as literal
+
+-- ---- cells
+
+-- a cell that an expression names: a field of an object or an element of a grid, with the type of the reference in the text
+pub data Part : Type 0 where
+  Field : (object : Held) (through : ValueType) (field : ℕ) → Part
+  Element : (grid : Held) (through : ValueType) (index : Point) → Part
+
+-- the value of this type that a cell holds
+abbrev pub fetched : Place → ValueType → Part → Asking Held
+fetched at type (Field object through field) = do
+  r ← needed at through object
+  asked (request_through r at (act.GetField r.thing field) (ValueOf type))
+fetched at type (Element grid through index) = do
+  r ← needed at through grid
+  asked (request_through r at (act.GetElem r.thing index) (ValueOf type))
+
+-- ---- grids
+
+-- the domain of a grid
+abbrev pub domain_asked : Place → Reference → Asking Held
+domain_asked at r = asked (request_through r at (act.DomainOf r.thing) (ValueOf (t.Rc (dim_of_type r.type))))
+
+-- the domain of the grid that a value of this type names
+abbrev pub domain_of : Place → ValueType → Held → Asking Held
+domain_of at through grid = do
+  r ← needed at through grid
+  domain_asked at r
+
+-- a view, of the first type, of the grid that a value of the second names
+abbrev pub viewed : Place → ValueType → ViewHow → ValueType → Held → Asking Held
+viewed at type view through grid = do
+  r ← needed at through grid
+  asked (request_through r at (act.MakeView r.thing view) (NewThing type))
+
+-- ---- indices
+
+-- a coordinate of a point, counted from 1
+abbrev pub coordinate : Place → Point → ℤ → Asking Held
+coordinate at p k = do
+  x ← found_or Bounds at (if int_le (pos 1) k then slice_get (literal.coordinates_of p) (pred (natural k)) else None)
+  gives (Plain (v.Int x))
+
+-- `e[..]`: a coordinate where `e` is a point in the text, and else an element, which has the first type, of a grid of the second
+abbrev pub indexed : Bool → Place → ValueType → ValueType → Held → List ℤ → Asking Held
+indexed true at type through h indices = coordinate at (point_of h) (slice_index_or indices 0 (pos 0))
+indexed false at type through h indices = fetched at type (Element h through (literal.point_of_numbers indices))

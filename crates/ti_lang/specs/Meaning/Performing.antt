@@ -1,0 +1,75 @@
+-- What a piece of work comes to: a statement, the end of one, a loop, a value on its way, a copy, an exchange.
+use Rattle.std.specs.Prelude.{if◌then◌else◌, true, List, [], ◌∷◌, ◌++◌, Option, None, Some}
+use Rattle.ti_lang.specs.Program.Types.{VariableUse}
+use Rattle.ti_lang.specs.Program.Expressions.{NumberedExp}
+use Rattle.ti_lang.specs.Program.Statements.{NumberedStm, MaybeNumbered, NoStm, SomeStm, NumberedStms, Nil, Cons}
+use Rattle.ti_lang.specs.Program.Statements as s
+use Rattle.ti_lang.specs.Meaning.Held.{Held, truth, truth_of}
+use Rattle.ti_lang.specs.Meaning.Asking.{Asking, ◌>>=◌, gives}
+use Rattle.ti_lang.specs.Meaning.Processes.{Loop, While, Foreach, Work, Do, End, Before, Behind, Receive, CopyAll, TakeAll}
+use Rattle.ti_lang.specs.Meaning.Scoping.{Env, without}
+use Rattle.ti_lang.specs.Meaning.Evaluation.{eval}
+use Rattle.ti_lang.specs.Meaning.Copies.{copied, taken}
+use Rattle.ti_lang.specs.Meaning.Moves.{Move, Goes, Turns, goes_on, receives}
+use Rattle.ti_lang.specs.Meaning.Statements.{declared_as, maybe_do, statement}
+
+-- ---- declarations
+
+-- the variables that a statement itself declares
+abbrev pub declared_alone : NumberedStm → List VariableUse
+declared_alone (s.Declare at type variable value) = declared_as type variable ∷ []
+declared_alone x = []
+
+-- those that the statements of a list declare
+abbrev pub declared_among : NumberedStms → List VariableUse
+declared_among Nil = []
+declared_among (Cons x rest) = declared_alone x ++ declared_among rest
+
+-- those that a statement declares, if there is one
+abbrev pub declared_maybe : MaybeNumbered → List VariableUse
+declared_maybe NoStm = []
+declared_maybe (SomeStm x) = declared_alone x
+
+-- the variables that leave at the end of a block or a `for`
+abbrev pub declared_in : NumberedStm → List VariableUse
+declared_in (s.Block body) = declared_among body
+declared_in (s.For at first c update body) = declared_maybe first
+declared_in x = []
+
+-- ---- loops
+
+-- the value of a loop's condition; a missing one is true
+abbrev pub condition : Env → Option NumberedExp → Asking Held
+condition env None = gives (truth true)
+condition env (Some c) = eval env c
+
+-- a loop before its next turn, which takes a tick once its condition is true or its next point is there
+abbrev pub before_turn : Env → Loop → Asking Move
+before_turn env (While at c update body) = do
+  h ← condition env c
+  gives (if truth_of h then Turns at env.variables (Do body ∷ Behind (While at c update body) ∷ []) else Goes env.variables [])
+before_turn env (Foreach at variable domain [] body) = goes_on env
+before_turn env (Foreach at variable domain (p ∷ ps) body) = gives (Turns at env.variables (Do body ∷ Behind (Foreach at variable domain (p ∷ ps) body) ∷ []))
+
+-- the update of a loop, which a turn ends with
+abbrev pub update_of : Loop → List Work
+update_of (While at c update body) = maybe_do update
+update_of (Foreach at variable domain points body) = []
+
+-- the loop behind a turn
+abbrev pub turned : Loop → Loop
+turned (While at c update body) = While at c update body
+turned (Foreach at variable domain [] body) = Foreach at variable domain [] body
+turned (Foreach at variable domain (p ∷ ps) body) = Foreach at variable domain ps body
+
+-- ---- all work
+
+-- what a piece of work comes to
+abbrev pub performed : Env → Work → Asking Move
+performed env (Do x) = statement env x
+performed env (End x) = gives (Goes (without (declared_in x) env.variables) [])
+performed env (Before loop) = before_turn env loop
+performed env (Behind loop) = gives (Goes env.variables (update_of loop ++ Before (turned loop) ∷ []))
+performed env (Receive receiver h) = receives env receiver (gives h)
+performed env (CopyAll at to from points) = copied env at to from points
+performed env (TakeAll at grid procs) = taken env at grid procs

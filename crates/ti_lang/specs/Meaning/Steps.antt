@@ -1,0 +1,144 @@
+-- The steps of a process.
+use Rattle.std.specs.Prelude.{ℕ, ◌+◌, nat_lt, ◌==◌, if◌then◌else◌, Bool, false, List, [], ◌∷◌, ◌++◌, length, count_by, slice_get, Option, None, Some}
+use Rattle.std.specs.Option.{option_map_or}
+use Rattle.ti_base.specs.declared.place.Place.{Place}
+use Rattle.ti_base.specs.declared.value.Id.{Id}
+use Rattle.ti_base.specs.declared.fault.FaultKind.{FaultKind}
+use Rattle.ti_base.specs.declared.fault.FaultKind.TheVariants.{Depth, Fuel}
+use Rattle.ti_base.specs.declared.action.Action.TheVariants as act
+use Rattle.ti_base.specs.declared.action.CollKind.TheVariants as coll
+use Rattle.ti_base.specs.declared.action.Deposit.{Deposit}
+use Rattle.ti_base.specs.declared.action.Deposit.TheVariants as deposit
+use Rattle.ti_base.specs.declared.entry.Answer.{Answer}
+use Rattle.ti_lang.specs.Program.Classes.{NumberedMethod, NumberedProgram}
+use Rattle.ti_lang.specs.Meaning.Held.{Held, thing_of}
+use Rattle.ti_lang.specs.Meaning.Asking.{Wanted, ToBeDone, ValueOf, NewThing, Request, request, Got, Gives, Asks, Fails, told}
+use Rattle.ti_lang.specs.Meaning.Processes.{Variable, Receiver, Nowhere, Work, Receive, Frame, frame_of, Wait, Process}
+use Rattle.ti_lang.specs.Meaning.Scoping.{env_of}
+use Rattle.ti_lang.specs.Meaning.Moves.{Move, Goes, Turns, Breaks, Continues, Calls, Returns, Meets, Deletes}
+use Rattle.ti_lang.specs.Meaning.Performing.{performed}
+use Rattle.ti_lang.specs.Meaning.Jumps.{has_mark, from_mark, past_mark, variables_at_mark}
+
+-- a silent step to a process, or an action that is asked with what its answer makes of the process, or the end, or a fault
+pub data Step : Type 0 where
+  To : (p : Process) → Step
+  At : (request : Request) (go : Answer → Process) → Step
+  Ends : (place : Place) → Step
+  Faults : (kind : FaultKind) (place : Place) → Step
+
+-- ---- ticks
+
+-- the process with one tick more spent
+abbrev pub spends : Process → Process
+spends p = record p { spent = p.spent + 1 }
+
+-- a tick, if one is left
+abbrev pub ticks : Process → Place → Step → Step
+ticks p at after = if nat_lt p.spent p.setting.fuel then after else Faults Fuel at
+
+-- an action, which costs a tick
+abbrev pub asks : Process → Request → (Answer → Process) → Step
+asks p request go = ticks p request.place (At request (λ r. spends (go r)))
+
+-- the process with one answer more to its current work
+abbrev pub answered : Process → Answer → Process
+answered p r = record p { answers = p.answers ++ r ∷ [] }
+
+-- goes on with what the work comes to, or stands at what it asks for or faults with
+abbrev pub valued : Process → Got Move → (Move → Step) → Step
+valued p (Gives move rest) go = go move
+valued p (Asks request) go = asks p request (answered p)
+valued p (Fails kind at) go = Faults kind at
+
+-- ---- frames
+
+-- how many frames a process may have
+abbrev pub most_frames : ℕ
+most_frames = 200
+
+-- the current work is done, and these variables and this work are left in the frame
+abbrev pub going : Process → Frame → List Frame → List Variable → List Work → Process
+going p f fs variables left = record p { frames = record f { variables = variables; left = left } ∷ fs; wait = None; answers = [] }
+
+-- the innermost frame is to take in a value, where there is one
+abbrev pub handed : Receiver → Option Held → List Frame → List Frame
+handed receiver None fs = fs
+handed receiver (Some h) [] = []
+handed receiver (Some h) (f ∷ fs) = record f { left = Receive receiver h ∷ f.left } ∷ fs
+
+-- the frame of a called method stands before the caller's, which has this work left
+abbrev pub entering : Process → Frame → List Frame → List Work → Frame → Process
+entering p f fs left new = record p { frames = new ∷ record f { left = left } ∷ fs; wait = None; answers = [] }
+
+-- ---- collectives
+
+-- the thing lies in the region
+abbrev pub lies_in : ℕ → Option Id → Bool
+lies_in region None = false
+lies_in region (Some id) = id.region == region
+
+-- how many variables in scope in these frames name something in the region; `this` is one
+abbrev pub named_in : ℕ → List Frame → ℕ
+named_in region [] = 0
+named_in region (f ∷ fs) =
+    (count_by (λ (x : Variable). lies_in region (thing_of x.held)) f.variables + (if lies_in region f.this then 1 else 0)) + named_in region fs
+
+-- arrives at a collective, behind which these frames go on
+abbrev pub arrives : Process → List Frame → Wait → Deposit → Step
+arrives p frames wait given =
+    asks p (request wait.place (act.Arrive wait.kind wait.arg given) ToBeDone) (λ r. record p { frames = frames; wait = Some wait; answers = [] })
+
+-- the arrival at the delete of a region
+abbrev pub deleting : Place → ℕ → Wait
+deleting at region = record { place = at; kind = coll.DeleteRegion; arg = Some region; wanted = ToBeDone; receiver = Nowhere }
+
+-- the value that is handed on, where one was asked for
+abbrev pub value_asked : Wanted → Answer → Option Held
+value_asked ToBeDone r = None
+value_asked (ValueOf type) r = Some (told r)
+value_asked (NewThing type) r = Some (told r)
+
+-- leaves a collective; what its departure gave goes to its receiver
+abbrev pub departs : Process → Wait → Step
+departs p w = asks p (request w.place act.Depart w.wanted) (λ r. record p { frames = handed w.receiver (value_asked w.wanted r) p.frames; wait = None; answers = [] })
+
+-- ---- steps
+
+-- The step at a move of the first piece of work, behind which this work is left. Without a loop in progress a jump leads nowhere.
+abbrev pub moves : Process → Frame → List Frame → List Work → Move → Step
+moves p f fs left (Goes variables works) = To (going p f fs variables (works ++ left))
+moves p f fs left (Turns at variables works) = ticks p at (To (spends (going p f fs variables (works ++ left))))
+moves p f fs left Breaks =
+    To (if has_mark left then going p f fs (variables_at_mark left f.variables) (past_mark left) else going p f fs f.variables left)
+moves p f fs left Continues =
+    To (if has_mark left then going p f fs (variables_at_mark left f.variables) (from_mark left) else going p f fs f.variables left)
+moves p f fs left (Calls at method this parameters receiver) =
+    ticks p at (if nat_lt (length (f ∷ fs)) most_frames
+    then To (spends (entering p f fs left (frame_of method this parameters receiver)))
+    else Faults Depth at)
+moves p f fs left (Returns value) = To (record p { frames = handed f.receiver value fs; wait = None; answers = [] })
+moves p f fs left (Meets wait given behind) = arrives p (record f { left = behind ++ left } ∷ fs) wait given
+moves p f fs left (Deletes at region) = arrives p (record f { left = left } ∷ fs) (deleting at region) (deposit.Count (named_in region (f ∷ fs)))
+
+-- the step at the work that is left in a frame; the end of the method returns
+abbrev pub works : Process → Frame → List Frame → List Work → Step
+works p f fs [] = moves p f fs [] (Returns None)
+works p f fs (w ∷ left) = valued p (performed (env_of p f left) w p.answers) (moves p f fs left)
+
+-- the place of the brace that closes `main`
+abbrev pub end_of : NumberedProgram → Place
+end_of program = option_map_or (λ (main : NumberedMethod). main.end) (slice_get program.methods program.main) (record { line = 0; col = 0 })
+
+-- the step of a process that waits nowhere
+abbrev pub runs : Process → List Frame → Step
+runs p [] = Ends (end_of p.setting.program)
+runs p (f ∷ fs) = works p f fs f.left
+
+-- the step of a process that may wait at a collective, which it can then only leave
+abbrev pub steps : Process → Option Wait → Step
+steps p None = runs p p.frames
+steps p (Some w) = departs p w
+
+-- one step of a process by itself
+abbrev pub step : Process → Step
+step p = steps p p.wait

@@ -1,0 +1,27 @@
+-- Which method a call means, and which member of the language.
+use Rattle.std.specs.Prelude.{ℕ, if◌then◌else◌, Option, None, slice_get}
+use Rattle.ti_lang.specs.Program.Types.{ValueType}
+use Rattle.ti_lang.specs.Program.Types as t
+use Rattle.ti_lang.specs.Program.Expressions.{NumberedExp}
+use Rattle.ti_lang.specs.Program.Expressions as e
+use Rattle.ti_lang.specs.Program.Classes.{NumberedMethod, NumberedProgram}
+use Rattle.ti_lang.specs.Typing.Kinds.{is_object}
+use Rattle.ti_lang.specs.Typing.BuiltIn.{BuiltIn, built_in}
+use Rattle.ti_lang.specs.Typing.Declared.{instance_method}
+use Rattle.ti_lang.specs.Typing.TextTypes.{type_in_text}
+
+-- the instance method of this name, behind an object
+abbrev pub method_behind : NumberedProgram → ValueType → ℕ → Option NumberedMethod
+method_behind program (t.Class class is_local) name = instance_method program class name
+method_behind program type name = None
+
+-- the declared method that an expression calls, if it is such a call: `x.f(..)` is one where `x` is an object
+abbrev pub called_method : NumberedProgram → Option ℕ → NumberedExp → Option NumberedMethod
+called_method program this (e.Call at method args) = slice_get program.methods method
+called_method program this (e.OwnCall at method args) = slice_get program.methods method
+called_method program this (e.Member at x name args) = method_behind program (type_in_text program this x) name
+called_method program this other = None
+
+-- the member of the language that a name means behind an expression; behind an object it means none
+abbrev pub member_called : NumberedProgram → Option ℕ → NumberedExp → ℕ → Option BuiltIn
+member_called program this x name = if is_object (type_in_text program this x) then None else built_in program name

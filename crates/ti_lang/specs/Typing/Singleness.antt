@@ -1,0 +1,99 @@
+-- Which expressions are single: their value is the same in all processes.
+use Rattle.std.specs.Prelude.{ℕ, Bool, true, false, not, ◌&&◌, Option, Some}
+use Rattle.std.specs.Option.{option_map_or}
+use Rattle.ti_lang.specs.Program.Types.{ValueType, Int, Long, Boolean, Pt, Rc, Declaration, Typed, Foreach}
+use Rattle.ti_lang.specs.Program.Expressions.{NumberedExp, NumberedExps, NumberedRange, NumberedRanges}
+use Rattle.ti_lang.specs.Program.Expressions as x
+use Rattle.ti_lang.specs.Program.Statements.{NumberedInit}
+use Rattle.ti_lang.specs.Program.Statements as st
+use Rattle.ti_lang.specs.Program.Classes.{NumberedResult, NumberedMethod, NumberedProgram}
+use Rattle.ti_lang.specs.Program.Classes as c
+use Rattle.ti_lang.specs.Typing.Kinds.{is_local, is_point}
+use Rattle.ti_lang.specs.Typing.BuiltIn.{BuiltIn, Size, Min, Max, Contains}
+use Rattle.ti_lang.specs.Typing.TextTypes.{type_in_text}
+use Rattle.ti_lang.specs.Typing.Called.{called_method, member_called}
+
+-- ---- variables and members
+
+-- a variable is single where it is declared so; one of a foreach as is told for its number
+abbrev pub declared_single : (ℕ → Bool) → ℕ → Declaration → Bool
+declared_single singles number (Typed is_single type) = is_single
+declared_single singles number Foreach = singles number
+
+-- a member that tells something of a domain
+abbrev pub tells_of_domain : Option BuiltIn → Bool
+tells_of_domain (Some Size) = true
+tells_of_domain (Some Min) = true
+tells_of_domain (Some Max) = true
+tells_of_domain (Some Contains) = true
+tells_of_domain _ = false
+
+-- ---- expressions
+
+module _ (program : NumberedProgram) (this : Option ℕ) (singles : ℕ → Bool) where
+  abbrev mutual
+    -- an expression inside another, or one that is no call of a declared method, where these foreach variables are single
+    pub is_single_part : NumberedExp → Bool
+    is_single_part (x.Int at n) = true
+    is_single_part (x.Long at n) = true
+    is_single_part (x.Truth at b) = true
+    is_single_part (x.NumProcs at) = true
+    is_single_part (x.Variable at v) = declared_single singles v.number v.declared
+    is_single_part (x.Point at xs) = are_single xs
+    is_single_part (x.Rect at ranges) = are_single_ranges ranges
+    is_single_part (x.Unary at op a) = is_single_part a
+    is_single_part (x.Binary at op a b) = is_single_part a && is_single_part b
+    -- no single value is a local reference
+    is_single_part (x.Cast at to a) = not (is_local to.type) && is_single_part a
+    -- a coordinate of a point, and no element of a grid
+    is_single_part (x.Index at a xs) = is_point (type_in_text program this a) && (is_single_part a && are_single xs)
+    is_single_part (x.Member at a name args) = tells_of_domain (member_called program this a name) && (is_single_part a && are_single args)
+    -- a read of a field, `this`, `null` and the own number are plain, and so is what a call inside an expression gives
+    is_single_part e = false
+
+    -- all of these
+    pub are_single : NumberedExps → Bool
+    are_single x.NoExp = true
+    are_single (x.MoreExp a rest) = is_single_part a && are_single rest
+
+    -- bounds and step
+    pub is_single_range : NumberedRange → Bool
+    is_single_range (x.Plain low high) = is_single_part low && is_single_part high
+    is_single_range (x.Stepped low high step) = (is_single_part low && is_single_part high) && is_single_part step
+
+    -- those of all ranges
+    pub are_single_ranges : NumberedRanges → Bool
+    are_single_ranges x.NoRange = true
+    are_single_ranges (x.MoreRange r rest) = is_single_range r && are_single_ranges rest
+
+-- ---- whole right sides
+
+-- a result that is declared single
+abbrev pub single_result : NumberedResult → Bool
+single_result c.Void = false
+single_result (c.Typed t) = t.is_single
+
+-- a method with such a result
+abbrev pub has_single_result : NumberedMethod → Bool
+has_single_result m = single_result m.result
+
+-- an expression that is a whole right side: what a call of a method with single result gives is single
+abbrev pub is_single : NumberedProgram → Option ℕ → (ℕ → Bool) → NumberedExp → Bool
+is_single program this singles e = option_map_or has_single_result (called_method program this e) (is_single_part program this singles e)
+
+-- a broadcast value of such a type is single; a reference isn't
+abbrev pub is_single_sent : ValueType → Bool
+is_single_sent Int = true
+is_single_sent Long = true
+is_single_sent Boolean = true
+is_single_sent (Pt n) = true
+is_single_sent (Rc n) = true
+is_single_sent _ = false
+
+-- the right side of a declaration or an assignment
+abbrev pub is_single_initial : NumberedProgram → Option ℕ → (ℕ → Bool) → NumberedInit → Bool
+is_single_initial program this singles (st.Value e) = is_single program this singles e
+is_single_initial program this singles (st.NewRegion at) = true
+is_single_initial program this singles (st.NewObject at region class) = false
+is_single_initial program this singles (st.NewGrid at region element dims_at dims) = false
+is_single_initial program this singles (st.Broadcast at e root) = is_single_sent (type_in_text program this e)

@@ -1,0 +1,135 @@
+-- The type that an expression has in the text: the declared type where a name is used, and what an operator or a member gives of
+-- the types of its operands. No operand is judged, so every expression has one; it means nothing where a rule of types is broken.
+use Rattle.std.specs.Prelude.{◌≡◌, ℕ, ◌-◌, ◌+◌, false, Option, Some, option_map, option_and_then, unwrap_or, slice_get}
+use Rattle.std.specs.Option.{option_map_or}
+use Rattle.ti_syntax.specs.declared.tree.exprs.BinaryOperator.{BinaryOperator}
+use Rattle.ti_syntax.specs.declared.tree.exprs.BinaryOperator.TheVariants as op
+use Rattle.ti_lang.specs.Program.Types.{ValueType, Declaration, Typed, Foreach}
+use Rattle.ti_lang.specs.Program.Types as t
+use Rattle.ti_lang.specs.Program.Expressions.{NumberedExp, NumberedExps, NumberedRange, NumberedRanges}
+use Rattle.ti_lang.specs.Program.Expressions as e
+use Rattle.ti_lang.specs.Program.Classes.{NumberedProgram}
+use Rattle.ti_lang.specs.Program.Scope.{ScopeContents}
+use Rattle.ti_lang.specs.Typing.Kinds.{read_through, as_global, dim_of_type}
+use Rattle.ti_lang.specs.Typing.BuiltIn.{BuiltIn, Size, Min, Max, Contains, Domain, Restrict, Translate, Slice, built_in}
+use Rattle.ti_lang.specs.Typing.Declared.{declared_type, field_type, named_field_type, instance_method, result_type}
+
+-- ---- names
+
+-- the declared type; a foreach variable is a point, of the dimensions that are told for its number
+abbrev pub used_type : (ℕ → ℕ) → ℕ → Declaration → ValueType
+used_type dims number (Typed is_single type) = type
+used_type dims number Foreach = t.Pt (dims number)
+
+-- ---- operators
+
+-- an int beside a long becomes one, and a rectangular domain beside any a domain
+abbrev pub joined_type : ValueType → ValueType → ValueType
+joined_type t.Int t.Long = t.Long
+joined_type (t.Rc n) y = t.Dm n
+joined_type x y = x
+
+-- two rectangular domains meet in one
+abbrev pub product_type : ValueType → ValueType → ValueType
+product_type (t.Rc n) (t.Rc m) = t.Rc n
+product_type x y = joined_type x y
+
+-- what an operator gives: a shift the type of its left operand, a comparison a boolean
+abbrev pub operator_type : BinaryOperator → ValueType → ValueType → ValueType
+operator_type op.Add x y = joined_type x y
+operator_type op.Subtract x y = joined_type x y
+operator_type op.Multiply x y = product_type x y
+operator_type op.Divide x y = joined_type x y
+operator_type op.Remainder x y = joined_type x y
+operator_type op.And x y = joined_type x y
+operator_type op.Or x y = joined_type x y
+operator_type op.Xor x y = joined_type x y
+operator_type op.ShiftLeft x y = x
+operator_type op.ShiftRight x y = x
+operator_type op.UnsignedShiftRight x y = x
+operator_type o x y = t.Boolean
+
+-- ---- parts and members
+
+-- the field of this name in an object, global where the object is
+abbrev pub field_seen : NumberedProgram → ℕ → ValueType → ValueType
+field_seen program name (t.Class class is_local) = option_map_or (read_through is_local) (named_field_type program class name) t.Void
+field_seen program name type = t.Void
+
+-- what an index gives: a coordinate of a point, or an element of a grid, global where the grid is
+abbrev pub element_seen : ValueType → ValueType
+element_seen (t.Pt n) = t.Int
+element_seen (t.Grid element n is_local) = read_through is_local element
+element_seen type = t.Void
+
+-- a slice of a grid has one dimension less
+abbrev pub sliced : ValueType → ValueType
+sliced (t.Grid element n is_local) = t.Grid element (n - 1) is_local
+sliced type = type
+
+-- what a member of the language gives, for a receiver of a type
+abbrev pub built_in_type : Option BuiltIn → ValueType → ValueType
+built_in_type (Some Size) x = t.Int
+built_in_type (Some Min) x = t.Pt (dim_of_type x)
+built_in_type (Some Max) x = t.Pt (dim_of_type x)
+built_in_type (Some Contains) x = t.Boolean
+built_in_type (Some Domain) x = t.Rc (dim_of_type x)
+built_in_type (Some Restrict) x = x
+built_in_type (Some Translate) x = x
+built_in_type (Some Slice) x = sliced x
+built_in_type _ x = t.Void
+
+-- behind an object there is a method, behind another value a member of the language
+abbrev pub member_seen : NumberedProgram → ℕ → ValueType → ValueType
+member_seen program name (t.Class class is_local) = option_map_or result_type (instance_method program class name) t.Void
+member_seen program name x = built_in_type (built_in program name) x
+
+-- ---- expressions
+
+-- how many expressions there are
+abbrev pub how_many : NumberedExps → ℕ
+how_many e.NoExp = 0
+how_many (e.MoreExp x xs) = how_many xs + 1
+
+module _ (program : NumberedProgram) (this : Option ℕ) (dims : ℕ → ℕ) where
+  abbrev mutual
+    -- the type of an expression in a method with `this` of a class, or with none, where foreach variables have so many dimensions
+    pub type_at : NumberedExp → ValueType
+    type_at (e.Int at n) = t.Int
+    type_at (e.Long at n) = t.Long
+    type_at (e.Truth at b) = t.Boolean
+    type_at (e.Null at) = t.Null
+    type_at (e.This at) = option_map_or (λ class. t.Class class false) this t.Void
+    type_at (e.Variable at v) = used_type dims v.number v.declared
+    type_at (e.OwnField at field) = unwrap_or (option_map as_global (option_and_then (λ class. field_type program class field) this)) t.Void
+    type_at (e.Call at method args) = option_map_or result_type (slice_get program.methods method) t.Void
+    type_at (e.OwnCall at method args) = option_map_or result_type (slice_get program.methods method) t.Void
+    type_at (e.ThisProc at) = t.Int
+    type_at (e.NumProcs at) = t.Int
+    type_at (e.Point at parts) = t.Pt (how_many parts)
+    type_at (e.Rect at ranges) = t.Rc (dims_of_ranges ranges)
+    type_at (e.Unary at o x) = type_at x
+    type_at (e.Binary at o x y) = operator_type o (type_at x) (type_at y)
+    type_at (e.Cast at to x) = to.type
+    type_at (e.Select at x name) = field_seen program name (type_at x)
+    type_at (e.Member at x name args) = member_seen program name (type_at x)
+    type_at (e.Index at x parts) = element_seen (type_at x)
+
+    -- a range of numbers has one dimension, one of points as many as these
+    pub dims_of_range : NumberedRange → ℕ
+    dims_of_range (e.Plain low high) = dim_of_type (type_at low)
+    dims_of_range (e.Stepped low high step) = dim_of_type (type_at low)
+
+    -- the dimensions of all ranges together
+    pub dims_of_ranges : NumberedRanges → ℕ
+    dims_of_ranges e.NoRange = 0
+    dims_of_ranges (e.MoreRange r rs) = dims_of_range r + dims_of_ranges rs
+
+-- The type of an expression wherever it stands. Of foreach variables no dimensions are known here and 1 is taken: no class, no field,
+-- no element and no form of a node hangs on them.
+abbrev pub type_in_text : NumberedProgram → Option ℕ → NumberedExp → ValueType
+type_in_text program this x = type_at program this (λ number. 1) x
+
+-- the dimensions are those that a scope says of foreach variables
+abbrev pub AreDims : ScopeContents → (ℕ → ℕ) → Type 0
+AreDims s dims = (number : ℕ) (type : ValueType) → declared_type s number Foreach ≡ Some type → type ≡ t.Pt (dims number)

@@ -1,0 +1,47 @@
+// What holds of the heap of every history whose entries are answered by those before them.
+ghost use Rattle.std.specs.Prelude.{◌≡◌, ◌≢◌, ◌∷◌, ℕ, false, true, Some, None};
+ghost use Rattle.ti_base.specs.declared.point.Point.{Point};
+ghost use Rattle.ti_base.specs.declared.value.Id.{Id};
+ghost use Rattle.ti_base.specs.declared.value.Value.{Value};
+ghost use Rattle.ti_base.specs.declared.entry.Entry.{Entry};
+ghost use Rattle.ti_base.specs.Points.{IsPoint};
+ghost use Rattle.ti_base.specs.Cells.{Cell, Grid, cell_of};
+ghost use Rattle.ti_lang.specs.Program.Classes.{NumberedProgram};
+ghost use Rattle.ti_lang.specs.Meaning.Histories.{History, is_making};
+ghost use Rattle.ti_lang.specs.Meaning.RegionsOf.{is_gone};
+ghost use Rattle.ti_lang.specs.Meaning.HeapOf.{made_by, IsMade, grid_of, zero_of, written_by, cell_value};
+ghost use Rattle.ti_lang.specs.Meaning.HeapAnswers.{IsAnswered};
+
+/// A write changes one cell, to what it writes, and nothing else; what writes nothing and makes
+/// nothing changes no cell.
+pub fn writes()
+    ensures written { (program : NumberedProgram) (h : History) (e : Entry) (cell : Cell) (zero value : Value) → zero_of program cell h ≡ Some zero
+        → written_by e.act h ≡ Some (cell, value) → cell_value program cell (e ∷ h) ≡ Some value }
+    ensures others { (program : NumberedProgram) (h : History) (e : Entry) (cell other : Cell) (value : Value) → written_by e.act h ≡ Some (cell, value)
+        → other ≢ cell → cell_value program other (e ∷ h) ≡ cell_value program other h }
+    ensures none { (program : NumberedProgram) (h : History) (e : Entry) (cell : Cell) → written_by e.act h ≡ None → is_making e.act ≡ false
+        → cell_value program cell (e ∷ h) ≡ cell_value program cell h }
+{}
+
+/// A new thing changes no cell that was there.
+pub fn makings()
+    ensures { (program : NumberedProgram) (h : History) (e : Entry) (cell : Cell) (zero : Value) → IsAnswered program (e ∷ h) → is_making e.act ≡ true
+        → zero_of program cell h ≡ Some zero → cell_value program cell (e ∷ h) ≡ cell_value program cell h }
+{}
+
+/// Different points of a grid have different cells.
+pub fn cells_differ()
+    ensures { (program : NumberedProgram) (h : History) (id : Id) (g : Grid) (p q : Point) → IsAnswered program h → grid_of id h ≡ Some g
+        → IsPoint p → IsPoint q → p.dim ≡ g.domain.dim → q.dim ≡ g.domain.dim → cell_of g p ≡ cell_of g q → p ≡ q }
+{}
+
+/// A thing is made once: no two entries make one.
+pub fn made_once()
+    ensures { (program : NumberedProgram) (h : History) (e : Entry) (id : Id) → IsAnswered program (e ∷ h) → made_by e.act e.answer ≡ Some id
+        → IsMade id h → ⊥ }
+{}
+
+/// A region that is gone stays so.
+pub fn gone_stays()
+    ensures { (r : ℕ) (h : History) (e : Entry) → is_gone r h ≡ true → is_gone r (e ∷ h) ≡ true }
+{}

@@ -1,0 +1,39 @@
+// What holds of every process of every program.
+ghost use Rattle.std.specs.Prelude.{◌≡◌, ◌≤◌, length, ℕ, false, List, [], ◌∷◌};
+ghost use Rattle.ti_base.specs.declared.entry.Answer.{Answer};
+ghost use Rattle.ti_base.specs.declared.entry.Next.{Next};
+ghost use Rattle.ti_lang.specs.Meaning.Processes.{Setting, Process, begin};
+ghost use Rattle.ti_lang.specs.Meaning.NextStep.{IsNext, After};
+ghost use Rattle.ti_lang.specs.Meaning.Asking.{Request};
+ghost use Rattle.ti_lang.specs.Meaning.Steps.{At, most_frames, step};
+ghost use Rattle.ti_lang.specs.Meaning.Histories.{is_end, is_fault};
+ghost use Rattle.ti_lang.specs.Meaning.Answers.{FitsAction};
+
+/// A process has exactly one thing next: an action, its end or a fault.
+pub fn one_next()
+    ensures some { (p : Process) → (n : Next) × IsNext p n }
+    ensures only { (p : Process) (m n : Next) → IsNext p m → IsNext p n → m ≡ n }
+{}
+
+/// After the same answers a process is the same one.
+pub fn one_process()
+    ensures { (p q r : Process) (rs : List Answer) → After p rs q → After p rs r → q ≡ r }
+{}
+
+/// No process asks for an end or a fault: what it asks for is an action.
+pub fn asks_for_actions()
+    ensures { (p : Process) (q : Request) (go : Answer → Process) → step p ≡ At q go
+        → (is_end q.action ≡ false) × (is_fault q.action ≡ false) }
+{}
+
+/// Where an answer fits what a process has next, there is a process after it.
+pub fn goes_on()
+    ensures { (p : Process) (r : Answer) → FitsAction p r → (q : Process) × After p (r ∷ []) q }
+{}
+
+/// After whatever answers, a process has spent no more ticks than it has, and has no more frames
+/// than it may.
+pub fn within_limits()
+    ensures { (s : Setting) (i : ℕ) (rs : List Answer) (p : Process) → After (begin s i) rs p
+        → (p.spent ≤ s.fuel) × (length p.frames ≤ most_frames) }
+{}

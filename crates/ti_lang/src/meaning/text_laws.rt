@@ -1,0 +1,26 @@
+// What holds of the types that expressions have in the text.
+ghost use Rattle.std.specs.Prelude.{◌≡◌, ℕ, Bool, Option, Some};
+ghost use Rattle.ti_lang.specs.Program.Types.{ValueType};
+ghost use Rattle.ti_lang.specs.Program.Expressions.{NumberedExp};
+ghost use Rattle.ti_lang.specs.Program.Classes.{NumberedProgram};
+ghost use Rattle.ti_lang.specs.Typing.Kinds.{is_point, class_of_type};
+ghost use Rattle.ti_lang.specs.Program.Scope.{ScopeContents};
+ghost use Rattle.ti_lang.specs.Typing.Expressions.{typed};
+ghost use Rattle.ti_lang.specs.Typing.TextTypes.{element_seen, type_at, AreDims};
+
+/// Whether an expression is a point, of which class it is and of what type its elements are hangs
+/// on no number of dimensions of a foreach variable.
+pub fn forms_have_no_dimensions()
+    ensures points { (program : NumberedProgram) (this : Option ℕ) (dims other : ℕ → ℕ) (x : NumberedExp)
+        → is_point (type_at program this dims x) ≡ is_point (type_at program this other x) }
+    ensures classes { (program : NumberedProgram) (this : Option ℕ) (dims other : ℕ → ℕ) (x : NumberedExp)
+        → class_of_type (type_at program this dims x) ≡ class_of_type (type_at program this other x) }
+    ensures elements { (program : NumberedProgram) (this : Option ℕ) (dims other : ℕ → ℕ) (x : NumberedExp)
+        → element_seen (type_at program this dims x) ≡ element_seen (type_at program this other x) }
+{}
+
+/// Where the rules give an expression a type, it is the one that it has in the text.
+pub fn types_agree()
+    ensures { (program : NumberedProgram) (s : ScopeContents) (dims : ℕ → ℕ) (x : NumberedExp) (type : ValueType) → AreDims s dims
+        → typed program s x ≡ Some type → type_at program s.this_class dims x ≡ type }
+{}

@@ -1,0 +1,5 @@
+pub mod Histories
+pub mod Outcomes
+pub mod Rows
+pub mod Simulation
+pub mod Texts

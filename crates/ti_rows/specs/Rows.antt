@@ -1,0 +1,10 @@
+-- The programs of the rows.
+pub mod Numbers
+pub mod Statements
+pub mod Calls
+pub mod Objects
+pub mod Domains
+pub mod Grids
+pub mod Collectives
+pub mod Regions
+pub mod Programs

@@ -1,0 +1,120 @@
+-- The run of the lowest-numbered process that can take an entry, as a plain and slow program.
+use Rattle.std.specs.Prelude.{ℕ, zero, suc, ◌+◌, nat_lt, ◌&&◌, if◌then◌else◌, Bool, true, false, List, [], ◌∷◌, ◌++◌}
+use Rattle.ti_base.specs.declared.action.Action.{Action}
+use Rattle.ti_base.specs.declared.action.Action.TheVariants as act
+use Rattle.ti_base.specs.declared.entry.Answer.TheVariants.{Done}
+use Rattle.ti_base.specs.declared.entry.Answer.{Answer}
+use Rattle.ti_base.specs.declared.entry.Entry.{Entry}
+use Rattle.ti_lang.specs.Meaning.Asking.{Request}
+use Rattle.ti_lang.specs.Meaning.Processes.{Setting, Process, begin}
+use Rattle.ti_lang.specs.Meaning.Steps.{Step, To, At, Ends, Faults, step}
+use Rattle.ti_lang.specs.Meaning.Histories.{is_fault, history_of, arrivals, departures}
+use Rattle.ti_lang.specs.Meaning.HeapAnswers.{Outcome, Answers, Impossible, heap_answer}
+use Rattle.ti_lang.specs.Meaning.HeapAnswers as heap
+
+-- ---- silent steps
+
+-- goes on from a silent step
+abbrev pub settle_by : (Process → Step) → Step → Step
+settle_by go (To q) = go q
+settle_by go s = s
+
+-- the step behind so many silent ones at most
+abbrev pub settle : ℕ → Process → Step
+settle zero p = step p
+settle (suc n) p = settle_by (settle n) (step p)
+
+-- how many silent steps are made between two entries, at most
+abbrev pub most_silent : ℕ
+most_silent = 1000
+
+-- ---- one process
+
+-- a process of the run, with its number and whether it has its end
+pub record Slot : Type 0 where
+  pub number : ℕ
+  pub ended : Bool
+  pub process : Process
+
+-- the processes before their first steps: so many, from a number on
+abbrev pub slots : Setting → ℕ → ℕ → List Slot
+slots s i zero = []
+slots s i (suc n) = record { number = i; ended = false; process = begin s i } ∷ slots s (i + 1) n
+
+-- of so many processes, from a number on, all have arrived more often than that
+abbrev pub have_arrived : List Entry → ℕ → ℕ → ℕ → Bool
+have_arrived es times j zero = true
+have_arrived es times j (suc n) = nat_lt times (arrivals j es) && have_arrived es times (j + 1) n
+
+-- a departure waits until all have arrived
+abbrev pub is_ready : Setting → List Entry → ℕ → Action → Bool
+is_ready s es i act.Depart = have_arrived es (departures i es) 0 s.procs
+is_ready s es i a = true
+
+-- what a process does next: it waits, or takes an entry and is this one then; or its silent steps are too many to tell
+pub data Taking : Type 0 where
+  Waits : Taking
+  Takes : (slot : Slot) (e : Entry) → Taking
+  Unknown : Taking
+
+-- the entry of an action with its outcome
+abbrev pub by_outcome : Slot → Request → (Answer → Process) → Outcome → Taking
+by_outcome x request go (Answers r) = Takes (record x { process = go r }) (record { proc = x.number; place = request.place; act = request.action; answer = r })
+by_outcome x request go (heap.Faults kind) = Takes x (record { proc = x.number; place = request.place; act = act.Fault kind; answer = Done })
+by_outcome x request go Impossible = Waits
+
+-- the entry of an action, if it is ready
+abbrev pub by_request : Setting → List Entry → Slot → Request → (Answer → Process) → Bool → Taking
+by_request s es x request go true = by_outcome x request go (heap_answer s.program (history_of es) x.number request.action)
+by_request s es x request go false = Waits
+
+-- the entry of a step
+abbrev pub by_step : Setting → List Entry → Slot → Step → Taking
+by_step s es x (To p) = Unknown
+by_step s es x (At request go) = by_request s es x request go (is_ready s es x.number request.action)
+by_step s es x (Ends at) = Takes (record x { ended = true }) (record { proc = x.number; place = at; act = act.End; answer = Done })
+by_step s es x (Faults kind at) = Takes x (record { proc = x.number; place = at; act = act.Fault kind; answer = Done })
+
+-- what a process does next
+abbrev pub takes : Setting → List Entry → Slot → Taking
+takes s es x = if x.ended then Waits else by_step s es x (settle most_silent x.process)
+
+-- ---- all processes
+
+-- what the lowest-numbered process does that can take an entry, and the processes after it
+pub data Turn : Type 0 where
+  None : Turn
+  Taken : (slots : List Slot) (e : Entry) → Turn
+  Untold : Turn
+
+-- a process before those that have a turn
+abbrev pub put_before : Slot → Turn → Turn
+put_before x None = None
+put_before x (Taken xs e) = Taken (x ∷ xs) e
+put_before x Untold = Untold
+
+-- the turn of a process, or else of those behind it
+abbrev pub first_of : Taking → Slot → List Slot → Turn → Turn
+first_of Waits x xs more = put_before x more
+first_of (Takes y e) x xs more = Taken (y ∷ xs) e
+first_of Unknown x xs more = Untold
+
+-- the turn of the first that can take an entry
+abbrev pub turn : Setting → List Entry → List Slot → Turn
+turn s es [] = None
+turn s es (x ∷ xs) = first_of (takes s es x) x xs (turn s es xs)
+
+-- goes on behind a turn, unless its entry is a fault
+abbrev pub run_by : (List Slot → List Entry → List Entry) → List Entry → Turn → List Entry
+run_by go es None = es
+run_by go es (Taken xs e) = if is_fault e.act then es ++ e ∷ [] else go xs (es ++ e ∷ [])
+run_by go es Untold = es
+
+-- the entries of so many turns at most, from a world on
+abbrev pub run_from : Setting → ℕ → List Slot → List Entry → List Entry
+run_from s zero xs es = es
+run_from s (suc n) xs es = run_by (run_from s n) es (turn s es xs)
+
+-- the entries of so many turns at most
+abbrev pub solo : Setting → ℕ → List Entry
+solo s turns = run_from s turns (slots s 0 s.procs) []

@@ -1,0 +1,95 @@
+-- How the programs of rows are written down. The words of types and of methods are left out where they mean nothing here.
+use Rattle.std.specs.Prelude.{ℕ, Bool, true, false, List, [], ◌∷◌, codes}
+use Rattle.ti_base.specs.declared.place.Place.{Place}
+use Rattle.ti_syntax.specs.declared.tree.classes.Modifier.{Modifier}
+use Rattle.ti_syntax.specs.declared.tree.classes.ModifierWord.TheVariants as word
+use Rattle.ti_lang.specs.Program.Types.{ValueType, NumberedType, VariableUse}
+use Rattle.ti_lang.specs.Program.Types as t
+use Rattle.ti_lang.specs.Program.Expressions.{NumberedExp, NumberedExps, numbered_exps, Variable}
+use Rattle.ti_lang.specs.Program.Statements.{NumberedStm, NumberedStms, numbered_stms}
+use Rattle.ti_lang.specs.Program.Classes.{NumberedField, NumberedClass, NumberedParam, NumberedParams, NumberedResult, NumberedMethod, NumberedProgram}
+use Rattle.ti_lang.specs.Program.Classes as c
+use Rattle.ti_lang.specs.Meaning.Processes.{Setting}
+
+-- a place, by its line and its column
+abbrev pub pl : ℕ → ℕ → Place
+pl line col = record { line = line; col = col }
+
+-- a type without `single`
+abbrev pub plain : ValueType → NumberedType
+plain type = record { type = type; is_single = false; qualifiers = []; grids = [] }
+
+-- a type with it
+abbrev pub single : ValueType → NumberedType
+single type = record { type = type; is_single = true; qualifiers = []; grids = [] }
+
+-- a variable of a number and a type, where it is used
+abbrev pub var : Place → ℕ → ValueType → NumberedExp
+var at number type = Variable at (record { number = number; declared = t.Typed false type })
+
+-- a single variable
+abbrev pub single_var : Place → ℕ → ValueType → NumberedExp
+single_var at number type = Variable at (record { number = number; declared = t.Typed true type })
+
+-- a foreach variable
+abbrev pub each_var : Place → ℕ → NumberedExp
+each_var at number = Variable at (record { number = number; declared = t.Foreach })
+
+-- expressions in a node
+abbrev pub xs : List NumberedExp → NumberedExps
+xs l = numbered_exps l
+
+-- statements in a node
+abbrev pub stms : List NumberedStm → NumberedStms
+stms l = numbered_stms l
+
+-- ---- classes
+
+-- a class with fields
+abbrev pub class_of : List NumberedField → NumberedClass
+class_of fields = record { modifiers = []; fields = fields }
+
+-- a field of a type and a name
+abbrev pub field : ValueType → ℕ → NumberedField
+field type name = record { modifiers = []; ty = plain type; name = name }
+
+-- a parameter of a type
+abbrev pub param : Place → NumberedType → NumberedParam
+param at type = record { place = at; ty = type }
+
+-- the word `static`
+abbrev pub static_word : List Modifier
+static_word = record { word = word.Static; place = pl 1 1 } ∷ []
+
+-- a method of a class with these words, single or not
+abbrev pub method_of : List Modifier → Bool → ℕ → NumberedResult → ℕ → NumberedParams → List NumberedStm → Place → NumberedMethod
+method_of words is_single class result name params body end =
+    record { class = class; modifiers = words; is_single = is_single; result = result; place = pl 1 1; name = name; params = params; body = body; end = end }
+
+-- an instance method
+abbrev pub instance_method : ℕ → NumberedResult → ℕ → NumberedParams → List NumberedStm → Place → NumberedMethod
+instance_method class result name params body end = method_of [] false class result name params body end
+
+-- a static method
+abbrev pub static_method : ℕ → NumberedResult → ℕ → NumberedParams → List NumberedStm → Place → NumberedMethod
+static_method class result name params body end = method_of static_word false class result name params body end
+
+-- a single method
+abbrev pub single_method : ℕ → NumberedResult → ℕ → NumberedParams → List NumberedStm → Place → NumberedMethod
+single_method class result name params body end = method_of static_word true class result name params body end
+
+-- ---- programs
+
+-- the members of the language, and then names
+abbrev pub names_with : List (List ℕ) → List (List ℕ)
+names_with names =
+    codes "size" ∷ codes "min" ∷ codes "max" ∷ codes "contains" ∷ codes "domain" ∷ codes "restrict" ∷ codes "translate" ∷ codes "slice" ∷ codes "copy" ∷ codes "exchange" ∷ codes "delete" ∷ names
+
+-- a run of so many processes with so many ticks, of a program with these classes, methods, of which one is `main`, names and literals
+abbrev pub text : ℕ → ℕ → List NumberedClass → List NumberedMethod → ℕ → List (List ℕ) → List (List ℕ) → Setting
+text procs fuel classes methods main names literals =
+    record { procs = procs; fuel = fuel; program = record { classes = classes; methods = methods; main = main; names = names_with names; literals = literals } }
+
+-- a program of `main` alone, which ends at a place
+abbrev pub alone : ℕ → ℕ → List (List ℕ) → List NumberedStm → Place → Setting
+alone procs fuel literals body end = text procs fuel (class_of [] ∷ []) (single_method 0 c.Void 11 c.Words body end ∷ []) 0 (codes "main" ∷ []) literals
