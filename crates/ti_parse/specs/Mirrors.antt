@@ -1,4 +1,4 @@
--- What the code reads, function by function. Nobody has to believe it: the contracts of the public calls cite `Answer` alone.
+-- What the code reads, function by function. Nobody has to believe it: the contracts of `parse` and `one_text` cite `Answer` alone.
 pub mod Way
 pub mod Parts
 pub mod Statements

@@ -1,4 +1,4 @@
--- What the code reads, function by function. Nobody has to believe it: the contracts of the public calls cite `Answers` alone.
+-- What the code reads, function by function. Nobody has to believe it: the contracts of `parse_expr` and `one_tree` cite `Answers` alone.
 pub mod Input
 pub mod Seen
 pub mod Types

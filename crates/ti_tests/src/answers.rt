@@ -135,24 +135,25 @@ fn statements(alloc: Global, tree: &Tree) -> Result<String, Stopped> {
     Ok(format!(in alloc; "{:?}", method.body)?)
 }
 
+fn tree(alloc: Global, text: &[u8]) -> Result<String, Stopped> {
+    let tree = parsed(alloc, text)?;
+    Ok(format!(in alloc; "{tree:?}")?)
+}
+
+fn accepted<T: Drop>(alloc: Global, answer: Result<T, Stopped>) -> Result<String, Stopped> {
+    answer?;
+    Ok(String::from_str(alloc, "accepted")?)
+}
+
 fn given(alloc: Global, asked: Asked, text: &[u8]) -> Result<String, Stopped> {
     match asked {
         Asked::Tokens => listed(alloc, &tokens(alloc, text)?),
         Asked::Expression { form, weight } => expression(alloc, text, form, weight),
         Asked::Extent => extent(alloc, text),
-        Asked::Tree => {
-            let tree = parsed(alloc, text)?;
-            Ok(format!(in alloc; "{tree:?}")?)
-        }
+        Asked::Tree => tree(alloc, text),
         Asked::Statements => statements(alloc, &parsed(alloc, text)?),
-        Asked::Grammar => {
-            parsed(alloc, text)?;
-            Ok(String::from_str(alloc, "accepted")?)
-        }
-        Asked::Names => {
-            resolved(alloc, text)?;
-            Ok(String::from_str(alloc, "accepted")?)
-        }
+        Asked::Grammar => accepted(alloc, parsed(alloc, text)),
+        Asked::Names => accepted(alloc, resolved(alloc, text)),
     }
 }
 

@@ -2,13 +2,10 @@
 // grammar.
 
 use crate::answers::{Asked, Row, tokens, wrong};
-use crate::texts::{WHOLE, written};
-use std::alloc::Global;
+use crate::texts::WHOLE;
 use std::test::Fail;
 use ti_base::Place;
-use ti_parse_expr::full::{full, full_behind_bracket, full_behind_name, full_operand};
-use ti_parse_expr::{Form, Operand, Stop, Tokens, parse_expr};
-use ti_syntax::TokenKind;
+use ti_parse_expr::{Form, parse_expr};
 
 /// Literals, names, calls, groups and brackets.
 const PRIMARIES: &[Row] = &[
@@ -1099,45 +1096,6 @@ const DEEP: &[Row] = &[
     },
 ];
 
-/// Full Postfixes that begin with a name and a `[`: the tree, what it ends with and the number of tokens left, or why and where
-/// reading stops.
-const FULL: &[Row] = &[
-    Row {
-        text: "a[1].b = 3",
-        answer: "Select { place: 1:6, receiver: Index { place: 1:2, receiver: Name(1:1, a), indices: [Int(1:3, 1)] }, \
-        name: b } Target 3",
-    },
-    Row {
-        text: "a[f()].g(b);",
-        answer: "Member { place: 1:8, receiver: Index { place: 1:2, receiver: Name(1:1, a), indices: [Call { place: 1:3, \
-        name: f, args: [] }] }, name: g, args: [Name(1:10, b)] } Call 2",
-    },
-    Row {
-        text: "a[i, j]++",
-        answer: "Index { place: 1:2, receiver: Name(1:1, a), indices: [Name(1:3, i), Name(1:6, j)] } Target 2",
-    },
-    Row {
-        text: "a[]",
-        answer: "Refused 1:3",
-    },
-    Row {
-        text: "a[1",
-        answer: "Refused 1:4",
-    },
-];
-
-/// The same, and how the answer ends.
-const DEEP_POSTFIXES: &[Row] = &[
-    Row {
-        text: "a[`255#!`b]",
-        answer: " Target 1",
-    },
-    Row {
-        text: "a[`256#!`b]",
-        answer: "TooDeep 1:258",
-    },
-];
-
 #[test]
 fn primaries_have_their_trees(rt: HostRuntime) -> Result<(), Fail> {
     let wrong = wrong(
@@ -1304,75 +1262,5 @@ fn an_expression_stands_anywhere_in_a_list(rt: HostRuntime) -> Result<(), Fail> 
         (tree.place(), behind, used),
         (Place { line: 1, col: 9 }, 7, 9)
     );
-    Ok(())
-}
-
-/// A full Postfix, read behind so many of its first tokens, a name and a `[`.
-fn operand_behind(alloc: Global, tokens: &mut Tokens<'_>, taken: usize) -> Result<Operand, Stop> {
-    if taken == 0 {
-        return full_operand(alloc, tokens);
-    }
-    let place = tokens.place();
-    let name = tokens.name(alloc)?;
-    if taken == 1 {
-        return full_behind_name(alloc, tokens, place, name);
-    }
-    let bracket = tokens.place();
-    tokens.expect(TokenKind::LeftBracket)?;
-    full_behind_bracket(alloc, tokens, bracket, place, name)
-}
-
-/// What is read of a text, behind so many of its first tokens.
-fn read_behind(alloc: Global, text: &str, taken: usize) -> Result<String, Fail> {
-    let list = tokens(alloc, text.as_bytes())?;
-    if list.is_empty() {
-        return Err(Fail::from("no tokens"));
-    }
-    let mut left = Tokens::new(&list);
-    match operand_behind(alloc, &mut left, taken) {
-        Ok(Operand { expr, ending }) => {
-            let count = left.left();
-            Ok(format!(in alloc; "{expr:?} {ending:?} {count}")?)
-        }
-        Err(stop) => {
-            let place = left.place();
-            Ok(format!(in alloc; "{stop:?} {place:?}")?)
-        }
-    }
-}
-
-#[test]
-fn a_full_postfix_is_read_from_each_of_its_first_tokens_on(rt: HostRuntime) -> Result<(), Fail> {
-    for Row { text, answer } in FULL {
-        for taken in 0..3usize {
-            let found = read_behind(rt.alloc(), text, taken)?;
-            assert_eq!(rt; found.as_str(), *answer, "{text}");
-        }
-    }
-    Ok(())
-}
-
-#[test]
-fn tokens_of_a_full_postfix_weigh_256_at_most(rt: HostRuntime) -> Result<(), Fail> {
-    let alloc = rt.alloc();
-    for Row { text, answer: end } in DEEP_POSTFIXES {
-        for taken in 0..3usize {
-            let found = read_behind(alloc, &written(alloc, text)?, taken)?;
-            assert!(rt; found.ends_with(end), "{text}");
-        }
-    }
-    Ok(())
-}
-
-#[test]
-fn a_full_expression_stops_at_the_token_that_is_too_deep(rt: HostRuntime) -> Result<(), Fail> {
-    let list = tokens(rt.alloc(), written(rt.alloc(), "`257#(`a")?.as_bytes())?;
-    if list.is_empty() {
-        return Err(Fail::from("no tokens"));
-    }
-    let mut left = Tokens::new(&list);
-    let is_deep = matches!(full(rt.alloc(), &mut left, Form::Whole), Err(Stop::TooDeep));
-    assert!(rt; is_deep);
-    assert_eq!(rt; left.place(), Place { line: 1, col: 257 });
     Ok(())
 }

@@ -510,6 +510,18 @@ const DECLARATIONS: &[Row] = &[
 /// Among them are operands that can't be changed, aren't calls or begin no statement.
 const CHANGES: &[Row] = &[
     Row {
+        text: "a[] = 1;",
+        answer: "G1 2:3",
+    },
+    Row {
+        text: "a[1",
+        answer: "G1 3:1",
+    },
+    Row {
+        text: "a[1 = 1;",
+        answer: "G1 2:5",
+    },
+    Row {
         text: "(x) = 2;",
         answer: "G1 2:5",
     },
@@ -1033,6 +1045,22 @@ const NESTED: &[Row] = &[
 
 /// Expressions that nest deeply: a token of them may weigh 256.
 const HEAVY: &[Row] = &[
+    Row {
+        text: "a[`255#~`0] = 1;",
+        answer: "accepted",
+    },
+    Row {
+        text: "this.f(`254#~`0);",
+        answer: "accepted",
+    },
+    Row {
+        text: "this.f(`255#~`0);",
+        answer: "G2 2:262",
+    },
+    Row {
+        text: "this[`255#~`0]++;",
+        answer: "accepted",
+    },
     Row {
         text: "x = `256#~`0;",
         answer: "accepted",

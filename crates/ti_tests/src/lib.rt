@@ -25,3 +25,5 @@ mod texts;
 mod tokens;
 #[cfg(test)]
 mod trees;
+#[cfg(test)]
+mod values;

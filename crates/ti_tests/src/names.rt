@@ -11,12 +11,6 @@ use std::alloc::Global;
 use std::test::Fail;
 use ti_lang::program::{Scope, Ty};
 
-/// A text, and pieces of its program in their order.
-struct Numbered {
-    text: &'static str,
-    pieces: &'static [&'static str],
-}
-
 /// Statements of `main`, which begin in column 62.
 const ANSWERS_MAIN: &[Row] = &[
     Row {
@@ -434,39 +428,32 @@ const ANSWERS_WHOLE: &[Row] = &[
     },
 ];
 
-/// Statements of `main`, which begin in column 62.
-const PROGRAMS_MAIN: &[Numbered] = &[
-    Numbered {
+/// Statements of `main`, and a part of the program.
+const PROGRAMS_MAIN: &[Row] = &[
+    Row {
         text: "`200#int v$ = 0; `v199 = v0;",
-        pieces: &[
-            "Assign { place: 1:2757, target: Variable(1:2752, Variable { number: 199, declared: Typed { single: \
+        answer: "Assign { place: 1:2757, target: Variable(1:2752, Variable { number: 199, declared: Typed { single: \
             false, ty: Int } }), value: Value(Variable(1:2759, Variable { number: 0, declared: Typed { single: false, \
             ty: Int } })) }",
-        ],
     },
-    Numbered {
+    Row {
         text: "{ int x = 1; x = 2; } { int x = 3; x = 4; }",
-        pieces: &[
-            "body: [Block([Declare { place: 1:68, ty: TypeUse { ty: Int, single: false, qualifiers: [], grids: [] }, \
+        answer: "body: [Block([Declare { place: 1:68, ty: TypeUse { ty: Int, single: false, qualifiers: [], grids: [] }, \
             variable: 0, value: Value(Int(1:72, 1)) }, Assign { place: 1:77, target: Variable(1:75, Variable { number: \
             0, declared: Typed { single: false, ty: Int } }), value: Value(Int(1:79, 2)) }]), Block([Declare { place: \
             1:90, ty: TypeUse { ty: Int, single: false, qualifiers: [], grids: [] }, variable: 1, value: Value(Int(1:94, \
             3)) }, Assign { place: 1:99, target: Variable(1:97, Variable { number: 1, declared: Typed { single: false, \
             ty: Int } }), value: Value(Int(1:101, 4)) }])]",
-        ],
     },
-    Numbered {
+    Row {
         text: "int args = 1; args = 2;",
-        pieces: &[
-            "body: [Declare { place: 1:66, ty: TypeUse { ty: Int, single: false, qualifiers: [], grids: [] }, \
+        answer: "body: [Declare { place: 1:66, ty: TypeUse { ty: Int, single: false, qualifiers: [], grids: [] }, \
             variable: 0, value: Value(Int(1:73, 1)) }, Assign { place: 1:81, target: Variable(1:76, Variable { number: \
             0, declared: Typed { single: false, ty: Int } }), value: Value(Int(1:83, 2)) }]",
-        ],
     },
-    Numbered {
+    Row {
         text: "foreach (p in [0:3]) { int q = p[1]; q = 1; } foreach (p in [0:3]) println(p[1]);",
-        pieces: &[
-            "body: [Foreach { place: 1:62, variable: 0, domain: Rect(1:76, [Plain { low: Int(1:77, 0), high: \
+        answer: "body: [Foreach { place: 1:62, variable: 0, domain: Rect(1:76, [Plain { low: Int(1:77, 0), high: \
             Int(1:79, 3) }]), body: Block([Declare { place: 1:89, ty: TypeUse { ty: Int, single: false, qualifiers: [], \
             grids: [] }, variable: 1, value: Value(Index { place: 1:94, receiver: Variable(1:93, Variable { number: 0, \
             declared: Foreach }), indices: [Int(1:95, 1)] }) }, Assign { place: 1:101, target: Variable(1:99, Variable { \
@@ -474,12 +461,10 @@ const PROGRAMS_MAIN: &[Numbered] = &[
             place: 1:108, variable: 2, domain: Rect(1:122, [Plain { low: Int(1:123, 0), high: Int(1:125, 3) }]), body: \
             Print(1:129, Value(Index { place: 1:138, receiver: Variable(1:137, Variable { number: 2, declared: Foreach \
             }), indices: [Int(1:139, 1)] })) }]",
-        ],
     },
-    Numbered {
+    Row {
         text: "for (int i = 0; i < 3; i++) println(i); for (int i = 0; i < 3; i++) println(i);",
-        pieces: &[
-            "body: [For { place: 1:62, first: Some(Declare { place: 1:71, ty: TypeUse { ty: Int, single: false, \
+        answer: "body: [For { place: 1:62, first: Some(Declare { place: 1:71, ty: TypeUse { ty: Int, single: false, \
             qualifiers: [], grids: [] }, variable: 0, value: Value(Int(1:75, 0)) }), condition: Some(Binary { place: \
             1:80, operator: Less, left: Variable(1:78, Variable { number: 0, declared: Typed { single: false, ty: Int } \
             }), right: Int(1:82, 3) }), update: Some(Step { place: 1:86, operator: Increment, target: Variable(1:85, \
@@ -491,199 +476,190 @@ const PROGRAMS_MAIN: &[Numbered] = &[
             }), update: Some(Step { place: 1:126, operator: Increment, target: Variable(1:125, Variable { number: 1, \
             declared: Typed { single: false, ty: Int } }) }), body: Print(1:130, Value(Variable(1:138, Variable { \
             number: 1, declared: Typed { single: false, ty: Int } }))) }]",
-        ],
     },
-    Numbered {
+    Row {
         text: "println(\"a\"); println(\"a\"); { println(\"b\" + 1); }",
-        pieces: &[
-            "body: [Print(1:62, Text(0)), Print(1:76, Text(1)), Block([Print(1:92, TextAndValue(2, Int(1:106, 1)))])]",
-        ],
+        answer: "body: [Print(1:62, Text(0)), Print(1:76, Text(1)), Block([Print(1:92, TextAndValue(2, Int(1:106, 1)))])]",
     },
-    Numbered {
+    Row {
         text: "long x = 1L; return; x += 1;",
-        pieces: &[
-            "body: [Declare { place: 1:67, ty: TypeUse { ty: Long, single: false, qualifiers: [], grids: [] }, \
+        answer: "body: [Declare { place: 1:67, ty: TypeUse { ty: Long, single: false, qualifiers: [], grids: [] }, \
             variable: 0, value: Value(Long(1:71, 1)) }, Return(1:75, None), Update { place: 1:85, operator: Add, target: \
             Variable(1:83, Variable { number: 0, declared: Typed { single: false, ty: Long } }), value: Int(1:88, 1) }]",
-        ],
     },
-    Numbered {
+    Row {
         text: "while (true) { int single a = 1; if (a == 1) break; continue; }",
-        pieces: &[
-            "body: [While { place: 1:62, condition: Truth(1:69, true), body: Block([Declare { place: 1:88, ty: \
+        answer: "body: [While { place: 1:62, condition: Truth(1:69, true), body: Block([Declare { place: 1:88, ty: \
             TypeUse { ty: Int, single: true, qualifiers: [Qualifier { word: Single, place: 1:81 }], grids: [] }, \
             variable: 0, value: Value(Int(1:92, 1)) }, If { place: 1:95, condition: Binary { place: 1:101, operator: \
             Equal, left: Variable(1:99, Variable { number: 0, declared: Typed { single: true, ty: Int } }), right: \
             Int(1:104, 1) }, then: Break(1:107), otherwise: None }, Continue(1:114)]) }]",
-        ],
     },
-    Numbered {
+    Row {
         text: "for (;;) { foreach (p in [0:1]) { if (p[1] == 0) continue; break; } return; }",
-        pieces: &[
-            "body: [For { place: 1:62, first: None, condition: None, update: None, body: Block([Foreach { place: \
+        answer: "body: [For { place: 1:62, first: None, condition: None, update: None, body: Block([Foreach { place: \
             1:73, variable: 0, domain: Rect(1:87, [Plain { low: Int(1:88, 0), high: Int(1:90, 1) }]), body: Block([If { \
             place: 1:96, condition: Binary { place: 1:105, operator: Equal, left: Index { place: 1:101, receiver: \
             Variable(1:100, Variable { number: 0, declared: Foreach }), indices: [Int(1:102, 1)] }, right: Int(1:108, 0) \
             }, then: Continue(1:111), otherwise: None }, Break(1:121)]) }, Return(1:130, None)]) }]",
-        ],
     },
 ];
 
-/// Classes, behind which stands the class `Main`.
-const PROGRAMS_WITH_MAIN: &[Numbered] = &[
-    Numbered {
+/// Classes, behind which stands the class `Main`, and a part of the program.
+const PROGRAMS_WITH_MAIN: &[Row] = &[
+    Row {
         text: "class C { void f() { `200#int v$ = 0; `v0 = 1; } }",
-        pieces: &[
-            "Assign { place: 1:2715, target: Variable(1:2712, Variable { number: 0, declared: Typed { single: false, \
+        answer: "Assign { place: 1:2715, target: Variable(1:2712, Variable { number: 0, declared: Typed { single: false, \
             ty: Int } }), value: Value(Int(1:2717, 1)) }",
-        ],
     },
-    Numbered {
+    Row {
         text: "class C { void f(int a) { `199#int v$ = 0; `v198 = a; } }",
-        pieces: &[
-            "Assign { place: 1:2708, target: Variable(1:2703, Variable { number: 199, declared: Typed { single: \
+        answer: "Assign { place: 1:2708, target: Variable(1:2703, Variable { number: 199, declared: Typed { single: \
             false, ty: Int } }), value: Value(Variable(1:2710, Variable { number: 0, declared: Typed { single: false, \
             ty: Int } })) }",
-        ],
     },
-    Numbered {
+    Row {
         text: "class C { int v; int f() { return v; } int g() { int v = 1; return v; } int h() { int v = v; return \
         v; } }",
-        pieces: &[
-            "body: [Return(1:28, Some(OwnField(1:35, 0)))]",
-            "body: [Declare { place: 1:54, ty: TypeUse { ty: Int, single: false, qualifiers: [], grids: [] }, \
+        answer: "body: [Return(1:28, Some(OwnField(1:35, 0)))]",
+    },
+    Row {
+        text: "class C { int v; int f() { return v; } int g() { int v = 1; return v; } int h() { int v = v; return \
+        v; } }",
+        answer: "body: [Declare { place: 1:54, ty: TypeUse { ty: Int, single: false, qualifiers: [], grids: [] }, \
             variable: 0, value: Value(Int(1:58, 1)) }, Return(1:61, Some(Variable(1:68, Variable { number: 0, declared: \
             Typed { single: false, ty: Int } })))]",
-            "body: [Declare { place: 1:87, ty: TypeUse { ty: Int, single: false, qualifiers: [], grids: [] }, \
+    },
+    Row {
+        text: "class C { int v; int f() { return v; } int g() { int v = 1; return v; } int h() { int v = v; return \
+        v; } }",
+        answer: "body: [Declare { place: 1:87, ty: TypeUse { ty: Int, single: false, qualifiers: [], grids: [] }, \
             variable: 0, value: Value(OwnField(1:91, 0)) }, Return(1:94, Some(Variable(1:101, Variable { number: 0, \
             declared: Typed { single: false, ty: Int } })))]",
-        ],
     },
-    Numbered {
+    Row {
         text: "class C { int u; int v; void f() { v = u; } }",
-        pieces: &[
-            "body: [Assign { place: 1:38, target: OwnField(1:36, 1), value: Value(OwnField(1:40, 0)) }]",
-        ],
+        answer: "body: [Assign { place: 1:38, target: OwnField(1:36, 1), value: Value(OwnField(1:40, 0)) }]",
     },
-    Numbered {
+    Row {
         text: "class C { static int f(int a) { return a; } int g(int a) { return a; } int h() { int x = f(1); x = \
         g(2); return x; } }",
-        pieces: &[
-            "body: [Return(1:33, Some(Variable(1:40, Variable { number: 0, declared: Typed { single: false, ty: Int \
+        answer: "body: [Return(1:33, Some(Variable(1:40, Variable { number: 0, declared: Typed { single: false, ty: Int \
             } })))]",
-            "body: [Return(1:60, Some(Variable(1:67, Variable { number: 0, declared: Typed { single: false, ty: Int \
+    },
+    Row {
+        text: "class C { static int f(int a) { return a; } int g(int a) { return a; } int h() { int x = f(1); x = \
+        g(2); return x; } }",
+        answer: "body: [Return(1:60, Some(Variable(1:67, Variable { number: 0, declared: Typed { single: false, ty: Int \
             } })))]",
-            "body: [Declare { place: 1:86, ty: TypeUse { ty: Int, single: false, qualifiers: [], grids: [] }, \
+    },
+    Row {
+        text: "class C { static int f(int a) { return a; } int g(int a) { return a; } int h() { int x = f(1); x = \
+        g(2); return x; } }",
+        answer: "body: [Declare { place: 1:86, ty: TypeUse { ty: Int, single: false, qualifiers: [], grids: [] }, \
             variable: 0, value: Value(Call { place: 1:90, method: 0, args: [Int(1:92, 1)] }) }, Assign { place: 1:98, \
             target: Variable(1:96, Variable { number: 0, declared: Typed { single: false, ty: Int } }), value: \
             Value(OwnCall { place: 1:100, method: 1, args: [Int(1:102, 2)] }) }, Return(1:106, Some(Variable(1:113, \
             Variable { number: 0, declared: Typed { single: false, ty: Int } })))]",
-        ],
     },
-    Numbered {
+    Row {
         text: "class C { int D; int f() { return D.size(); } } class D { static int size() { return 1; } }",
-        pieces: &[
-            "body: [Return(1:28, Some(Member { place: 1:37, receiver: OwnField(1:35, 0), name: 0, args: [] }))]",
-        ],
+        answer: "body: [Return(1:28, Some(Member { place: 1:37, receiver: OwnField(1:35, 0), name: 0, args: [] }))]",
     },
-    Numbered {
+    Row {
         text: "class C { single long single f(int single n, long [2d] local g) { if (n > 0) return 1; return g[n, \
         0]; } }",
-        pieces: &[
-            "Method { class: 0, modifiers: [Modifier { word: Single, place: 1:11 }], single: true, result: \
+        answer: "Method { class: 0, modifiers: [Modifier { word: Single, place: 1:11 }], single: true, result: \
             Typed(TypeUse { ty: Long, single: true, qualifiers: [Qualifier { word: Single, place: 1:23 }], grids: [] }), \
             place: 1:30, name: ",
-            "params: Typed([Param { place: 1:43, ty: TypeUse { ty: Int, single: true, qualifiers: [Qualifier { word: \
+    },
+    Row {
+        text: "class C { single long single f(int single n, long [2d] local g) { if (n > 0) return 1; return g[n, \
+        0]; } }",
+        answer: "params: Typed([Param { place: 1:43, ty: TypeUse { ty: Int, single: true, qualifiers: [Qualifier { word: \
             Single, place: 1:36 }], grids: [] } }, Param { place: 1:62, ty: TypeUse { ty: Grid { elem: Long, dim: 2, \
             local: true }, single: false, qualifiers: [], grids: [Brackets { dim: 2, qualifiers: [Qualifier { word: \
             Local, place: 1:56 }] }] } }])",
-            "body: [If { place: 1:67, condition: Binary { place: 1:73, operator: Greater, left: Variable(1:71, \
+    },
+    Row {
+        text: "class C { single long single f(int single n, long [2d] local g) { if (n > 0) return 1; return g[n, \
+        0]; } }",
+        answer: "body: [If { place: 1:67, condition: Binary { place: 1:73, operator: Greater, left: Variable(1:71, \
             Variable { number: 0, declared: Typed { single: true, ty: Int } }), right: Int(1:75, 0) }, then: \
             Return(1:78, Some(Int(1:85, 1))), otherwise: None }, Return(1:88, Some(Index { place: 1:96, receiver: \
             Variable(1:95, Variable { number: 1, declared: Typed { single: false, ty: Grid { elem: Long, dim: 2, local: \
             true } } }), indices: [Variable(1:97, Variable { number: 0, declared: Typed { single: true, ty: Int } }), \
             Int(1:100, 0)] }))]",
-            "Method { class: 1, modifiers: [Modifier { word: Public, place: 1:121 }, Modifier { word: Static, place: \
+    },
+    Row {
+        text: "class C { single long single f(int single n, long [2d] local g) { if (n > 0) return 1; return g[n, \
+        0]; } }",
+        answer: "Method { class: 1, modifiers: [Modifier { word: Public, place: 1:121 }, Modifier { word: Static, place: \
             1:128 }, Modifier { word: Single, place: 1:135 }], single: true, result: Void",
-        ],
     },
 ];
 
-/// Whole texts.
-const PROGRAMS_WHOLE: &[Numbered] = &[
-    Numbered {
+/// Whole texts, and a part of the program.
+const PROGRAMS_WHOLE: &[Row] = &[
+    Row {
         text: "class C { static void f() { } } class Main { public static single void main(String[] args) { C.f(); \
         g(); } static void g() { } }",
-        pieces: &[
-            "body: [Call(Call { place: 1:96, method: 0, args: [] }), Call(Call { place: 1:101, method: 2, args: [] \
+        answer: "body: [Call(Call { place: 1:96, method: 0, args: [] }), Call(Call { place: 1:101, method: 2, args: [] \
             })]",
-        ],
     },
-    Numbered {
+    Row {
         text: "class C { int v; C next; } class Main { public static single void main(String[] args) { C x = new \
         C(); x.next.v = 1; println(x.size); } }",
-        pieces: &[
-            "body: [Declare { place: 1:91, ty: TypeUse { ty: Class { class: 0, local: false }, single: false, \
+        answer: "body: [Declare { place: 1:91, ty: TypeUse { ty: Class { class: 0, local: false }, single: false, \
             qualifiers: [], grids: [] }, variable: 0, value: NewObject { place: 1:95, region: None, class: 0 } }, Assign \
             { place: 1:113, target: Select { place: 1:111, receiver: Select { place: 1:106, receiver: Variable(1:104, \
             Variable { number: 0, declared: Typed { single: false, ty: Class { class: 0, local: false } } }), name: 12 \
             }, name: 11 }, value: Value(Int(1:115, 1)) }, Print(1:118, Value(Select { place: 1:128, receiver: \
             Variable(1:126, Variable { number: 0, declared: Typed { single: false, ty: Class { class: 0, local: false } \
             } }), name: 0 }))]",
-        ],
     },
-    Numbered {
+    Row {
         text: "class C { int v; } class Main { public static single void main(String[] args) { C C = new C(); \
         println(C.v); } }",
-        pieces: &[
-            "body: [Declare { place: 1:83, ty: TypeUse { ty: Class { class: 0, local: false }, single: false, \
+        answer: "body: [Declare { place: 1:83, ty: TypeUse { ty: Class { class: 0, local: false }, single: false, \
             qualifiers: [], grids: [] }, variable: 0, value: NewObject { place: 1:87, region: None, class: 0 } }, \
             Print(1:96, Value(Select { place: 1:106, receiver: Variable(1:104, Variable { number: 0, declared: Typed { \
             single: false, ty: Class { class: 0, local: false } } }), name: 11 }))]",
-        ],
     },
-    Numbered {
+    Row {
         text: "class Main { public static single void main(String[] args) { C x = null; x = new C(); } } class C { \
         }",
-        pieces: &[
-            "body: [Declare { place: 1:64, ty: TypeUse { ty: Class { class: 1, local: false }, single: false, \
+        answer: "body: [Declare { place: 1:64, ty: TypeUse { ty: Class { class: 1, local: false }, single: false, \
             qualifiers: [], grids: [] }, variable: 0, value: Value(Null(1:68)) }, Assign { place: 1:76, target: \
             Variable(1:74, Variable { number: 0, declared: Typed { single: false, ty: Class { class: 1, local: false } } \
             }), value: NewObject { place: 1:78, region: None, class: 1 } }]",
-        ],
     },
-    Numbered {
+    Row {
         text: "class C { void f() { println(\"x\"); } } class Main { public static single void main(String[] args) \
         { println(\"y\"); } }",
-        pieces: &[
-            "body: [Print(1:22, Text(0))]",
-            "body: [Print(1:101, Text(1))]",
-            "literals: [x, y]",
-        ],
+        answer: "body: [Print(1:22, Text(0))]",
+    },
+    Row {
+        text: "class C { void f() { println(\"x\"); } } class Main { public static single void main(String[] args) \
+        { println(\"y\"); } }",
+        answer: "body: [Print(1:101, Text(1))]",
+    },
+    Row {
+        text: "class C { void f() { println(\"x\"); } } class Main { public static single void main(String[] args) \
+        { println(\"y\"); } }",
+        answer: "literals: [x, y]",
     },
 ];
 
-/// The first of the pieces that a text doesn't have behind those before it.
-fn first_missing(text: &str, pieces: &'static [&'static str]) -> Option<&'static str> {
-    let mut rest = text;
-    for piece in pieces {
-        let Some((_, behind)) = rest.split_once(piece) else {
-            return Some(piece);
-        };
-        rest = behind;
-    }
-    None
-}
-
-/// The rows of which a piece isn't there, with that piece.
-fn missing(alloc: Global, frame: Frame, rows: &[Numbered]) -> Result<String, Fail> {
+/// The rows whose programs don't have what stands in them, with what they have.
+fn missing(alloc: Global, frame: Frame, rows: &[Row]) -> Result<String, Fail> {
     let mut missing = String::new(alloc);
     for row in rows {
         let text = framed(alloc, frame, row.text)?;
         let program = resolved(alloc, text.as_bytes())?;
         let found = format!(in alloc; "{:?}", program.parts)?;
-        if let Some(piece) = first_missing(&found, row.pieces) {
-            let line = format!(in alloc; "{} has no {piece}; ", row.text)?;
+        if !found.contains(row.answer) {
+            let line = format!(in alloc; "{} => {found}; ", row.text)?;
             missing.push_str(&line)?;
         }
     }

@@ -1,20 +1,13 @@
 // Rules in their order, with what is shown of them, and the names of faults.
 
-use ti_base::{FaultKind, Place, fault_name};
-use ti_rules::{Refusal, Rule, refused_if, rule_text, sooner};
+use ti_base::{FaultKind, fault_name};
+use ti_rules::{Rule, rule_text};
 
 /// A rule, and what is said where a text breaks it.
 struct Said {
     rule: Rule,
     code: &'static str,
     text: &'static str,
-}
-
-/// Two refusals, and which of the two counts.
-struct Order {
-    first: Refusal,
-    second: Refusal,
-    is_first: bool,
 }
 
 /// The rules in their order.
@@ -176,75 +169,6 @@ const RULES: &[Said] = &[
     },
 ];
 
-const ORDERS: &[Order] = &[
-    Order {
-        first: Refusal {
-            rule: Rule::S9,
-            place: Place { line: 1, col: 9 },
-        },
-        second: Refusal {
-            rule: Rule::X1,
-            place: Place { line: 2, col: 1 },
-        },
-        is_first: true,
-    },
-    Order {
-        first: Refusal {
-            rule: Rule::X1,
-            place: Place { line: 2, col: 1 },
-        },
-        second: Refusal {
-            rule: Rule::S9,
-            place: Place { line: 1, col: 9 },
-        },
-        is_first: false,
-    },
-    Order {
-        first: Refusal {
-            rule: Rule::S9,
-            place: Place { line: 3, col: 4 },
-        },
-        second: Refusal {
-            rule: Rule::X1,
-            place: Place { line: 3, col: 5 },
-        },
-        is_first: true,
-    },
-    Order {
-        first: Refusal {
-            rule: Rule::X1,
-            place: Place { line: 3, col: 5 },
-        },
-        second: Refusal {
-            rule: Rule::S9,
-            place: Place { line: 3, col: 4 },
-        },
-        is_first: false,
-    },
-    Order {
-        first: Refusal {
-            rule: Rule::Y7,
-            place: Place { line: 1, col: 1 },
-        },
-        second: Refusal {
-            rule: Rule::Y8,
-            place: Place { line: 1, col: 1 },
-        },
-        is_first: true,
-    },
-    Order {
-        first: Refusal {
-            rule: Rule::Q1,
-            place: Place { line: 1, col: 1 },
-        },
-        second: Refusal {
-            rule: Rule::Y8,
-            place: Place { line: 1, col: 1 },
-        },
-        is_first: false,
-    },
-];
-
 /// The kinds of faults from number 1 on, with their names.
 const FAULTS: &[(FaultKind, &str)] = &[
     (FaultKind::DivZero, "divZero"),
@@ -274,36 +198,9 @@ fn rules_have_codes_and_texts(rt: HostRuntime) {
 }
 
 #[test]
-fn the_first_refusal_counts(rt: HostRuntime) {
-    for Order {
-        first,
-        second,
-        is_first,
-    } in ORDERS {
-        let found = sooner(Some(*first), Some(*second));
-        assert_eq!(rt; first.is_before(*second), *is_first);
-        assert_eq!(rt; found, Some(if *is_first { *first } else { *second }));
-        assert_eq!(rt;
-            refused_if(*is_first, first.rule, first.place),
-            is_first.then_some(*first)
-        );
-    }
-}
-
-#[test]
 fn faults_have_names(rt: HostRuntime) {
     for (number, (kind, name)) in FAULTS.iter().enumerate() {
         assert_eq!(rt; *kind as usize, number + 1);
         assert_eq!(rt; fault_name(*kind), *name);
     }
-}
-
-#[test]
-fn places_follow_one_another(rt: HostRuntime) {
-    let mut place = Place::first();
-    for byte in *b"a\r\nbc" {
-        assert!(rt; place.line < 9 && place.col < 9);
-        place = place.after(byte);
-    }
-    assert_eq!(rt; place, Place { line: 2, col: 3 });
 }

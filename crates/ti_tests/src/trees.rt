@@ -277,6 +277,11 @@ const DECLARATIONS: &[Row] = &[
 /// Changes, calls, prints and barriers.
 const CHANGES: &[Row] = &[
     Row {
+        text: "a[f()].g(b);",
+        answer: "[Call(Member { place: 2:8, receiver: Index { place: 2:2, receiver: Name(2:1, a), indices: [Call { place: \
+        2:3, name: f, args: [] }] }, name: g, args: [Name(2:10, b)] })]",
+    },
+    Row {
         text: "x = y;",
         answer: "[Assign { place: 2:3, target: Name(2:1, x), value: Value(Name(2:5, y)) }]",
     },

@@ -1,4 +1,4 @@
--- This file mirrors the code: nobody has to believe it, since the contracts of the public calls don't cite it.
+-- This file mirrors the code. Nobody has to believe it: the contracts of `parse` and `one_text` don't cite it.
 -- Reading statements.
 use Rattle.std.specs.Prelude.{ℕ, zero, suc, Bool, true, false, if◌then◌else◌, List, [], ◌∷◌, ◌++◌, Ok, Err, codes}
 use Rattle.ti_base.specs.declared.place.Place.{Place}

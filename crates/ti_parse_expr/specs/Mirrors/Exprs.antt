@@ -1,4 +1,4 @@
--- This file mirrors the code: nobody has to believe it, since the contracts of the public calls don't cite it.
+-- This file mirrors the code. Nobody has to believe it: the contracts of `parse_expr` and `one_tree` don't cite it.
 -- Reading expressions, with one token of lookahead. The numbers of turns are enough wherever they are above the count of tokens.
 use Rattle.std.specs.Prelude.{ℕ, zero, suc, ◌+◌, if◌then◌else◌, nat_lt, Bool, true, false, is_some, List, [], ◌∷◌, ◌++◌, Option, Some, None, Ok, Err, codes}
 use Rattle.ti_base.specs.declared.place.Place.{Place}

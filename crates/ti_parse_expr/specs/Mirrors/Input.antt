@@ -1,4 +1,4 @@
--- This file mirrors the code: nobody has to believe it, since the contracts of the public calls don't cite it.
+-- This file mirrors the code. Nobody has to believe it: the contracts of `parse_expr` and `one_tree` don't cite it.
 -- What is read from, and the steps that every rule is made of.
 use Rattle.std.specs.Prelude.{◌≡◌, ℕ, Bool, false, if◌then◌else◌, List, [], ◌∷◌, Result, Ok, Err}
 use Rattle.std.specs.Str.{bytes_eq}

@@ -1,4 +1,4 @@
--- This file mirrors the code: nobody has to believe it, since the contracts of the public calls don't cite it.
+-- This file mirrors the code. Nobody has to believe it: the contracts of `parse_expr` and `one_tree` don't cite it.
 -- A function value that reads expressions with so many turns.
 use Rattle.std.specs.Prelude.{ℕ, Result, List}
 use Rattle.std.specs.declared.alloc.Global.{Global}

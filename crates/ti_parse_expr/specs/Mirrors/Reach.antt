@@ -1,4 +1,4 @@
--- This file mirrors the code: nobody has to believe it, since the contracts of the public calls don't cite it.
+-- This file mirrors the code. Nobody has to believe it: the contracts of `parse_expr` and `one_tree` don't cite it.
 -- How far a list is read: up to and including the first token that weighs too much or stands in no expression.
 use Rattle.std.specs.Prelude.{◌≡◌, ◌⊎◌, ℕ, zero, suc, ◌+◌, ◌<◌, Bool, true, false, if◌then◌else◌, List, [], ◌∷◌, ◌++◌, Option, Some, None}
 use Rattle.ti_syntax.specs.declared.token.Token.{Token}
