@@ -1,0 +1,76 @@
+// Rectangles and domains from the bounds and steps of their coordinates.
+
+ghost use Rattle.std.specs.Prelude.{◌≡◌, ◌<◌, IfOk};
+ghost use Rattle.ti_base.specs.Points.{IsDim, IsPoint};
+ghost use Rattle.ti_base.specs.Rects.{IsRect};
+
+use std::alloc::Global;
+use std::test::Fail;
+use ti_base::{Point, Rect};
+use ti_domain::{Dom, dom_of};
+use ti_rect::{BadStride, rect_make};
+
+/// The bounds of one coordinate, and its step.
+#[derive(Clone, Copy)]
+pub struct Span(pub i32, pub i32, pub i32);
+
+/// 0 alone, for coordinates that are not used.
+pub const ZERO: Span = Span(0, 0, 0);
+
+/// The point of the first coordinates, as many as the dimension says.
+pub fn point(dim: u8, x1: i32, x2: i32, x3: i32) -> Point
+    requires { IsDim dim }
+    ensures form { IsPoint result }
+    ensures dim { result.dim ≡ dim }
+{
+    Point {
+        dim,
+        x1,
+        x2: if dim < 2 { 0 } else { x2 },
+        x3: if dim < 3 { 0 } else { x3 },
+    }
+}
+
+/// The rectangle of the first spans, as many as the dimension says.
+pub fn rect_of(dim: u8, spans: [Span; 3]) -> Result<Rect, BadStride>
+    requires { IsDim dim }
+    ensures form { IfOk result IsRect }
+    ensures dim { IfOk result (λ r. r.dim ≡ dim) }
+{
+    let [a, b, c] = spans;
+    let lo = point(dim, a.0, b.0, c.0);
+    let hi = point(dim, a.1, b.1, c.1);
+    let step = point(dim, a.2, b.2, c.2);
+    rect_make(&lo, &hi, &step)
+}
+
+/// The rectangle of one coordinate.
+pub fn line(span: Span) -> Result<Rect, BadStride>
+    ensures form { IfOk result IsRect }
+    ensures dim { IfOk result (λ r. r.dim ≡ 1) }
+{
+    rect_of(1, [span, ZERO, ZERO])
+}
+
+/// Two domains of the same dimension.
+#[derive(Drop)]
+pub struct Both {
+    pub dim: u8,
+    pub left: Dom,
+    pub right: Dom,
+    ghost left_dim: { left.dim ≡ dim },
+    ghost right_dim: { right.dim ≡ dim },
+}
+
+/// The domains of two rectangles.
+pub fn both_of(alloc: Global, dim: u8, r: &Rect, s: &Rect) -> Result<Both, Fail>
+    requires first { IsRect r.now }
+    requires second { IsRect s.now }
+    requires first_dim { r.now.dim ≡ dim }
+    requires second_dim { s.now.dim ≡ dim }
+    ensures { IfOk result (λ both. both.dim ≡ dim) }
+{
+    let left = dom_of(alloc, r)?;
+    let right = dom_of(alloc, s)?;
+    Ok(Both { dim, left, right })
+}
