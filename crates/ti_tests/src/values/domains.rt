@@ -122,7 +122,10 @@ fn a_ring_of_twelve_points(rt: HostRuntime) -> Result<(), Fail> {
 fn has_walk(flat: &Flat, numbers: &[i32]) -> bool {
     let mut at = dom_next_after(&flat.domain, None);
     for want in numbers {
-        if at.map(|p| p.x1) != Some(*want) {
+        let Some(p) = at else {
+            return false;
+        };
+        if p.x1 != *want {
             return false;
         }
         at = dom_next_after(&flat.domain, Some(&point(1, *want, 0, 0)));

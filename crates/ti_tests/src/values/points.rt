@@ -1,5 +1,7 @@
 // Calls on points.
 
+ghost use Rattle.std.specs.Prelude.{◌≡◌};
+
 use super::spans::point;
 use std::test::Fail;
 use ti_base::{Point, pt_add, pt_le, pt_lex_lt, pt_lt, pt_sub};
@@ -52,9 +54,23 @@ const PAIRS: [Pair; 5] = [
     },
 ];
 
-/// The coordinates.
-fn coordinates(p: Point) -> [i32; 3] {
-    [p.x1, p.x2, p.x3]
+/// The sum and the difference, by their coordinates.
+fn sums(a: &Point, b: &Point) -> ([i32; 3], [i32; 3])
+    requires { b.now.dim ≡ a.now.dim }
+{
+    let sum = pt_add(a, b);
+    let difference = pt_sub(a, b);
+    (
+        [sum.x1, sum.x2, sum.x3],
+        [difference.x1, difference.x2, difference.x3],
+    )
+}
+
+/// Whether the first is less, at most as much, and before the second.
+fn orders(a: &Point, b: &Point) -> (bool, bool, bool)
+    requires { b.now.dim ≡ a.now.dim }
+{
+    (pt_lt(a, b), pt_le(a, b), pt_lex_lt(a, b))
 }
 
 #[test]
@@ -62,10 +78,8 @@ fn sums_and_orders(rt: HostRuntime) -> Result<(), Fail> {
     for pair in &PAIRS {
         let a = point(3, pair.a[0], pair.a[1], pair.a[2]);
         let b = point(3, pair.b[0], pair.b[1], pair.b[2]);
-        let orders = (pt_lt(&a, &b), pt_le(&a, &b), pt_lex_lt(&a, &b));
-        assert_eq!(rt; coordinates(pt_add(&a, &b)), pair.sum);
-        assert_eq!(rt; coordinates(pt_sub(&a, &b)), pair.difference);
-        assert_eq!(rt; orders, pair.orders);
+        assert_eq!(rt; sums(&a, &b), (pair.sum, pair.difference));
+        assert_eq!(rt; orders(&a, &b), pair.orders);
     }
     Ok(())
 }

@@ -1,8 +1,13 @@
 // Calls on rectangles.
 
+ghost use Rattle.ti_base.specs.Points.{IsDim};
+
 use super::spans::{Span, ZERO, line, point, rect_of};
 use std::test::Fail;
-use ti_rect::{rect_max, rect_meet, rect_min, rect_next_after, rect_size, rect_translate};
+use ti_base::Rect;
+use ti_rect::{
+    BadStride, rect_max, rect_meet, rect_min, rect_next_after, rect_size, rect_translate,
+};
 
 /// A range, and what the calls on rectangles of one coordinate say of it.
 struct Line {
@@ -90,17 +95,25 @@ fn each_line(rt: HostRuntime) -> Result<(), Fail> {
     Ok(())
 }
 
+/// Whether the rectangle is refused.
+fn is_refused(dim: u8, spans: [Span; 3]) -> bool
+    requires { IsDim dim }
+{
+    rect_of(dim, spans).is_err()
+}
+
 /// A step of 0 or below is refused, in each coordinate that is used.
 #[test]
 fn bad_strides(rt: HostRuntime) -> Result<(), Fail> {
     let good = Span(0, 1, 1);
     for step in [0, -1, i32::MIN] {
         let bad = Span(0, 1, step);
-        assert!(rt; line(bad).is_err());
-        assert!(rt; rect_of(2, [good, bad, ZERO]).is_err());
-        assert!(rt; rect_of(3, [good, good, bad]).is_err());
+        let line = is_refused(1, [bad, ZERO, ZERO]);
+        let plane = is_refused(2, [good, bad, ZERO]);
+        let space = is_refused(3, [good, good, bad]);
+        assert_eq!(rt; (line, plane, space), (true, true, true), "{step}");
     }
-    assert!(rt; rect_of(3, [good, good, good]).is_ok());
+    assert!(rt; !is_refused(3, [good, good, good]));
     Ok(())
 }
 
@@ -159,19 +172,31 @@ fn meets_of_lines(rt: HostRuntime) -> Result<(), Fail> {
     Ok(())
 }
 
+/// The meet of two rectangles of two coordinates.
+fn plane_meet(a: [Span; 3], b: [Span; 3]) -> Result<Rect, BadStride> {
+    let r = rect_of(2, a)?;
+    let s = rect_of(2, b)?;
+    Ok(rect_meet(&r, &s))
+}
+
 #[test]
 fn a_meet_in_two_coordinates(rt: HostRuntime) -> Result<(), Fail> {
     let whole = Span(0, 9, 1);
     let even = Span(0, 9, 2);
     let odd = Span(1, 9, 2);
-    let a = rect_of(2, [even, whole, ZERO])?;
-    let b = rect_of(2, [whole, odd, ZERO])?;
-    let c = rect_of(2, [odd, odd, ZERO])?;
-    let both = rect_of(2, [even, odd, ZERO])?;
-    let none = rect_meet(&a, &c);
-    assert_eq!(rt; rect_meet(&a, &b), both);
+    let some = plane_meet([even, whole, ZERO], [whole, odd, ZERO])?;
+    let none = plane_meet([even, whole, ZERO], [odd, odd, ZERO])?;
+    assert_eq!(rt; rect_of(2, [even, odd, ZERO]), Ok(some));
     assert_eq!(rt; (none.hi.x1, none.lo.x2), (0, 1));
     Ok(())
+}
+
+/// How many points there are; none where they are too many.
+fn size_of(dim: u8, spans: [Span; 3]) -> Result<Option<i32>, BadStride>
+    requires { IsDim dim }
+{
+    let r = rect_of(dim, spans)?;
+    Ok(rect_size(&r).ok())
 }
 
 #[test]
@@ -179,12 +204,9 @@ fn sizes_of_great_rectangles(rt: HostRuntime) -> Result<(), Fail> {
     let all = Span(i32::MIN, i32::MAX, 1);
     let some = Span(1, 65536, 1);
     let half = Span(1, 32767, 1);
-    let great = rect_of(3, [all, all, all])?;
-    let above = rect_of(2, [some, some, ZERO])?;
-    let below = rect_of(2, [some, half, ZERO])?;
-    assert!(rt; rect_size(&great).is_err());
-    assert!(rt; rect_size(&above).is_err());
-    assert_eq!(rt; rect_size(&below).ok(), Some(2147418112));
+    assert_eq!(rt; size_of(3, [all, all, all]), Ok(None));
+    assert_eq!(rt; size_of(2, [some, some, ZERO]), Ok(None));
+    assert_eq!(rt; size_of(2, [some, half, ZERO]), Ok(Some(2147418112)));
     Ok(())
 }
 

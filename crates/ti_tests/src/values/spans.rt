@@ -1,6 +1,6 @@
 // Rectangles and domains from the bounds and steps of their coordinates.
 
-ghost use Rattle.std.specs.Prelude.{◌≡◌, ◌<◌, IfOk};
+ghost use Rattle.std.specs.Prelude.{◌≡◌, IfOk};
 ghost use Rattle.ti_base.specs.Points.{IsDim, IsPoint};
 ghost use Rattle.ti_base.specs.Rects.{IsRect};
 
@@ -23,12 +23,18 @@ pub fn point(dim: u8, x1: i32, x2: i32, x3: i32) -> Point
     ensures form { IsPoint result }
     ensures dim { result.dim ≡ dim }
 {
-    Point {
-        dim,
-        x1,
-        x2: if dim < 2 { 0 } else { x2 },
-        x3: if dim < 3 { 0 } else { x3 },
+    if dim < 2 {
+        return Point {
+            dim,
+            x1,
+            x2: 0,
+            x3: 0,
+        };
     }
+    if dim < 3 {
+        return Point { dim, x1, x2, x3: 0 };
+    }
+    Point { dim, x1, x2, x3 }
 }
 
 /// The rectangle of the first spans, as many as the dimension says.
