@@ -1,3 +1,5 @@
 pub mod First
 pub mod FirstRefusal
 pub mod OneAnswer
+pub mod OneProgramRefusal
+pub mod Sound

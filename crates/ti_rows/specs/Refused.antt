@@ -1,0 +1,3 @@
+-- Programs that are refused.
+pub mod Types
+pub mod Singles

@@ -1,0 +1,29 @@
+-- What a numbered program is refused for, and which programs break no rule.
+use Rattle.std.specs.Prelude.{◌≡◌, [], Option, Contains}
+use Rattle.std.specs.Option.{option_or}
+use Rattle.ti_lang.specs.Program.Classes.{NumberedProgram}
+use Rattle.ti_lang.specs.Numbering.{IsNumbered}
+use Rattle.ti_rules.specs.declared.refusal.Refusal.{Refusal}
+use Rattle.ti_rules.specs.Refusals.{IsFirstRefusal}
+use Rattle.ti_rules.specs.First.{first_of}
+use Rattle.ti_rules.specs.TypeRules.{type_refusals}
+use Rattle.ti_rules.specs.SingleRules.{single_refusals}
+
+-- the first refusal by the rules of types and qualifiers, or, where there is none, by those of single values
+pub data IsProgramRefusal (p : NumberedProgram) : Refusal → Type 0 where
+  of_types : {refusal : Refusal} → IsFirstRefusal (Contains (type_refusals p)) refusal → IsProgramRefusal p refusal
+  of_single : {refusal : Refusal} → type_refusals p ≡ [] → IsFirstRefusal (Contains (single_refusals p)) refusal → IsProgramRefusal p refusal
+
+-- no rule of types, qualifiers and single values is broken
+pub record BreaksNothing (p : NumberedProgram) : Type 0 where
+  pub types : type_refusals p ≡ []
+  pub single : single_refusals p ≡ []
+
+-- a program of a text that breaks no rule
+pub record IsChecked (p : NumberedProgram) : Type 0 where
+  pub numbered : ∥ IsNumbered p ∥₁
+  pub unbroken : BreaksNothing p
+
+-- the same refusal as it is found
+abbrev pub program_refusal : NumberedProgram → Option Refusal
+program_refusal p = option_or (first_of (type_refusals p)) (first_of (single_refusals p))

@@ -1,0 +1,107 @@
+-- Where the statements of a program stand.
+use Rattle.std.specs.Prelude.{ℕ, Bool, false, List, [], ◌∷◌, ◌++◌, flat_map, Option, Some, None, option_and_then}
+use Rattle.std.specs.Option.{option_map_or}
+use Rattle.ti_lang.specs.Program.Types.{Pt}
+use Rattle.ti_lang.specs.Program.Expressions.{NumberedExp}
+use Rattle.ti_lang.specs.Program.Statements.{NumberedStm, MaybeNumbered, NumberedStms, numbered_stms}
+use Rattle.ti_lang.specs.Program.Statements as st
+use Rattle.ti_lang.specs.Program.Classes.{NumberedMethod, NumberedProgram}
+use Rattle.ti_lang.specs.Program.Scope.{ScopeVariable, ScopeContents, parameters, this_of}
+use Rattle.ti_lang.specs.Typing.Kinds.{domain_dim}
+use Rattle.ti_lang.specs.Typing.Declared.{in_scope}
+use Rattle.ti_lang.specs.Typing.Expressions.{operand_type}
+use Rattle.ti_lang.specs.Typing.Singleness.{is_single_part}
+use Rattle.ti_lang.specs.Typing.Effects.{Doings, together, doings, doings_of_maybe, return_acts, jump_acts}
+
+-- ---- what stands around
+
+-- What stands around a statement: its method, the parameters and the variables of the foreach loops around it, and, where there is a
+-- loop around it, whether a jump out of the innermost one has an effect. A use of any other variable carries its declaration.
+pub record Around : Type 0 where
+  pub method : NumberedMethod
+  pub variables : List ScopeVariable
+  pub jump_has : Option Bool
+
+-- what is in scope there
+abbrev pub scope_of : Around → ScopeContents
+scope_of around = record { this_class = this_of around.method; variables = around.variables }
+
+-- a statement where it stands
+pub record Standing : Type 0 where
+  pub around : Around
+  pub statement : NumberedStm
+
+-- the statement with this around it
+abbrev pub stands : Around → NumberedStm → Standing
+stands around x = record { around = around; statement = x }
+
+-- ---- loops
+
+-- what the update and the body of a loop of a method do
+abbrev pub doings_of_loop : NumberedProgram → NumberedMethod → MaybeNumbered → NumberedStm → Doings
+doings_of_loop p m update body = together (doings_of_maybe p (this_of m) update) (doings p (this_of m) body)
+
+-- the loop has global effects, and a jump out of it has one
+abbrev pub loop_acts : NumberedProgram → NumberedMethod → MaybeNumbered → NumberedStm → Bool
+loop_acts p m update body = jump_acts (return_acts p m) (doings_of_loop p m update body)
+
+-- in the body of a loop with this update
+abbrev pub in_loop : NumberedProgram → Around → MaybeNumbered → NumberedStm → Around
+in_loop p around update body = record around { jump_has = Some (loop_acts p around.method update body) }
+
+-- the foreach variables of a scope that are single
+abbrev pub singles_in : ScopeContents → ℕ → Bool
+singles_in s number = option_map_or (λ (v : ScopeVariable). v.is_single) (in_scope s number) false
+
+-- the variables with that of a foreach over a domain of so many dimensions; over what is no domain there is none
+abbrev pub with_point : List ScopeVariable → ℕ → Bool → Option ℕ → List ScopeVariable
+with_point variables number is_single None = variables
+with_point variables number is_single (Some n) = variables ++ record { number = number; type = Pt n; is_single = is_single } ∷ []
+
+-- the variables in the body of a foreach: its own is single exactly where its domain is
+abbrev pub variables_inside : NumberedProgram → ScopeContents → ℕ → NumberedExp → List ScopeVariable
+variables_inside p s number domain = with_point s.variables number (is_single_part p s.this_class (singles_in s) domain) (option_and_then domain_dim (operand_type p s domain))
+
+-- in the body of a foreach
+abbrev pub in_foreach : NumberedProgram → Around → ℕ → NumberedExp → NumberedStm → Around
+in_foreach p around number domain body = record (in_loop p around st.NoStm body) { variables = variables_inside p (scope_of around) number domain }
+
+-- ---- the statements in a statement
+
+abbrev mutual
+  -- the statement itself and all statements in it, each with what stands around it; an update stands outside its loop, as no update
+  -- is a jump
+  pub inside : NumberedProgram → Around → NumberedStm → List Standing
+  inside p around (st.Block body) = stands around (st.Block body) ∷ inside_all p around body
+  inside p around (st.If at c a) = stands around (st.If at c a) ∷ inside p around a
+  inside p around (st.IfElse at c a b) = stands around (st.IfElse at c a b) ∷ (inside p around a ++ inside p around b)
+  inside p around (st.While at c body) = stands around (st.While at c body) ∷ inside p (in_loop p around st.NoStm body) body
+  inside p around (st.For at first c update body) =
+      stands around (st.For at first c update body)
+      ∷ (inside_maybe p around first ++ (inside_maybe p around update ++ inside p (in_loop p around update body) body))
+  inside p around (st.Foreach at number domain body) = stands around (st.Foreach at number domain body) ∷ inside p (in_foreach p around number domain body) body
+  inside p around x = stands around x ∷ []
+
+  -- those of a statement, if there is one
+  pub inside_maybe : NumberedProgram → Around → MaybeNumbered → List Standing
+  inside_maybe p around st.NoStm = []
+  inside_maybe p around (st.SomeStm x) = inside p around x
+
+  -- those of all of these
+  pub inside_all : NumberedProgram → Around → NumberedStms → List Standing
+  inside_all p around st.Nil = []
+  inside_all p around (st.Cons x rest) = inside p around x ++ inside_all p around rest
+
+-- ---- the statements of a program
+
+-- around the statements of a method
+abbrev pub around_method : NumberedMethod → Around
+around_method m = record { method = m; variables = parameters m.params; jump_has = None }
+
+-- the statements of a method
+abbrev pub standing_in_method : NumberedProgram → NumberedMethod → List Standing
+standing_in_method p m = inside_all p (around_method m) (numbered_stms m.body)
+
+-- all statements of a program
+abbrev pub standing_in : NumberedProgram → List Standing
+standing_in p = flat_map (standing_in_method p) p.methods

@@ -1,0 +1,32 @@
+// Programs that break no rule.
+
+ghost use Rattle.std.specs.Prelude.{◌≡◌};
+ghost use Rattle.ti_lang.specs.Program.Views.{program_of};
+ghost use Rattle.ti_rules.specs.ProgramRefusals.{BreaksNothing, IsChecked};
+
+use ti_lang::program::Program;
+
+/// A program that breaks no rule: none of names, of types and qualifiers, and of single values.
+#[derive(Drop)]
+pub struct Checked {
+    pub program: Program,
+    ghost unbroken: { BreaksNothing (program_of program.parts) },
+}
+
+impl Checked {
+    /// A program that breaks none of the rules which come behind those of names; these every program keeps.
+    pub fn of(p: Program) -> Checked
+        requires { BreaksNothing (program_of p.parts) }
+        ensures { result.program ≡ p }
+    {
+        Checked { program: p }
+    }
+
+    /// The program.
+    pub fn program(&self) -> &Program
+        ensures program { result.now ≡ self.now.program }
+        ensures checked { IsChecked (program_of self.now.program.parts) }
+    {
+        &self.program
+    }
+}

@@ -1,0 +1,32 @@
+// Laws of the rules: functions that do nothing, whose contracts are the laws.
+ghost use Rattle.std.specs.Prelude.{◌≡◌, [], Contains, Some, None};
+ghost use Rattle.ti_lang.specs.Program.Expressions.{NumberedExp};
+ghost use Rattle.ti_lang.specs.Program.Classes.{NumberedProgram};
+ghost use Rattle.ti_lang.specs.Program.Scope.{ScopeContents};
+ghost use Rattle.ti_lang.specs.Typing.Expressions.{typed};
+ghost use Rattle.ti_rules.specs.Known.{IsThere, IsKnown};
+ghost use Rattle.ti_rules.specs.Standing.{Standing, standing_in};
+ghost use Rattle.ti_rules.specs.Broken.Expressions.{exp_refusals};
+ghost use Rattle.ti_rules.specs.Broken.Statements.{standing_refusals};
+ghost use Rattle.ti_rules.specs.SingleRules.{standing_single_refusals};
+ghost use Rattle.ti_rules.specs.declared.refusal.Refusal.{Refusal};
+ghost use Rattle.ti_rules.specs.ProgramRefusals.{IsProgramRefusal, BreaksNothing, program_refusal};
+
+/// An expression whose names mean something, and in which no rule of types is broken, has a type.
+pub fn typed_where_unbroken()
+    ensures { (p : NumberedProgram) (s : ScopeContents) (e : NumberedExp) → IsKnown p s e → exp_refusals p s e ≡ [] → IsThere (typed p s e) }
+{}
+
+/// Where a program breaks no rule, no statement that stands in it does.
+pub fn checked_standing()
+    ensures types { (p : NumberedProgram) (x : Standing) → BreaksNothing p → Contains (standing_in p) x → standing_refusals p x ≡ [] }
+    ensures single { (p : NumberedProgram) (x : Standing) → BreaksNothing p → Contains (standing_in p) x → standing_single_refusals p x ≡ [] }
+{}
+
+/// A program breaks no rule, or has one first refusal, and never both; the one that is found is the first.
+pub fn one_program_refusal()
+    ensures found { (p : NumberedProgram) (r : Refusal) → program_refusal p ≡ Some r → IsProgramRefusal p r }
+    ensures none { (p : NumberedProgram) → program_refusal p ≡ None → BreaksNothing p }
+    ensures only { (p : NumberedProgram) (r s : Refusal) → IsProgramRefusal p r → IsProgramRefusal p s → r ≡ s }
+    ensures not_both { (p : NumberedProgram) (r : Refusal) → BreaksNothing p → IsProgramRefusal p r → ⊥ }
+{}
