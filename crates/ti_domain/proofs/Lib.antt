@@ -1,6 +1,4 @@
-pub mod FamilyLaws
 pub mod NextLaws
-pub mod PartLaws
 pub mod PieceLaws
 pub mod SetLaws
 pub mod SlabLaws

@@ -11,7 +11,7 @@ use Rattle.ti_base.proofs.DomainLaws.{same_from, from_below, union_in, union_dim
 use Rattle.ti_base.proofs.PointLaws.{one_list, irreflexive}
 use Rattle.ti_rect.proofs.PointLists.{points_listed}
 use Rattle.ti_rect.proofs.RectLaws.{point_in}
-use Rattle.ti_domain.specs.Families.{AreApart}
+use Rattle.ti_rect.specs.Families.{AreApart}
 use Rattle.ti_domain.specs.Pieces.{IsShape, IsPiece, IsInSome, points_in, point_count, total_count}
 
 -- ---- the list of a set

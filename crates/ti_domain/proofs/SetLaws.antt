@@ -16,10 +16,10 @@ use Rattle.ti_rect.proofs.MeetPoints.{meet_points}
 use Rattle.ti_rect.proofs.PointLists.{points_listed}
 use Rattle.ti_rect.proofs.RectLaws.{none_in, full_of}
 use Rattle.ti_rect.proofs.TestLaws.{in_tests}
-use Rattle.ti_domain.specs.Families.{AreApart, Covers}
+use Rattle.ti_rect.specs.Families.{AreApart, Covers}
 use Rattle.ti_domain.specs.Pieces.{IsShape, IsPiece, IsInSome, ArePieces, ArePiecesOf, points_in, point_count, total_count}
 use Rattle.ti_domain.specs.Domains.{Domain, IsDom, IsKept, alone}
-use Rattle.ti_domain.proofs.FamilyLaws.{covers_none, covers_one, covers_append, covers_map, covers_list}
+use Rattle.ti_rect.proofs.FamilyLaws.{covers_none, covers_one, covers_append, covers_map, covers_list}
 use Rattle.ti_domain.proofs.PieceLaws.{one_of, listed, shapes, length_in, length_filter}
 
 -- ---- a point is in one of the rectangles or in none

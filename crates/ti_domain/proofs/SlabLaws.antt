@@ -11,10 +11,10 @@ use Rattle.ti_rect.proofs.OneRect.{at_first, at_second, at_third}
 use Rattle.ti_rect.proofs.NumberLists.{on_from, on_to}
 use Rattle.ti_domain.specs.declared.cut.Coordinate.{Coordinate}
 use Rattle.ti_domain.specs.declared.cut.Coordinate.TheVariants.{First, Second, Third}
-use Rattle.ti_domain.specs.Parts.{IsOff, IsPart, IsOnPart, AreParts}
+use Rattle.ti_rect.specs.Parts.{IsOff, IsPart, IsOnPart, AreParts}
 use Rattle.ti_domain.specs.Pieces.{IsPiece, ArePiecesOf}
 use Rattle.ti_domain.specs.Slabs.{coordinate, range_at, IsBeside, with_range}
-use Rattle.ti_domain.proofs.FamilyLaws.{covers_append, covers_same, covers_map}
+use Rattle.ti_rect.proofs.FamilyLaws.{covers_append, covers_same, covers_map}
 
 -- ---- a number is on a range or not
 

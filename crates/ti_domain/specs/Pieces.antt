@@ -4,7 +4,7 @@ use Rattle.ti_base.specs.declared.point.Point.{Point}
 use Rattle.ti_base.specs.declared.point.Rect.{Rect}
 use Rattle.ti_base.specs.PointSets.{union}
 use Rattle.ti_base.specs.Rects.{IsRect, HasPoints, IsIn, points_of}
-use Rattle.ti_domain.specs.Families.{IsInOne, AreApart, Covers}
+use Rattle.ti_rect.specs.Families.{IsInOne, AreApart, Covers}
 
 -- a rectangle of this dimension
 pub record IsShape (dim : ℕ) (r : Rect) : Type 0 where

@@ -9,10 +9,10 @@ ghost use Rattle.ti_domain.specs.Domains.{alone};
 ghost use Rattle.ti_domain.specs.Pieces.{IsPiece, IsShape, ArePiecesOf};
 ghost use Rattle.ti_domain.specs.Slabs.{coordinate, range_at, with_range};
 
-use crate::parts::complement;
 use std::alloc::Global;
 use ti_base::{Memory, Point, Rect};
 use ti_rect::axis::Axis;
+use ti_rect::parts::complement;
 use ti_rect::rect::{first, is_empty, second, third};
 use ti_rect::rect_meet;
 

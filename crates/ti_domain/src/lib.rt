@@ -7,7 +7,6 @@ mod error;
 mod held;
 mod meets;
 mod members;
-mod parts;
 mod rest;
 mod sets;
 mod sizes;

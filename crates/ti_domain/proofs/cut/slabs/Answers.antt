@@ -5,7 +5,7 @@ use Rattle.ti_base.specs.Ranges.{IsOn}
 use Rattle.ti_base.specs.Rects.{IsIn}
 use Rattle.ti_rect.specs.declared.axis.Axis.{Axis}
 use Rattle.ti_rect.specs.Axes.{range}
-use Rattle.ti_domain.specs.Parts.{IsOff, AreParts}
+use Rattle.ti_rect.specs.Parts.{IsOff, AreParts}
 use Rattle.ti_domain.specs.Pieces.{ArePiecesOf}
 use Rattle.ti_domain.specs.Slabs.{coordinate, range_at, with_range}
 use Rattle.ti_domain.proofs.SlabLaws.{slab_pieces}

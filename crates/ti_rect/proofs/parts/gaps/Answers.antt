@@ -3,9 +3,9 @@ use Rattle.std.proofs.lemmas.Int.{ints}
 use Rattle.std.proofs.lemmas.Nat.{mul-le}
 use Rattle.std.proofs.lemmas.Result.{IfOk-weaker}
 use Rattle.ti_rect.specs.Axes.{range}
-use Rattle.ti_domain.specs.Parts.{IsOff, AreParts, with_part}
-use Rattle.ti_domain.proofs.PartLaws.{gaps_begin, gaps_more, gaps_end}
-use Rattle.ti_domain.proofs.parts.gaps.Goals as goal
+use Rattle.ti_rect.specs.Parts.{IsOff, AreParts, with_part}
+use Rattle.ti_rect.proofs.PartLaws.{gaps_begin, gaps_more, gaps_end}
+use Rattle.ti_rect.proofs.parts.gaps.Goals as goal
 
 pub loop-t-init : goal.loop-t-init
 loop-t-init c =

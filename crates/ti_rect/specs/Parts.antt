@@ -3,7 +3,7 @@ use Rattle.std.specs.Prelude.{◌⊎◌, ℕ, ◌*◌, ◌<◌, ◌≤◌, ℤ, 
 use Rattle.ti_base.specs.Ranges.{Range, IsOn, IsRange, is_empty_range}
 use Rattle.ti_rect.specs.declared.axis.Axis.{Axis}
 use Rattle.ti_rect.specs.Axes.{range}
-use Rattle.ti_domain.specs.Families.{Covers}
+use Rattle.ti_rect.specs.Families.{Covers}
 
 -- a number is on the first range and not on the second
 abbrev pub IsOff : Range → Range → ℤ → Type 0

@@ -3,7 +3,7 @@ use Rattle.std.proofs.Common.{◌≡◌, ◌⊎◌, inl, inr, ⊎_elim, ◌↔�
 use Rattle.std.proofs.Math.Seq.{drop-cons}
 use Rattle.std.proofs.lemmas.List.{take_more, take-append-drop}
 use Rattle.std.proofs.lemmas.List.Elements.{All-nil, All-cons, All-head, All-tail, All-append}
-use Rattle.ti_domain.specs.Families.{IsInOne, AreApart, Covers}
+use Rattle.ti_rect.specs.Families.{IsInOne, AreApart, Covers}
 
 module _ {A X : Type 0} (In : A → X → Type 0) where
   pub in_append : (xs ys : List A) (x : X) → IsInOne In (xs ++ ys) x ↔ (IsInOne In xs x ⊎ IsInOne In ys x)

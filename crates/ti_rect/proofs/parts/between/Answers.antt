@@ -3,8 +3,8 @@ use Rattle.std.proofs.lemmas.Int.{ints}
 use Rattle.std.specs.Int.{w64}
 use Rattle.ti_base.specs.Ranges.{IsNextOn}
 use Rattle.ti_rect.specs.Axes.{range}
-use Rattle.ti_domain.proofs.PartLaws.{from_next}
-use Rattle.ti_domain.proofs.parts.between.Goals as goal
+use Rattle.ti_rect.proofs.PartLaws.{from_next}
+use Rattle.ti_rect.proofs.parts.between.Goals as goal
 
 pub returns-in-Some-clause-same : goal.returns-in-Some-clause-same
 returns-in-Some-clause-same c = λ x.

@@ -2,8 +2,8 @@ use Rattle.std.proofs.Common.{arith}
 use Rattle.std.proofs.lemmas.Int.{ints}
 use Rattle.std.proofs.lemmas.Nat.{mul-le}
 use Rattle.ti_rect.specs.Axes.{range}
-use Rattle.ti_domain.proofs.PartLaws.{ratio_is}
-use Rattle.ti_domain.proofs.parts.complement.Goals as goal
+use Rattle.ti_rect.proofs.PartLaws.{ratio_is}
+use Rattle.ti_rect.proofs.parts.complement.Goals as goal
 
 pub residues-requires-clause-ratio : goal.residues-requires-clause-ratio
 residues-requires-clause-ratio c =

@@ -7,11 +7,11 @@
 ghost use Rattle.std.specs.Prelude.{◌≡◌, ◌↔◌, ◌+◌, ◌*◌, ◌<◌, ◌^◌, ℤ, pos, ◌+ℤ◌, ◌≤ℤ◌, ◌<ℤ◌, IfOk};
 ghost use Rattle.ti_base.specs.Ranges.{IsOn, IsRange, IsTidy};
 ghost use Rattle.ti_rect.specs.Axes.{range};
-ghost use Rattle.ti_domain.specs.Parts.{IsOff, IsBetween, residue_of, AreParts, with_part};
+ghost use Rattle.ti_rect.specs.Parts.{IsOff, IsBetween, residue_of, AreParts, with_part};
 
+use crate::axis::{Axis, NONE, above, after, distance, until};
 use std::alloc::Global;
 use ti_base::Memory;
-use ti_rect::axis::{Axis, NONE, above, after, distance, until};
 
 /// The lesser of `high` and the number before `to`.
 fn capped(low: i32, high: i32, to: i64) -> i32

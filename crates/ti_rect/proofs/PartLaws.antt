@@ -9,8 +9,8 @@ use Rattle.ti_rect.specs.declared.axis.Axis.{Axis}
 use Rattle.ti_rect.specs.Axes.{range}
 use Rattle.ti_rect.proofs.RectLaws.{none_on, low_on, high_on}
 use Rattle.ti_rect.proofs.MeetLaws.{steps_between, steps_on}
-use Rattle.ti_domain.specs.Parts.{IsOff, IsBetween, residue_of, IsOffBelow, IsOffResidues, IsPart, IsOnPart, AreParts, with_part}
-use Rattle.ti_domain.proofs.FamilyLaws.{covers_none, covers_one, covers_append, covers_same}
+use Rattle.ti_rect.specs.Parts.{IsOff, IsBetween, residue_of, IsOffBelow, IsOffResidues, IsPart, IsOnPart, AreParts, with_part}
+use Rattle.ti_rect.proofs.FamilyLaws.{covers_none, covers_one, covers_append, covers_same}
 
 -- ---- the numbers of a range between two others
 

@@ -1,6 +1,6 @@
 use Rattle.std.proofs.Common.{arith}
 use Rattle.std.proofs.lemmas.Int.{ints}
-use Rattle.ti_domain.proofs.parts.gap.Goals as goal
+use Rattle.ti_rect.proofs.parts.gap.Goals as goal
 
 pub returns-clause-same : goal.returns-clause-same
 returns-clause-same c = λ x.

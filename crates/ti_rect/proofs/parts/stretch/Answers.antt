@@ -3,8 +3,8 @@ use Rattle.std.proofs.lemmas.Int.{ints}
 use Rattle.std.specs.Int.{w32}
 use Rattle.ti_base.specs.Ranges.{Range}
 use Rattle.ti_rect.specs.Axes.{range}
-use Rattle.ti_domain.proofs.PartLaws.{stretched}
-use Rattle.ti_domain.proofs.parts.stretch.Goals as goal
+use Rattle.ti_rect.proofs.PartLaws.{stretched}
+use Rattle.ti_rect.proofs.parts.stretch.Goals as goal
 
 pub returns-clause-same : goal.returns-clause-same
 returns-clause-same c = λ x.

@@ -4,8 +4,8 @@ use Rattle.std.specs.Int.{w32}
 use Rattle.ti_base.specs.Ranges.{IsOn}
 use Rattle.ti_rect.specs.Axes.{range}
 use Rattle.ti_rect.proofs.AxisLaws.{same_range}
-use Rattle.ti_domain.specs.Parts.{residue_of}
-use Rattle.ti_domain.proofs.parts.residue.Goals as goal
+use Rattle.ti_rect.specs.Parts.{residue_of}
+use Rattle.ti_rect.proofs.parts.residue.Goals as goal
 
 pub returns-clause-same : goal.returns-clause-same
 returns-clause-same c = λ x.

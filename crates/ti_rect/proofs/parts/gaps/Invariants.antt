@@ -1,7 +1,7 @@
 use Rattle.std.proofs.Common.{◌*◌, pos, ◌+ℤ◌}
 use Rattle.ti_rect.specs.Axes.{range}
-use Rattle.ti_domain.specs.Parts.{IsOffBelow, AreParts}
-use Rattle.ti_domain.proofs.parts.gaps.Given as goal
+use Rattle.ti_rect.specs.Parts.{IsOffBelow, AreParts}
+use Rattle.ti_rect.proofs.parts.gaps.Given as goal
 
 abbrev pub invariant-loop-t : goal.invariant-loop-t
 invariant-loop-t l = AreParts l.parts.items (IsOffBelow (range l.a) (range l.c) (l.c.low +ℤ pos (l.t * l.c.step)))

@@ -1,7 +1,7 @@
 use Rattle.std.proofs.Common.{◌≡◌, ◌*◌, ◌/◌, pos, ◌+ℤ◌, sym, ap, ◌∙◌, arith}
 use Rattle.std.proofs.lemmas.Int.{ints}
-use Rattle.ti_domain.proofs.PartLaws.{steps_over}
-use Rattle.ti_domain.proofs.parts.step_count.Goals as goal
+use Rattle.ti_rect.proofs.PartLaws.{steps_over}
+use Rattle.ti_rect.proofs.parts.step_count.Goals as goal
 
 pub returns-clause-number : goal.returns-clause-number
 returns-clause-number c =

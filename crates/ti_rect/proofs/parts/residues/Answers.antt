@@ -2,9 +2,9 @@ use Rattle.std.proofs.Common.{◌≡◌, ℕ, zero, suc, ◌*◌, ◌<◌, ap, s
 use Rattle.std.proofs.lemmas.Int.{ints}
 use Rattle.std.proofs.lemmas.Nat.{mul-le}
 use Rattle.ti_rect.specs.Axes.{range}
-use Rattle.ti_domain.specs.Parts.{IsOffResidues, AreParts, with_part}
-use Rattle.ti_domain.proofs.PartLaws.{sides, residues_more, residues_end}
-use Rattle.ti_domain.proofs.parts.residues.Goals as goal
+use Rattle.ti_rect.specs.Parts.{IsOffResidues, AreParts, with_part}
+use Rattle.ti_rect.proofs.PartLaws.{sides, residues_more, residues_end}
+use Rattle.ti_rect.proofs.parts.residues.Goals as goal
 
 pub loop-j-init : goal.loop-j-init
 loop-j-init c =

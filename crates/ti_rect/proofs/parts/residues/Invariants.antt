@@ -1,6 +1,6 @@
 use Rattle.ti_rect.specs.Axes.{range}
-use Rattle.ti_domain.specs.Parts.{IsOffResidues, AreParts}
-use Rattle.ti_domain.proofs.parts.residues.Given as goal
+use Rattle.ti_rect.specs.Parts.{IsOffResidues, AreParts}
+use Rattle.ti_rect.proofs.parts.residues.Given as goal
 
 abbrev pub invariant-loop-j : goal.invariant-loop-j
 invariant-loop-j l = AreParts l.parts.items (IsOffResidues (range l.a) (range l.c) l.j)
