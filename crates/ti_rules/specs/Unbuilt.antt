@@ -1,15 +1,18 @@
 -- The forms of the language that aren't built yet. Where one stands, the text is refused at its first token that has a place in the
 -- tree; the parentheses of a group have none.
-use Rattle.std.specs.Prelude.{Bool, false, if◌then◌else◌, List, [], ◌∷◌, ◌++◌, Contains, bytes_eq, codes}
-use Rattle.std.specs.List.{flat_map}
+use Rattle.std.specs.Prelude.{Bool, true, false, ◌&&◌, ◌==◌, if◌then◌else◌, List, [], ◌∷◌, ◌++◌, length, Contains, bytes_eq, codes}
+use Rattle.std.specs.List.{flat_map, list_all}
 use Rattle.ti_base.specs.declared.place.Place.{Place}
 use Rattle.ti_syntax.specs.declared.tree.classes.Modifier.{Modifier}
+use Rattle.ti_syntax.specs.declared.tree.types.Base.{Base}
+use Rattle.ti_syntax.specs.declared.tree.types.Base.TheVariants as base
 use Rattle.ti_syntax.specs.Trees.Types.{TypeTree, place_of_base}
 use Rattle.ti_syntax.specs.Trees.Expressions.{Exp, place_of_exp}
 use Rattle.ti_syntax.specs.Trees.Expressions as e
-use Rattle.ti_syntax.specs.Trees.Statements.{PrintTree, Stm, Stms}
+use Rattle.ti_syntax.specs.Trees.Statements.{InitTree, PrintTree, Stm, Stms}
 use Rattle.ti_syntax.specs.Trees.Statements as s
-use Rattle.ti_syntax.specs.Trees.Classes.{ResultTree, Void, Typed, MemberTree, FieldMember, MethodMember, ClassTree, TextTree}
+use Rattle.ti_syntax.specs.Trees.Classes.{ParamsTree, Words, Params, ResultTree, Void, Typed, MethodTree, MemberTree, FieldMember, MethodMember, ClassTree, TextTree}
+use Rattle.ti_lang.specs.Members.{is_static_word}
 
 -- ---- first tokens
 
@@ -80,42 +83,64 @@ abbrev mutual
   unbuilt_row s.Nil = []
   unbuilt_row (s.Cons first rest) = unbuilt_statement first ++ unbuilt_row rest
 
+-- ---- methods that declare numbers
+
+abbrev pub is_int_word : Base → Bool
+is_int_word (base.Int at) = true
+is_int_word other = false
+
+-- `int`, with no word behind it and no grid of it
+abbrev pub is_plain_int : TypeTree → Bool
+is_plain_int type = is_int_word type.base && (length type.qualifiers == 0) && (length type.grids == 0)
+
+-- an int literal
+abbrev pub is_number : InitTree → Bool
+is_number (s.Value (e.Int at n)) = true
+is_number other = false
+
+-- `int x = 7;`
+abbrev pub declares_number : Stm → Bool
+declares_number (s.Declare at type name value) = is_plain_int type && is_number value
+declares_number other = false
+
+-- `static`, and no other word
+abbrev pub is_static_alone : List Modifier → Bool
+is_static_alone (x ∷ []) = is_static_word x.word
+is_static_alone xs = false
+
+-- `()`
+abbrev pub has_no_params : ParamsTree → Bool
+has_no_params (Words at name) = false
+has_no_params (Params params) = length params == 0
+
+-- `void`
+abbrev pub gives_nothing : ResultTree → Bool
+gives_nothing (Void at) = true
+gives_nothing (Typed type) = false
+
+-- `static void f()`
+abbrev pub is_plain : MethodTree → Bool
+is_plain m = is_static_alone m.modifiers && gives_nothing m.result && has_no_params m.params
+
+-- a method such as `static void f() { int x = 7; int y = 8; }`: calls aren't built, so nothing runs it
+abbrev pub declares_numbers : MethodTree → Bool
+declares_numbers m = is_plain m && list_all declares_number m.body
+
 -- ---- classes and members
 
--- what the first element that passes the test gives, and what each other element gives
-abbrev pub first_apart : {A B : Type 0} → (A → Bool) → (A → List B) → (A → List B) → List A → List B
-first_apart test first other [] = []
-first_apart test first other (x ∷ rest) = if test x then first x ++ flat_map other rest else other x ++ first_apart test first other rest
+-- in a member of Main: in the method main its statements; a method that declares numbers is built, any other member isn't
+abbrev pub unbuilt_in_member : MemberTree → List Place
+unbuilt_in_member (FieldMember f) = member_place (FieldMember f) ∷ []
+unbuilt_in_member (MethodMember m) =
+    if bytes_eq m.name (codes "main") then flat_map unbuilt_statement m.body else if declares_numbers m then [] else member_place (MethodMember m) ∷ []
 
--- a method with the name main
-abbrev pub is_main_method : MemberTree → Bool
-is_main_method (FieldMember f) = false
-is_main_method (MethodMember m) = bytes_eq m.name (codes "main")
-
--- a class with the name Main
-abbrev pub is_main_class : ClassTree → Bool
-is_main_class c = bytes_eq c.name (codes "Main")
-
--- in the method main its statements
-abbrev pub unbuilt_in_method : MemberTree → List Place
-unbuilt_in_method (FieldMember f) = []
-unbuilt_in_method (MethodMember m) = flat_map unbuilt_statement m.body
-
--- any other member
-abbrev pub unbuilt_member : MemberTree → List Place
-unbuilt_member m = member_place m ∷ []
-
--- in the class Main each member but the first method main, and what is refused in that
+-- in a class: in Main what is refused in its members; any other class isn't built
 abbrev pub unbuilt_in_class : ClassTree → List Place
-unbuilt_in_class c = first_apart is_main_method unbuilt_in_method unbuilt_member c.members
+unbuilt_in_class c = if bytes_eq c.name (codes "Main") then flat_map unbuilt_in_member c.members else class_place c ∷ []
 
--- any other class
-abbrev pub unbuilt_class : ClassTree → List Place
-unbuilt_class c = class_place c ∷ []
-
--- where the forms of a text stand that aren't built: each class but the first Main, and what is refused in that
+-- where the forms of a text stand that aren't built
 abbrev pub unbuilt_places : TextTree → List Place
-unbuilt_places tree = first_apart is_main_class unbuilt_in_class unbuilt_class tree
+unbuilt_places tree = flat_map unbuilt_in_class tree
 
 -- an unbuilt form of the text has its first token at this place
 abbrev pub IsUnbuilt : TextTree → Place → Type 0

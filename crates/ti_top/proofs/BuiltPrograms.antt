@@ -1,21 +1,24 @@
 -- The program of a tree without unbuilt forms has a listing.
-use Rattle.std.proofs.Common.{◌≡◌, ℕ, zero, suc, Bool, true, false, if◌then◌else◌, List, [], ◌∷◌, ◌++◌, Option, None, Some, is_some, slice_get, refl, ap, ◌∙◌, subst}
-use Rattle.std.specs.List.{flat_map}
+use Rattle.std.proofs.Common.{◌≡◌, ℕ, zero, suc, ◌+◌, Bool, true, false, ◌&&◌, if◌then◌else◌, List, [], ◌∷◌, ◌++◌, Option, None, Some, is_some, slice_get, bytes_eq, codes, All, refl, sym, ap, ◌∙◌, subst}
+use Rattle.std.specs.List.{flat_map, list_all}
+use Rattle.std.proofs.lemmas.List.Elements.{All-nil, All-cons, All-append, All-get_or}
+use Rattle.std.proofs.lemmas.Option.{slice_get_within, get_or_from_slice_get}
 use Rattle.std.specs.Option.{option_map}
 use Rattle.ti_base.specs.declared.place.Place.{Place}
 use Rattle.ti_lang.specs.declared.listing.Statement.{Statement}
 use Rattle.ti_lang.specs.Listed.{ListedProgram}
 use Rattle.ti_syntax.specs.Trees.Expressions.{Exp}
 use Rattle.ti_syntax.specs.Trees.Statements.{PrintTree, Stm, Stms, stms}
-use Rattle.ti_syntax.specs.Trees.Classes.{MemberTree, FieldMember, MethodMember, ClassTree, TextTree}
+use Rattle.ti_syntax.specs.Trees.Classes.{ParamsTree, Words, Params, MethodTree, MemberTree, FieldMember, MethodMember, ClassTree, TextTree}
 use Rattle.ti_lang.specs.Program.Expressions.{NumberedExp}
 use Rattle.ti_lang.specs.Program.Statements.{NumberedPrint, NumberedStm, NumberedStms, numbered_stms}
 use Rattle.ti_lang.specs.Program.Classes.{NumberedMethod, NumberedProgram}
-use Rattle.ti_lang.specs.Members.{OwnMethod, methods_in, methods_of}
+use Rattle.ti_lang.specs.Members.{OwnMethod, methods_in, methods_from, methods_of}
+use Rattle.ti_lang.specs.MainForm.{IsWords}
 use Rattle.ti_lang.specs.Scopes.{Site, method_site}
 use Rattle.ti_lang.specs.Numbering.{NumbersExp, NumbersPrint, NumbersStm, NumbersStms, NumbersMethod, NumbersMethods, Numbers}
 use Rattle.ti_lang.specs.Listings.{operand_of, listed_print, listed, all_listed, IsListing}
-use Rattle.ti_rules.specs.Unbuilt.{unbuilt_value, unbuilt_print, unbuilt_statement, unbuilt_row, first_apart, is_main_method, unbuilt_in_method, unbuilt_member, is_main_class, unbuilt_in_class, class_place, member_place, unbuilt_places}
+use Rattle.ti_rules.specs.Unbuilt.{unbuilt_value, unbuilt_print, unbuilt_statement, unbuilt_row, is_static_alone, gives_nothing, has_no_params, declares_number, declares_numbers, unbuilt_in_member, unbuilt_in_class, class_place, member_place, unbuilt_places}
 use Rattle.ti_top.specs.Mirrors.Flattening.{IsBuilt}
 use Rattle.ti_top.proofs.ListedBodies.{built_both}
 
@@ -114,49 +117,59 @@ row_flat (x ∷ rest) = ap (λ ys. unbuilt_statement x ++ ys) (row_flat rest)
 body_built : {site : Site} {own : OwnMethod} {method : NumberedMethod} → NumbersMethod site own method → flat_map unbuilt_statement own.method.body ≡ [] → IsBuilt (all_listed (numbered_stms method.body))
 body_built {own = own} (NumbersMethod.method r p body) h = built_stms body (row_flat own.method.body ∙ h)
 
--- what has no unbuilt form has no other element than the first that passes the test
-record Alone {A : Type 0} (test : A → Bool) (first : A → List Place) (xs : List A) : Type 0 where
-  pub element : A
-  pub is : xs ≡ element ∷ []
-  pub passes : test element ≡ true
-  pub built : first element ≡ []
+-- what runs with the words of the command has a built body
+abbrev HasBuiltBody : OwnMethod → Type 0
+HasBuiltBody own = IsWords own.method.params → flat_map unbuilt_statement own.method.body ≡ []
 
-alone : {A : Type 0} (test : A → Bool) (first : A → List Place) (place : A → Place) (x : A) (rest : List A) → first_apart test first (λ y. place y ∷ []) (x ∷ rest) ≡ [] → Alone test first (x ∷ rest)
-alone {A} test first place x rest none = by (test x) refl none
+all_true : (a b d : Bool) → ((a && b && false) && d) ≡ true → ⊥
+all_true true true d e = let z = e in cc
+all_true true false d e = let z = e in cc
+all_true false b d e = let z = e in cc
+
+-- a method that declares numbers has no parameter
+no_words : (m : MethodTree) → declares_numbers m ≡ true → IsWords m.params → ⊥
+no_words m declares words = by m.params refl words
   where
-    nothing_else : (ys : List A) → flat_map (λ y. place y ∷ []) ys ≡ [] → ys ≡ []
-    nothing_else [] e = refl
-    nothing_else (y ∷ ys) e = absurd (let z = e in cc)
+    by : (params : ParamsTree) → m.params ≡ params → IsWords params → ⊥
+    by (Words at name) is w = absurd (all_true (is_static_alone m.modifiers) (gives_nothing m.result) (list_all declares_number m.body) (sym (ap (λ b. ((is_static_alone m.modifiers && gives_nothing m.result && b) && list_all declares_number m.body)) (ap has_no_params is)) ∙ declares))
+    by (Params params) is w = w
 
-    by : (b : Bool) → test x ≡ b → (if b then first x ++ flat_map (λ y. place y ∷ []) rest else place x ∷ first_apart test first (λ y. place y ∷ []) rest) ≡ [] → Alone test first (x ∷ rest)
-    by true t e = record {
-      element = x;
-      is = ap (λ ys. x ∷ ys) (nothing_else rest (no_back (first x) (flat_map (λ y. place y ∷ []) rest) e));
-      passes = t;
-      built = no_front (first x) (flat_map (λ y. place y ∷ []) rest) e;
-    }
-    by false t e = absurd (let z = e in cc)
+built_method : (class : ℕ) (m : MethodTree) → unbuilt_in_member (MethodMember m) ≡ [] → HasBuiltBody (record { class = class; method = m })
+built_method class m none = by (bytes_eq m.name (codes "main")) (declares_numbers m) refl none
+  where
+    by : (is_main declares : Bool) → declares_numbers m ≡ declares
+        → (if is_main then flat_map unbuilt_statement m.body else if declares then [] else member_place (MethodMember m) ∷ []) ≡ []
+        → HasBuiltBody (record { class = class; method = m })
+    by true declares d e = λ words. e
+    by false true d e = λ words. absurd (no_words m d words)
+    by false false d e = absurd (let z = e in cc)
 
--- the one method of a class whose one member is built
-main_member : (m : MemberTree) (own : OwnMethod) (number : ℕ) → is_main_method m ≡ true → unbuilt_in_method m ≡ [] → slice_get (methods_in 0 (m ∷ []) ++ []) number ≡ Some own → flat_map unbuilt_statement own.method.body ≡ []
-main_member (FieldMember f) own number passes built stands = absurd (let x = passes in cc)
-main_member (MethodMember m) own zero passes built stands =
-    let same : record { class = 0; method = m } ≡ own = cc in
-    subst (λ (o : OwnMethod). flat_map unbuilt_statement o.method.body ≡ []) same built
-main_member (MethodMember m) own (suc number) passes built stands = absurd (let x = stands in cc)
+built_members : (class : ℕ) (ms : List MemberTree) → flat_map unbuilt_in_member ms ≡ [] → All HasBuiltBody (methods_in class ms)
+built_members class [] none = All-nil HasBuiltBody
+built_members class (FieldMember f ∷ ms) none = absurd (let z = none in cc)
+built_members class (MethodMember m ∷ ms) none =
+    All-cons HasBuiltBody (record { class = class; method = m }) (methods_in class ms)
+    (built_method class m (no_front (unbuilt_in_member (MethodMember m)) (flat_map unbuilt_in_member ms) none))
+    (built_members class ms (no_back (unbuilt_in_member (MethodMember m)) (flat_map unbuilt_in_member ms) none))
 
-main_of_class : (ms : List MemberTree) (own : OwnMethod) (number : ℕ) → first_apart is_main_method unbuilt_in_method unbuilt_member ms ≡ [] → slice_get (methods_in 0 ms ++ []) number ≡ Some own → flat_map unbuilt_statement own.method.body ≡ []
-main_of_class [] own number none stands = absurd (let x = stands in cc)
-main_of_class (m ∷ ms) own number none stands =
-    let one = alone is_main_method unbuilt_in_method member_place m ms none in
-    main_member one.element own number one.passes one.built (subst (λ (xs : List MemberTree). slice_get (methods_in 0 xs ++ []) number ≡ Some own) one.is stands)
+built_class : (class : ℕ) (c : ClassTree) → unbuilt_in_class c ≡ [] → All HasBuiltBody (methods_in class c.members)
+built_class class c none = by (bytes_eq c.name (codes "Main")) none
+  where
+    by : (is_main : Bool) → (if is_main then flat_map unbuilt_in_member c.members else class_place c ∷ []) ≡ [] → All HasBuiltBody (methods_in class c.members)
+    by true e = built_members class c.members e
+    by false e = absurd (let z = e in cc)
 
--- in a text without unbuilt forms each method is its main
-main_built : (tree : TextTree) (own : OwnMethod) (number : ℕ) → unbuilt_places tree ≡ [] → slice_get (methods_of tree) number ≡ Some own → flat_map unbuilt_statement own.method.body ≡ []
-main_built [] own number none stands = absurd (let x = stands in cc)
-main_built (c ∷ cs) own number none stands =
-    let one = alone is_main_class unbuilt_in_class class_place c cs none in
-    main_of_class one.element.members own number one.built (subst (λ (xs : List ClassTree). slice_get (methods_of xs) number ≡ Some own) one.is stands)
+built_classes : (class : ℕ) (cs : List ClassTree) → flat_map unbuilt_in_class cs ≡ [] → All HasBuiltBody (methods_from class cs)
+built_classes class [] none = All-nil HasBuiltBody
+built_classes class (c ∷ cs) none =
+    All-append HasBuiltBody (methods_in class c.members) (methods_from (class + 1) cs)
+    (built_class class c (no_front (unbuilt_in_class c) (flat_map unbuilt_in_class cs) none))
+    (built_classes (class + 1) cs (no_back (unbuilt_in_class c) (flat_map unbuilt_in_class cs) none))
+
+main_built : (tree : TextTree) (own : OwnMethod) (number : ℕ) → unbuilt_places tree ≡ [] → slice_get (methods_of tree) number ≡ Some own → HasBuiltBody own
+main_built tree own number none stands =
+    let each = All-get_or HasBuiltBody (methods_of tree) number own (slice_get_within (methods_of tree) number own stands) (built_classes 0 tree none) in
+    subst HasBuiltBody (get_or_from_slice_get (methods_of tree) number own own stands) each
 
 listing_of : (program : NumberedProgram) (main : NumberedMethod) → slice_get program.methods program.main ≡ Some main → (ys : Option (List Statement)) → all_listed (numbered_stms main.body) ≡ ys → IsBuilt ys
     → (listing : ListedProgram) × IsListing program listing
@@ -167,4 +180,4 @@ listing_of program main stands (Some ys) is built =
 pub has_listing : (tree : TextTree) (program : NumberedProgram) → unbuilt_places tree ≡ [] → Numbers tree program → (listing : ListedProgram) × IsListing program listing
 has_listing tree program none numbers =
     let at = numbered_at program.main numbers.main.own numbers.methods numbers.main.stands in
-    listing_of program at.method at.stands _ refl (body_built at.numbers (main_built tree numbers.main.own program.main none numbers.main.stands))
+    listing_of program at.method at.stands _ refl (body_built at.numbers (main_built tree numbers.main.own program.main none numbers.main.stands numbers.main.form.params))

@@ -1,17 +1,21 @@
 // Forms that aren't built yet.
 //
 // A tree is judged part by part: each function answers what counts of the forms of its part that aren't built.
-ghost use Rattle.std.specs.Prelude.{◌≡◌, ◌∷◌, [], map, bytes_eq, if◌then◌else◌};
-ghost use Rattle.std.specs.List.{flat_map};
-ghost use Rattle.ti_syntax.specs.Trees.Views.{class_of, member_of, stm_of, exp_of, result_of, print_of};
+ghost use Rattle.std.specs.Prelude.{◌≡◌, ◌∷◌, [], map, bytes_eq};
+ghost use Rattle.std.specs.List.{flat_map, list_all};
+ghost use Rattle.ti_syntax.specs.Trees.Classes.{MethodMember};
+ghost use Rattle.ti_syntax.specs.Trees.Views.{class_of, member_of, method_of, stm_of, exp_of, type_of, init_of, result_of, print_of};
 ghost use Rattle.ti_syntax.specs.Trees.Text.{tree_of};
-ghost use Rattle.ti_rules.specs.Unbuilt.{place_of_first, modified_place, class_place, member_place, result_place, unbuilt_value as value_spec, unbuilt_print as print_spec, unbuilt_statement as statement_spec, is_main_method as main_spec, unbuilt_in_method as method_spec, unbuilt_member, unbuilt_in_class, unbuilt_class, first_apart, unbuilt_places};
+ghost use Rattle.ti_rules.specs.Unbuilt.{place_of_first, modified_place, result_place, unbuilt_value as value_spec, unbuilt_print as print_spec, unbuilt_statement as statement_spec, is_plain_int as plain_int_spec, is_number as number_spec, declares_number as declares_spec, is_static_alone as static_spec, is_plain as plain_spec, declares_numbers as numbers_spec, unbuilt_in_member, unbuilt_in_class, unbuilt_places};
 ghost use Rattle.ti_top.specs.Mirrors.Unbuilt.{first_unbuilt};
 
 use ti_base::Place;
 use ti_rules::{Refusal, Rule, refused_if, sooner};
 use ti_syntax::Spelled;
-use ti_syntax::tree::{Class, Expr, Member, Modifier, Printed, ResultType, Stmt, Tree};
+use ti_syntax::tree::{
+    Base, Class, Expr, Init, Member, Method, Modifier, ModifierWord, Params, Printed, ResultType,
+    Stmt, Tree, TypeName,
+};
 
 // The first token of an expression.
 fn first_place(x: &Expr) -> Place
@@ -44,23 +48,6 @@ fn result_start(result_type: &ResultType) -> Place
         ResultType::Void(place) => *place,
         ResultType::Typed(ty) => ty.base.place(),
     }
-}
-
-// The first token of a member.
-fn member_start(member: &Member) -> Place
-    ensures { result ≡ member_place (member_of member.now) }
-{
-    match member {
-        Member::Field(field) => modified(&field.modifiers, field.ty.base.place()),
-        Member::Method(method) => modified(&method.modifiers, result_start(&method.result)),
-    }
-}
-
-// The first token of a class.
-fn class_start(class: &Class) -> Place
-    ensures { result ≡ class_place (class_of class.now) }
-{
-    modified(&class.modifiers, class.word)
 }
 
 // A form that isn't built, with its first token at this place.
@@ -139,73 +126,133 @@ fn is_spelled(name: &Spelled, text: &[u8]) -> bool
     name.as_bytes() == text
 }
 
-// Whether a member is a method with the name main.
-fn is_main_method(member: &Member) -> bool
-    ensures { result ≡ main_spec (member_of member.now) }
+// ---- methods that declare numbers
+
+// `int` alone.
+fn is_plain_int(ty: &TypeName) -> bool
+    ensures { result ≡ plain_int_spec (type_of ty.now) }
 {
-    match member {
-        Member::Method(method) => is_spelled(&method.name, b"main"),
-        Member::Field(_) => false,
+    match ty.base {
+        Base::Int(_) => ty.qualifiers.is_empty() && ty.grids.is_empty(),
+        _ => false,
     }
 }
 
-// In the method main.
+// An int literal.
+fn is_number(value: &Init) -> bool
+    ensures { result ≡ number_spec (init_of value.now) }
+{
+    match value {
+        Init::Value(Expr::Int(_, _)) => true,
+        _ => false,
+    }
+}
+
+// `int x = 7;`
+fn declares_number(statement: &Stmt) -> bool
+    ensures { result ≡ declares_spec (stm_of statement.now) }
+{
+    match statement {
+        Stmt::Declare { ty, value, .. } => is_plain_int(ty) && is_number(value),
+        _ => false,
+    }
+}
+
+// `static` and no other word.
+fn is_static_alone(modifiers: &[Modifier]) -> bool
+    ensures { result ≡ static_spec modifiers.now }
+{
+    match modifiers {
+        [modifier] => modifier.word == ModifierWord::Static,
+        _ => false,
+    }
+}
+
+// `static void f()`.
+fn is_plain(method: &Method) -> bool
+    ensures { result ≡ plain_spec (method_of method.now) }
+{
+    match (&method.result, &method.params) {
+        (ResultType::Void(_), Params::Typed(params)) => {
+            params.is_empty() && is_static_alone(&method.modifiers)
+        }
+        _ => false,
+    }
+}
+
+// Whether each statement declares a number.
+fn all_declare(body: &[Stmt]) -> bool
+    ensures { result ≡ list_all declares_spec (map stm_of body.now) }
+{
+    let mut each = true;
+    'statements: for statement in body {
+        each = each & declares_number(statement);
+    }
+    each
+}
+
+// A method that does nothing but declare numbers.
+fn declares_numbers(method: &Method) -> bool
+    ensures { result ≡ numbers_spec (method_of method.now) }
+{
+    is_plain(method) && all_declare(&method.body)
+}
+
+// ---- members and classes
+
+// In a method of Main.
 #[tactic(auto, unfolding(ti_rules::specs::First::first_of))]
-fn unbuilt_in_method(member: &Member) -> Option<Refusal>
-    ensures { result ≡ first_unbuilt (method_spec (member_of member.now)) }
+fn judged_method(method: &Method) -> Option<Refusal>
+    ensures { result ≡ first_unbuilt (unbuilt_in_member (MethodMember (method_of method.now))) }
+{
+    if is_spelled(&method.name, b"main") {
+        return unbuilt_body(&method.body);
+    }
+    if declares_numbers(method) {
+        return None;
+    }
+    refused(modified(&method.modifiers, result_start(&method.result)))
+}
+
+// In a member of Main.
+fn judged_member(member: &Member) -> Option<Refusal>
+    ensures { result ≡ first_unbuilt (unbuilt_in_member (member_of member.now)) }
 {
     match member {
-        Member::Method(method) => unbuilt_body(&method.body),
-        Member::Field(_) => None,
+        Member::Method(method) => judged_method(method),
+        Member::Field(field) => refused(modified(&field.modifiers, field.ty.base.place())),
     }
 }
 
-// In a member of Main, which is its method main or another one.
-fn judged_member(member: &Member, is_main: bool) -> Option<Refusal>
-    ensures { result ≡ first_unbuilt (if is_main then method_spec (member_of member.now) else unbuilt_member (member_of member.now)) }
-{
-    if is_main {
-        unbuilt_in_method(member)
-    } else {
-        refused(member_start(member))
-    }
-}
-
-// In the members of Main, of which the first method main alone is built.
+// In the members of Main.
 fn judged_members(members: &[Member]) -> Option<Refusal>
-    ensures { result ≡ first_unbuilt (first_apart main_spec method_spec unbuilt_member (map member_of members.now)) }
+    ensures { result ≡ first_unbuilt (flat_map unbuilt_in_member (map member_of members.now)) }
 {
     let mut found = None;
-    let mut passed = false;
     'members: for member in members {
-        let is_main = !passed && is_main_method(member);
-        found = sooner(found, judged_member(member, is_main));
-        passed = passed || is_main;
+        found = sooner(found, judged_member(member));
     }
     found
 }
 
-// In a class, which is Main or another one.
-fn judged_class(class: &Class, is_main: bool) -> Option<Refusal>
-    ensures { result ≡ first_unbuilt (if is_main then unbuilt_in_class (class_of class.now) else unbuilt_class (class_of class.now)) }
+// In a class.
+fn judged_class(class: &Class) -> Option<Refusal>
+    ensures { result ≡ first_unbuilt (unbuilt_in_class (class_of class.now)) }
 {
-    if is_main {
+    if is_spelled(&class.name, b"Main") {
         judged_members(&class.members)
     } else {
-        refused(class_start(class))
+        refused(modified(&class.modifiers, class.word))
     }
 }
 
-// In the classes of a text, of which the first Main alone is built.
+// In the classes of a text.
 fn judged_classes(classes: &[Class]) -> Option<Refusal>
     ensures { result ≡ first_unbuilt (unbuilt_places (map class_of classes.now)) }
 {
     let mut found = None;
-    let mut passed = false;
     'classes: for class in classes {
-        let is_main = !passed && is_spelled(&class.name, b"Main");
-        found = sooner(found, judged_class(class, is_main));
-        passed = passed || is_main;
+        found = sooner(found, judged_class(class));
     }
     found
 }
