@@ -13,7 +13,7 @@ use ti_base::Memory;
 use ti_syntax::tree::{Member, Tree};
 
 /// The classes.
-pub fn class_table<'a>(alloc: Global, tree: &'a Tree) -> Result<Names<'a, u32>, Memory>
+fn class_table<'a>(alloc: Global, tree: &'a Tree) -> Result<Names<'a, u32>, Memory>
     ensures { IfOk result (λ t. t ≡ class_table (tree_of tree.now)) }
 {
     let mut found = Names::new(alloc);
@@ -44,7 +44,7 @@ fn field_table<'a>(alloc: Global, members: &'a [Member]) -> Result<Names<'a, u32
 }
 
 /// The fields of each class.
-pub fn field_tables<'a>(alloc: Global, tree: &'a Tree) -> Result<Vec<Names<'a, u32>>, Memory>
+fn field_tables<'a>(alloc: Global, tree: &'a Tree) -> Result<Vec<Names<'a, u32>>, Memory>
     ensures { IfOk result (λ v. v.items ≡ field_tables (tree_of tree.now)) }
 {
     let mut found = Vec::new(alloc);
@@ -85,7 +85,7 @@ fn method_table<'a>(
 }
 
 /// The methods of each class.
-pub fn method_tables<'a>(alloc: Global, tree: &'a Tree) -> Result<Vec<Names<'a, u32>>, Memory>
+fn method_tables<'a>(alloc: Global, tree: &'a Tree) -> Result<Vec<Names<'a, u32>>, Memory>
     ensures { IfOk result (λ v. v.items ≡ method_tables 0 (tree_of tree.now)) }
 {
     let mut found = Vec::new(alloc);
@@ -96,6 +96,27 @@ pub fn method_tables<'a>(alloc: Global, tree: &'a Tree) -> Result<Vec<Names<'a, 
         found.push(table.names)?;
     }
     Ok(found)
+}
+
+/// The classes of a text by name, and the fields and the methods of each.
+#[derive(Drop)]
+pub struct ByName<'a> {
+    pub classes: Names<'a, u32>,
+    pub fields: Vec<Names<'a, u32>>,
+    pub methods: Vec<Names<'a, u32>>,
+}
+
+/// The classes, fields and methods of a text by name.
+pub fn by_name<'a>(alloc: Global, tree: &'a Tree) -> Result<ByName<'a>, Memory>
+    ensures classes { IfOk result (λ t. t.classes ≡ class_table (tree_of tree.now)) }
+    ensures fields { IfOk result (λ t. t.fields.items ≡ field_tables (tree_of tree.now)) }
+    ensures methods { IfOk result (λ t. t.methods.items ≡ method_tables 0 (tree_of tree.now)) }
+{
+    Ok(ByName {
+        classes: class_table(alloc, tree)?,
+        fields: field_tables(alloc, tree)?,
+        methods: method_tables(alloc, tree)?,
+    })
 }
 
 /// The names with those of members.

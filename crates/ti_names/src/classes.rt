@@ -53,6 +53,16 @@ impl<'t, 'a> Site<'t, 'a> {
         })
     }
 
+    fn classes(&self, classes: &[tree::Class]) -> Result<Vec<Class>, Memory>
+        ensures { IfOk result (λ v. map numbered_class_of v.items ≡ number_classes (text_of self.now.tables.now) (map class_of classes.now)) }
+    {
+        let mut done = Vec::new(self.alloc);
+        for class in classes {
+            done.push(self.class(class)?)?;
+        }
+        Ok(done)
+    }
+
     // ---- what is wrong
 
     #[tactic(auto, using(crate::proofs::Firsts::in_nodes))]
@@ -100,12 +110,7 @@ pub fn classes(
 ) -> Result<Vec<Class>, Memory>
     ensures { IfOk result (λ v. map numbered_class_of v.items ≡ number_classes (text_of tables.now) (map class_of classes.now)) }
 {
-    let mut done = Vec::new(alloc);
-    let site = class_site(alloc, tables, 0);
-    for class in classes {
-        done.push(site.class(class)?)?;
-    }
-    Ok(done)
+    class_site(alloc, tables, 0).classes(classes)
 }
 
 /// What is wrong with the class of a number.

@@ -11,8 +11,8 @@ pub enum NameErr {
     /// The tree breaks a rule of names, and where.
     #[error("the text is refused")]
     Refused(Refusal),
-    /// Memory was wanting.
-    #[error("memory was wanting")]
+    /// Out of memory.
+    #[error("out of memory")]
     Memory,
 }
 

@@ -1,9 +1,10 @@
 // Expressions, with a number in place of each name. What names nothing becomes some program all the same.
 
 ghost use Rattle.std.specs.Prelude.{◌≡◌, map, IfOk};
-ghost use Rattle.ti_syntax.specs.Trees.Views.{exp_of, range_of, dims_of, init_of, maybe_of};
+ghost use Rattle.ti_syntax.specs.Trees.Views.{exp_of, type_of, range_of, dims_of, init_of, maybe_of};
 ghost use Rattle.ti_syntax.specs.Trees.Expressions.{exps};
 ghost use Rattle.ti_syntax.specs.Trees.Expressions as t;
+ghost use Rattle.ti_syntax.specs.Trees.Statements as s;
 ghost use Rattle.ti_lang.specs.Program.Views.{expression_of, bound_of, extent_of, initial_of};
 ghost use Rattle.ti_lang.specs.Program.Expressions.{numbered_exps};
 ghost use Rattle.std.specs.Option.{unwrap_or};
@@ -235,6 +236,15 @@ impl<'t, 'a> Site<'t, 'a> {
         }
     }
 
+    /// Two expressions.
+    pub fn two(&self, x: &tree::Expr, y: &tree::Expr) -> Result<(Expr, Expr), Memory>
+        ensures first { IfOk result (λ p. expression_of p.0 ≡ number_exp (site_of self.now) (exp_of x.now)) }
+        ensures second { IfOk result (λ p. expression_of p.1 ≡ number_exp (site_of self.now) (exp_of y.now)) }
+    {
+        let x = self.exp(x)?;
+        Ok((x, self.exp(y)?))
+    }
+
     /// An expression that may be left out.
     pub fn maybe(&self, x: &Option<tree::Expr>) -> Result<Option<Expr>, Memory>
         ensures { IfOk result (λ y. maybe_of expression_of y ≡ number_maybe (site_of self.now) (maybe_of exp_of x.now)) }
@@ -264,6 +274,25 @@ impl<'t, 'a> Site<'t, 'a> {
         }
     }
 
+    fn new_grid(
+        &self,
+        place: Place,
+        region: &Option<tree::Expr>,
+        element: &tree::TypeName,
+        bracket: Place,
+        dims: &tree::Dims,
+    ) -> Result<Init, Memory>
+        ensures { IfOk result (λ v. initial_of v ≡ number_init (site_of self.now) (s.NewGrid place (maybe_of exp_of region.now) (type_of element.now) bracket (dims_of dims.now))) }
+    {
+        Ok(Init::NewGrid {
+            place,
+            region: self.maybe(region)?,
+            element: self.type_use(element)?,
+            bracket,
+            dims: self.dims(dims)?,
+        })
+    }
+
     /// The right side of a declaration or an assignment.
     pub fn init(&self, value: &tree::Init) -> Result<Init, Memory>
         ensures { IfOk result (λ v. initial_of v ≡ number_init (site_of self.now) (init_of value.now)) }
@@ -287,18 +316,15 @@ impl<'t, 'a> Site<'t, 'a> {
                 element,
                 bracket,
                 dims,
-            } => Ok(Init::NewGrid {
-                place: *place,
-                region: self.maybe(region)?,
-                element: self.type_use(element)?,
-                bracket: *bracket,
-                dims: self.dims(dims)?,
-            }),
-            tree::Init::Broadcast { place, value, root } => Ok(Init::Broadcast {
-                place: *place,
-                value: self.exp(value)?,
-                root: self.exp(root)?,
-            }),
+            } => self.new_grid(*place, region, element, *bracket, dims),
+            tree::Init::Broadcast { place, value, root } => {
+                let (value, root) = self.two(value, root)?;
+                Ok(Init::Broadcast {
+                    place: *place,
+                    value,
+                    root,
+                })
+            }
         }
     }
 }

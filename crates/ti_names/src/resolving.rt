@@ -1,10 +1,11 @@
 // Trees become programs.
-ghost use Rattle.std.specs.Prelude.{◌≡◌, ◌⊎◌, IfOk};
+ghost use Rattle.std.specs.Prelude.{◌≡◌, ◌⊎◌, map, IfOk};
 ghost use Rattle.std.specs.Option.{unwrap_or};
 ghost use Rattle.ti_syntax.specs.Trees.Classes.{TextTree};
 ghost use Rattle.ti_syntax.specs.Trees.Text.{tree_of};
 ghost use Rattle.ti_lang.specs.Program.Classes.{NumberedProgram};
 ghost use Rattle.ti_lang.specs.Program.Views.{program_of};
+ghost use Rattle.ti_lang.specs.Members.{methods_of, names_of};
 ghost use Rattle.ti_lang.specs.Numbering.{Numbers};
 ghost use Rattle.ti_rules.specs.declared.refusal.Refusal.{Refusal as RefusalSeen};
 ghost use Rattle.ti_rules.specs.First.{first_of};
@@ -13,6 +14,7 @@ ghost use Rattle.ti_rules.specs.MainForm.{main_method as main_of};
 ghost use Rattle.ti_rules.specs.BrokenNames.{name_refusals, BreaksNames};
 ghost use Rattle.ti_names.specs.Answer.{Resolves, GivesOnly, RefusesOnly};
 ghost use Rattle.ti_names.specs.Mirrors.Numbered.{number_program};
+ghost use Rattle.ti_names.specs.Own.{own_of};
 ghost use Rattle.ti_names.specs.Seen.{text_of};
 
 use crate::build::name_table;
@@ -20,7 +22,7 @@ use crate::classes::{check_classes, classes};
 use crate::error::NameErr;
 use crate::main_form::{check_main, main_method};
 use crate::methods::{AllMethods, methods};
-use crate::own::own_methods;
+use crate::own::{Own, own_methods};
 use crate::spelling::NameTable;
 use crate::stmts::Resolved;
 use crate::tables::Tables;
@@ -28,6 +30,7 @@ use std::alloc::Global;
 use ti_base::Memory;
 use ti_lang::program::{Parts, Program};
 use ti_rules::sooner;
+use ti_syntax::Spelled;
 use ti_syntax::tree::Tree;
 
 /// The number of `main`, or some number where there is none.
@@ -48,19 +51,37 @@ fn walk(alloc: Global, tree: &Tree) -> Result<Resolved<Parts>, Memory>
     let own = own_methods(alloc, tree)?;
     let NameTable { spelled, numbers } = name_table(alloc, tree)?;
     let tables = Tables::of(alloc, tree, &own, &spelled, numbers)?;
-    let of_classes = check_classes(alloc, &tables, &tree.classes)?;
+    parts(alloc, tree, &tables, &own, spelled)
+}
+
+/// The same from the tables of the text.
+fn parts<'a>(
+    alloc: Global,
+    tree: &'a Tree,
+    tables: &Tables<'a>,
+    own: &[Own<'a>],
+    names: Vec<Spelled>,
+) -> Result<Resolved<Parts>, Memory>
+    requires tables { text_of tables.now ≡ tree_of tree.now }
+    requires own { map own_of own.now ≡ methods_of (tree_of tree.now) }
+    requires names { names.items ≡ names_of (tree_of tree.now) }
+    ensures part { IfOk result (λ r. program_of r.part ≡ number_program (tree_of tree.now)) }
+    ensures refusal { IfOk result (λ r. r.refusal ≡ first_of (name_refusals (tree_of tree.now))) }
+{
+    let of_classes = check_classes(alloc, tables, &tree.classes)?;
+    let of_main = check_main(tree, tables, own)?;
+    let numbered = classes(alloc, tables, &tree.classes)?;
     let AllMethods {
         methods,
         literals,
         refusal,
-    } = methods(alloc, &tables, &own)?;
-    let of_main = check_main(tree, &tables, &own)?;
+    } = methods(alloc, tables, own)?;
     Ok(Resolved {
         part: Parts {
-            classes: classes(alloc, &tables, &tree.classes)?,
+            classes: numbered,
             methods,
-            main: main_number(&tables),
-            names: spelled,
+            main: main_number(tables),
+            names,
             literals: literals.texts,
         },
         refusal: sooner(sooner(of_classes, refusal), of_main),

@@ -7,7 +7,7 @@ ghost use Rattle.ti_syntax.specs.Trees.Text.{tree_of};
 ghost use Rattle.ti_lang.specs.Members.{class_named, field_named, method_named, is_static_method, name_number};
 ghost use Rattle.ti_names.specs.Mirrors.Tables.{found_in, numbered};
 
-use crate::build::{class_table, field_tables, method_tables};
+use crate::build::{ByName, by_name};
 use crate::names::Names;
 use crate::number::narrow;
 use crate::own::{Own, statics};
@@ -54,14 +54,21 @@ impl<'a> Tables<'a> {
         requires names { names ≡ numbered 0 spelled.now }
         ensures { IfOk result (λ t. text_of t ≡ tree_of tree.now) }
     {
+        let unknown = narrow(spelled.len())?;
+        let statics = statics(alloc, methods)?;
+        let ByName {
+            classes,
+            fields,
+            methods,
+        } = by_name(alloc, tree)?;
         Ok(Tables {
             tree,
-            classes: class_table(alloc, tree)?,
-            fields: field_tables(alloc, tree)?,
-            methods: method_tables(alloc, tree)?,
-            statics: statics(alloc, methods)?,
+            classes,
+            fields,
+            methods,
+            statics,
             names,
-            unknown: narrow(spelled.len())?,
+            unknown,
         })
     }
 
@@ -90,10 +97,7 @@ impl<'a> Tables<'a> {
     pub fn is_static(&self, number: u32) -> bool
         ensures { result ≡ is_static_method (text_of self.now) number }
     {
-        match self.statics.get(number as usize) {
-            Some(is_static) => *is_static,
-            None => false,
-        }
+        flag(&self.statics, number)
     }
 
     /// The number of the name of a member.
@@ -114,5 +118,15 @@ fn found(tables: &[Names<'_, u32>], class: u32, name: &[u8]) -> Option<u32>
     match tables.get(class as usize) {
         Some(table) => table.get(name).copied(),
         None => None,
+    }
+}
+
+/// Whether the flag of a number is set; there is none beyond the last.
+fn flag(flags: &[bool], number: u32) -> bool
+    ensures { result ≡ unwrap_or (slice_get flags.now number) false }
+{
+    match flags.get(number as usize) {
+        Some(flag) => *flag,
+        None => false,
     }
 }

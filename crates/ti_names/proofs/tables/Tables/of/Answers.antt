@@ -12,11 +12,11 @@ pub invariant_of-result : goal.invariant_of-result
 invariant_of-result c =
     let text = tree_of c.args.tree.now in
     let names : c.args.names ≡ numbered 0 (names_of text) = c.requires.names ∙ ap (numbered 0) c.requires.spelled in
-    let unknown : c.in_ok-narrow.field-0 ≡ length (names_of text) = c.in_ok-narrow.ensures ∙ ap length c.requires.spelled in
+    let unknown : c.in_ok-unknown.unknown ≡ length (names_of text) = c.in_ok-unknown.ensures ∙ ap length c.requires.spelled in
     record {
-      classes_told = λ name. ap (lookup (bytes_eq name)) c.in_ok-class_table.ensures ∙ class_told text name;
-      fields_told = λ class name. ap (λ tables. found_in tables class name) c.in_ok-field_tables.ensures ∙ field_told text class name;
-      methods_told = λ class name. ap (λ tables. found_in tables class name) c.in_ok-method_tables.ensures ∙ method_told text class name;
+      classes_told = λ name. ap (lookup (bytes_eq name)) c.in_ok-classes.ensures.classes ∙ class_told text name;
+      fields_told = λ class name. ap (λ tables. found_in tables class name) c.in_ok-classes.ensures.fields ∙ field_told text class name;
+      methods_told = λ class name. ap (λ tables. found_in tables class name) c.in_ok-classes.ensures.methods ∙ method_told text class name;
       statics_told = λ number. ap (λ table. unwrap_or (slice_get table number) false) (c.in_ok-statics.ensures ∙ ap static_table c.requires.methods) ∙ static_told text number;
       names_told = λ name. (λ j. unwrap_or (lookup (bytes_eq name) (names j)) (unknown j)) ∙ name_told text name;
     }

@@ -14,14 +14,14 @@ use Rattle.ti_names.specs.Mirrors.Numbered.{number_classes, number_methods}
 use Rattle.ti_names.specs.Own.{own_of}
 use Rattle.ti_names.specs.Seen.{text_of}
 use Rattle.ti_names.proofs.Firsts.{in_text}
-use Rattle.ti_names.proofs.resolving.walk.Goals as goal
+use Rattle.ti_names.proofs.resolving.parts.Goals as goal
 
 pub returns-clause-refusal : goal.returns-clause-refusal
 returns-clause-refusal c =
     let text = tree_of c.args.tree.now in
-    let same : text_of c.in_ok-tables.tables ≡ text = c.in_ok-tables.ensures in
-    let owns : map own_of c.deref-4.result.now ≡ methods_of text = ap (map own_of) c.deref-4.ensures.value ∙ c.in_ok-own.ensures in
-    let classes : map class_of c.deref-3.result.now ≡ text = ap (map class_of) c.deref-3.ensures.value in
+    let same : text_of c.args.tables.now ≡ text = c.requires.tables in
+    let owns : map own_of c.args.own.now ≡ methods_of text = c.requires.own in
+    let classes : map class_of c.deref.result.now ≡ text = ap (map class_of) c.deref.ensures.value in
     let of_classes : c.in_ok-of_classes.of_classes ≡ first_in (classes_nodes text 0 text) = c.in_ok-of_classes.ensures ∙ (λ j. first_in (classes_nodes (same j) 0 (classes j))) in
     let of_methods : c.in_ok-methods.field-0.refusal ≡ first_in (methods_nodes text 0 0 (methods_of text)) = c.in_ok-methods.ensures.refusal ∙ (λ j. first_in (methods_nodes (same j) 0 0 (owns j))) in
     let of_main : c.in_ok-of_main.of_main ≡ first_of (main_refusals text) = c.in_ok-of_main.ensures in
@@ -30,12 +30,12 @@ returns-clause-refusal c =
 pub returns-clause-part : goal.returns-clause-part
 returns-clause-part c =
     let text = tree_of c.args.tree.now in
-    let same : text_of c.in_ok-tables.tables ≡ text = c.in_ok-tables.ensures in
-    let owns : map own_of c.deref-4.result.now ≡ methods_of text = ap (map own_of) c.deref-4.ensures.value ∙ c.in_ok-own.ensures in
-    let classes : map class_of c.deref-6.result.now ≡ text = ap (map class_of) c.deref-6.ensures.value in
-    let classes_are : map numbered_class_of c.in_ok-classes.field-0.items ≡ number_classes text text = c.in_ok-classes.ensures ∙ (λ j. number_classes (same j) (classes j)) in
+    let same : text_of c.args.tables.now ≡ text = c.requires.tables in
+    let owns : map own_of c.args.own.now ≡ methods_of text = c.requires.own in
+    let classes : map class_of c.deref-2.result.now ≡ text = ap (map class_of) c.deref-2.ensures.value in
+    let classes_are : map numbered_class_of c.in_ok-numbered.numbered.items ≡ number_classes text text = c.in_ok-numbered.ensures ∙ (λ j. number_classes (same j) (classes j)) in
     let methods_are : map numbered_method_of c.in_ok-methods.field-0.methods.items ≡ number_methods text 0 (methods_of text) = c.in_ok-methods.ensures.part ∙ (λ j. number_methods (same j) 0 (owns j)) in
     let literals_are : c.in_ok-methods.field-0.literals.texts.items ≡ literals_of_text text = c.in_ok-methods.ensures.literals ∙ ap (flat_map (λ (own : OwnMethod). literals_in (stms own.method.body))) owns in
-    let names_are : c.in_ok-spelled.field-0.spelled.items ≡ names_of text = c.in_ok-spelled.ensures in
+    let names_are : c.args.names.items ≡ names_of text = c.requires.names in
     let main_is : c.main_number.result ≡ unwrap_or (main_method text) 0 = c.main_number.ensures ∙ ap (λ t. unwrap_or (main_method t) 0) same in
     λ j. record { classes = classes_are j; methods = methods_are j; main = main_is j; names = names_are j; literals = literals_are j }
