@@ -7,7 +7,7 @@ use ti_base::Memory;
 pub enum DomErr {
     /// It has more than 1,048,576 points.
     TooLarge,
-    /// Memory was wanting.
+    /// Out of memory.
     Memory,
 }
 

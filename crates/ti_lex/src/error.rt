@@ -12,8 +12,8 @@ pub enum LexErr {
     /// The text has no tokens: the rule that it breaks, and where.
     #[error("the text is refused")]
     Refused(Refusal),
-    /// Memory was wanting.
-    #[error("memory was wanting")]
+    /// Out of memory.
+    #[error("out of memory")]
     Memory,
 }
 
