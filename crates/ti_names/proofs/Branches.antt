@@ -1,5 +1,5 @@
 -- Statements with parts that may be left out.
-use Rattle.std.proofs.Common.{◌≡◌, ℕ, List, [], ◌∷◌, ◌++◌, Option, Some, None, refl, ap, sym, ◌∙◌}
+use Rattle.std.proofs.Common.{◌≡◌, ℕ, List, [], ◌∷◌, ◌++◌, Option, Some, None, Result, Ok, Err, OnOk, refl, ap, sym, ◌∙◌}
 use Rattle.std.specs.declared.alloc.Global.{Global}
 use Rattle.std.specs.declared.boxed.Box.{Box}
 use Rattle.ti_base.specs.declared.place.Place.{Place}
@@ -18,6 +18,7 @@ use Rattle.ti_syntax.specs.Trees.Expressions.{Exp}
 use Rattle.ti_syntax.specs.Trees.Statements.{Stm, MaybeStm}
 use Rattle.ti_lang.specs.Scopes.{Site, declares, literals, literals_of, past, past_maybe, behind, behind_maybe}
 use Rattle.ti_lang.specs.Nodes.{Node, node, VariableName, exp_nodes, maybe_nodes, stm_nodes, maybe_stm_nodes}
+use Rattle.ti_names.specs.Branched.{numbered_branches}
 use Rattle.ti_names.specs.Mirrors.Numbered.{number_exp, number_stm, number_maybe_stm}
 use Rattle.ti_names.specs.Seen.{tree_maybe, seen_maybe}
 use Rattle.ti_rules.specs.First.{sooner}
@@ -25,14 +26,15 @@ use Rattle.ti_rules.proofs.First.{sooner_none}
 use Rattle.ti_names.specs.Found.{first_in}
 use Rattle.ti_names.proofs.Firsts.{in_none, in_append}
 
--- an `if` with or without an `else`, before and behind
+-- an `if` with or without an `else`
 abbrev pub branches : Place → Exp → Stm → MaybeStm → Stm
 branches at c x s.NoStm = s.If at c x
 branches at c x (s.SomeStm y) = s.IfElse at c x y
 
-abbrev pub numbered_branches : Place → NumberedExp → NumberedStm → MaybeNumbered → NumberedStm
-numbered_branches at c x m.NoStm = m.If at c x
-numbered_branches at c x (m.SomeStm y) = m.IfElse at c x y
+-- what holds whatever the result
+pub on_ok : {T E P : Type 0} (r : Result T E) → P → OnOk r P
+on_ok (Ok x) p = p
+on_ok (Err x) p = tt
 
 -- behind a match
 pub seen_if : (a : Stmt) (at : Place) (c : Expr) (x : Box Stmt Global) (y : Option (Box Stmt Global)) → a ≡ If at c x y → stm_of a ≡ branches at (exp_of c) (stm_of x.value) (tree_maybe y)

@@ -1,4 +1,5 @@
 pub mod Answer
+pub mod Branched
 pub mod Found
 pub mod Mirrors
 pub mod Own

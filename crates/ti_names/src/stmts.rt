@@ -1,20 +1,23 @@
 // Statements.
 
-ghost use Rattle.std.specs.Prelude.{◌≡◌, ◌+◌, ◌∷◌, [], map, length, IfOk, OnOk};
-ghost use Rattle.ti_syntax.specs.Trees.Views.{exp_of, type_of, init_of, print_of, stm_of};
+ghost use Rattle.std.specs.Prelude.{◌≡◌, ◌+◌, ◌++◌, map, length, None, IfOk, OnOk};
+ghost use Rattle.ti_syntax.specs.Trees.Views.{exp_of, type_of, init_of, print_of, maybe_of, stm_of};
 ghost use Rattle.ti_syntax.specs.Trees.Statements.{stms};
 ghost use Rattle.ti_syntax.specs.Trees.Statements as s;
-ghost use Rattle.ti_lang.specs.Program.Views.{printed_of, statement_of};
+ghost use Rattle.ti_lang.specs.Program.Views.{expression_of, printed_of, statement_of};
 ghost use Rattle.ti_lang.specs.Scopes.{printed_text, past, past_maybe, behind, behind_maybe, behind_all};
-ghost use Rattle.ti_lang.specs.Nodes.{print_nodes, stm_nodes, maybe_stm_nodes, stms_nodes};
-ghost use Rattle.ti_names.specs.Mirrors.Numbered.{number_print, number_stm, number_maybe_stm, number_list};
+ghost use Rattle.ti_lang.specs.Nodes.{exp_nodes, print_nodes, stm_nodes, maybe_stm_nodes, stms_nodes};
+ghost use Rattle.ti_names.specs.Mirrors.Numbered.{number_exp, number_print, number_stm, number_maybe_stm, number_list};
 ghost use Rattle.ti_names.specs.Found.{first_in};
+ghost use Rattle.ti_rules.specs.First.{sooner};
+ghost use Rattle.ti_names.specs.Branched.{numbered_branches};
 ghost use Rattle.ti_names.specs.Seen.{site_of, tree_maybe, seen_maybe};
 
 use crate::site::Site;
 use ti_base::{Memory, Place};
-use ti_lang::program::{Declared, Printed, Stmt};
+use ti_lang::program::{Declared, Expr, Printed, Stmt};
 use ti_rules::{Refusal, sooner};
+use ti_syntax::tree::{BinaryOperator, StepOperator};
 use ti_syntax::{Spelled, tree};
 
 /// A part of a program, and what counts of all that is wrong with its names.
@@ -24,7 +27,29 @@ pub struct Resolved<T: Drop> {
     pub refusal: Option<Refusal>,
 }
 
+/// A condition with the statement behind it.
+#[derive(Drop)]
+struct Guarded {
+    condition: Expr,
+    body: Box<Stmt>,
+}
+
+impl<T: Drop> Resolved<T> {
+    /// A part with nothing wrong in it.
+    pub fn clean(part: T) -> Resolved<T>
+        ensures part { result.part ≡ part }
+        ensures refusal { result.refusal ≡ None }
+    {
+        Resolved {
+            part,
+            refusal: None,
+        }
+    }
+}
+
 impl<'t, 'a> Site<'t, 'a> {
+    // ---- statements that hold no statement
+
     #[tactic(auto, using(crate::proofs::Firsts::in_nodes))]
     fn check_print(&self, what: &tree::Printed) -> Option<Refusal>
         ensures { result ≡ first_in (print_nodes (site_of self.now) (print_of what.now)) }
@@ -52,7 +77,101 @@ impl<'t, 'a> Site<'t, 'a> {
         }
     }
 
-    #[tactic(auto, using(crate::proofs::Firsts::in_nodes))]
+    fn assignment(
+        &self,
+        place: Place,
+        target: &tree::Expr,
+        value: &tree::Init,
+    ) -> Result<Resolved<Stmt>, Memory>
+        ensures part { IfOk result (λ r. statement_of r.part ≡ number_stm (site_of self.now) (s.Assign place (exp_of target.now) (init_of value.now))) }
+        ensures refusal { IfOk result (λ r. r.refusal ≡ first_in (stm_nodes (site_of self.now) (s.Assign place (exp_of target.now) (init_of value.now)))) }
+    {
+        let refusal = sooner(self.check_exp(target), self.check_init(value));
+        let value = Box::new(self.alloc, self.init(value)?)?;
+        Ok(Resolved {
+            part: Stmt::Assign {
+                place,
+                target: self.exp(target)?,
+                value,
+            },
+            refusal,
+        })
+    }
+
+    fn update(
+        &self,
+        place: Place,
+        operator: BinaryOperator,
+        target: &tree::Expr,
+        value: &tree::Expr,
+    ) -> Result<Resolved<Stmt>, Memory>
+        ensures part { IfOk result (λ r. statement_of r.part ≡ number_stm (site_of self.now) (s.Update place operator (exp_of target.now) (exp_of value.now))) }
+        ensures refusal { IfOk result (λ r. r.refusal ≡ first_in (stm_nodes (site_of self.now) (s.Update place operator (exp_of target.now) (exp_of value.now)))) }
+    {
+        let refusal = sooner(self.check_exp(target), self.check_exp(value));
+        let (target, value) = self.two(target, value)?;
+        Ok(Resolved {
+            part: Stmt::Update {
+                place,
+                operator,
+                target,
+                value,
+            },
+            refusal,
+        })
+    }
+
+    fn step(
+        &self,
+        place: Place,
+        operator: StepOperator,
+        target: &tree::Expr,
+    ) -> Result<Resolved<Stmt>, Memory>
+        ensures part { IfOk result (λ r. statement_of r.part ≡ number_stm (site_of self.now) (s.Step place operator (exp_of target.now))) }
+        ensures refusal { IfOk result (λ r. r.refusal ≡ first_in (stm_nodes (site_of self.now) (s.Step place operator (exp_of target.now)))) }
+    {
+        Ok(Resolved {
+            part: Stmt::Step {
+                place,
+                operator,
+                target: self.exp(target)?,
+            },
+            refusal: self.check_exp(target),
+        })
+    }
+
+    fn call_alone(&self, x: &tree::Expr) -> Result<Resolved<Stmt>, Memory>
+        ensures part { IfOk result (λ r. statement_of r.part ≡ number_stm (site_of self.now) (s.Call (exp_of x.now))) }
+        ensures refusal { IfOk result (λ r. r.refusal ≡ first_in (stm_nodes (site_of self.now) (s.Call (exp_of x.now)))) }
+    {
+        Ok(Resolved {
+            part: Stmt::Call(self.exp(x)?),
+            refusal: self.check_exp(x),
+        })
+    }
+
+    fn leave(&self, place: Place, value: &Option<tree::Expr>) -> Result<Resolved<Stmt>, Memory>
+        ensures part { IfOk result (λ r. statement_of r.part ≡ number_stm (site_of self.now) (s.Return place (maybe_of exp_of value.now))) }
+        ensures refusal { IfOk result (λ r. r.refusal ≡ first_in (stm_nodes (site_of self.now) (s.Return place (maybe_of exp_of value.now)))) }
+    {
+        Ok(Resolved {
+            part: Stmt::Return(place, self.maybe(value)?),
+            refusal: self.check_maybe(value),
+        })
+    }
+
+    fn printing(&mut self, place: Place, what: &tree::Printed) -> Result<Resolved<Stmt>, Memory>
+        ensures part { IfOk result (λ r. statement_of r.part ≡ number_stm (site_of self.old) (s.Print place (print_of what.now))) }
+        ensures refusal { IfOk result (λ r. r.refusal ≡ first_in (stm_nodes (site_of self.old) (s.Print place (print_of what.now)))) }
+        ensures site { OnOk result (site_of self.new ≡ behind (site_of self.old) (s.Print place (print_of what.now))) }
+    {
+        let refusal = self.check_print(what);
+        Ok(Resolved {
+            part: Stmt::Print(place, self.print(what)?),
+            refusal,
+        })
+    }
+
     fn declaration(
         &mut self,
         place: Place,
@@ -80,6 +199,8 @@ impl<'t, 'a> Site<'t, 'a> {
             refusal,
         })
     }
+
+    // ---- statements that hold others
 
     /// A statement whose variables leave behind it.
     #[cycle(walk_stmt)]
@@ -116,10 +237,7 @@ impl<'t, 'a> Site<'t, 'a> {
                     refusal: x.refusal,
                 })
             }
-            None => Ok(Resolved {
-                part: None,
-                refusal: None,
-            }),
+            None => Ok(Resolved::clean(None)),
         }
     }
 
@@ -142,10 +260,7 @@ impl<'t, 'a> Site<'t, 'a> {
                     refusal: x.refusal,
                 })
             }
-            None => Ok(Resolved {
-                part: None,
-                refusal: None,
-            }),
+            None => Ok(Resolved::clean(None)),
         }
     }
 
@@ -168,7 +283,6 @@ impl<'t, 'a> Site<'t, 'a> {
     }
 
     #[cycle(walk_stmt)]
-    #[tactic(auto, using(ti_lang::proofs::ProgramBridges::program_bridges, crate::proofs::Lists::lists))]
     fn block(&mut self, body: &'a [tree::Stmt]) -> Result<Resolved<Stmt>, Memory>
         ensures part { IfOk result (λ r. statement_of r.part ≡ number_stm (site_of self.old) (s.block (map stm_of body.now))) }
         ensures refusal { IfOk result (λ r. r.refusal ≡ first_in (stm_nodes (site_of self.old) (s.block (map stm_of body.now)))) }
@@ -183,19 +297,94 @@ impl<'t, 'a> Site<'t, 'a> {
         })
     }
 
+    /// A condition with the statement behind it.
+    #[cycle(walk_stmt)]
+    fn guarded(
+        &mut self,
+        body: &'a tree::Stmt,
+        condition: &tree::Expr,
+    ) -> Result<Resolved<Guarded>, Memory>
+        ensures condition { IfOk result (λ r. expression_of r.part.condition ≡ number_exp (site_of self.old) (exp_of condition.now)) }
+        ensures body { IfOk result (λ r. statement_of r.part.body.value ≡ number_stm (site_of self.old) (stm_of body.now)) }
+        ensures refusal { IfOk result (λ r. r.refusal ≡ first_in (exp_nodes (site_of self.old) (exp_of condition.now) ++ stm_nodes (site_of self.old) (stm_of body.now))) }
+        ensures site { OnOk result (site_of self.new ≡ past (site_of self.old) (stm_of body.now)) }
+    {
+        let refusal = self.check_exp(condition);
+        let condition = self.exp(condition)?;
+        let body = self.inner(body)?;
+        Ok(Resolved {
+            part: Guarded {
+                condition,
+                body: body.part,
+            },
+            refusal: sooner(refusal, body.refusal),
+        })
+    }
+
+    /// An `if` from its condition and its first branch.
+    #[cycle(walk_stmt)]
+    fn choice(
+        &mut self,
+        place: Place,
+        head: Resolved<Guarded>,
+        otherwise: &'a Option<Box<tree::Stmt>>,
+    ) -> Result<Resolved<Stmt>, Memory>
+        ensures part { IfOk result (λ r. statement_of r.part ≡ numbered_branches place (expression_of head.part.condition) (statement_of head.part.body.value) (number_maybe_stm (site_of self.old) (tree_maybe otherwise.now))) }
+        ensures refusal { IfOk result (λ r. r.refusal ≡ sooner head.refusal (first_in (maybe_stm_nodes (site_of self.old) (tree_maybe otherwise.now)))) }
+        ensures site { OnOk result (site_of self.new ≡ past_maybe (site_of self.old) (tree_maybe otherwise.now)) }
+    {
+        let otherwise = self.maybe_inner(otherwise)?;
+        Ok(Resolved {
+            part: Stmt::If {
+                place,
+                condition: head.part.condition,
+                then: head.part.body,
+                otherwise: otherwise.part,
+            },
+            refusal: sooner(head.refusal, otherwise.refusal),
+        })
+    }
+
+    #[cycle(walk_stmt)]
+    fn foreach(
+        &mut self,
+        place: Place,
+        name_place: Place,
+        name: &'a Spelled,
+        body: &'a tree::Stmt,
+        domain: &tree::Expr,
+    ) -> Result<Resolved<Stmt>, Memory>
+        ensures part { IfOk result (λ r. statement_of r.part ≡ number_stm (site_of self.old) (s.Foreach place name_place name.now (exp_of domain.now) (stm_of body.now))) }
+        ensures refusal { IfOk result (λ r. r.refusal ≡ first_in (stm_nodes (site_of self.old) (s.Foreach place name_place name.now (exp_of domain.now) (stm_of body.now)))) }
+        ensures site { OnOk result (site_of self.new ≡ behind (site_of self.old) (s.Foreach place name_place name.now (exp_of domain.now) (stm_of body.now))) }
+    {
+        let len = self.scope.len();
+        let named = self.check_variable(name_place, name);
+        let refusal = sooner(named, self.check_exp(domain));
+        let domain = self.exp(domain)?;
+        let variable = self.declare(name, Declared::Foreach)?;
+        let body = self.inner(body)?;
+        self.cut(len);
+        Ok(Resolved {
+            part: Stmt::Foreach {
+                place,
+                variable,
+                domain,
+                body: body.part,
+            },
+            refusal: sooner(refusal, body.refusal),
+        })
+    }
+
     /// A statement.
     #[cycle(walk_stmt)]
-    #[tactic(auto, using(ti_syntax::proofs::Bridges::bridges, crate::proofs::Firsts::in_nodes, crate::proofs::Branches::statement_bridges))]
     pub fn stm(&mut self, x: &'a tree::Stmt) -> Result<Resolved<Stmt>, Memory>
         ensures part { IfOk result (λ r. statement_of r.part ≡ number_stm (site_of self.old) (stm_of x.now)) }
         ensures refusal { IfOk result (λ r. r.refusal ≡ first_in (stm_nodes (site_of self.old) (stm_of x.now))) }
         ensures site { OnOk result (site_of self.new ≡ behind (site_of self.old) (stm_of x.now)) }
     {
         match x {
-            tree::Stmt::Empty => Ok(Resolved {
-                part: Stmt::Empty,
-                refusal: None,
-            }),
+            tree::Stmt::Empty => Ok(Resolved::clean(Stmt::Empty)),
             tree::Stmt::Declare {
                 place,
                 ty,
@@ -206,64 +395,24 @@ impl<'t, 'a> Site<'t, 'a> {
                 place,
                 target,
                 value,
-            } => Ok(Resolved {
-                refusal: sooner(self.check_exp(target), self.check_init(value)),
-                part: Stmt::Assign {
-                    place: *place,
-                    target: self.exp(target)?,
-                    value: Box::new(self.alloc, self.init(value)?)?,
-                },
-            }),
+            } => self.assignment(*place, target, value),
             tree::Stmt::Update {
                 place,
                 operator,
                 target,
                 value,
-            } => Ok(Resolved {
-                refusal: sooner(self.check_exp(target), self.check_exp(value)),
-                part: Stmt::Update {
-                    place: *place,
-                    operator: *operator,
-                    target: self.exp(target)?,
-                    value: self.exp(value)?,
-                },
-            }),
+            } => self.update(*place, *operator, target, value),
             tree::Stmt::Step {
                 place,
                 operator,
                 target,
-            } => Ok(Resolved {
-                refusal: self.check_exp(target),
-                part: Stmt::Step {
-                    place: *place,
-                    operator: *operator,
-                    target: self.exp(target)?,
-                },
-            }),
-            tree::Stmt::Call(x) => Ok(Resolved {
-                refusal: self.check_exp(x),
-                part: Stmt::Call(self.exp(x)?),
-            }),
-            tree::Stmt::Print(place, what) => Ok(Resolved {
-                refusal: self.check_print(what),
-                part: Stmt::Print(*place, self.print(what)?),
-            }),
-            tree::Stmt::Barrier(place) => Ok(Resolved {
-                part: Stmt::Barrier(*place),
-                refusal: None,
-            }),
-            tree::Stmt::Break(place) => Ok(Resolved {
-                part: Stmt::Break(*place),
-                refusal: None,
-            }),
-            tree::Stmt::Continue(place) => Ok(Resolved {
-                part: Stmt::Continue(*place),
-                refusal: None,
-            }),
-            tree::Stmt::Return(place, value) => Ok(Resolved {
-                refusal: self.check_maybe(value),
-                part: Stmt::Return(*place, self.maybe(value)?),
-            }),
+            } => self.step(*place, *operator, target),
+            tree::Stmt::Call(x) => self.call_alone(x),
+            tree::Stmt::Print(place, what) => self.printing(*place, what),
+            tree::Stmt::Barrier(place) => Ok(Resolved::clean(Stmt::Barrier(*place))),
+            tree::Stmt::Break(place) => Ok(Resolved::clean(Stmt::Break(*place))),
+            tree::Stmt::Continue(place) => Ok(Resolved::clean(Stmt::Continue(*place))),
+            tree::Stmt::Return(place, value) => self.leave(*place, value),
             tree::Stmt::Block(body) => self.block(body),
             tree::Stmt::If {
                 place,
@@ -271,35 +420,22 @@ impl<'t, 'a> Site<'t, 'a> {
                 then,
                 otherwise,
             } => {
-                let refusal = self.check_exp(condition);
-                let condition = self.exp(condition)?;
-                let then = self.inner(then)?;
-                let otherwise = self.maybe_inner(otherwise)?;
-                Ok(Resolved {
-                    part: Stmt::If {
-                        place: *place,
-                        condition,
-                        then: then.part,
-                        otherwise: otherwise.part,
-                    },
-                    refusal: sooner(sooner(refusal, then.refusal), otherwise.refusal),
-                })
+                let head = self.guarded(then, condition)?;
+                self.choice(*place, head, otherwise)
             }
             tree::Stmt::While {
                 place,
                 condition,
                 body,
             } => {
-                let refusal = self.check_exp(condition);
-                let condition = self.exp(condition)?;
-                let body = self.inner(body)?;
+                let head = self.guarded(body, condition)?;
                 Ok(Resolved {
                     part: Stmt::While {
                         place: *place,
-                        condition,
-                        body: body.part,
+                        condition: head.part.condition,
+                        body: head.part.body,
                     },
-                    refusal: sooner(refusal, body.refusal),
+                    refusal: head.refusal,
                 })
             }
             tree::Stmt::For {
@@ -333,24 +469,7 @@ impl<'t, 'a> Site<'t, 'a> {
                 name,
                 domain,
                 body,
-            } => {
-                let len = self.scope.len();
-                let named = self.check_variable(*name_place, name);
-                let refusal = sooner(named, self.check_exp(domain));
-                let domain = self.exp(domain)?;
-                let variable = self.declare(name, Declared::Foreach)?;
-                let body = self.inner(body)?;
-                self.cut(len);
-                Ok(Resolved {
-                    part: Stmt::Foreach {
-                        place: *place,
-                        variable,
-                        domain,
-                        body: body.part,
-                    },
-                    refusal: sooner(refusal, body.refusal),
-                })
-            }
+            } => self.foreach(*place, *name_place, name, body, domain),
         }
     }
 }

@@ -1,20 +1,26 @@
-use Rattle.std.proofs.Common.{◌≡◌, ◌+◌, ◌++◌, ◌∷◌, map, drop, arith, ap, sym, ◌∙◌}
+use Rattle.std.proofs.Common.{◌≡◌, ◌+◌, ◌++◌, ◌∷◌, [], map, drop, arith, refl, ap, sym, subst, ◌∙◌, IfOk, OnOk}
 use Rattle.std.proofs.lemmas.List.{drop_all}
-use Rattle.ti_syntax.specs.Trees.Statements.{stms}
+use Rattle.ti_syntax.specs.Trees.Statements.{Stm, stms}
 use Rattle.ti_syntax.specs.Trees.Statements as s
-use Rattle.ti_syntax.specs.Trees.Views.{exp_of, stm_of, maybe_of}
+use Rattle.ti_syntax.specs.Trees.Views.{exp_of, type_of, init_of, print_of, stm_of, maybe_of}
+use Rattle.ti_syntax.proofs.Bridges.{seen_block}
+use Rattle.ti_lang.specs.declared.program.stmts.Stmt.{Block}
 use Rattle.ti_lang.specs.Program.Types.{Foreach}
+use Rattle.ti_lang.specs.Program.Statements.{numbered_stms}
+use Rattle.ti_lang.specs.Program.Statements as m
 use Rattle.ti_lang.specs.Program.Views.{expression_of, statement_of}
 use Rattle.ti_lang.specs.Scopes.{declares, past, past_maybe, behind, behind_maybe, behind_all}
-use Rattle.ti_lang.specs.Nodes.{stm_nodes, maybe_stm_nodes, stms_nodes}
+use Rattle.ti_lang.specs.Nodes.{node, VariableName, exp_nodes, stm_nodes, maybe_stm_nodes, stms_nodes}
+use Rattle.ti_lang.proofs.ProgramBridges.{seen_numbered_block}
 use Rattle.ti_rules.specs.First.{sooner}
 use Rattle.ti_names.specs.Found.{first_in}
-use Rattle.ti_names.specs.Mirrors.Numbered.{number_stm, number_list}
+use Rattle.ti_names.specs.Mirrors.Numbered.{number_exp, number_stm, number_maybe_stm, number_list}
+use Rattle.ti_names.specs.Branched.{numbered_branches}
 use Rattle.ti_names.specs.Seen.{site_of, tree_maybe, seen_maybe}
-use Rattle.ti_names.proofs.Branches.{branches, seen_if, seen_for, held_for, in_branches, in_foreach}
+use Rattle.ti_names.proofs.Branches.{on_ok, branches, seen_if, seen_for, held_if, held_for, number_branches, behind_branches, in_branches, in_foreach}
 use Rattle.ti_names.proofs.Compound.{last_site, for_value, for_first}
-use Rattle.ti_names.proofs.Firsts.{in_step, in_end}
-use Rattle.ti_names.proofs.Lists.{scope_length}
+use Rattle.ti_names.proofs.Firsts.{in_none, in_append, in_step, in_end}
+use Rattle.ti_names.proofs.Lists.{scope_length, number_stms_list}
 use Rattle.ti_names.proofs.Sites.{inner_site, block_site, for_site, foreach_site}
 use Rattle.ti_names.proofs.Walks.{map_push, drop_next}
 use Rattle.ti_names.proofs.site.Site.+walk_stmt.Goals as goal
@@ -50,87 +56,250 @@ pub stms-returns-clause-refusal : goal.stms-returns-clause-refusal
 stms-returns-clause-refusal measure c =
     in_end c.loop-x.refusal _ _ c.loop-x.invariant.refusal (ap (λ l. stms_nodes (site_of c.loop-x.self) (stms (map stm_of l))) (drop_all c.loop-x.x-index c.args.xs.now (omega arith)))
 
-pub stm-returns-in_ok-body-in-For-clause-part : goal.stm-returns-in_ok-body-in-For-clause-part
-stm-returns-in_ok-body-in-For-clause-part measure c =
+pub block-returns-clause-part : goal.block-returns-clause-part
+block-returns-clause-part measure c =
     let s0 = site_of c.args.self.now in
-    let first = tree_maybe c.in-For.first in
-    let condition = maybe_of exp_of c.in-For.condition in
-    let update = tree_maybe c.in-For.update in
-    let body = stm_of c.in-For.body.value in
-    let s1 = site_of c.maybe_stm.new.self in
-    let s2 = site_of c.maybe_inner-in-For.new.self in
-    let e : stm_of c.args.x.now ≡ s.For c.in-For.place first condition update body = seen_for c.args.x.now c.in-For.place c.in-For.first c.in-For.condition c.in-For.update c.in-For.body c.in-For.is in
-    let is_body : statement_of c.in_ok-body-in-For.body.part.value ≡ number_stm s2 body = c.in_ok-body-in-For.ensures.part ∙ ap (λ z. number_stm s2 (stm_of z)) c.deref-in-For.ensures in
-    held_for c.in-For.place c.in_ok-first-in-For.first.part c.in_ok-condition-in-For.condition c.in_ok-update-in-For.update.part c.in_ok-body-in-For.body.part
-    ∙ for_value c.in-For.place first condition update body s0 s1 s2 c.in_ok-first-in-For.ensures.site c.in_ok-update-in-For.ensures.site
-    (seen_maybe c.in_ok-first-in-For.first.part) (maybe_of expression_of c.in_ok-condition-in-For.condition) (seen_maybe c.in_ok-update-in-For.update.part) (statement_of c.in_ok-body-in-For.body.part.value)
-    c.in_ok-first-in-For.ensures.part c.in_ok-condition-in-For.ensures c.in_ok-update-in-For.ensures.part is_body
-    ∙ ap (number_stm s0) (sym e)
+    seen_numbered_block (Block c.in_ok-body.body.part) c.in_ok-body.body.part refl ∙ ap (λ z. m.Block (numbered_stms z)) c.in_ok-body.ensures.part ∙ sym (ap m.Block (number_stms_list s0 (map stm_of c.args.body.now)))
 
-pub stm-returns-in_ok-body-in-For-clause-refusal : goal.stm-returns-in_ok-body-in-For-clause-refusal
-stm-returns-in_ok-body-in-For-clause-refusal measure c =
-    let s0 = site_of c.args.self.now in
-    let first = tree_maybe c.in-For.first in
-    let condition = maybe_of exp_of c.in-For.condition in
-    let update = tree_maybe c.in-For.update in
-    let body = stm_of c.in-For.body.value in
-    let s1 = site_of c.maybe_stm.new.self in
-    let s2 = site_of c.maybe_inner-in-For.new.self in
-    let e : stm_of c.args.x.now ≡ s.For c.in-For.place first condition update body = seen_for c.args.x.now c.in-For.place c.in-For.first c.in-For.condition c.in-For.update c.in-For.body c.in-For.is in
-    let is_body : c.in_ok-body-in-For.body.refusal ≡ first_in (stm_nodes s2 body) = c.in_ok-body-in-For.ensures.refusal ∙ ap (λ z. first_in (stm_nodes s2 (stm_of z))) c.deref-in-For.ensures in
-    c.sooner-in-For-2.ensures ∙ ap (λ z. sooner z c.in_ok-body-in-For.body.refusal) (c.sooner-in-For.ensures ∙ ap (λ z. sooner z c.in_ok-update-in-For.update.refusal) c.sooner-refusal.ensures)
-    ∙ for_first c.in-For.place first condition update body s0 s1 s2 c.in_ok-first-in-For.ensures.site c.in_ok-update-in-For.ensures.site
-    c.in_ok-first-in-For.first.refusal c.check_maybe-in-For.result c.in_ok-update-in-For.update.refusal c.in_ok-body-in-For.body.refusal
-    c.in_ok-first-in-For.ensures.refusal c.check_maybe-in-For.ensures c.in_ok-update-in-For.ensures.refusal is_body
-    ∙ ap (λ z. first_in (stm_nodes s0 z)) (sym e)
+pub block-returns-clause-refusal : goal.block-returns-clause-refusal
+block-returns-clause-refusal measure c = c.in_ok-body.ensures.refusal
 
-pub stm-returns-in_ok-otherwise-in-If-clause-refusal : goal.stm-returns-in_ok-otherwise-in-If-clause-refusal
-stm-returns-in_ok-otherwise-in-If-clause-refusal measure c =
+-- ---- the form of each statement that holds others
+
+pub guarded-returns : goal.guarded-returns
+guarded-returns measure c =
     let s0 = site_of c.args.self.now in
+    record {
+      condition = c.in_ok-condition.ensures;
+      body = c.in_ok-body.ensures.part;
+      refusal = c.sooner.ensures ∙ (λ j. sooner (c.check_exp-refusal.ensures j) (c.in_ok-body.ensures.refusal j)) ∙ sym (in_append (exp_nodes s0 (exp_of c.args.condition.now)) (stm_nodes s0 (stm_of c.args.body.now)));
+      site = c.in_ok-body.ensures.site;
+    }
+
+pub choice-returns : goal.choice-returns
+choice-returns measure c =
+    let head = c.args.head in
+    record {
+      part = held_if c.args.place head.part.condition head.part.body c.in_ok-otherwise.otherwise.part
+          ∙ ap (numbered_branches c.args.place (expression_of head.part.condition) (statement_of head.part.body.value)) c.in_ok-otherwise.ensures.part;
+      refusal = c.sooner.ensures ∙ ap (sooner head.refusal) c.in_ok-otherwise.ensures.refusal;
+      site = c.in_ok-otherwise.ensures.site;
+    }
+
+pub foreach-returns : goal.foreach-returns
+foreach-returns measure c =
+    let s0 = site_of c.args.self.now in
+    let at = c.args.place in
+    let name = c.args.name.now in
+    let domain = exp_of c.args.domain.now in
+    let body = stm_of c.args.body.now in
+    let declared : site_of c.declare.new.self ≡ declares s0 name Foreach = c.in_ok-variable.ensures.site in
+    let is_body : statement_of c.in_ok-body.body.part.value ≡ number_stm (declares s0 name Foreach) body = c.in_ok-body.ensures.part ∙ ap (λ z. number_stm z body) declared in
+    let found : c.in_ok-body.body.refusal ≡ first_in (stm_nodes (declares s0 name Foreach) body) = c.in_ok-body.ensures.refusal ∙ ap (λ z. first_in (stm_nodes z body)) declared in
+    let behind_body : site_of c.inner.new.self ≡ past (declares s0 name Foreach) body = c.in_ok-body.ensures.site ∙ ap (λ z. past z body) declared in
+    record {
+      part = λ j. m.Foreach at (c.in_ok-variable.ensures.number j) (c.in_ok-domain.ensures j) (is_body j);
+      refusal = c.sooner.ensures ∙ ap (λ z. sooner z c.in_ok-body.body.refusal) c.sooner-refusal.ensures
+          ∙ (λ j. sooner (sooner (c.check_variable-named.ensures j) (c.check_exp.ensures j)) (found j)) ∙ sym (in_foreach s0 at c.args.name_place name domain body);
+      site = c.cut.ensures ∙ foreach_site s0 (site_of c.inner.new.self) c.len-len.result name body (c.len-len.ensures ∙ sym (scope_length c.args.self.now.scope)) behind_body;
+    }
+
+-- ---- a statement, by its form
+
+pub stm-returns-in-Empty : goal.stm-returns-in-Empty
+stm-returns-in-Empty measure c =
+    let s0 = site_of c.args.self.now in
+    let e : s.Empty ≡ stm_of c.args.x.now = sym (ap stm_of c.in-Empty.is) in
+    record {
+      part = ap statement_of c.clean.ensures.part ∙ ap (number_stm s0) e;
+      refusal = c.clean.ensures.refusal ∙ sym in_none ∙ ap (λ z. first_in (stm_nodes s0 z)) e;
+      site = ap (behind s0) e;
+    }
+
+pub stm-returns-in-Declare : goal.stm-returns-in-Declare
+stm-returns-in-Declare measure c =
+    let s0 = site_of c.args.self.now in
+    let e : s.Declare c.in-Declare.place (type_of c.in-Declare.ty) c.in-Declare.name (init_of c.deref.result.now) ≡ stm_of c.args.x.now = ap (λ z. s.Declare c.in-Declare.place (type_of c.in-Declare.ty) c.in-Declare.name (init_of z)) c.deref.ensures ∙ sym (ap stm_of c.in-Declare.is) in
+    record {
+      part = subst (λ z. IfOk c.declaration.result (λ r. statement_of r.part ≡ number_stm s0 z)) e c.declaration.ensures.part;
+      refusal = subst (λ z. IfOk c.declaration.result (λ r. r.refusal ≡ first_in (stm_nodes s0 z))) e c.declaration.ensures.refusal;
+      site = subst (λ z. OnOk c.declaration.result (site_of c.declaration.new.self ≡ behind s0 z)) e c.declaration.ensures.site;
+    }
+
+pub stm-returns-in-Assign : goal.stm-returns-in-Assign
+stm-returns-in-Assign measure c =
+    let s0 = site_of c.args.self.now in
+    let e : s.Assign c.in-Assign.place (exp_of c.in-Assign.target) (init_of c.deref-in-Assign.result.now) ≡ stm_of c.args.x.now = ap (λ z. s.Assign c.in-Assign.place (exp_of c.in-Assign.target) (init_of z)) c.deref-in-Assign.ensures ∙ sym (ap stm_of c.in-Assign.is) in
+    record {
+      part = subst (λ z. IfOk c.assignment.result (λ r. statement_of r.part ≡ number_stm s0 z)) e c.assignment.ensures.part;
+      refusal = subst (λ z. IfOk c.assignment.result (λ r. r.refusal ≡ first_in (stm_nodes s0 z))) e c.assignment.ensures.refusal;
+      site = on_ok c.assignment.result (ap (behind s0) e);
+    }
+
+pub stm-returns-in-Update : goal.stm-returns-in-Update
+stm-returns-in-Update measure c =
+    let s0 = site_of c.args.self.now in
+    let e : s.Update c.in-Update.place c.in-Update.operator (exp_of c.in-Update.target) (exp_of c.in-Update.value) ≡ stm_of c.args.x.now = sym (ap stm_of c.in-Update.is) in
+    record {
+      part = subst (λ z. IfOk c.update.result (λ r. statement_of r.part ≡ number_stm s0 z)) e c.update.ensures.part;
+      refusal = subst (λ z. IfOk c.update.result (λ r. r.refusal ≡ first_in (stm_nodes s0 z))) e c.update.ensures.refusal;
+      site = on_ok c.update.result (ap (behind s0) e);
+    }
+
+pub stm-returns-in-Step : goal.stm-returns-in-Step
+stm-returns-in-Step measure c =
+    let s0 = site_of c.args.self.now in
+    let e : s.Step c.in-Step.place c.in-Step.operator (exp_of c.in-Step.target) ≡ stm_of c.args.x.now = sym (ap stm_of c.in-Step.is) in
+    record {
+      part = subst (λ z. IfOk c.step.result (λ r. statement_of r.part ≡ number_stm s0 z)) e c.step.ensures.part;
+      refusal = subst (λ z. IfOk c.step.result (λ r. r.refusal ≡ first_in (stm_nodes s0 z))) e c.step.ensures.refusal;
+      site = on_ok c.step.result (ap (behind s0) e);
+    }
+
+pub stm-returns-in-Call : goal.stm-returns-in-Call
+stm-returns-in-Call measure c =
+    let s0 = site_of c.args.self.now in
+    let e : s.Call (exp_of c.in-Call.x) ≡ stm_of c.args.x.now = sym (ap stm_of c.in-Call.is) in
+    record {
+      part = subst (λ z. IfOk c.call_alone.result (λ r. statement_of r.part ≡ number_stm s0 z)) e c.call_alone.ensures.part;
+      refusal = subst (λ z. IfOk c.call_alone.result (λ r. r.refusal ≡ first_in (stm_nodes s0 z))) e c.call_alone.ensures.refusal;
+      site = on_ok c.call_alone.result (ap (behind s0) e);
+    }
+
+pub stm-returns-in-Print : goal.stm-returns-in-Print
+stm-returns-in-Print measure c =
+    let s0 = site_of c.args.self.now in
+    let e : s.Print c.in-Print.place (print_of c.in-Print.what) ≡ stm_of c.args.x.now = sym (ap stm_of c.in-Print.is) in
+    record {
+      part = subst (λ z. IfOk c.printing.result (λ r. statement_of r.part ≡ number_stm s0 z)) e c.printing.ensures.part;
+      refusal = subst (λ z. IfOk c.printing.result (λ r. r.refusal ≡ first_in (stm_nodes s0 z))) e c.printing.ensures.refusal;
+      site = subst (λ z. OnOk c.printing.result (site_of c.printing.new.self ≡ behind s0 z)) e c.printing.ensures.site;
+    }
+
+pub stm-returns-in-Barrier : goal.stm-returns-in-Barrier
+stm-returns-in-Barrier measure c =
+    let s0 = site_of c.args.self.now in
+    let e : s.Barrier c.in-Barrier.place ≡ stm_of c.args.x.now = sym (ap stm_of c.in-Barrier.is) in
+    record {
+      part = ap statement_of c.clean-in-Barrier.ensures.part ∙ ap (number_stm s0) e;
+      refusal = c.clean-in-Barrier.ensures.refusal ∙ sym in_none ∙ ap (λ z. first_in (stm_nodes s0 z)) e;
+      site = ap (behind s0) e;
+    }
+
+pub stm-returns-in-Break : goal.stm-returns-in-Break
+stm-returns-in-Break measure c =
+    let s0 = site_of c.args.self.now in
+    let e : s.Break c.in-Break.place ≡ stm_of c.args.x.now = sym (ap stm_of c.in-Break.is) in
+    record {
+      part = ap statement_of c.clean-in-Break.ensures.part ∙ ap (number_stm s0) e;
+      refusal = c.clean-in-Break.ensures.refusal ∙ sym in_none ∙ ap (λ z. first_in (stm_nodes s0 z)) e;
+      site = ap (behind s0) e;
+    }
+
+pub stm-returns-in-Continue : goal.stm-returns-in-Continue
+stm-returns-in-Continue measure c =
+    let s0 = site_of c.args.self.now in
+    let e : s.Continue c.in-Continue.place ≡ stm_of c.args.x.now = sym (ap stm_of c.in-Continue.is) in
+    record {
+      part = ap statement_of c.clean-in-Continue.ensures.part ∙ ap (number_stm s0) e;
+      refusal = c.clean-in-Continue.ensures.refusal ∙ sym in_none ∙ ap (λ z. first_in (stm_nodes s0 z)) e;
+      site = ap (behind s0) e;
+    }
+
+pub stm-returns-in-Return : goal.stm-returns-in-Return
+stm-returns-in-Return measure c =
+    let s0 = site_of c.args.self.now in
+    let e : s.Return c.in-Return.place (maybe_of exp_of c.in-Return.value) ≡ stm_of c.args.x.now = sym (ap stm_of c.in-Return.is) in
+    record {
+      part = subst (λ z. IfOk c.leave.result (λ r. statement_of r.part ≡ number_stm s0 z)) e c.leave.ensures.part;
+      refusal = subst (λ z. IfOk c.leave.result (λ r. r.refusal ≡ first_in (stm_nodes s0 z))) e c.leave.ensures.refusal;
+      site = on_ok c.leave.result (ap (behind s0) e);
+    }
+
+pub stm-returns-in-Block : goal.stm-returns-in-Block
+stm-returns-in-Block measure c =
+    let s0 = site_of c.args.self.now in
+    let e : s.block (map stm_of c.deref-in-Block.result.now) ≡ stm_of c.args.x.now = ap (λ l. s.block (map stm_of l)) c.deref-in-Block.ensures.value ∙ sym (seen_block c.args.x.now c.in-Block.body c.in-Block.is) in
+    record {
+      part = subst (λ z. IfOk c.block.result (λ r. statement_of r.part ≡ number_stm s0 z)) e c.block.ensures.part;
+      refusal = subst (λ z. IfOk c.block.result (λ r. r.refusal ≡ first_in (stm_nodes s0 z))) e c.block.ensures.refusal;
+      site = subst (λ z. OnOk c.block.result (site_of c.block.new.self ≡ behind s0 z)) e c.block.ensures.site;
+    }
+
+pub stm-returns-in_ok-head-in-If : goal.stm-returns-in_ok-head-in-If
+stm-returns-in_ok-head-in-If measure c =
+    let s0 = site_of c.args.self.now in
+    let at = c.in-If.place in
     let condition = exp_of c.in-If.condition in
-    let then = stm_of c.in-If.then.value in
+    let body = stm_of c.in-If.then.value in
     let otherwise = tree_maybe c.in-If.otherwise in
-    let e : stm_of c.args.x.now ≡ branches c.in-If.place condition then otherwise = seen_if c.args.x.now c.in-If.place c.in-If.condition c.in-If.then c.in-If.otherwise c.in-If.is in
-    let is_then : c.in_ok-then-in-If.then.refusal ≡ first_in (stm_nodes s0 then) = c.in_ok-then-in-If.ensures.refusal ∙ ap (λ z. first_in (stm_nodes s0 (stm_of z))) c.deref-in-If.ensures in
-    let behind_then : site_of c.inner.new.self ≡ past s0 then = c.in_ok-then-in-If.ensures.site ∙ ap (λ z. past s0 (stm_of z)) c.deref-in-If.ensures in
-    let is_otherwise : c.in_ok-otherwise-in-If.otherwise.refusal ≡ first_in (maybe_stm_nodes (past s0 then) otherwise) = c.in_ok-otherwise-in-If.ensures.refusal ∙ ap (λ z. first_in (maybe_stm_nodes z otherwise)) behind_then in
-    c.sooner-in-If-2.ensures ∙ ap (λ z. sooner z c.in_ok-otherwise-in-If.otherwise.refusal) c.sooner-in-If.ensures
-    ∙ (λ j. sooner (sooner (c.check_exp-refusal.ensures j) (is_then j)) (is_otherwise j)) ∙ sym (in_branches s0 c.in-If.place condition then otherwise) ∙ ap (λ z. first_in (stm_nodes s0 z)) (sym e)
+    let head = c.in_ok-head-in-If.head in
+    let e : stm_of c.args.x.now ≡ branches at condition body otherwise = seen_if c.args.x.now at c.in-If.condition c.in-If.then c.in-If.otherwise c.in-If.is in
+    let moved : site_of c.guarded.new.self ≡ past s0 body = c.in_ok-head-in-If.ensures.site ∙ ap (λ z. past s0 (stm_of z)) c.deref-in-If.ensures in
+    let is_body : statement_of head.part.body.value ≡ number_stm s0 body = c.in_ok-head-in-If.ensures.body ∙ ap (λ z. number_stm s0 (stm_of z)) c.deref-in-If.ensures in
+    let found : head.refusal ≡ sooner (first_in (exp_nodes s0 condition)) (first_in (stm_nodes s0 body)) =
+    c.in_ok-head-in-If.ensures.refusal ∙ ap (λ z. first_in (exp_nodes s0 condition ++ stm_nodes s0 (stm_of z))) c.deref-in-If.ensures ∙ in_append (exp_nodes s0 condition) (stm_nodes s0 body) in
+    let part = (λ j. numbered_branches at (c.in_ok-head-in-If.ensures.condition j) (is_body j) (number_maybe_stm (moved j) otherwise)) ∙ sym (number_branches s0 at condition body otherwise) ∙ ap (number_stm s0) (sym e) in
+    let refusal = (λ j. sooner (found j) (first_in (maybe_stm_nodes (moved j) otherwise))) ∙ sym (in_branches s0 at condition body otherwise) ∙ ap (λ z. first_in (stm_nodes s0 z)) (sym e) in
+    let site = ap (λ z. past_maybe z otherwise) moved ∙ sym (behind_branches s0 at condition body otherwise) ∙ ap (behind s0) (sym e) in
+    record {
+      part = subst (λ z. IfOk c.choice.result (λ r. statement_of r.part ≡ z)) part c.choice.ensures.part;
+      refusal = subst (λ z. IfOk c.choice.result (λ r. r.refusal ≡ z)) refusal c.choice.ensures.refusal;
+      site = subst (λ z. OnOk c.choice.result (site_of c.choice.new.self ≡ z)) site c.choice.ensures.site;
+    }
 
-pub stm-returns-in_ok-body-in-Foreach-clause-refusal : goal.stm-returns-in_ok-body-in-Foreach-clause-refusal
-stm-returns-in_ok-body-in-Foreach-clause-refusal measure c =
+pub stm-returns-in_ok-head-in-While : goal.stm-returns-in_ok-head-in-While
+stm-returns-in_ok-head-in-While measure c =
     let s0 = site_of c.args.self.now in
-    let name = c.in-Foreach.name in
-    let domain = exp_of c.in-Foreach.domain in
-    let body = stm_of c.in-Foreach.body.value in
-    let e : stm_of c.args.x.now ≡ s.Foreach c.in-Foreach.place c.in-Foreach.name_place name domain body = ap stm_of c.in-Foreach.is in
-    let declared : site_of c.declare.new.self ≡ declares s0 name Foreach = c.in_ok-variable-in-Foreach.ensures.site in
-    let is_body : c.in_ok-body-in-Foreach.body.refusal ≡ first_in (stm_nodes (declares s0 name Foreach) body) = c.in_ok-body-in-Foreach.ensures.refusal ∙ (λ j. first_in (stm_nodes (declared j) (stm_of (c.deref-in-Foreach.ensures j)))) in
-    c.sooner-in-Foreach.ensures ∙ ap (λ z. sooner z c.in_ok-body-in-Foreach.body.refusal) c.sooner-refusal-in-Foreach.ensures
-    ∙ (λ j. sooner (sooner (c.check_variable-named.ensures j) (c.check_exp-in-Foreach.ensures j)) (is_body j)) ∙ sym (in_foreach s0 c.in-Foreach.place c.in-Foreach.name_place name domain body) ∙ ap (λ z. first_in (stm_nodes s0 z)) (sym e)
+    let at = c.in-While.place in
+    let condition = exp_of c.in-While.condition in
+    let head = c.in_ok-head-in-While.head in
+    let e : s.While at condition (stm_of c.in-While.body.value) ≡ stm_of c.args.x.now = sym (ap stm_of c.in-While.is) in
+    let is_body : statement_of head.part.body.value ≡ number_stm s0 (stm_of c.in-While.body.value) = c.in_ok-head-in-While.ensures.body ∙ ap (λ z. number_stm s0 (stm_of z)) c.deref-in-While.ensures in
+    record {
+      part = (λ j. m.While at (c.in_ok-head-in-While.ensures.condition j) (is_body j)) ∙ ap (number_stm s0) e;
+      refusal = c.in_ok-head-in-While.ensures.refusal ∙ ap (λ z. first_in (exp_nodes s0 condition ++ stm_nodes s0 (stm_of z))) c.deref-in-While.ensures ∙ ap (λ z. first_in (stm_nodes s0 z)) e;
+      site = c.in_ok-head-in-While.ensures.site ∙ ap (λ z. past s0 (stm_of z)) c.deref-in-While.ensures ∙ ap (behind s0) e;
+    }
 
-pub stm-returns-in_ok-body-in-For-clause-site : goal.stm-returns-in_ok-body-in-For-clause-site
-stm-returns-in_ok-body-in-For-clause-site measure c =
+pub stm-returns-in_ok-body-in-For : goal.stm-returns-in_ok-body-in-For
+stm-returns-in_ok-body-in-For measure c =
     let s0 = site_of c.args.self.now in
+    let at = c.in-For.place in
     let first = tree_maybe c.in-For.first in
     let condition = maybe_of exp_of c.in-For.condition in
     let update = tree_maybe c.in-For.update in
     let body = stm_of c.in-For.body.value in
     let s1 = site_of c.maybe_stm.new.self in
-    let s2 = site_of c.maybe_inner-in-For.new.self in
-    let e : stm_of c.args.x.now ≡ s.For c.in-For.place first condition update body = seen_for c.args.x.now c.in-For.place c.in-For.first c.in-For.condition c.in-For.update c.in-For.body c.in-For.is in
-    let last : s2 ≡ past_maybe (behind_maybe s0 first) update = last_site c.in-For.place first condition update body s0 s1 s2 c.in_ok-first-in-For.ensures.site c.in_ok-update-in-For.ensures.site in
-    let behind_body : site_of c.inner-in-For.new.self ≡ past (past_maybe (behind_maybe s0 first) update) body = c.in_ok-body-in-For.ensures.site ∙ (λ j. past (last j) (stm_of (c.deref-in-For.ensures j))) in
-    c.cut.ensures ∙ for_site s0 (site_of c.inner-in-For.new.self) c.len-len.result first update body (c.len-len.ensures ∙ sym (scope_length c.args.self.now.scope)) behind_body
-    ∙ ap (λ z. behind s0 z) (sym e)
+    let s2 = site_of c.maybe_inner.new.self in
+    let e : s.For at first condition update body ≡ stm_of c.args.x.now = sym (seen_for c.args.x.now at c.in-For.first c.in-For.condition c.in-For.update c.in-For.body c.in-For.is) in
+    let to1 = c.in_ok-first-in-For.ensures.site in
+    let to2 = c.in_ok-update-in-For.ensures.site in
+    let is_body : statement_of c.in_ok-body-in-For.body.part.value ≡ number_stm s2 body = c.in_ok-body-in-For.ensures.part ∙ ap (λ z. number_stm s2 (stm_of z)) c.deref-in-For.ensures in
+    let found : c.in_ok-body-in-For.body.refusal ≡ first_in (stm_nodes s2 body) = c.in_ok-body-in-For.ensures.refusal ∙ ap (λ z. first_in (stm_nodes s2 (stm_of z))) c.deref-in-For.ensures in
+    let last : s2 ≡ past_maybe (behind_maybe s0 first) update = last_site at first condition update body s0 s1 s2 to1 to2 in
+    let behind_body : site_of c.inner.new.self ≡ past (past_maybe (behind_maybe s0 first) update) body = c.in_ok-body-in-For.ensures.site ∙ (λ j. past (last j) (stm_of (c.deref-in-For.ensures j))) in
+    record {
+      part = held_for at c.in_ok-first-in-For.first.part c.in_ok-condition-in-For.condition c.in_ok-update-in-For.update.part c.in_ok-body-in-For.body.part
+          ∙ for_value at first condition update body s0 s1 s2 to1 to2
+          (seen_maybe c.in_ok-first-in-For.first.part) (maybe_of expression_of c.in_ok-condition-in-For.condition) (seen_maybe c.in_ok-update-in-For.update.part) (statement_of c.in_ok-body-in-For.body.part.value)
+          c.in_ok-first-in-For.ensures.part c.in_ok-condition-in-For.ensures c.in_ok-update-in-For.ensures.part is_body
+          ∙ ap (number_stm s0) e;
+      refusal = c.sooner-in-For.ensures ∙ ap (λ z. sooner z c.in_ok-body-in-For.body.refusal) (c.sooner.ensures ∙ ap (λ z. sooner z c.in_ok-update-in-For.update.refusal) c.sooner-refusal.ensures)
+          ∙ for_first at first condition update body s0 s1 s2 to1 to2
+          c.in_ok-first-in-For.first.refusal c.check_maybe.result c.in_ok-update-in-For.update.refusal c.in_ok-body-in-For.body.refusal
+          c.in_ok-first-in-For.ensures.refusal c.check_maybe.ensures c.in_ok-update-in-For.ensures.refusal found
+          ∙ ap (λ z. first_in (stm_nodes s0 z)) e;
+      site = c.cut.ensures ∙ for_site s0 (site_of c.inner.new.self) c.len-len.result first update body (c.len-len.ensures ∙ sym (scope_length c.args.self.now.scope)) behind_body
+          ∙ ap (behind s0) e;
+    }
 
-pub stm-returns-in_ok-body-in-Foreach-clause-site : goal.stm-returns-in_ok-body-in-Foreach-clause-site
-stm-returns-in_ok-body-in-Foreach-clause-site measure c =
+pub stm-returns-in-Foreach : goal.stm-returns-in-Foreach
+stm-returns-in-Foreach measure c =
     let s0 = site_of c.args.self.now in
-    let name = c.in-Foreach.name in
-    let body = stm_of c.in-Foreach.body.value in
-    let e : stm_of c.args.x.now ≡ s.Foreach c.in-Foreach.place c.in-Foreach.name_place name (exp_of c.in-Foreach.domain) body = ap stm_of c.in-Foreach.is in
-    let declared : site_of c.declare.new.self ≡ declares s0 name Foreach = c.in_ok-variable-in-Foreach.ensures.site in
-    let behind_body : site_of c.inner-in-Foreach.new.self ≡ past (declares s0 name Foreach) body = c.in_ok-body-in-Foreach.ensures.site ∙ (λ j. past (declared j) (stm_of (c.deref-in-Foreach.ensures j))) in
-    c.cut-in-Foreach.ensures ∙ foreach_site s0 (site_of c.inner-in-Foreach.new.self) c.len-len-in-Foreach.result name body (c.len-len-in-Foreach.ensures ∙ sym (scope_length c.args.self.now.scope)) behind_body
-    ∙ ap (λ z. behind s0 z) (sym e)
+    let e : s.Foreach c.in-Foreach.place c.in-Foreach.name_place c.in-Foreach.name (exp_of c.in-Foreach.domain) (stm_of c.deref-in-Foreach.result.now) ≡ stm_of c.args.x.now = ap (λ z. s.Foreach c.in-Foreach.place c.in-Foreach.name_place c.in-Foreach.name (exp_of c.in-Foreach.domain) (stm_of z)) c.deref-in-Foreach.ensures ∙ sym (ap stm_of c.in-Foreach.is) in
+    record {
+      part = subst (λ z. IfOk c.foreach.result (λ r. statement_of r.part ≡ number_stm s0 z)) e c.foreach.ensures.part;
+      refusal = subst (λ z. IfOk c.foreach.result (λ r. r.refusal ≡ first_in (stm_nodes s0 z))) e c.foreach.ensures.refusal;
+      site = subst (λ z. OnOk c.foreach.result (site_of c.foreach.new.self ≡ behind s0 z)) e c.foreach.ensures.site;
+    }
