@@ -1,5 +1,6 @@
 -- What reading a text answers is what the grammar says of the list.
 use Rattle.std.proofs.Common.{◌≡◌, ℕ, suc, ◌+◌, ◌<◌, ◌≤◌, true, List, [], ◌∷◌, ◌++◌, length, Option, Some, None, Ok, Err, refl, sym, ap, ◌∙◌, subst, append_assoc, arith, length-append}
+use Rattle.std.proofs.lemmas.Bool.{false≢true}
 use Rattle.ti_base.specs.declared.place.Place.{Place}
 use Rattle.ti_syntax.specs.declared.token.Token.{Token}
 use Rattle.ti_syntax.specs.declared.token.TokenKind.{TokenKind}
@@ -29,7 +30,7 @@ UpToEnd n l out = Says n AllClasses (λ r. sees k.End r ≡ true) l out
 
 end_is : (a : TokenKind) → same_kind a k.End ≡ true → a ≡ k.End
 end_is k.End h = refl
-end_is _ h = cc
+end_is _ h = absurd (false≢true h)
 
 -- ---- classes are a text where an end follows
 

@@ -1,7 +1,9 @@
 pub mod Answered
+pub mod Changes
 pub mod Decided
 pub mod Ends
 pub mod Laws
+pub mod InParts
 pub mod Lengths
 pub mod Limited
 pub mod Limits

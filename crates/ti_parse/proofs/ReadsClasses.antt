@@ -1,5 +1,7 @@
 -- Classes that are spelled are read, up to the first token whose load is above its limit.
 use Rattle.std.proofs.Common.{◌≡◌, ℕ, zero, suc, ◌<◌, List, [], ◌∷◌, ◌++◌, length, Some, None, Ok, refl, sym, ap, ◌∙◌, append_assoc, arith, length-append, true, false, Bool}
+use Rattle.std.proofs.lemmas.Bool.{false≢true}
+use Rattle.std.proofs.lemmas.Option.{none-some}
 use Rattle.ti_base.specs.declared.place.Place.{Place}
 use Rattle.ti_syntax.specs.declared.token.Token.{Token}
 use Rattle.ti_syntax.specs.declared.token.TokenKind.{TokenKind}
@@ -56,7 +58,7 @@ modifier_begins k.KeywordProtected word h = refl
 modifier_begins k.KeywordStatic word h = refl
 modifier_begins k.KeywordFinal word h = refl
 modifier_begins k.KeywordSingle word h = refl
-modifier_begins _ word h = cc
+modifier_begins _ word h = absurd (none-some word h)
 
 base_begins : (q : TokenKind) → begins_base q ≡ true → (begins_member q ≡ true) × (modifier_of q ≡ None)
 base_begins k.KeywordInt h = (refl, refl)
@@ -65,12 +67,12 @@ base_begins k.KeywordBoolean h = (refl, refl)
 base_begins k.KeywordPoint h = (refl, refl)
 base_begins k.KeywordRectDomain h = (refl, refl)
 base_begins (k.Name name) h = (refl, refl)
-base_begins _ h = cc
+base_begins _ h = absurd (false≢true h)
 
 wide_begins : (q : TokenKind) → is_wide q ≡ true → (begins_member q ≡ true) × (modifier_of q ≡ None)
 wide_begins k.KeywordDomain h = (refl, refl)
 wide_begins k.KeywordSharedRegion h = (refl, refl)
-wide_begins _ h = cc
+wide_begins _ h = absurd (false≢true h)
 
 typed_begins : {l : List Token} {ty : TypeTree} → Typed l ty → (r : List Token) → (begins_member (kind (l ++ r)) ≡ true) × (modifier_of (kind (l ++ r)) ≡ None)
 typed_begins (types.field {l = l} s) r = base_begins (kind (l ++ r)) (front_field s r)
@@ -104,7 +106,7 @@ begins_class _ = false
 class_modifier_begins : (q : TokenKind) (word : ModifierWord) → class_modifier_of q ≡ Some word → begins_class q ≡ true
 class_modifier_begins k.KeywordPublic word h = refl
 class_modifier_begins k.KeywordFinal word h = refl
-class_modifier_begins _ word h = cc
+class_modifier_begins _ word h = absurd (none-some word h)
 
 class_not_end : (q : TokenKind) → begins_class q ≡ true → same_kind q k.End ≡ false
 class_not_end k.End h = cc
@@ -208,12 +210,12 @@ module _ (limits : Limits) (allows : 0 < limits.weight) (turns : ℕ) where
   member_base ms k.KeywordPoint i h = refl
   member_base ms k.KeywordRectDomain i h = refl
   member_base ms (k.Name name) i h = refl
-  member_base ms _ i h = cc
+  member_base ms _ i h = absurd (false≢true h)
 
   member_wide : (ms : List Modifier) (q : TokenKind) (i : List Token) → is_wide q ≡ true → spec.member_by (up_to limits) turns ms q i ≡ and_then (wide (up_to limits) turns i) (λ ty. method_named (up_to limits) turns ms (tree.Typed ty))
   member_wide ms k.KeywordDomain i h = refl
   member_wide ms k.KeywordSharedRegion i h = refl
-  member_wide ms _ i h = cc
+  member_wide ms _ i h = absurd (false≢true h)
 
   from_field : {m : List Token} {ty : TypeTree} → FieldType m ty → (ms : List Modifier) (b r : List Token) → member_from (up_to limits) turns ms ((m ++ b) ++ r) ≡ and_then (field (up_to limits) turns ((m ++ b) ++ r)) (field_or_method (up_to limits) turns ms)
   unfolding member_from

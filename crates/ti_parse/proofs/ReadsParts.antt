@@ -1,5 +1,6 @@
 -- Right sides, heads and prints that are spelled are read, up to the first token whose load is above its limit.
 use Rattle.std.proofs.Common.{◌≡◌, ℕ, zero, suc, ◌≤◌, List, [], ◌∷◌, ◌++◌, length, Option, Some, None, Ok, refl, ap, append_assoc, arith, true, false, Bool, codes}
+use Rattle.std.proofs.lemmas.Option.{none-some}
 use Rattle.ti_base.specs.declared.place.Place.{Place}
 use Rattle.ti_syntax.specs.declared.token.Token.{Token}
 use Rattle.ti_syntax.specs.declared.token.TokenKind.{TokenKind}
@@ -58,7 +59,7 @@ paren_ends h = record { closer = ends paren_closes h; qualifier = ap qualifier_o
 qualifier_not_paren : (q : TokenKind) (word : QualifierWord) → qualifier_of q ≡ Some word → same_kind q k.LeftParen ≡ false
 qualifier_not_paren k.KeywordSingle word h = refl
 qualifier_not_paren k.KeywordLocal word h = refl
-qualifier_not_paren _ word h = cc
+qualifier_not_paren _ word h = absurd (none-some word h)
 
 qualified_not_paren : {l : List Token} {qs : List Qualifier} → Qualified l qs → (o : Token) (r s : List Token) → o.kind ≡ k.LeftBracket → sees k.LeftParen ((l ++ o ∷ r) ++ s) ≡ false
 qualified_not_paren types.none o r s h = ap (λ q. same_kind q k.LeftParen) h

@@ -1,5 +1,7 @@
 -- What statements begin with: operands and types that are spelled are read, up to the first token whose load is above its limit.
 use Rattle.std.proofs.Common.{◌≡◌, ℕ, ◌<◌, List, [], ◌∷◌, ◌++◌, length, Some, None, Ok, Err, refl, sym, ap, ◌∙◌, subst, append_assoc, arith, true, false, Bool}
+use Rattle.std.proofs.lemmas.Bool.{false≢true}
+use Rattle.std.proofs.lemmas.Option.{none-some}
 use Rattle.ti_syntax.specs.declared.token.Token.{Token}
 use Rattle.ti_syntax.specs.declared.token.TokenKind.{TokenKind}
 use Rattle.ti_syntax.specs.declared.token.TokenKind.TheVariants as k
@@ -174,7 +176,7 @@ module _ (limits : Limits) (allows : 0 < limits.weight) (turns : ℕ) where
   changed_step : (target : Exp) (q : TokenKind) (op : StepOperator) (i : List Token) → step_of q ≡ Some op → spec.changed_by (up_to limits) turns target q i ≡ spec.update_if (up_to limits) turns target None (Some op) i
   changed_step target k.PlusPlus op i h = ap (λ z. spec.update_if (up_to limits) turns target None z i) h
   changed_step target k.MinusMinus op i h = ap (λ z. spec.update_if (up_to limits) turns target None z i) h
-  changed_step target _ op i h = cc
+  changed_step target _ op i h = absurd (none-some op h)
 
   assign_part : {m : List Token} {value : InitTree} (target : Exp) (t : Token) (r : List Token) → t.kind ≡ k.Assign → (s : Initial m value) → EndsRight (kind r)
       → IsRead limits turns (changed (up_to limits) turns (target, Target)) (Free ∷ initial_loads s) (t ∷ m) r (tree.Assign t.place target value)
@@ -249,7 +251,7 @@ module _ (limits : Limits) (allows : 0 < limits.weight) (turns : ℕ) where
 
   begun_by_starts : (t : Token) (ts : List Token) (name : List ℕ) → t.kind ≡ k.Name name → (q : TokenKind) → kind ts ≡ q → is_name q ≡ false → qualifier_of q ≡ None → (sees k.LeftBracket ts ≡ true → is_dim (kind (next ts)) ≡ false)
       → spec.begun_by (up_to limits) turns t.place name q ts ≡ and_then (operand_to limits (t ∷ ts)) (λ x i. Ok (Starts x, i))
-  begun_by_starts t ts name h (k.Name other) is no_name free no_dim = cc
+  begun_by_starts t ts name h (k.Name other) is no_name free no_dim = absurd (false≢true (sym no_name))
   begun_by_starts t [] name h k.LeftBracket is no_name free no_dim = cc
   begun_by_starts t (o ∷ us) name h k.LeftBracket is no_name free no_dim = begun_index t o us name h is (no_dim (ap (λ z. same_kind z k.LeftBracket) is))
   begun_by_starts t ts name h q is no_name free no_dim =
@@ -290,7 +292,7 @@ module _ (limits : Limits) (allows : 0 < limits.weight) (turns : ℕ) where
   first_type k.KeywordRectDomain i h = and_then_assoc (typed (up_to limits) turns i) (declared (up_to limits) turns) some
   first_type k.KeywordDomain i h = and_then_assoc (typed (up_to limits) turns i) (declared (up_to limits) turns) some
   first_type k.KeywordSharedRegion i h = and_then_assoc (typed (up_to limits) turns i) (declared (up_to limits) turns) some
-  first_type _ i h = cc
+  first_type _ i h = absurd (false≢true h)
 
   first_declares : DeclaresWith turns (first (up_to limits) turns) (λ ty i. and_then (declared (up_to limits) turns ty i) some)
   unfolding first
@@ -298,10 +300,10 @@ module _ (limits : Limits) (allows : 0 < limits.weight) (turns : ℕ) where
       declares_with _ (λ t ts r name ty h is. ap (λ q. spec.first_by (up_to limits) turns q (t ∷ ts)) h ∙ then_ok _ is) (λ i h. first_type (kind i) i h)
 
   first_operand : (q : TokenKind) (i : List Token) → is_name q ≡ false → starts q ≡ true → spec.first_by (up_to limits) turns q i ≡ and_then (change (up_to limits) turns i) some
-  first_operand (k.Name name) i h h2 = cc
+  first_operand (k.Name name) i h h2 = absurd (false≢true (sym h))
   first_operand k.KeywordThis i h h2 = refl
   first_operand k.LeftParen i h h2 = refl
-  first_operand _ i h h2 = cc
+  first_operand _ i h h2 = absurd (false≢true h2)
 
   first_starts : StartsWith limits (first (up_to limits) turns) (λ x i. and_then (changed (up_to limits) turns x i) some)
   unfolding first change

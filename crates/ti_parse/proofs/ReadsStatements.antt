@@ -1,6 +1,6 @@
 -- Statements that are spelled are read, up to the first token whose load is above its limit.
 use Rattle.std.proofs.Common.{◌≡◌, ℕ, zero, suc, ◌+◌, ◌<◌, List, [], ◌∷◌, ◌++◌, length, Option, Ok, refl, sym, ap, ◌∙◌, append_assoc, arith, length-append, true, false, Bool, ◌&&◌, codes}
-use Rattle.std.proofs.lemmas.Bool.{le-ltb, lt-ltb}
+use Rattle.std.proofs.lemmas.Bool.{le-ltb, lt-ltb, false≢true}
 use Rattle.ti_base.specs.declared.place.Place.{Place}
 use Rattle.ti_syntax.specs.declared.token.Token.{Token}
 use Rattle.ti_syntax.specs.declared.token.TokenKind.{TokenKind}
@@ -61,7 +61,7 @@ starts_item : (q : TokenKind) → starts q ≡ true → begins_item q ≡ true
 starts_item (k.Name name) h = refl
 starts_item k.KeywordThis h = refl
 starts_item k.LeftParen h = refl
-starts_item _ h = cc
+starts_item _ h = absurd (false≢true h)
 
 not_end : (q : TokenKind) → begins_item q ≡ true → same_kind q k.RightBrace ≡ false
 not_end k.RightBrace h = cc
@@ -157,7 +157,7 @@ module _ (limits : Limits) (allows : 0 < limits.weight) (turns : ℕ) where
   small_starts levels i (k.Name name) h begin = small_is levels i (k.Name name) h refl
   small_starts levels i k.KeywordThis h begin = small_is levels i k.KeywordThis h refl
   small_starts levels i k.LeftParen h begin = small_is levels i k.LeftParen h refl
-  small_starts levels i _ h begin = cc
+  small_starts levels i _ h begin = absurd (false≢true begin)
 
   stmt_starts : (levels : ℕ) → StartsWith limits (stmt (up_to limits) turns levels) (simple (up_to limits) turns)
   stmt_starts levels = record { goes_on = λ i h _. small_starts levels i (kind i) refl h }
@@ -219,17 +219,17 @@ module _ (limits : Limits) (allows : 0 < limits.weight) (turns : ℕ) where
   item_type inner k.KeywordRectDomain i h = refl
   item_type inner k.KeywordDomain i h = refl
   item_type inner k.KeywordSharedRegion i h = refl
-  item_type inner _ i h = cc
+  item_type inner _ i h = absurd (false≢true h)
 
   item_declares : (inner : Parser Stm) → DeclaresWith turns (item (up_to limits) turns inner) (λ ty i. and_then (declared (up_to limits) turns ty i) (λ x i. and_then (expect k.Semicolon i) (λ _ i. Ok (x, i))))
   unfolding item
   item_declares inner = declares_with limits allows turns _ (λ t ts r name ty h is. ap (λ q. spec.item_by (up_to limits) turns inner q (t ∷ ts)) h ∙ then_ok _ is) (λ i h. item_type inner (kind i) i h)
 
   item_operand : (levels : ℕ) (q : TokenKind) (i : List Token) → kind i ≡ q → is_name q ≡ false → starts q ≡ true → spec.item_by (up_to limits) turns (stmt (up_to limits) turns levels) q i ≡ and_then (operand_to limits i) (simple (up_to limits) turns)
-  item_operand levels (k.Name name) i is h h2 = cc
+  item_operand levels (k.Name name) i is h h2 = absurd (false≢true (sym h))
   item_operand levels k.KeywordThis i is h h2 = small_starts levels i k.KeywordThis is h2
   item_operand levels k.LeftParen i is h h2 = small_starts levels i k.LeftParen is h2
-  item_operand levels _ i is h h2 = cc
+  item_operand levels _ i is h h2 = absurd (false≢true h2)
 
   item_starts : (levels : ℕ) → StartsWith limits (item (up_to limits) turns (stmt (up_to limits) turns levels)) (simple (up_to limits) turns)
   unfolding item
@@ -266,7 +266,7 @@ module _ (limits : Limits) (allows : 0 < limits.weight) (turns : ℕ) where
   item_leads inner k.KeywordBreak i h = refl
   item_leads inner k.KeywordContinue i h = refl
   item_leads inner k.KeywordReturn i h = refl
-  item_leads inner _ i h = cc
+  item_leads inner _ i h = absurd (false≢true h)
 
   led_item : {loads : List Load} {l r : List Token} {x : Stm} (inner : Parser Stm) → leads (kind (l ++ r)) ≡ true → IsRead limits turns inner loads l r x → IsRead limits turns (item (up_to limits) turns inner) loads l r x
   unfolding item

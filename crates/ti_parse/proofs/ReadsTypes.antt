@@ -1,5 +1,6 @@
 -- Types that are spelled are read.
 use Rattle.std.proofs.Common.{◌≡◌, ℕ, ◌<◌, ◌≤◌, List, [], ◌∷◌, ◌++◌, length, Some, None, Ok, refl, ap, ◌∙◌, append_assoc, arith, length-append, true, false, Bool}
+use Rattle.std.proofs.lemmas.Option.{none-some}
 use Rattle.ti_base.specs.declared.place.Place.{Place}
 use Rattle.ti_syntax.specs.declared.token.Token.{Token}
 use Rattle.ti_syntax.specs.declared.token.TokenKind.{TokenKind}
@@ -86,7 +87,7 @@ module _ (limits : Limits) (turns : ℕ) where
       → begun_by (up_to limits) turns at name q i ≡ and_then (field_type turns (b.Named at name) i) (λ ty i. Ok (Declares ty, i))
   begun_qualified at name i k.KeywordSingle word h = refl
   begun_qualified at name i k.KeywordLocal word h = refl
-  begun_qualified at name i _ word h = cc
+  begun_qualified at name i _ word h = absurd (none-some word h)
 
   begun_grids : {l m : List Token} {qs : List Qualifier} {gs : List GridTree} → Qualified l qs → Gridded m gs → length gs ≤ 2 → (at : Place) (name : List ℕ) (o t c : Token) (n : ℕ) (r : List Token) → t.kind ≡ k.Dim n → 1 ≤ n → n ≤ 3 → c.kind ≡ k.RightBracket → EndsType r
       → length (l ++ m) < turns

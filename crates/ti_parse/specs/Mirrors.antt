@@ -5,3 +5,4 @@ pub mod Statements
 pub mod Classes
 pub mod Seen
 pub mod Nests
+pub mod Pieces

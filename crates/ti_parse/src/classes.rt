@@ -3,18 +3,27 @@
 ghost use Rattle.std.specs.Prelude.{[], ◌≡◌};
 ghost use Rattle.ti_syntax.specs.Trees.Views.{class_of, member_of, params_of, result_of, type_of};
 ghost use Rattle.ti_parse.specs.Mirrors.Classes as spec;
+ghost use Rattle.ti_parse.specs.Mirrors.Pieces as pieces;
+ghost use Rattle.ti_parse.specs.Mirrors.Pieces.{braced_of};
 ghost use Rattle.ti_parse.specs.Mirrors.Seen.{classes_of, members_of, modifiers_of, param_list_of, word_of};
 ghost use Rattle.ti_parse.specs.Mirrors.Way.{plain};
 ghost use Rattle.ti_parse_expr.specs.Mirrors.Input.{ReadsAs};
 
-use crate::reader::Reader;
+use crate::reader::{Reader, followed};
 use crate::words::{Modified, modifier_of};
 use ti_base::Place;
 use ti_parse_expr::{Stop, Tokens};
 use ti_syntax::tree::{
-    Class, Field, Member, Method, Modifier, Param, Params, ResultType, TypeName,
+    Class, Field, Member, Method, Modifier, Param, Params, ResultType, Stmt, TypeName,
 };
 use ti_syntax::{Spelled, TokenKind};
+
+/// The items of a method, with the place of the brace behind them.
+#[derive(Drop)]
+pub struct Braced {
+    pub body: Vec<Stmt>,
+    pub end: Place,
+}
 
 impl Reader {
     // ---- methods
@@ -65,6 +74,28 @@ impl Reader {
         }
     }
 
+    /// The parameters of a method, with their parentheses.
+    #[tactic(auto, unfolding(crate::specs::Mirrors::Pieces::signature))]
+    fn signature(self, tokens: &mut Tokens<'_>) -> Result<Params, Stop>
+        ensures { ReadsAs params_of (pieces.signature plain self.turns tokens.old) result tokens.new }
+    {
+        tokens.expect(TokenKind::LeftParen)?;
+        let params = self.params(tokens)?;
+        followed(tokens, TokenKind::RightParen, params)
+    }
+
+    /// The items of a method, in their braces.
+    #[tactic(auto, unfolding(crate::specs::Mirrors::Pieces::braced))]
+    fn braced(self, tokens: &mut Tokens<'_>) -> Result<Braced, Stop>
+        ensures { ReadsAs braced_of (pieces.braced plain self.turns tokens.old) result tokens.new }
+    {
+        tokens.expect(TokenKind::LeftBrace)?;
+        let body = self.body(tokens)?;
+        let end = tokens.place();
+        tokens.expect(TokenKind::RightBrace)?;
+        Ok(Braced { body, end })
+    }
+
     /// A method, after its name.
     #[tactic(auto, unfolding(crate::specs::Mirrors::Classes::method))]
     fn method(
@@ -77,21 +108,16 @@ impl Reader {
     ) -> Result<Member, Stop>
         ensures { ReadsAs member_of (spec.method plain self.turns modifiers.items (result_of result_type) place name tokens.old) result tokens.new }
     {
-        tokens.expect(TokenKind::LeftParen)?;
-        let params = self.params(tokens)?;
-        tokens.expect(TokenKind::RightParen)?;
-        tokens.expect(TokenKind::LeftBrace)?;
-        let body = self.body(tokens)?;
-        let end = tokens.place();
-        tokens.expect(TokenKind::RightBrace)?;
+        let params = self.signature(tokens)?;
+        let braced = self.braced(tokens)?;
         Ok(Member::Method(Method {
             modifiers,
             result: result_type,
             place,
             name,
             params,
-            body,
-            end,
+            body: braced.body,
+            end: braced.end,
         }))
     }
 

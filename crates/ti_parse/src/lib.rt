@@ -2,8 +2,7 @@
 #![tactic(auto)]
 
 mod classes;
-mod heads;
-mod inits;
+mod exprs;
 mod reader;
 mod simple;
 mod stmts;

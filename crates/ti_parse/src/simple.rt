@@ -4,13 +4,13 @@ ghost use Rattle.std.specs.Prelude.{◌≡◌, false};
 ghost use Rattle.ti_syntax.specs.Trees.Views.{exp_of, print_of, stm_of, type_of};
 ghost use Rattle.ti_syntax.specs.Spelling.Expressions.{Target};
 ghost use Rattle.ti_parse.specs.Mirrors.Parts as spec;
-ghost use Rattle.ti_syntax.specs.declared.token.TokenKind.TheVariants.{KeywordPrintln, Semicolon};
-ghost use Rattle.ti_parse.specs.Mirrors.Seen.{Keeps, begun_of, before_semicolon};
+ghost use Rattle.ti_syntax.specs.declared.token.TokenKind.TheVariants.{KeywordPrintln};
+ghost use Rattle.ti_parse.specs.Mirrors.Seen.{begun_of, before_semicolon};
 ghost use Rattle.ti_parse.specs.Mirrors.Way.{plain};
-ghost use Rattle.ti_parse_expr.specs.Mirrors.Input.{Reads, ReadsAs, expect};
+ghost use Rattle.ti_parse_expr.specs.Mirrors.Input.{Reads, ReadsAs};
 ghost use Rattle.ti_parse_expr.specs.Mirrors.Seen.{operand_of};
 
-use crate::reader::Reader;
+use crate::reader::{Reader, followed};
 use crate::words::{is_dim, starts, step_of, update_of};
 use ti_base::Place;
 use ti_parse_expr::full::{full, full_behind_bracket, full_behind_name, full_operand};
@@ -29,16 +29,6 @@ pub enum Begun {
     Starts(Operand),
 }
 
-/// What was read, if a semicolon follows it.
-fn with_semicolon<T: Drop>(tokens: &mut Tokens<'_>, read: T) -> Result<T, Stop>
-    ensures { Keeps read (expect Semicolon tokens.old) result tokens.new }
-{
-    match tokens.expect(TokenKind::Semicolon) {
-        Ok(()) => Ok(read),
-        Err(stop) => Err(stop),
-    }
-}
-
 impl Reader {
     // ---- declarations, changes and calls
 
@@ -50,7 +40,7 @@ impl Reader {
         let place = tokens.place();
         let name = tokens.name(self.alloc)?;
         tokens.expect(TokenKind::Assign)?;
-        let value = Box::new(self.alloc, self.initial(tokens)?)?;
+        let value = self.boxed_initial(tokens)?;
         Ok(Stmt::Declare {
             place,
             ty,
@@ -64,14 +54,14 @@ impl Reader {
         ensures { ReadsAs stm_of (before_semicolon (spec.declared plain self.turns (type_of ty)) tokens.old) result tokens.new }
     {
         let declared = self.declared(tokens, ty)?;
-        with_semicolon(tokens, declared)
+        followed(tokens, TokenKind::Semicolon, declared)
     }
 
     /// An assignment, after its `=`.
     fn assigned(self, tokens: &mut Tokens<'_>, place: Place, target: Expr) -> Result<Stmt, Stop>
         ensures { ReadsAs stm_of (spec.assigned plain self.turns place (exp_of target) tokens.old) result tokens.new }
     {
-        let value = Box::new(self.alloc, self.initial(tokens)?)?;
+        let value = self.boxed_initial(tokens)?;
         Ok(Stmt::Assign {
             place,
             target,
@@ -140,7 +130,7 @@ impl Reader {
         ensures { ReadsAs stm_of (spec.simple_if plain self.turns (operand_of operand) false tokens.old) result tokens.new }
     {
         let changed = self.changed(tokens, operand)?;
-        with_semicolon(tokens, changed)
+        followed(tokens, TokenKind::Semicolon, changed)
     }
 
     /// A call or a change with its semicolon, after the operand that it begins with.
@@ -287,8 +277,8 @@ impl Reader {
         let place = self.printer(tokens)?;
         tokens.expect(TokenKind::LeftParen)?;
         let printed = self.printed(tokens)?;
-        tokens.expect(TokenKind::RightParen)?;
-        tokens.expect(TokenKind::Semicolon)?;
+        let printed = followed(tokens, TokenKind::RightParen, printed)?;
+        let printed = followed(tokens, TokenKind::Semicolon, printed)?;
         Ok(Stmt::Print(place, printed))
     }
 
@@ -338,7 +328,7 @@ impl Reader {
         let place = tokens.place();
         tokens.take();
         let value = self.optional(tokens)?;
-        tokens.expect(TokenKind::Semicolon)?;
+        let value = followed(tokens, TokenKind::Semicolon, value)?;
         Ok(Stmt::Return(place, value))
     }
 }

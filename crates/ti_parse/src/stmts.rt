@@ -1,14 +1,17 @@
 // Statements. The rules take the reader of the statements inside as a parameter, so that each is proved by itself.
 
 ghost use Rattle.std.specs.Prelude.{[], ◌≡◌};
-ghost use Rattle.ti_syntax.specs.Trees.Views.{exp_of, stm_of, stms_of};
+ghost use Rattle.ti_syntax.specs.Trees.Views.{exp_of, maybe_of, stm_of, stms_of};
 ghost use Rattle.ti_parse.specs.Mirrors.Nests.{Nests};
-ghost use Rattle.ti_parse.specs.Mirrors.Seen.{begun_of, boxed_stm};
+ghost use Rattle.ti_parse.specs.Mirrors.Parts as parts;
+ghost use Rattle.ti_parse.specs.Mirrors.Pieces as pieces;
+ghost use Rattle.ti_parse.specs.Mirrors.Pieces.{for_head_of};
+ghost use Rattle.ti_parse.specs.Mirrors.Seen.{begun_of, boxed_stm, maybe_stm};
 ghost use Rattle.ti_parse.specs.Mirrors.Statements as spec;
 ghost use Rattle.ti_parse.specs.Mirrors.Way.{plain};
 ghost use Rattle.ti_parse_expr.specs.Mirrors.Input.{ReadsAs};
 
-use crate::reader::Reader;
+use crate::reader::{Reader, followed};
 use crate::simple::Begun;
 use crate::words::{begins_declaration, is_compound, starts};
 use ti_base::Place;
@@ -19,6 +22,14 @@ use ti_syntax::tree::{Expr, Stmt};
 
 /// The most levels of compound statements.
 pub const MOST_LEVELS: u32 = 64;
+
+/// The head of a `for`.
+#[derive(Drop)]
+pub struct ForHead {
+    pub first: Option<Box<Stmt>>,
+    pub condition: Option<Expr>,
+    pub update: Option<Box<Stmt>>,
+}
 
 /// The rules of statements, with a reader of the statements inside.
 #[derive(Clone, Copy)]
@@ -171,19 +182,13 @@ impl<F: Fn(Reader, &mut Tokens<'_>, u32) -> Result<Stmt, Stop>> Statements<F> {
         requires { Nests self.now.reader self.now.levels (F.pre self.now.stmt) (F.post self.now.stmt) }
         ensures { ReadsAs stm_of (spec.for_loop plain self.now.reader.turns (spec.stmt plain self.now.reader.turns self.now.levels) place tokens.old) result tokens.new }
     {
-        tokens.expect(TokenKind::LeftParen)?;
-        let first = self.reader.first(tokens)?;
-        tokens.expect(TokenKind::Semicolon)?;
-        let condition = self.reader.optional(tokens)?;
-        tokens.expect(TokenKind::Semicolon)?;
-        let update = self.reader.update(tokens)?;
-        tokens.expect(TokenKind::RightParen)?;
+        let head = self.reader.for_head(tokens)?;
         let body = self.boxed_stmt(tokens)?;
         Ok(Stmt::For {
             place,
-            first,
-            condition,
-            update,
+            first: head.first,
+            condition: head.condition,
+            update: head.update,
             body,
         })
     }
@@ -199,7 +204,7 @@ impl<F: Fn(Reader, &mut Tokens<'_>, u32) -> Result<Stmt, Stop>> Statements<F> {
         let name = tokens.name(self.reader.alloc)?;
         tokens.expect_word(b"in")?;
         let domain = self.reader.expr(tokens)?;
-        tokens.expect(TokenKind::RightParen)?;
+        let domain = followed(tokens, TokenKind::RightParen, domain)?;
         let body = self.boxed_stmt(tokens)?;
         Ok(Stmt::Foreach {
             place,
@@ -231,6 +236,98 @@ impl<F: Fn(Reader, &mut Tokens<'_>, u32) -> Result<Stmt, Stop>> Statements<F> {
 }
 
 impl Reader {
+    // ---- the heads of compound statements
+
+    /// A condition with its parentheses.
+    #[tactic(auto, unfolding(crate::specs::Mirrors::Parts::condition))]
+    pub fn condition(self, tokens: &mut Tokens<'_>) -> Result<Expr, Stop>
+        ensures { ReadsAs exp_of (parts.condition plain self.turns tokens.old) result tokens.new }
+    {
+        tokens.expect(TokenKind::LeftParen)?;
+        let condition = self.expr(tokens)?;
+        followed(tokens, TokenKind::RightParen, condition)
+    }
+
+    /// A declaration or a change, after what it begins with.
+    fn first_of(self, tokens: &mut Tokens<'_>, begun: Begun) -> Result<Stmt, Stop>
+        ensures { ReadsAs stm_of (parts.first_of plain self.turns (begun_of begun) tokens.old) result tokens.new }
+    {
+        match begun {
+            Begun::Declares(ty) => self.declared(tokens, ty),
+            Begun::Starts(operand) => self.changed(tokens, operand),
+        }
+    }
+
+    /// What the head of a `for` begins with.
+    #[tactic(auto, unfolding(crate::specs::Mirrors::Parts::first))]
+    pub fn first(self, tokens: &mut Tokens<'_>) -> Result<Option<Box<Stmt>>, Stop>
+        ensures { ReadsAs maybe_stm (parts.first plain self.turns tokens.old) result tokens.new }
+    {
+        let first = match tokens.peek() {
+            TokenKind::Semicolon => return Ok(None),
+            TokenKind::Name(name) => {
+                let place = tokens.place();
+                let name = name.copy(self.alloc)?;
+                tokens.take();
+                let begun = self.begun(tokens, place, name)?;
+                self.first_of(tokens, begun)?
+            }
+            kind => {
+                if begins_declaration(kind) {
+                    let ty = self.typed(tokens)?;
+                    self.declared(tokens, ty)?
+                } else {
+                    self.change(tokens)?
+                }
+            }
+        };
+        Ok(Some(Box::new(self.alloc, first)?))
+    }
+
+    /// An expression, or none in front of a semicolon.
+    #[tactic(auto, unfolding(crate::specs::Mirrors::Parts::optional))]
+    pub fn optional(self, tokens: &mut Tokens<'_>) -> Result<Option<Expr>, Stop>
+        ensures { ReadsAs (maybe_of exp_of) (parts.optional plain self.turns tokens.old) result tokens.new }
+    {
+        if tokens.sees(TokenKind::Semicolon) {
+            return Ok(None);
+        }
+        Ok(Some(self.expr(tokens)?))
+    }
+
+    /// The update of a `for`.
+    #[tactic(auto, unfolding(crate::specs::Mirrors::Parts::update))]
+    pub fn update(self, tokens: &mut Tokens<'_>) -> Result<Option<Box<Stmt>>, Stop>
+        ensures { ReadsAs maybe_stm (parts.update plain self.turns tokens.old) result tokens.new }
+    {
+        if tokens.sees(TokenKind::RightParen) {
+            return Ok(None);
+        }
+        let change = self.change(tokens)?;
+        Ok(Some(Box::new(self.alloc, change)?))
+    }
+
+    /// The head of a `for`.
+    #[tactic(auto, unfolding(crate::specs::Mirrors::Pieces::for_head))]
+    fn for_head(self, tokens: &mut Tokens<'_>) -> Result<ForHead, Stop>
+        ensures { ReadsAs for_head_of (pieces.for_head plain self.turns tokens.old) result tokens.new }
+    {
+        tokens.expect(TokenKind::LeftParen)?;
+        let first = self.first(tokens)?;
+        let first = followed(tokens, TokenKind::Semicolon, first)?;
+        let condition = self.optional(tokens)?;
+        let condition = followed(tokens, TokenKind::Semicolon, condition)?;
+        let update = self.update(tokens)?;
+        let update = followed(tokens, TokenKind::RightParen, update)?;
+        Ok(ForHead {
+            first,
+            condition,
+            update,
+        })
+    }
+
+    // ---- statements
+
     /// A statement that isn't compound.
     #[tactic(auto, unfolding(crate::specs::Mirrors::Statements::small))]
     fn small(self, tokens: &mut Tokens<'_>) -> Result<Stmt, Stop>

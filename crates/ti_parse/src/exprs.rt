@@ -1,19 +1,30 @@
-// Right sides of declarations and assignments.
+// Full expressions, and the right sides of declarations and assignments.
 
 ghost use Rattle.std.specs.Prelude.{[], ◌∷◌, ◌≡◌};
 ghost use Rattle.ti_syntax.specs.Trees.Views.{dims_of, exp_of, init_of, maybe_of, range_of, ranges_of};
 ghost use Rattle.ti_parse.specs.Mirrors.Parts as spec;
+ghost use Rattle.ti_parse.specs.Mirrors.Pieces as pieces;
+ghost use Rattle.ti_parse.specs.Mirrors.Pieces.{boxed_init, sizes_of};
 ghost use Rattle.ti_parse.specs.Mirrors.Way.{plain};
 ghost use Rattle.ti_parse_expr.specs.Mirrors.Input.{ReadsAs};
 ghost use Rattle.ti_parse_expr.specs.declared.parse.Form.TheVariants as form;
 
-use crate::reader::Reader;
+use crate::reader::{Reader, followed};
 use ti_base::Place;
 use ti_parse_expr::full::full;
 use ti_parse_expr::types::{base, grids, qualifiers};
 use ti_parse_expr::{Form, Stop, Tokens};
-use ti_syntax::tree::{Base, Dims, Expr, Init, Range, TypeName};
+use ti_syntax::tree::{Base, Brackets, Dims, Expr, Init, Range, TypeName};
 use ti_syntax::{Spelled, TokenKind};
+
+/// The brackets of a new grid, and what stands behind them.
+#[derive(Drop)]
+pub struct Sizes {
+    /// The place of the opening bracket.
+    pub bracket: Place,
+    pub dims: Dims,
+    pub grids: Vec<Brackets>,
+}
 
 impl Reader {
     /// Any full expression.
@@ -91,8 +102,24 @@ impl Reader {
         }
         tokens.take();
         let region = self.expr(tokens)?;
-        tokens.expect(TokenKind::RightParen)?;
-        Ok(Some(region))
+        Ok(Some(followed(tokens, TokenKind::RightParen, region)?))
+    }
+
+    /// The brackets of a new grid, with its dimensions, and the grids that are its elements.
+    #[tactic(auto, unfolding(crate::specs::Mirrors::Pieces::sizes))]
+    fn sizes(self, tokens: &mut Tokens<'_>) -> Result<Sizes, Stop>
+        ensures { ReadsAs sizes_of (pieces.sizes plain self.turns tokens.old) result tokens.new }
+    {
+        let bracket = tokens.place();
+        tokens.expect(TokenKind::LeftBracket)?;
+        let dims = self.dims(tokens)?;
+        let dims = followed(tokens, TokenKind::RightBracket, dims)?;
+        let grids = grids(self.alloc, tokens, self.turns, 2, Vec::new(self.alloc))?;
+        Ok(Sizes {
+            bracket,
+            dims,
+            grids,
+        })
     }
 
     /// A new grid, after the base of its elements.
@@ -107,22 +134,18 @@ impl Reader {
         ensures { ReadsAs init_of (spec.new_grid plain self.turns place (maybe_of exp_of region) base tokens.old) result tokens.new }
     {
         let qualifiers = qualifiers(self.alloc, tokens, self.turns)?;
-        let bracket = tokens.place();
-        tokens.expect(TokenKind::LeftBracket)?;
-        let dims = self.dims(tokens)?;
-        tokens.expect(TokenKind::RightBracket)?;
-        let grids = grids(self.alloc, tokens, self.turns, 2, Vec::new(self.alloc))?;
+        let sizes = self.sizes(tokens)?;
         let element = TypeName {
             base,
             qualifiers,
-            grids,
+            grids: sizes.grids,
         };
         Ok(Init::NewGrid {
             place,
             region,
             element,
-            bracket,
-            dims,
+            bracket: sizes.bracket,
+            dims: sizes.dims,
         })
     }
 
@@ -217,5 +240,12 @@ impl Reader {
             }
             _ => Ok(Init::Value(self.expr(tokens)?)),
         }
+    }
+
+    /// A right side, on the heap.
+    pub fn boxed_initial(self, tokens: &mut Tokens<'_>) -> Result<Box<Init>, Stop>
+        ensures { ReadsAs boxed_init (spec.initial plain self.turns tokens.old) result tokens.new }
+    {
+        Ok(Box::new(self.alloc, self.initial(tokens)?)?)
     }
 }
