@@ -1,10 +1,11 @@
-// What the phases answer to texts.
+// What the phases answer to texts, and whether it is what a table says.
 
 ghost use Rattle.std.specs.Prelude.{IfOk};
 ghost use Rattle.ti_parse_expr.specs.Answers.{EndsAtEnd};
 
 use crate::texts::{Frame, framed};
 use std::alloc::{AllocError, Global};
+use std::fmt::Debug;
 use std::test::Fail;
 use ti_lang::program::Program;
 use ti_lex::{LexErr, lex};
@@ -13,17 +14,17 @@ use ti_parse::{ParseErr, parse};
 use ti_parse_expr::{Form, parse_expr};
 use ti_rules::Refusal;
 use ti_syntax::Token;
-use ti_syntax::tree::{Class, Member, Tree};
+use ti_syntax::tree::{Class, Expr, Member, Tree};
 
 /// A text, and what is answered to it: where it is refused, the rule that it breaks and its place, such as `X1 1:62`.
-pub struct Row {
-    pub text: &'static str,
-    pub answer: &'static str,
+pub(crate) struct Row {
+    pub(crate) text: &'static str,
+    pub(crate) answer: &'static str,
 }
 
 /// What is asked of a text.
 #[derive(Clone, Copy)]
-pub enum Asked {
+pub(crate) enum Asked {
     /// Its tokens with their places, such as `1:1=Plus 1:2=End`.
     Tokens,
     /// The tree of its longest expression of a form, where so much weight is used already; how many tokens were read, and
@@ -39,11 +40,19 @@ pub enum Asked {
     Grammar,
     /// Whether it is accepted by the rules of names.
     Names,
+    /// Its program, in which what is answered stands somewhere.
+    Program,
 }
+
+/// The longest expression of a text.
+pub(crate) const EXPRESSION: Asked = Asked::Expression {
+    form: Form::Whole,
+    weight: 0,
+};
 
 /// Why a text has no answer.
 #[derive(Debug, Drop)]
-pub enum Stopped {
+pub(crate) enum Stopped {
     Refused(Refusal),
     Memory,
 }
@@ -82,62 +91,101 @@ impl From<AllocError> for Stopped {
 }
 
 /// The tokens of a text.
-pub fn tokens(alloc: Global, text: &[u8]) -> Result<Vec<Token>, Stopped>
+pub(crate) fn tokens(alloc: Global, text: &[u8]) -> Result<Vec<Token>, Stopped>
     ensures { IfOk result (λ list. EndsAtEnd list.items) }
 {
     Ok(lex(alloc, text)?)
 }
 
 /// The tree of a text.
-pub fn parsed(alloc: Global, text: &[u8]) -> Result<Tree, Stopped> {
+pub(crate) fn parsed(alloc: Global, text: &[u8]) -> Result<Tree, Stopped> {
     let list = tokens(alloc, text)?;
     Ok(parse(alloc, &list)?)
 }
 
 /// The program of a text.
-pub fn resolved(alloc: Global, text: &[u8]) -> Result<Program, Stopped> {
+pub(crate) fn resolved(alloc: Global, text: &[u8]) -> Result<Program, Stopped> {
     let tree = parsed(alloc, text)?;
     Ok(resolve(alloc, &tree)?)
 }
 
-/// Tokens one behind the other, each behind its place.
-fn listed(alloc: Global, tokens: &[Token]) -> Result<String, Stopped> {
+/// A token behind its place.
+fn shown_token(alloc: Global, token: &Token) -> Result<String, AllocError> {
+    format!(in alloc; "{:?}={:?} ", token.place, token.kind)
+}
+
+/// Tokens one behind the other.
+fn listed(alloc: Global, tokens: &[Token]) -> Result<String, AllocError> {
     let mut listed = String::new(alloc);
     for token in tokens {
-        let (place, kind) = (token.place, &token.kind);
-        let piece = format!(in alloc; "{place:?}={kind:?} ")?;
-        listed.push_str(&piece)?;
+        listed.push_str(&shown_token(alloc, token)?)?;
     }
     Ok(listed)
 }
 
-fn expression(alloc: Global, text: &[u8], form: Form, weight: u32) -> Result<String, Stopped> {
+fn token_list(alloc: Global, text: &[u8]) -> Result<String, Stopped> {
     let list = tokens(alloc, text)?;
-    let (tree, size, used) = parse_expr(alloc, &list, 0, form, weight)?;
-    Ok(format!(in alloc; "{tree:?}, {size} tokens, weight {used}")?)
+    Ok(listed(alloc, &list)?)
+}
+
+/// The longest expression of a form, the place behind it, and the weight used then.
+fn read(
+    alloc: Global,
+    text: &[u8],
+    form: Form,
+    weight: u32,
+) -> Result<(Expr, usize, u32), Stopped> {
+    let list = tokens(alloc, text)?;
+    Ok(parse_expr(alloc, &list, 0, form, weight)?)
+}
+
+fn shown<T: Debug>(alloc: Global, value: &T) -> Result<String, AllocError> {
+    format!(in alloc; "{value:?}")
+}
+
+fn measured<T: Debug>(
+    alloc: Global,
+    value: &T,
+    size: usize,
+    used: u32,
+) -> Result<String, AllocError> {
+    format!(in alloc; "{value:?}, {size} tokens, weight {used}")
+}
+
+fn expression(alloc: Global, text: &[u8], form: Form, weight: u32) -> Result<String, Stopped> {
+    let (tree, size, used) = read(alloc, text, form, weight)?;
+    Ok(measured(alloc, &tree, size, used)?)
 }
 
 fn extent(alloc: Global, text: &[u8]) -> Result<String, Stopped> {
-    let list = tokens(alloc, text)?;
-    let (tree, size, used) = parse_expr(alloc, &list, 0, Form::Whole, 0)?;
-    let place = tree.place();
-    Ok(format!(in alloc; "{place:?}, {size} tokens, weight {used}")?)
+    let (tree, size, used) = read(alloc, text, Form::Whole, 0)?;
+    Ok(measured(alloc, &tree.place(), size, used)?)
 }
 
 /// The trees of the statements of a text with one method.
-fn statements(alloc: Global, tree: &Tree) -> Result<String, Stopped> {
+fn body(alloc: Global, tree: &Tree) -> Result<String, AllocError> {
     let [Class { members, .. }] = tree.classes.as_slice() else {
         return Ok(String::new(alloc));
     };
     let [Member::Method(method)] = members.as_slice() else {
         return Ok(String::new(alloc));
     };
-    Ok(format!(in alloc; "{:?}", method.body)?)
+    shown(alloc, &method.body)
+}
+
+fn statements(alloc: Global, text: &[u8]) -> Result<String, Stopped> {
+    let tree = parsed(alloc, text)?;
+    Ok(body(alloc, &tree)?)
 }
 
 fn tree(alloc: Global, text: &[u8]) -> Result<String, Stopped> {
     let tree = parsed(alloc, text)?;
-    Ok(format!(in alloc; "{tree:?}")?)
+    Ok(shown(alloc, &tree)?)
+}
+
+fn program(alloc: Global, text: &[u8]) -> Result<String, Stopped> {
+    let program = resolved(alloc, text)?;
+    Ok(shown(alloc, &program.parts)?)
 }
 
 fn accepted<T: Drop>(alloc: Global, answer: Result<T, Stopped>) -> Result<String, Stopped> {
@@ -147,37 +195,56 @@ fn accepted<T: Drop>(alloc: Global, answer: Result<T, Stopped>) -> Result<String
 
 fn given(alloc: Global, asked: Asked, text: &[u8]) -> Result<String, Stopped> {
     match asked {
-        Asked::Tokens => listed(alloc, &tokens(alloc, text)?),
+        Asked::Tokens => token_list(alloc, text),
         Asked::Expression { form, weight } => expression(alloc, text, form, weight),
         Asked::Extent => extent(alloc, text),
         Asked::Tree => tree(alloc, text),
-        Asked::Statements => statements(alloc, &parsed(alloc, text)?),
+        Asked::Statements => statements(alloc, text),
         Asked::Grammar => accepted(alloc, parsed(alloc, text)),
         Asked::Names => accepted(alloc, resolved(alloc, text)),
+        Asked::Program => program(alloc, text),
     }
 }
 
+fn shown_refusal(alloc: Global, refusal: Refusal) -> Result<String, AllocError> {
+    format!(in alloc; "{:?} {:?}", refusal.rule, refusal.place)
+}
+
 /// What is answered to a text.
-pub fn answer(alloc: Global, asked: Asked, text: &[u8]) -> Result<String, Fail> {
+pub(crate) fn answer(alloc: Global, asked: Asked, text: &[u8]) -> Result<String, Fail> {
     match given(alloc, asked, text) {
         Ok(answer) => Ok(answer),
-        Err(Stopped::Refused(Refusal { rule, place })) => Ok(format!(in alloc;
-            "{rule:?} {place:?}"
-        )?),
+        Err(Stopped::Refused(refusal)) => Ok(shown_refusal(alloc, refusal)?),
         Err(Stopped::Memory) => Err(Fail::from("no memory")),
     }
 }
 
-/// The rows to which something else is answered, with what is.
-pub fn wrong(alloc: Global, asked: Asked, frame: Frame, rows: &[Row]) -> Result<String, Fail> {
-    let mut wrong = String::new(alloc);
-    for row in rows {
-        let text = framed(alloc, frame, row.text)?;
-        let found = answer(alloc, asked, text.as_bytes())?;
-        if found.trim_end() != row.answer {
-            let line = format!(in alloc; "{} => {found}; ", row.text)?;
-            wrong.push_str(&line)?;
-        }
+/// Whether what was found is what is expected.
+fn fits(asked: Asked, found: &str, expected: &str) -> bool {
+    match asked {
+        Asked::Program => found.contains(expected),
+        _ => found.trim_end() == expected,
     }
-    Ok(wrong)
+}
+
+fn found(alloc: Global, asked: Asked, frame: Frame, short: &str) -> Result<String, Fail> {
+    let text = framed(alloc, frame, short)?;
+    answer(alloc, asked, text.as_bytes())
+}
+
+fn judge_row(alloc: Global, asked: Asked, frame: Frame, row: &Row) -> Result<(), Fail> {
+    let found = found(alloc, asked, frame, row.text)?;
+    if fits(asked, &found, row.answer) {
+        Ok(())
+    } else {
+        Err(Fail::new(format!(in alloc; "{} => {found}", row.text)?))
+    }
+}
+
+/// Fails at the first row to which something else is answered.
+pub(crate) fn judge(alloc: Global, asked: Asked, frame: Frame, rows: &[Row]) -> Result<(), Fail> {
+    for row in rows {
+        judge_row(alloc, asked, frame, row)?;
+    }
+    Ok(())
 }

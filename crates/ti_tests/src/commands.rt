@@ -1,6 +1,6 @@
 // Runs of the command over memory, with calls that fail.
 
-use crate::examples::{EXAMPLES, Example};
+use crate::examples::EXAMPLES;
 use crate::texts::{Frame, MAIN, WHOLE, WITH_MAIN, framed};
 use std::alloc::{AllocError, Global};
 use std::test::Fail;
@@ -17,14 +17,20 @@ const UNREAD: &str = "titan: the source can't be read\n";
 
 const UNWRITTEN: &str = "titan: the output can't be written\n";
 
-/// The words of a command and the text of `a.ti`, and what is left: the status, and what stands on out and err.
+/// What is left: the status, and what stands on out and err.
+#[derive(Clone, Copy)]
+struct End<'a> {
+    status: u8,
+    out: &'a str,
+    err: &'a str,
+}
+
+/// The words of a command and the text of `a.ti`, and what is left.
 struct Command {
     words: &'static str,
     frame: Frame,
     text: &'static str,
-    status: u8,
-    out: &'static str,
-    err: &'static str,
+    end: End<'static>,
 }
 
 /// A text that is refused, and what stands on err behind the name of the file.
@@ -52,9 +58,7 @@ const NONE_FAILS: Fails = Fails {
 struct Failing {
     words: &'static str,
     fails: Fails,
-    status: u8,
-    out: &'static str,
-    err: &'static str,
+    end: End<'static>,
 }
 
 /// What a call left.
@@ -70,105 +74,131 @@ const COMMANDS: &[Command] = &[
         words: "--procs 2 a.ti",
         frame: MAIN,
         text: TWO_PRINTS,
-        status: 0,
-        out: "0\n1\n2\n2\n",
-        err: "",
+        end: End {
+            status: 0,
+            out: "0\n1\n2\n2\n",
+            err: "",
+        },
     },
     Command {
         words: "--procs 04 a.ti",
         frame: MAIN,
         text: TWO_PRINTS,
-        status: 0,
-        out: "0\n1\n2\n3\n4\n4\n4\n4\n",
-        err: "",
+        end: End {
+            status: 0,
+            out: "0\n1\n2\n3\n4\n4\n4\n4\n",
+            err: "",
+        },
     },
     Command {
         words: "a.ti",
         frame: MAIN,
         text: TWO_PRINTS,
-        status: 0,
-        out: "0\n1\n",
-        err: "",
+        end: End {
+            status: 0,
+            out: "0\n1\n",
+            err: "",
+        },
     },
     Command {
         words: "nofile.ti",
         frame: MAIN,
         text: TWO_PRINTS,
-        status: 4,
-        out: "",
-        err: UNREAD,
+        end: End {
+            status: 4,
+            out: "",
+            err: UNREAD,
+        },
     },
     Command {
         words: "",
         frame: MAIN,
         text: TWO_PRINTS,
-        status: 3,
-        out: "",
-        err: NO_COMMAND,
+        end: End {
+            status: 3,
+            out: "",
+            err: NO_COMMAND,
+        },
     },
     Command {
         words: "--procs 0 a.ti",
         frame: MAIN,
         text: TWO_PRINTS,
-        status: 3,
-        out: "",
-        err: NO_COMMAND,
+        end: End {
+            status: 3,
+            out: "",
+            err: NO_COMMAND,
+        },
     },
     Command {
         words: "--procs 33 a.ti",
         frame: MAIN,
         text: TWO_PRINTS,
-        status: 3,
-        out: "",
-        err: NO_COMMAND,
+        end: End {
+            status: 3,
+            out: "",
+            err: NO_COMMAND,
+        },
     },
     Command {
         words: "a.ti b.ti",
         frame: MAIN,
         text: TWO_PRINTS,
-        status: 3,
-        out: "",
-        err: NO_COMMAND,
+        end: End {
+            status: 3,
+            out: "",
+            err: NO_COMMAND,
+        },
     },
     Command {
         words: "a.ti",
         frame: MAIN,
         text: "println();",
-        status: 0,
-        out: "\n",
-        err: "",
+        end: End {
+            status: 0,
+            out: "\n",
+            err: "",
+        },
     },
     Command {
         words: "a.ti",
         frame: MAIN,
         text: "println(\"a\\tb\" + 3);",
-        status: 0,
-        out: "a\tb3\n",
-        err: "",
+        end: End {
+            status: 0,
+            out: "a\tb3\n",
+            err: "",
+        },
     },
     Command {
         words: "--procs 2 a.ti",
         frame: MAIN,
         text: "println(\"p \" + Ti.thisProc()); { ; println((7)); println(\"\\\\\"); }",
-        status: 0,
-        out: "p 0\n7\n\\\np 1\n7\n\\\n",
-        err: "",
+        end: End {
+            status: 0,
+            out: "p 0\n7\n\\\np 1\n7\n\\\n",
+            err: "",
+        },
     },
     Command {
         words: "--procs 2 a.ti",
         frame: WHOLE,
         text: "class Main { public static single void main(String[] args) { println(Ti.thisProc()); Ti.barrier(); println(Ti.numProcs()); } } //`1048447#x`",
-        status: 0,
-        out: "0\n1\n2\n2\n",
-        err: "",
+        end: End {
+            status: 0,
+            out: "0\n1\n2\n2\n",
+            err: "",
+        },
     },
     Command {
         words: "a.ti",
         frame: MAIN,
         text: "`64#{``64#}`",
-        status: 0,
-        out: "",
-        err: "",
+        end: End {
+            status: 0,
+            out: "",
+            err: "",
+        },
     },
 ];
 
@@ -317,9 +347,11 @@ const FAILING: &[Failing] = &[
             source: &[2],
             ..NONE_FAILS
         },
-        status: 4,
-        out: "",
-        err: UNREAD,
+        end: End {
+            status: 4,
+            out: "",
+            err: UNREAD,
+        },
     },
     // the name isn't found out
     Failing {
@@ -328,9 +360,11 @@ const FAILING: &[Failing] = &[
             source: &[0],
             ..NONE_FAILS
         },
-        status: 4,
-        out: "",
-        err: UNREAD,
+        end: End {
+            status: 4,
+            out: "",
+            err: UNREAD,
+        },
     },
     // the second line
     Failing {
@@ -339,9 +373,11 @@ const FAILING: &[Failing] = &[
             out: &[1],
             ..NONE_FAILS
         },
-        status: 5,
-        out: "0\n",
-        err: UNWRITTEN,
+        end: End {
+            status: 5,
+            out: "0\n",
+            err: UNWRITTEN,
+        },
     },
     // the flush behind the last line
     Failing {
@@ -350,9 +386,11 @@ const FAILING: &[Failing] = &[
             out: &[2],
             ..NONE_FAILS
         },
-        status: 5,
-        out: "0\n1\n",
-        err: UNWRITTEN,
+        end: End {
+            status: 5,
+            out: "0\n1\n",
+            err: UNWRITTEN,
+        },
     },
     // the second piece of the line on err
     Failing {
@@ -361,9 +399,11 @@ const FAILING: &[Failing] = &[
             err: &[1],
             ..NONE_FAILS
         },
-        status: 5,
-        out: "",
-        err: "tit",
+        end: End {
+            status: 5,
+            out: "",
+            err: "tit",
+        },
     },
 ];
 
@@ -376,54 +416,84 @@ fn words_of(alloc: Global, line: &str) -> Result<Vec<String>, AllocError> {
     Ok(words)
 }
 
-/// The command over one file `a.ti`, which is read in pieces of 8 bytes and written in pieces of 3.
-fn run(rt: &HostRuntime, line: &str, text: String, fails: Fails) -> Result<Left, Fail> {
-    let alloc = rt.alloc();
-    let words = words_of(alloc, line)?;
+/// A source with one file `a.ti`, which is read in pieces of 8 bytes.
+fn source_of(alloc: Global, text: String, fails: &[u32]) -> Result<MemSource, AllocError> {
     let mut files = Vec::new(alloc);
     files.push((String::from_str(alloc, "a.ti")?, text.into_bytes()))?;
-    let mut source = MemSource::new(files, 8, fails.source.to_vec(alloc)?);
-    let mut out = MemSink::new(alloc, 3, 200_000, fails.out.to_vec(alloc)?)?;
-    let mut err = MemSink::new(alloc, 3, 200_000, fails.err.to_vec(alloc)?)?;
-    let outcome = titan_top(rt, &words, &mut source, &mut out, &mut err);
-    Ok(Left { outcome, out, err })
+    Ok(MemSource::new(files, 8, fails.to_vec(alloc)?))
+}
+
+/// A sink that is written in pieces of 3 bytes.
+fn sink_of(alloc: Global, fails: &[u32]) -> Result<MemSink, Fail> {
+    Ok(MemSink::new(alloc, 3, 200_000, fails.to_vec(alloc)?)?)
+}
+
+fn call(
+    rt: &HostRuntime,
+    words: &[String],
+    mut source: MemSource,
+    mut out: MemSink,
+    mut err: MemSink,
+) -> Left {
+    let outcome = titan_top(rt, words, &mut source, &mut out, &mut err);
+    Left { outcome, out, err }
+}
+
+/// The command over one file `a.ti`.
+fn run(rt: &HostRuntime, line: &str, text: String, fails: Fails) -> Result<Left, Fail> {
+    let source = source_of(rt.alloc(), text, fails.source)?;
+    let out = sink_of(rt.alloc(), fails.out)?;
+    let err = sink_of(rt.alloc(), fails.err)?;
+    let words = words_of(rt.alloc(), line)?;
+    Ok(call(rt, &words, source, out, err))
+}
+
+/// Whether a command over a text leaves that.
+fn leaves(
+    rt: &HostRuntime,
+    line: &str,
+    text: String,
+    fails: Fails,
+    end: End,
+) -> Result<bool, Fail> {
+    let left = run(rt, line, text, fails)?;
+    Ok(
+        left.outcome.status == end.status
+            && left.out.bytes() == end.out.as_bytes()
+            && left.err.bytes() == end.err.as_bytes(),
+    )
 }
 
 #[test]
 fn commands_are_done(rt: HostRuntime) -> Result<(), Fail> {
     for row in COMMANDS {
         let text = framed(rt.alloc(), row.frame, row.text)?;
-        let left = run(&rt, row.words, text, NONE_FAILS)?;
-        assert_eq!(rt; left.outcome.status, row.status, "{}", row.text);
-        assert_eq!(rt; left.out.bytes(), row.out.as_bytes(), "{}", row.text);
-        assert_eq!(rt; left.err.bytes(), row.err.as_bytes(), "{}", row.text);
+        let holds = leaves(&rt, row.words, text, NONE_FAILS, row.end)?;
+        assert!(rt; holds, "{} {}", row.words, row.text);
     }
     Ok(())
 }
 
-/// That a text is refused with this line on err behind the name of the file, and a further text behind the line.
-fn refuse(rt: &HostRuntime, row: &Refused, rest: &str) -> Result<bool, Fail> {
+/// Whether a text is refused with this line on err behind the name of the file, and a further text behind the line.
+fn is_refused(rt: &HostRuntime, row: &Refused, rest: &str) -> Result<bool, Fail> {
     let text = framed(rt.alloc(), row.frame, row.text)?;
-    let left = run(rt, "a.ti", text, NONE_FAILS)?;
-    let expected = format!(in rt.alloc(); "a.ti:{}{rest}\n", row.err)?;
-    Ok(
-        left.outcome.status == 1
-            && left.out.bytes().is_empty()
-            && left.err.bytes() == expected.as_bytes(),
-    )
+    let line = format!(in rt.alloc(); "a.ti:{}{rest}\n", row.err)?;
+    let end = End {
+        status: 1,
+        out: "",
+        err: &line,
+    };
+    leaves(rt, "a.ti", text, NONE_FAILS, end)
 }
 
 #[test]
 fn texts_are_refused(rt: HostRuntime) -> Result<(), Fail> {
     for row in REFUSED {
-        assert!(rt; refuse(&rt, row, "")?, "{}", row.err);
+        assert!(rt; is_refused(&rt, row, "")?, "{}", row.err);
     }
     for row in UNBUILT {
-        assert!(rt;
-            refuse(&rt, row, ": Y1 an operand of the wrong type")?,
-            "{}",
-            row.text
-        );
+        let holds = is_refused(&rt, row, ": Y1 an operand of the wrong type")?;
+        assert!(rt; holds, "{}", row.text);
     }
     Ok(())
 }
@@ -432,43 +502,25 @@ fn texts_are_refused(rt: HostRuntime) -> Result<(), Fail> {
 fn calls_may_fail(rt: HostRuntime) -> Result<(), Fail> {
     for row in FAILING {
         let text = framed(rt.alloc(), MAIN, TWO_PRINTS)?;
-        let left = run(&rt, row.words, text, row.fails)?;
-        assert_eq!(rt; left.outcome.status, row.status, "{}", row.words);
-        assert_eq!(rt; left.out.bytes(), row.out.as_bytes(), "{}", row.words);
-        assert_eq!(rt; left.err.bytes(), row.err.as_bytes(), "{}", row.words);
+        let holds = leaves(&rt, row.words, text, row.fails, row.end)?;
+        assert!(rt; holds, "{}", row.words);
     }
     Ok(())
 }
 
 #[test]
 fn examples_are_run(rt: HostRuntime) -> Result<(), Fail> {
-    for Example { file, text, out } in EXAMPLES {
-        let left = run(
-            &rt,
-            "--procs 2 a.ti",
-            String::from_str(rt.alloc(), text)?,
-            NONE_FAILS,
-        )?;
-        assert_eq!(rt; left.outcome.status, 0, "{file}");
-        assert_eq!(rt; left.out.bytes(), out.as_bytes(), "{file}");
+    for row in EXAMPLES {
+        let end = End {
+            status: 0,
+            out: row.out,
+            err: "",
+        };
+        let text = String::from_str(rt.alloc(), row.text)?;
+        let holds = leaves(&rt, "--procs 2 a.ti", text, NONE_FAILS, end)?;
+        assert!(rt; holds, "{}", row.file);
     }
     Ok(())
-}
-
-fn entry(proc: u32, col: u32, act: Action) -> Entry {
-    Entry {
-        proc,
-        place: Place { line: 1, col },
-        act,
-        answer: Answer::Done,
-    }
-}
-
-fn print(literal: Option<u32>, value: i32) -> Action {
-    Action::Print {
-        literal,
-        value: Some(Value::Int(value)),
-    }
 }
 
 const ARRIVE: Action = Action::Arrive {
@@ -477,33 +529,152 @@ const ARRIVE: Action = Action::Arrive {
     deposit: Deposit::Nothing,
 };
 
+/// Of two processes.
+const OF_TWO_PRINTS: &[Entry] = &[
+    Entry {
+        proc: 0,
+        place: Place { line: 1, col: 62 },
+        act: Action::Print {
+            literal: None,
+            value: Some(Value::Int(0)),
+        },
+        answer: Answer::Done,
+    },
+    Entry {
+        proc: 0,
+        place: Place { line: 1, col: 89 },
+        act: ARRIVE,
+        answer: Answer::Done,
+    },
+    Entry {
+        proc: 1,
+        place: Place { line: 1, col: 62 },
+        act: Action::Print {
+            literal: None,
+            value: Some(Value::Int(1)),
+        },
+        answer: Answer::Done,
+    },
+    Entry {
+        proc: 1,
+        place: Place { line: 1, col: 89 },
+        act: ARRIVE,
+        answer: Answer::Done,
+    },
+    Entry {
+        proc: 0,
+        place: Place { line: 1, col: 89 },
+        act: Action::Depart,
+        answer: Answer::Done,
+    },
+    Entry {
+        proc: 0,
+        place: Place { line: 1, col: 100 },
+        act: Action::Print {
+            literal: None,
+            value: Some(Value::Int(2)),
+        },
+        answer: Answer::Done,
+    },
+    Entry {
+        proc: 0,
+        place: Place { line: 1, col: 124 },
+        act: Action::End,
+        answer: Answer::Done,
+    },
+    Entry {
+        proc: 1,
+        place: Place { line: 1, col: 89 },
+        act: Action::Depart,
+        answer: Answer::Done,
+    },
+    Entry {
+        proc: 1,
+        place: Place { line: 1, col: 100 },
+        act: Action::Print {
+            literal: None,
+            value: Some(Value::Int(2)),
+        },
+        answer: Answer::Done,
+    },
+    Entry {
+        proc: 1,
+        place: Place { line: 1, col: 124 },
+        act: Action::End,
+        answer: Answer::Done,
+    },
+];
+
+/// Two prints with a text.
+const LITERALS: &str = "println(\"a\\tb\" + 3); println(\"c\" + Ti.numProcs());";
+
+/// Of one process.
+const OF_LITERALS: &[Entry] = &[
+    Entry {
+        proc: 0,
+        place: Place { line: 1, col: 62 },
+        act: Action::Print {
+            literal: Some(0),
+            value: Some(Value::Int(3)),
+        },
+        answer: Answer::Done,
+    },
+    Entry {
+        proc: 0,
+        place: Place { line: 1, col: 83 },
+        act: Action::Print {
+            literal: Some(1),
+            value: Some(Value::Int(1)),
+        },
+        answer: Answer::Done,
+    },
+    Entry {
+        proc: 0,
+        place: Place { line: 1, col: 113 },
+        act: Action::End,
+        answer: Answer::Done,
+    },
+];
+
+/// Whether a command over statements of `main` has these entries.
+fn has_entries(
+    rt: &HostRuntime,
+    line: &str,
+    statements: &str,
+    entries: &[Entry],
+) -> Result<bool, Fail> {
+    let text = framed(rt.alloc(), MAIN, statements)?;
+    let left = run(rt, line, text, NONE_FAILS)?;
+    Ok(left.outcome.history.as_slice() == entries)
+}
+
 #[test]
 fn entries_stand_in_order(rt: HostRuntime) -> Result<(), Fail> {
-    let text = framed(rt.alloc(), MAIN, TWO_PRINTS)?;
-    let two = run(&rt, "--procs 2 a.ti", text, NONE_FAILS)?;
-    let entries = [
-        entry(0, 62, print(None, 0)),
-        entry(0, 89, ARRIVE),
-        entry(1, 62, print(None, 1)),
-        entry(1, 89, ARRIVE),
-        entry(0, 89, Action::Depart),
-        entry(0, 100, print(None, 2)),
-        entry(0, 124, Action::End),
-        entry(1, 89, Action::Depart),
-        entry(1, 100, print(None, 2)),
-        entry(1, 124, Action::End),
-    ];
-    assert_eq!(rt; two.outcome.history.as_slice(), entries.as_slice());
-
-    let literals = "println(\"a\\tb\" + 3); println(\"c\" + Ti.numProcs());";
-    let one = run(&rt, "a.ti", framed(rt.alloc(), MAIN, literals)?, NONE_FAILS)?;
-    let entries = [
-        entry(0, 62, print(Some(0), 3)),
-        entry(0, 83, print(Some(1), 1)),
-        entry(0, 113, Action::End),
-    ];
-    assert_eq!(rt; one.outcome.history.as_slice(), entries.as_slice());
+    assert!(rt; has_entries(&rt, "--procs 2 a.ti", TWO_PRINTS, OF_TWO_PRINTS)?);
+    assert!(rt; has_entries(&rt, "a.ti", LITERALS, OF_LITERALS)?);
     Ok(())
+}
+
+/// The entry behind which the command of `fuel_runs_out` ends.
+const OUT_OF_FUEL: Entry = Entry {
+    proc: 0,
+    place: Place {
+        line: 1,
+        col: 1_000_055,
+    },
+    act: Action::Fault {
+        kind: FaultKind::Fuel,
+    },
+    answer: Answer::Done,
+};
+
+/// Whether process 0 ran out of fuel behind 99999 lines.
+fn has_no_fuel(left: &Left) -> bool {
+    left.outcome.status == 2
+        && left.err.bytes() == b"titan: fault fuel in process 0 at 1:1000055\n".as_slice()
+        && left.out.bytes().len() == 99_999
+        && left.outcome.history.len() == 100_001
+        && left.outcome.history.as_slice().last() == Some(&OUT_OF_FUEL)
 }
 
 // The last tick goes into the arrival, so none is left for the departure.
@@ -511,17 +682,6 @@ fn entries_stand_in_order(rt: HostRuntime) -> Result<(), Fail> {
 fn fuel_runs_out(rt: HostRuntime) -> Result<(), Fail> {
     let text = framed(rt.alloc(), MAIN, "`99999#println();`Ti.barrier();")?;
     let left = run(&rt, "--procs 2 a.ti", text, NONE_FAILS)?;
-    assert_eq!(rt; left.outcome.status, 2);
-    assert_eq!(rt;
-        left.err.bytes(),
-        b"titan: fault fuel in process 0 at 1:1000055\n".as_slice()
-    );
-    assert_eq!(rt; left.out.bytes().len(), 99_999);
-    let last = Action::Fault {
-        kind: FaultKind::Fuel,
-    };
-    let history = left.outcome.history.as_slice();
-    assert_eq!(rt; history.len(), 100_001);
-    assert_eq!(rt; history.last(), Some(&entry(0, 1_000_055, last)));
+    assert!(rt; has_no_fuel(&left));
     Ok(())
 }

@@ -1,13 +1,13 @@
 // The files of the folder examples, word for word: a test can't read files of the repository.
 
 /// A file of examples, and what two processes write that run it.
-pub struct Example {
-    pub file: &'static str,
-    pub text: &'static str,
-    pub out: &'static str,
+pub(crate) struct Example {
+    pub(crate) file: &'static str,
+    pub(crate) text: &'static str,
+    pub(crate) out: &'static str,
 }
 
-pub const EXAMPLES: &[Example] = &[
+pub(crate) const EXAMPLES: &[Example] = &[
     Example {
         file: "hello.ti",
         text: HELLO,

@@ -12,9 +12,15 @@ mod expressions;
 #[cfg(test)]
 mod grammar;
 #[cfg(test)]
+mod limits;
+#[cfg(test)]
 mod names;
 #[cfg(test)]
 mod programs;
+#[cfg(test)]
+mod refused_expressions;
+#[cfg(test)]
+mod refused_statements;
 #[cfg(test)]
 mod rules_and_faults;
 #[cfg(test)]

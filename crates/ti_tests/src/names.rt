@@ -4,12 +4,12 @@
 // literals that in the text. A member of another object has the number of its name, where the 11 names of the language come
 // before those of the text.
 
-use crate::answers::{Asked, Row, resolved, wrong};
+use crate::answers::{Asked, Row, answer, judge, resolved};
 use crate::programs::FORMS;
-use crate::texts::{Frame, MAIN, WHOLE, WITH_MAIN, framed};
+use crate::texts::{MAIN, WHOLE, WITH_MAIN, framed};
 use std::alloc::Global;
 use std::test::Fail;
-use ti_lang::program::{Scope, Ty};
+use ti_lang::program::{Program, Scope, Ty};
 
 /// Statements of `main`, which begin in column 62.
 const ANSWERS_MAIN: &[Row] = &[
@@ -651,70 +651,47 @@ const PROGRAMS_WHOLE: &[Row] = &[
     },
 ];
 
-/// The rows whose programs don't have what stands in them, with what they have.
-fn missing(alloc: Global, frame: Frame, rows: &[Row]) -> Result<String, Fail> {
-    let mut missing = String::new(alloc);
-    for row in rows {
-        let text = framed(alloc, frame, row.text)?;
-        let program = resolved(alloc, text.as_bytes())?;
-        let found = format!(in alloc; "{:?}", program.parts)?;
-        if !found.contains(row.answer) {
-            let line = format!(in alloc; "{} => {found}; ", row.text)?;
-            missing.push_str(&line)?;
-        }
-    }
-    Ok(missing)
-}
-
 #[test]
 fn names_of_statements_of_main_are_judged(rt: HostRuntime) -> Result<(), Fail> {
-    let wrong = wrong(rt.alloc(), Asked::Names, MAIN, ANSWERS_MAIN)?;
-    assert_eq!(rt; wrong.as_str(), "");
-    Ok(())
+    judge(rt.alloc(), Asked::Names, MAIN, ANSWERS_MAIN)
 }
 
 #[test]
 fn names_of_statements_of_main_become_numbers(rt: HostRuntime) -> Result<(), Fail> {
-    let missing = missing(rt.alloc(), MAIN, PROGRAMS_MAIN)?;
-    assert_eq!(rt; missing.as_str(), "");
-    Ok(())
+    judge(rt.alloc(), Asked::Program, MAIN, PROGRAMS_MAIN)
 }
 
 #[test]
 fn names_of_classes_are_judged(rt: HostRuntime) -> Result<(), Fail> {
-    let wrong = wrong(rt.alloc(), Asked::Names, WITH_MAIN, ANSWERS_WITH_MAIN)?;
-    assert_eq!(rt; wrong.as_str(), "");
-    Ok(())
+    judge(rt.alloc(), Asked::Names, WITH_MAIN, ANSWERS_WITH_MAIN)
 }
 
 #[test]
 fn names_of_classes_become_numbers(rt: HostRuntime) -> Result<(), Fail> {
-    let missing = missing(rt.alloc(), WITH_MAIN, PROGRAMS_WITH_MAIN)?;
-    assert_eq!(rt; missing.as_str(), "");
-    Ok(())
+    judge(rt.alloc(), Asked::Program, WITH_MAIN, PROGRAMS_WITH_MAIN)
 }
 
 #[test]
 fn names_of_whole_texts_are_judged(rt: HostRuntime) -> Result<(), Fail> {
-    let wrong = wrong(rt.alloc(), Asked::Names, WHOLE, ANSWERS_WHOLE)?;
-    assert_eq!(rt; wrong.as_str(), "");
-    Ok(())
+    judge(rt.alloc(), Asked::Names, WHOLE, ANSWERS_WHOLE)
 }
 
 #[test]
 fn names_of_whole_texts_become_numbers(rt: HostRuntime) -> Result<(), Fail> {
-    let missing = missing(rt.alloc(), WHOLE, PROGRAMS_WHOLE)?;
-    assert_eq!(rt; missing.as_str(), "");
-    Ok(())
+    judge(rt.alloc(), Asked::Program, WHOLE, PROGRAMS_WHOLE)
+}
+
+/// The parts of a copy of the program of a text.
+fn copied(alloc: Global, text: &[u8]) -> Result<String, Fail> {
+    let program = resolved(alloc, text)?;
+    let copy = program.copy(alloc)?;
+    Ok(format!(in alloc; "{:?}", copy.parts)?)
 }
 
 #[test]
 fn programs_are_copied(rt: HostRuntime) -> Result<(), Fail> {
-    let alloc = rt.alloc();
-    let program = resolved(alloc, FORMS.as_bytes())?;
-    let copy = program.copy(alloc)?;
-    let expected = format!(in alloc; "{:?}", program.parts)?;
-    let found = format!(in alloc; "{:?}", copy.parts)?;
+    let expected = answer(rt.alloc(), Asked::Program, FORMS.as_bytes())?;
+    let found = copied(rt.alloc(), FORMS.as_bytes())?;
     assert_eq!(rt; found.as_str(), expected.as_str());
     Ok(())
 }
@@ -722,21 +699,40 @@ fn programs_are_copied(rt: HostRuntime) -> Result<(), Fail> {
 /// Its first method has a `this` and two parameters, the first of them single.
 const METHOD: &str = "class C { int f(int single a, C b) { boolean c = true; return a; } }";
 
+fn first_scope(alloc: Global, program: &Program) -> Result<Scope, Fail> {
+    if program.parts.methods.is_empty() {
+        return Err(Fail::new("no method"));
+    }
+    Ok(Scope::begin(alloc, program, 0)?)
+}
+
+/// What is in scope at the first statement of the first method.
+fn scope_of(alloc: Global, text: &[u8]) -> Result<Scope, Fail> {
+    let program = resolved(alloc, text)?;
+    first_scope(alloc, &program)
+}
+
+fn grown(alloc: Global, scope: &mut Scope) -> Result<String, Fail> {
+    scope.push(2, Ty::Bool, false)?;
+    Ok(format!(in alloc; "{scope:?}")?)
+}
+
+fn cut(alloc: Global, scope: &mut Scope) -> Result<String, Fail> {
+    scope.cut(1);
+    Ok(format!(in alloc; "{scope:?}")?)
+}
+
 #[test]
 fn a_scope_grows_behind_its_parameters(rt: HostRuntime) -> Result<(), Fail> {
-    let alloc = rt.alloc();
-    let program = resolved(alloc, framed(alloc, WITH_MAIN, METHOD)?.as_bytes())?;
-    assert!(rt; !program.parts.methods.is_empty());
-    let mut scope = Scope::begin(alloc, &program, 0)?;
-    scope.push(2, Ty::Bool, false)?;
-    let grown = format!(in alloc; "{scope:?}")?;
+    let text = framed(rt.alloc(), WITH_MAIN, METHOD)?;
+    let mut scope = scope_of(rt.alloc(), text.as_bytes())?;
+    let grown = grown(rt.alloc(), &mut scope)?;
     assert_eq!(rt;
         grown.as_str(),
         "Scope { this: Some(0), variables: [InScope { number: 0, ty: Int, single: true }, InScope { number: 1, ty: Class { class: \
         0, local: false }, single: false }, InScope { number: 2, ty: Bool, single: false }] }"
     );
-    scope.cut(1);
-    let cut = format!(in alloc; "{scope:?}")?;
+    let cut = cut(rt.alloc(), &mut scope)?;
     assert_eq!(rt;
         cut.as_str(),
         "Scope { this: Some(0), variables: [InScope { number: 0, ty: Int, single: true }] }"

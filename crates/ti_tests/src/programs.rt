@@ -1,7 +1,7 @@
 // Whole programs.
 
 /// A program of several processes that fill a grid each and sum them up.
-pub const PROGRAM: &str = "class Main {
+pub(crate) const PROGRAM: &str = "class Main {
   public static single void main(String[] args) {
     int me = Ti.thisProc();
     int single n = Ti.numProcs();
@@ -27,7 +27,7 @@ pub const PROGRAM: &str = "class Main {
 ";
 
 /// A program with each form of the language.
-pub const FORMS: &str = "public final class Shape {
+pub(crate) const FORMS: &str = "public final class Shape {
   private int sides;
   protected static final long area;
   boolean [2d] local [1d] grid;

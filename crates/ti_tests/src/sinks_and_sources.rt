@@ -5,17 +5,40 @@ use std::fs;
 use std::test::Fail;
 use ti_io::{FileSource, MemSink, MemSource, Sink, Source, StdSink, write_piece};
 
-/// The numbers of the calls that fail, and what is answered: whether two names are there, how many bytes four reads give, and
-/// whether a third name is there.
-struct Reading {
-    fails: &'static [u32],
-    answers: &'static str,
+/// A call of a source.
+#[derive(Clone, Copy)]
+enum Take {
+    /// Whether the name is there, as 0 and 1.
+    Find(&'static str),
+    /// How many bytes were read.
+    Read,
 }
 
-/// The numbers of the calls that fail, what three writes, a flush and an empty write answer, and what was taken.
+/// A call of a sink.
+#[derive(Clone, Copy)]
+enum Give {
+    /// How many bytes were taken.
+    Write(&'static [u8]),
+    /// 0.
+    Flush,
+}
+
+/// Calls of a source, and what each answers, where none stands for a failure.
+type Takes = &'static [(Take, Option<usize>)];
+
+/// Calls of a sink, and what each answers, where none stands for a failure.
+type Gives = &'static [(Give, Option<usize>)];
+
+/// The numbers of the calls that fail, and all calls.
+struct Reading {
+    fails: &'static [u32],
+    calls: Takes,
+}
+
+/// The numbers of the calls that fail, all calls, and what was taken.
 struct Writing {
     fails: &'static [u32],
-    answers: &'static str,
+    calls: Gives,
     taken: &'static str,
 }
 
@@ -29,50 +52,120 @@ struct Piece {
 const READINGS: &[Reading] = &[
     Reading {
         fails: &[],
-        answers: "[Ok(false), Ok(true)] [Ok(2), Ok(2), Ok(1), Ok(0)] Ok(true)",
+        calls: &[
+            (Take::Find("c"), Some(0)),
+            (Take::Find("a"), Some(1)),
+            (Take::Read, Some(2)),
+            (Take::Read, Some(2)),
+            (Take::Read, Some(1)),
+            (Take::Read, Some(0)),
+            (Take::Find("b"), Some(1)),
+        ],
     },
     Reading {
         fails: &[0, 99],
-        answers: "[Err(Failed), Ok(true)] [Ok(2), Ok(2), Ok(1), Ok(0)] Ok(true)",
+        calls: &[
+            (Take::Find("c"), None),
+            (Take::Find("a"), Some(1)),
+            (Take::Read, Some(2)),
+            (Take::Read, Some(2)),
+            (Take::Read, Some(1)),
+            (Take::Read, Some(0)),
+            (Take::Find("b"), Some(1)),
+        ],
     },
     Reading {
         fails: &[1],
-        answers: "[Ok(false), Err(Failed)] [Ok(0), Ok(0), Ok(0), Ok(0)] Ok(true)",
+        calls: &[
+            (Take::Find("c"), Some(0)),
+            (Take::Find("a"), None),
+            (Take::Read, Some(0)),
+            (Take::Read, Some(0)),
+            (Take::Read, Some(0)),
+            (Take::Read, Some(0)),
+            (Take::Find("b"), Some(1)),
+        ],
     },
     Reading {
         fails: &[2, 5],
-        answers: "[Ok(false), Ok(true)] [Err(Failed), Ok(2), Ok(2), Err(Failed)] Ok(true)",
+        calls: &[
+            (Take::Find("c"), Some(0)),
+            (Take::Find("a"), Some(1)),
+            (Take::Read, None),
+            (Take::Read, Some(2)),
+            (Take::Read, Some(2)),
+            (Take::Read, None),
+            (Take::Find("b"), Some(1)),
+        ],
     },
     Reading {
         fails: &[4, 6],
-        answers: "[Ok(false), Ok(true)] [Ok(2), Ok(2), Err(Failed), Ok(1)] Err(Failed)",
+        calls: &[
+            (Take::Find("c"), Some(0)),
+            (Take::Find("a"), Some(1)),
+            (Take::Read, Some(2)),
+            (Take::Read, Some(2)),
+            (Take::Read, None),
+            (Take::Read, Some(1)),
+            (Take::Find("b"), None),
+        ],
     },
 ];
 
 const WRITINGS: &[Writing] = &[
     Writing {
         fails: &[],
-        answers: "[Ok(3), Ok(2), Err(Failed)] Ok(()) Ok(0)",
+        calls: &[
+            (Give::Write(b"abcd"), Some(3)),
+            (Give::Write(b"abcd"), Some(2)),
+            (Give::Write(b"abcd"), None),
+            (Give::Flush, Some(0)),
+            (Give::Write(b""), Some(0)),
+        ],
         taken: "abcab",
     },
     Writing {
         fails: &[0],
-        answers: "[Err(Failed), Ok(3), Ok(2)] Ok(()) Ok(0)",
+        calls: &[
+            (Give::Write(b"abcd"), None),
+            (Give::Write(b"abcd"), Some(3)),
+            (Give::Write(b"abcd"), Some(2)),
+            (Give::Flush, Some(0)),
+            (Give::Write(b""), Some(0)),
+        ],
         taken: "abcab",
     },
     Writing {
         fails: &[1, 2],
-        answers: "[Ok(3), Err(Failed), Err(Failed)] Ok(()) Ok(0)",
+        calls: &[
+            (Give::Write(b"abcd"), Some(3)),
+            (Give::Write(b"abcd"), None),
+            (Give::Write(b"abcd"), None),
+            (Give::Flush, Some(0)),
+            (Give::Write(b""), Some(0)),
+        ],
         taken: "abc",
     },
     Writing {
         fails: &[3],
-        answers: "[Ok(3), Ok(2), Err(Failed)] Err(Failed) Ok(0)",
+        calls: &[
+            (Give::Write(b"abcd"), Some(3)),
+            (Give::Write(b"abcd"), Some(2)),
+            (Give::Write(b"abcd"), None),
+            (Give::Flush, None),
+            (Give::Write(b""), Some(0)),
+        ],
         taken: "abcab",
     },
     Writing {
         fails: &[4],
-        answers: "[Ok(3), Ok(2), Err(Failed)] Ok(()) Err(Failed)",
+        calls: &[
+            (Give::Write(b"abcd"), Some(3)),
+            (Give::Write(b"abcd"), Some(2)),
+            (Give::Write(b"abcd"), None),
+            (Give::Flush, Some(0)),
+            (Give::Write(b""), None),
+        ],
         taken: "abcab",
     },
 ];
@@ -95,6 +188,65 @@ const PIECES: &[Piece] = &[
     },
 ];
 
+/// Of a file that holds `abc`, in four bytes.
+const OF_A_FILE: Takes = &[
+    (Take::Read, Some(0)),
+    (Take::Find("no_such_file.txt"), None),
+    (Take::Find("a_file_to_read.txt"), Some(1)),
+    (Take::Read, Some(3)),
+    (Take::Read, Some(0)),
+];
+
+const TO_OUT: Gives = &[
+    (Give::Write(b""), Some(0)),
+    (Give::Write(b"out\n"), Some(4)),
+    (Give::Flush, Some(0)),
+];
+
+const TO_ERR: Gives = &[(Give::Write(b"err\n"), Some(4)), (Give::Flush, Some(0))];
+
+/// What a call of a source answers.
+fn taken<S: Source>(source: &mut S, call: Take, buf: &mut [u8]) -> Option<usize> {
+    match call {
+        Take::Find(name) => match source.find(name) {
+            Ok(is_there) => Some(usize::from(is_there)),
+            Err(_) => None,
+        },
+        Take::Read => source.read(buf).ok(),
+    }
+}
+
+/// Whether the calls of a source answer as they say.
+fn takes<S: Source>(source: &mut S, calls: &[(Take, Option<usize>)], buf: &mut [u8]) -> bool {
+    for (call, answer) in calls {
+        if taken(source, *call, buf) != *answer {
+            return false;
+        }
+    }
+    true
+}
+
+/// What a call of a sink answers.
+fn given<K: Sink>(sink: &mut K, call: Give) -> Option<usize> {
+    match call {
+        Give::Write(piece) => sink.write(piece).ok(),
+        Give::Flush => match sink.flush() {
+            Ok(()) => Some(0),
+            Err(_) => None,
+        },
+    }
+}
+
+/// Whether the calls of a sink answer as they say.
+fn gives<K: Sink>(sink: &mut K, calls: &[(Give, Option<usize>)]) -> bool {
+    for (call, answer) in calls {
+        if given(sink, *call) != *answer {
+            return false;
+        }
+    }
+    true
+}
+
 /// A source with three files, of which two have one name, that gives two bytes a read.
 fn source_of(alloc: Global, fails: &[u32]) -> Result<MemSource, AllocError> {
     let mut files = Vec::new(alloc);
@@ -104,84 +256,70 @@ fn source_of(alloc: Global, fails: &[u32]) -> Result<MemSource, AllocError> {
     Ok(MemSource::new(files, 2, fails.to_vec(alloc)?))
 }
 
+/// A sink that takes three bytes a write, and so many in all.
+fn sink_of(alloc: Global, room: usize, fails: &[u32]) -> Result<MemSink, Fail> {
+    Ok(MemSink::new(alloc, 3, room, fails.to_vec(alloc)?)?)
+}
+
+fn has_taken(sink: &MemSink, text: &str) -> bool {
+    sink.bytes() == text.as_bytes()
+}
+
 #[test]
 fn reads_in_memory(rt: HostRuntime) -> Result<(), Fail> {
-    let alloc = rt.alloc();
     for row in READINGS {
-        let mut source = source_of(alloc, row.fails)?;
-        let mut buf = [0u8; 4];
-        let first = [source.find("c"), source.find("a")];
-        let counts = [
-            source.read(&mut buf),
-            source.read(&mut buf),
-            source.read(&mut buf),
-            source.read(&mut buf),
-        ];
-        let third = source.find("b");
-        let found = format!(in alloc; "{first:?} {counts:?} {third:?}")?;
-        assert_eq!(rt; found.as_str(), row.answers);
+        let mut source = source_of(rt.alloc(), row.fails)?;
+        let holds = takes(&mut source, row.calls, &mut [0u8; 4]);
+        assert!(rt; holds, "{:?}", row.fails);
     }
     Ok(())
 }
 
 #[test]
 fn writes_in_memory(rt: HostRuntime) -> Result<(), Fail> {
-    let alloc = rt.alloc();
     for row in WRITINGS {
-        let mut sink = MemSink::new(alloc, 3, 5, row.fails.to_vec(alloc)?)?;
-        let writes = [
-            sink.write(b"abcd"),
-            sink.write(b"abcd"),
-            sink.write(b"abcd"),
-        ];
-        let flush = sink.flush();
-        let empty = sink.write(b"");
-        let found = format!(in alloc; "{writes:?} {flush:?} {empty:?}")?;
-        assert_eq!(rt; found.as_str(), row.answers);
-        assert_eq!(rt; sink.bytes(), row.taken.as_bytes());
+        let mut sink = sink_of(rt.alloc(), 5, row.fails)?;
+        let holds = gives(&mut sink, row.calls) && has_taken(&sink, row.taken);
+        assert!(rt; holds, "{:?}", row.fails);
     }
     Ok(())
 }
 
+fn is_written(sink: &mut MemSink) -> bool {
+    write_piece(sink, b"abcdefg").is_ok()
+}
+
 #[test]
 fn writes_whole_pieces(rt: HostRuntime) -> Result<(), Fail> {
-    let alloc = rt.alloc();
     for row in PIECES {
-        let mut sink = MemSink::new(alloc, 3, 9, row.fails.to_vec(alloc)?)?;
-        assert_eq!(rt; write_piece(&mut sink, b"abcdefg").is_ok(), row.is_written);
-        assert_eq!(rt; sink.bytes(), row.taken.as_bytes());
+        let mut sink = sink_of(rt.alloc(), 9, row.fails)?;
+        let is_written = is_written(&mut sink);
+        let holds = is_written == row.is_written && has_taken(&sink, row.taken);
+        assert!(rt; holds, "{:?}", row.fails);
     }
     Ok(())
+}
+
+/// Whether the calls answer as they say, and what was read last stands in the buffer.
+fn file_is_read(rt: &HostRuntime) -> bool {
+    let mut buf = [0u8; 4];
+    let mut source = FileSource::new(rt);
+    takes(&mut source, OF_A_FILE, &mut buf) && buf == *b"abc\0"
 }
 
 #[test]
 fn reads_a_file(rt: HostRuntime) -> Result<(), Fail> {
     fs::write(&rt, "a_file_to_read.txt", "abc")?;
-    let mut source = FileSource::new(&rt);
-    let mut buf = [0u8; 4];
-    let before = source.read(&mut buf);
-    let names = [
-        source.find("no_such_file.txt"),
-        source.find("a_file_to_read.txt"),
-    ];
-    let counts = [source.read(&mut buf), source.read(&mut buf)];
+    let is_read = file_is_read(&rt);
     fs::remove_file(&rt, "a_file_to_read.txt")?;
-    let found = format!(in rt.alloc(); "{before:?} {names:?} {counts:?}")?;
-    assert_eq!(rt;
-        found.as_str(),
-        "Ok(0) [Err(Failed), Ok(true)] [Ok(3), Ok(0)]"
-    );
-    assert_eq!(rt; buf.as_slice(), b"abc\0".as_slice());
+    assert!(rt; is_read);
     Ok(())
 }
 
 #[test]
-fn writes_to_streams(rt: HostRuntime) -> Result<(), Fail> {
-    let mut out = StdSink::out(&rt);
-    let mut err = StdSink::err(&rt);
-    let writes = [out.write(b""), out.write(b"out\n"), err.write(b"err\n")];
-    let flushes = [out.flush(), err.flush()];
-    let found = format!(in rt.alloc(); "{writes:?} {flushes:?}")?;
-    assert_eq!(rt; found.as_str(), "[Ok(0), Ok(4), Ok(4)] [Ok(()), Ok(())]");
-    Ok(())
+fn writes_to_streams(rt: HostRuntime) {
+    let out = gives(&mut StdSink::out(&rt), TO_OUT);
+    assert!(rt; out);
+    let err = gives(&mut StdSink::err(&rt), TO_ERR);
+    assert!(rt; err);
 }

@@ -1,6 +1,6 @@
 // Texts with their tokens, and texts that are refused. What is expected was worked out by hand from the rules.
 
-use crate::answers::{Asked, Row, answer, wrong};
+use crate::answers::{Asked, Row, answer, judge};
 use crate::texts::WHOLE;
 use std::test::Fail;
 use ti_syntax::Spelled;
@@ -599,18 +599,26 @@ const RAW: &[Raw] = &[
     },
 ];
 
+/// A text may have 1048576 bytes, that is 16384 times 64.
+const LONG: &[Row] = &[
+    Row {
+        text: "`16384#################################################################`",
+        answer: "X1 1:1",
+    },
+    Row {
+        text: "`16384#################################################################`x",
+        answer: "X5 1:1",
+    },
+];
+
 #[test]
 fn texts_have_their_tokens(rt: HostRuntime) -> Result<(), Fail> {
-    let wrong = wrong(rt.alloc(), Asked::Tokens, WHOLE, ACCEPTED)?;
-    assert_eq!(rt; wrong.as_str(), "");
-    Ok(())
+    judge(rt.alloc(), Asked::Tokens, WHOLE, ACCEPTED)
 }
 
 #[test]
 fn texts_are_refused(rt: HostRuntime) -> Result<(), Fail> {
-    let wrong = wrong(rt.alloc(), Asked::Tokens, WHOLE, REFUSED)?;
-    assert_eq!(rt; wrong.as_str(), "");
-    Ok(())
+    judge(rt.alloc(), Asked::Tokens, WHOLE, REFUSED)
 }
 
 #[test]
@@ -624,13 +632,7 @@ fn texts_may_have_any_bytes(rt: HostRuntime) -> Result<(), Fail> {
 
 #[test]
 fn a_text_may_have_a_million_bytes(rt: HostRuntime) -> Result<(), Fail> {
-    let mut text = vec![in rt.alloc(); b'#'; 1_048_577]?;
-    let too_long = answer(rt.alloc(), Asked::Tokens, &text)?;
-    assert_eq!(rt; too_long.as_str(), "X5 1:1");
-    text.truncate(1_048_576);
-    let stray = answer(rt.alloc(), Asked::Tokens, &text)?;
-    assert_eq!(rt; stray.as_str(), "X1 1:1");
-    Ok(())
+    judge(rt.alloc(), Asked::Tokens, WHOLE, LONG)
 }
 
 #[test]

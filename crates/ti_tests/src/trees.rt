@@ -1,6 +1,6 @@
 // Texts with their trees. What is expected was worked out by hand from the grammar.
 
-use crate::answers::{Asked, Row, wrong};
+use crate::answers::{Asked, Row, judge};
 use crate::programs::PROGRAM;
 use crate::texts::{STATEMENTS, WHOLE};
 use std::test::Fail;
@@ -666,42 +666,30 @@ const PROGRAMS: &[Row] = &[Row {
 
 #[test]
 fn texts_have_their_trees(rt: HostRuntime) -> Result<(), Fail> {
-    let wrong = wrong(rt.alloc(), Asked::Tree, WHOLE, TEXTS)?;
-    assert_eq!(rt; wrong.as_str(), "");
-    Ok(())
+    judge(rt.alloc(), Asked::Tree, WHOLE, TEXTS)
 }
 
 #[test]
 fn declarations_have_their_trees(rt: HostRuntime) -> Result<(), Fail> {
-    let wrong = wrong(rt.alloc(), Asked::Statements, STATEMENTS, DECLARATIONS)?;
-    assert_eq!(rt; wrong.as_str(), "");
-    Ok(())
+    judge(rt.alloc(), Asked::Statements, STATEMENTS, DECLARATIONS)
 }
 
 #[test]
 fn changes_have_their_trees(rt: HostRuntime) -> Result<(), Fail> {
-    let wrong = wrong(rt.alloc(), Asked::Statements, STATEMENTS, CHANGES)?;
-    assert_eq!(rt; wrong.as_str(), "");
-    Ok(())
+    judge(rt.alloc(), Asked::Statements, STATEMENTS, CHANGES)
 }
 
 #[test]
 fn compound_statements_have_their_trees(rt: HostRuntime) -> Result<(), Fail> {
-    let wrong = wrong(rt.alloc(), Asked::Statements, STATEMENTS, COMPOUND)?;
-    assert_eq!(rt; wrong.as_str(), "");
-    Ok(())
+    judge(rt.alloc(), Asked::Statements, STATEMENTS, COMPOUND)
 }
 
 #[test]
 fn jumps_have_their_trees(rt: HostRuntime) -> Result<(), Fail> {
-    let wrong = wrong(rt.alloc(), Asked::Statements, STATEMENTS, JUMPS)?;
-    assert_eq!(rt; wrong.as_str(), "");
-    Ok(())
+    judge(rt.alloc(), Asked::Statements, STATEMENTS, JUMPS)
 }
 
 #[test]
 fn a_program_has_its_tree(rt: HostRuntime) -> Result<(), Fail> {
-    let wrong = wrong(rt.alloc(), Asked::Tree, WHOLE, PROGRAMS)?;
-    assert_eq!(rt; wrong.as_str(), "");
-    Ok(())
+    judge(rt.alloc(), Asked::Tree, WHOLE, PROGRAMS)
 }
