@@ -11,7 +11,7 @@ use Rattle.ti_syntax.specs.Trees.Expressions.{Exp}
 use Rattle.ti_syntax.specs.Spelling.Expressions.{Whole}
 use Rattle.ti_syntax.specs.Spelling.Loads.{Load, Free, free, weights}
 use Rattle.ti_parse_expr.specs.declared.parse.Form.TheVariants as form
-use Rattle.ti_parse_expr.specs.Mirrors.Input.{At, Over, Outcome, Parser, and_then, kind, sees, spells, expect, expect_word, take_token, any_name, named_by}
+use Rattle.ti_parse_expr.specs.Mirrors.Input.{At, Over, Outcome, Parser, and_then, kind, sees, spells, expect, expect_word, any_name, named_by}
 use Rattle.ti_parse_expr.specs.Mirrors.Full.{Limits, above, limited_to, full_to}
 use Rattle.ti_parse_expr.proofs.Law.{append_nil}
 use Rattle.ti_parse_expr.proofs.Follows.{IsCloser}

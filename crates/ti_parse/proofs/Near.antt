@@ -1,8 +1,7 @@
 -- Reading the classes of a text looks no further than the token that it refuses.
-use Rattle.std.proofs.Common.{◌≡◌, ℕ, zero, suc, ◌<◌, ◌≤◌, List, [], ◌∷◌, length, refl, arith}
+use Rattle.std.proofs.Common.{ℕ, zero, suc, ◌≤◌, List, [], refl, arith}
 use Rattle.ti_base.specs.declared.place.Place.{Place}
 use Rattle.ti_syntax.specs.declared.token.Token.{Token}
-use Rattle.ti_syntax.specs.Trees.Classes.{TextTree}
 use Rattle.ti_parse_expr.specs.declared.parse.Form.{Form}
 use Rattle.ti_parse_expr.specs.Mirrors.Input.{kind, place}
 use Rattle.ti_parse_expr.specs.Mirrors.Full.{full, full_operand, full_behind_name, full_behind_bracket}

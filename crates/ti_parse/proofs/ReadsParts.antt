@@ -23,7 +23,7 @@ use Rattle.ti_syntax.specs.Spelling.Statements.{Region, Dims, Initial, Printer, 
 use Rattle.ti_syntax.specs.Spelling.Statements as grammar
 use Rattle.ti_syntax.specs.Spelling.Loads.{Load, Free, free, weights, region_loads, range_loads, ranges_loads, dims_loads, initial_loads, printed_loads, condition_loads, optional_loads}
 use Rattle.ti_parse_expr.specs.declared.parse.Form.TheVariants as form
-use Rattle.ti_parse_expr.specs.Mirrors.Input.{Parser, and_then, kind, sees, take_token}
+use Rattle.ti_parse_expr.specs.Mirrors.Input.{Parser, and_then, kind, sees}
 use Rattle.ti_parse_expr.specs.Mirrors.Types.{base, qualifiers, grids}
 use Rattle.ti_parse_expr.specs.Mirrors.Full.{Limits, full_to}
 use Rattle.ti_parse_expr.proofs.Follows.{test_reads as same_test, IsCloser, paren_closes, colon_closes, comma_closes, bracket_closes}

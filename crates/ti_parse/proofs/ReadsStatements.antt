@@ -16,7 +16,7 @@ use Rattle.ti_syntax.specs.Spelling.Expressions.{Whole, Call}
 use Rattle.ti_syntax.specs.Spelling.Statements.{Start, Declared, Changed, Printer, Printed, Condition, First, Optional, Update, Stated, Items, starts}
 use Rattle.ti_syntax.specs.Spelling.Statements as grammar
 use Rattle.ti_syntax.specs.Spelling.Loads.{Load, Free, Level, free, weights, changed_loads, printed_loads, condition_loads, first_loads, optional_loads, update_loads, declared_loads, stated_loads, items_loads}
-use Rattle.ti_parse_expr.specs.Mirrors.Input.{Parser, and_then, kind, sees, expect, take_token}
+use Rattle.ti_parse_expr.specs.Mirrors.Input.{Parser, and_then, kind, sees, expect}
 use Rattle.ti_parse_expr.specs.Mirrors.Full.{Limits, operand_to}
 use Rattle.ti_parse_expr.proofs.Follows.{test_reads as same_test, then_ok, is_name, paren_closes}
 use Rattle.ti_parse_expr.proofs.Law.{append_nil}

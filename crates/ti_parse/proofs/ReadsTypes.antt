@@ -14,7 +14,7 @@ use Rattle.ti_syntax.specs.Trees.Types.{GridTree, TypeTree}
 use Rattle.ti_syntax.specs.Spelling.Operators.{qualifier_of}
 use Rattle.ti_syntax.specs.Spelling.Types.{Based, Qualified, Gridded, FieldType, WideType, Typed}
 use Rattle.ti_syntax.specs.Spelling.Types as types
-use Rattle.ti_parse_expr.specs.Mirrors.Input.{and_then, kind, take_token}
+use Rattle.ti_parse_expr.specs.Mirrors.Input.{and_then, kind}
 use Rattle.ti_parse_expr.specs.Mirrors.Full.{Limits}
 use Rattle.ti_parse_expr.specs.Mirrors.Types.{arity, base, qualifiers, grid, grids, field_type}
 use Rattle.ti_parse_expr.specs.Mirrors.Exprs.{is_dim}

@@ -8,7 +8,6 @@ use Rattle.ti_syntax.specs.declared.tree.types.Base.TheVariants as b
 use Rattle.ti_syntax.specs.declared.tree.classes.Modifier.{Modifier}
 use Rattle.ti_syntax.specs.declared.tree.classes.ModifierWord.{ModifierWord}
 use Rattle.ti_syntax.specs.Trees.Types.{TypeTree}
-use Rattle.ti_syntax.specs.Trees.Expressions.{Exp}
 use Rattle.ti_syntax.specs.Trees.Statements.{Stm}
 use Rattle.ti_syntax.specs.Trees.Classes.{ParamTree, ParamsTree, ResultTree, MemberTree, ClassTree}
 use Rattle.ti_syntax.specs.Trees.Classes as tree

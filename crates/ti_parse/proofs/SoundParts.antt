@@ -22,7 +22,7 @@ use Rattle.ti_syntax.specs.Spelling.Expressions as exprs
 use Rattle.ti_syntax.specs.Spelling.Statements.{starts, starts_so, Start, Region, Dims, Initial, Declared, Changed, Printer, Printed, Condition, First, Optional, Update, Stated}
 use Rattle.ti_syntax.specs.Spelling.Statements as grammar
 use Rattle.ti_parse_expr.specs.declared.parse.Form.TheVariants as form
-use Rattle.ti_parse_expr.specs.Mirrors.Input.{At, Over, Spent, Outcome, Parser, ◌>>=◌, ◌>>◌, pure, and_then, kind, sees, expect, take_token}
+use Rattle.ti_parse_expr.specs.Mirrors.Input.{At, Over, Spent, Outcome, Parser, ◌>>=◌, ◌>>◌, pure, and_then, kind, sees, expect}
 use Rattle.ti_parse_expr.specs.Mirrors.Types.{arity, base, qualifiers, grid, grids, field_type}
 use Rattle.ti_parse_expr.specs.Mirrors.Exprs.{Operand, is_dim}
 use Rattle.ti_parse_expr.specs.Mirrors.Full.{usual, full, full_operand, full_behind_name, full_behind_bracket}
