@@ -1,7 +1,7 @@
 // Runs of the command over memory, with calls that fail.
 
 use crate::examples::EXAMPLES;
-use crate::texts::{Frame, MAIN, WHOLE, WITH_MAIN, framed};
+use crate::texts::{Frame, MAIN, WHOLE, WITH_MAIN, WITH_METHOD, framed};
 use std::alloc::{AllocError, Global};
 use std::test::Fail;
 use ti_base::{Action, Answer, CollKind, Deposit, Entry, FaultKind, Place, Value};
@@ -200,6 +200,16 @@ const COMMANDS: &[Command] = &[
             err: "",
         },
     },
+    Command {
+        words: "a.ti",
+        frame: WITH_METHOD,
+        text: "static void f() { `200#int v$ = 0; `}",
+        end: End {
+            status: 0,
+            out: "7\n",
+            err: "",
+        },
+    },
 ];
 
 const REFUSED: &[Refused] = &[
@@ -335,6 +345,46 @@ const UNBUILT: &[Refused] = &[
     Refused {
         frame: WHOLE,
         text: "class Main { int x; public static single void main(String[] args) { return; } }",
+        err: "1:14",
+    },
+    Refused {
+        frame: WITH_METHOD,
+        text: "void f() { int x = 1; }",
+        err: "1:14",
+    },
+    Refused {
+        frame: WITH_METHOD,
+        text: "static void f(int n) { }",
+        err: "1:14",
+    },
+    Refused {
+        frame: WITH_METHOD,
+        text: "static int f() { return 1; }",
+        err: "1:14",
+    },
+    Refused {
+        frame: WITH_METHOD,
+        text: "static void f() { long x = 1; }",
+        err: "1:14",
+    },
+    Refused {
+        frame: WITH_METHOD,
+        text: "static void f() { int single x = 1; }",
+        err: "1:14",
+    },
+    Refused {
+        frame: WITH_METHOD,
+        text: "static void f() { int x = 1 + 1; }",
+        err: "1:14",
+    },
+    Refused {
+        frame: WITH_METHOD,
+        text: "static void f() { int x = 1; x = 2; }",
+        err: "1:14",
+    },
+    Refused {
+        frame: WITH_METHOD,
+        text: "static void f() { ; }",
         err: "1:14",
     },
 ];

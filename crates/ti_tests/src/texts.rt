@@ -34,6 +34,12 @@ pub(crate) const WITH_MAIN: Frame = Frame {
     behind: " class Main { public static single void main(String[] args) {  } }",
 };
 
+/// Of members of the class `Main`, which begin in column 14; behind them stands `main`, which prints 7.
+pub(crate) const WITH_METHOD: Frame = Frame {
+    front: "class Main { ",
+    behind: " public static single void main(String[] args) { println(7); } }",
+};
+
 /// Puts a text so many times behind another.
 fn push_all(text: &mut String, piece: &str, count: usize) -> Result<(), AllocError> {
     for _ in 0..count {

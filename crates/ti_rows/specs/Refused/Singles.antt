@@ -75,4 +75,3 @@ a_plain_region_is_deleted = program_of ((class_with [] []) ∷ []) ((method_with
 -- class Main { static int single f() { return 1; } public static single void main(String[] args) {  } }
 abbrev pub a_single_result_of_a_plain_method : NumberedProgram
 a_single_result_of_a_plain_method = program_of ((class_with [] []) ∷ []) ((method_with 0 ((modifier mw.Static (pl 1 14)) ∷ []) (c.Typed (type_with ty.Int ((qualifier word.Single (pl 1 25)) ∷ []) [])) (pl 1 32) 11 (c.Params []) ((s.Return (pl 1 38) (Some (x.Int (pl 1 45) (pos 1)))) ∷ []) (pl 1 48)) ∷ (method_with 0 ((modifier mw.Public (pl 1 50)) ∷ (modifier mw.Static (pl 1 57)) ∷ (modifier mw.Single (pl 1 64)) ∷ []) c.Void (pl 1 76) 12 c.Words [] (pl 1 99)) ∷ []) 1 (codes "f" ∷ codes "main" ∷ [])
-

@@ -127,4 +127,3 @@ an_exchange_into_local_elements = program_of ((class_with [] ((field_with [] (ty
 -- class Main { public static single void main(String[] args) { if (Ti.thisProc() == 0) { Ti.barrier(); } boolean b = 1; } }
 abbrev pub types_come_before_single_values : NumberedProgram
 types_come_before_single_values = program_of ((class_with [] []) ∷ []) ((method_with 0 ((modifier mw.Public (pl 1 14)) ∷ (modifier mw.Static (pl 1 21)) ∷ (modifier mw.Single (pl 1 28)) ∷ []) c.Void (pl 1 40) 11 c.Words ((s.If (pl 1 62) (x.Binary (pl 1 80) b.Equal (x.ThisProc (pl 1 66)) (x.Int (pl 1 83) (pos 0))) (s.Block (s.Cons (s.Barrier (pl 1 91)) s.Nil))) ∷ (s.Declare (pl 1 112) (type_with ty.Boolean [] []) 0 (s.Value (x.Int (pl 1 116) (pos 1)))) ∷ []) (pl 1 119)) ∷ []) 0 (codes "main" ∷ [])
-
