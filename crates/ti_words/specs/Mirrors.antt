@@ -1,0 +1,3 @@
+-- What private parts of the code answer.
+pub mod Command
+pub mod Seen

@@ -1,0 +1,30 @@
+-- What the code holds, as the bytes of its texts.
+use Rattle.std.specs.Prelude.{option_map}
+use Rattle.ti_words.specs.Job.{Values}
+use Rattle.ti_words.specs.declared.arguments.Given.{Given}
+use Rattle.ti_words.specs.declared.job.Job.{Job}
+use Rattle.ti_words.specs.declared.words.Asked.{Asked}
+
+-- what was given to each argument, as the bytes of its value
+abbrev pub values_seen : Given → Values
+values_seen g = record {
+  mode = option_map (λ s. s.now) g.mode;
+  procs = option_map (λ s. s.now) g.procs;
+  workers = option_map (λ s. s.now) g.workers;
+  fuel = option_map (λ s. s.now) g.fuel;
+  trace = g.trace;
+  stats = g.stats;
+  file = option_map (λ s. s.now) g.file;
+}
+
+-- what is asked for, with the bytes of the file's name
+abbrev pub job_asked : Asked → Job
+job_asked a = record {
+  mode = a.mode;
+  procs = a.procs;
+  workers = a.workers;
+  fuel = a.fuel;
+  trace = a.trace;
+  stats = a.stats;
+  file = a.file.now;
+}

@@ -1,0 +1,85 @@
+-- Which uses of arguments the words of the command line are.
+use Rattle.std.specs.Prelude.{ℕ, Bool, true, not, ◌==◌, ◌&&◌, ◌++◌, if◌then◌else◌}
+use Rattle.std.specs.Prelude.{List, [], ◌∷◌, codes, find, Option, Some, None, option_map}
+use Rattle.std.specs.List.{list_any}
+use Rattle.std.specs.Str.{bytes_eq}
+
+-- a word, as its bytes
+abbrev pub Word : Type 0
+Word = List ℕ
+
+-- one use of an argument: its name, and the value that it is given
+pub record Use : Type 0 where
+  pub name : Word
+  pub value : Word
+
+-- what one word is: a setting whose value is the next word, a whole use of an argument, a word that doesn't begin with `-`,
+-- or one that can't stand in a command
+pub data Piece : Type 0 where
+  awaits : Word → Piece
+  gives : Use → Piece
+  plain : Word → Piece
+  wrong : Piece
+
+-- `--` and the name of an argument
+abbrev pub dashed : Word → Word
+dashed name = 45 ∷ 45 ∷ name
+
+-- what is left of a word behind its first bytes, where they are these
+abbrev pub behind : Word → Word → Option Word
+behind [] word = Some word
+behind (x ∷ xs) [] = None
+behind (x ∷ xs) (y ∷ ys) = if x == y then behind xs ys else None
+
+-- the setting of this name with the value, which isn't empty; something else where there is none
+abbrev pub with_value : Word → Option Word → Piece → Piece
+with_value name None other = other
+with_value name (Some []) other = other
+with_value name (Some (byte ∷ bytes)) other = gives (record { name = name; value = byte ∷ bytes })
+
+-- the word as the setting of this name, `--NAME` or `--NAME=VALUE`; something else where it is neither
+abbrev pub as_setting : Word → Word → Piece → Piece
+as_setting name word other =
+    if bytes_eq word (dashed name) then awaits name else with_value name (behind (dashed name ++ 61 ∷ []) word) other
+
+-- the word as the wish for the report of this name, `--NAME`; something else where it isn't
+abbrev pub as_report : Word → Word → Piece → Piece
+as_report name word other =
+    if bytes_eq word (dashed name) then gives (record { name = name; value = codes "true" }) else other
+
+-- what a word is that begins with `-`
+abbrev pub dashed_piece : Word → Piece
+dashed_piece word =
+    as_setting (codes "mode") word (as_setting (codes "procs") word (as_setting (codes "workers") word (as_setting (codes "fuel") word
+    (as_report (codes "trace") word (as_report (codes "stats") word wrong)))))
+
+-- what a word is
+abbrev pub piece_of : Word → Piece
+piece_of [] = wrong
+piece_of (byte ∷ bytes) = if byte == 45 then dashed_piece (byte ∷ bytes) else plain (byte ∷ bytes)
+
+-- the uses with one more before them
+abbrev pub and_uses : Use → Option (List Use) → Option (List Use)
+and_uses first = option_map (λ uses. first ∷ uses)
+
+-- the uses of arguments that the words are cut into, where each setting has its value; a plain word that is no value names the
+-- file
+abbrev pub uses_of : List Piece → Option (List Use)
+uses_of [] = Some []
+uses_of (gives use_of ∷ rest) = and_uses use_of (uses_of rest)
+uses_of (plain file ∷ rest) = and_uses (record { name = codes "FILE"; value = file }) (uses_of rest)
+uses_of (awaits name ∷ plain value ∷ rest) = and_uses (record { name = name; value = value }) (uses_of rest)
+uses_of _ = None
+
+-- whether one of the uses is of the argument of this name
+abbrev pub is_used : Word → List Use → Bool
+is_used name uses = list_any (λ u. bytes_eq u.name name) uses
+
+-- whether no argument is used twice
+abbrev pub is_each_once : List Use → Bool
+is_each_once [] = true
+is_each_once (first ∷ rest) = not (is_used first.name rest) && is_each_once rest
+
+-- the value that the uses give the argument of this name
+abbrev pub value_of : Word → List Use → Option Word
+value_of name uses = option_map (λ u. u.value) (find (λ u. bytes_eq u.name name) uses)

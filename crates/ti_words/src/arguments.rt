@@ -1,0 +1,107 @@
+// What the words give each argument, found by `clap`.
+ghost use Rattle.std.specs.Prelude.{◌≡◌, false, None, Some, IfErr, IfOk, codes, map, option_and_then, option_map, string_bytes};
+ghost use Rattle.clap.specs.Words.{app_of, first_value, found_of, matched_of, rule_of};
+ghost use Rattle.ti_words.specs.Job.{values_in};
+ghost use Rattle.ti_words.specs.Mirrors.Command.{is_from_words, report_rule, setting_rule, titan};
+ghost use Rattle.ti_words.specs.Mirrors.Seen.{values_seen};
+ghost use Rattle.ti_words.specs.declared.error.WordsErr.TheVariants.{Usage};
+
+use crate::error::WordsErr;
+use crate::piece::all_stand;
+use clap::error::ErrorKind;
+use clap::parser::ValueSource;
+use clap::{Arg, ArgAction, ArgMatches, Command};
+use std::alloc::{AllocError, Global};
+
+/// What the words give each argument.
+#[derive(Clone, Copy)]
+pub struct Given<'a> {
+    pub mode: Option<&'a str>,
+    pub procs: Option<&'a str>,
+    pub workers: Option<&'a str>,
+    pub fuel: Option<&'a str>,
+    pub trace: bool,
+    pub stats: bool,
+    pub file: Option<&'a str>,
+}
+
+// An argument that has a value, `--NAME VALUE` or `--NAME=VALUE`.
+fn setting<'a>(alloc: Global, name: &'a str) -> Arg<'a>
+    ensures rule { rule_of result ≡ setting_rule name.now }
+    ensures local { result.global ≡ false }
+{
+    Arg::new(alloc, name).long(name).action(ArgAction::Set)
+}
+
+// An argument that has none, `--NAME`.
+fn report<'a>(alloc: Global, name: &'a str) -> Arg<'a>
+    ensures rule { rule_of result ≡ report_rule name.now }
+    ensures local { result.global ≡ false }
+{
+    Arg::new(alloc, name).long(name).action(ArgAction::SetTrue)
+}
+
+// The command's arguments.
+fn command<'a>(alloc: Global) -> Result<Command<'a>, AllocError>
+    ensures { IfOk result (λ c. app_of c ≡ titan) }
+{
+    Command::new(alloc, "titan")
+        .no_binary_name(true)
+        .disable_help_flag(true)
+        .arg(setting(alloc, "mode"))?
+        .arg(setting(alloc, "procs"))?
+        .arg(setting(alloc, "workers"))?
+        .arg(setting(alloc, "fuel"))?
+        .arg(report(alloc, "trace"))?
+        .arg(report(alloc, "stats"))?
+        .arg(Arg::new(alloc, "FILE").action(ArgAction::Set))
+}
+
+// Whether the words ask for a report.
+fn is_from_words(matches: &ArgMatches<'_>, report: &str) -> bool
+    ensures { result ≡ is_from_words (option_and_then (λ a. a.source) (matched_of (found_of matches.now) report.now)) }
+{
+    match matches.value_source(report) {
+        Some(ValueSource::CommandLine) => true,
+        Some(ValueSource::DefaultValue) => false,
+        None => false,
+    }
+}
+
+// What the matches have for each argument.
+fn given_in<'a>(matches: &ArgMatches<'a>) -> Given<'a>
+    ensures mode { option_map (λ s. s.now) result.mode ≡ first_value (found_of matches.now) (codes "mode") }
+    ensures procs { option_map (λ s. s.now) result.procs ≡ first_value (found_of matches.now) (codes "procs") }
+    ensures workers { option_map (λ s. s.now) result.workers ≡ first_value (found_of matches.now) (codes "workers") }
+    ensures fuel { option_map (λ s. s.now) result.fuel ≡ first_value (found_of matches.now) (codes "fuel") }
+    ensures trace { result.trace ≡ is_from_words (option_and_then (λ a. a.source) (matched_of (found_of matches.now) (codes "trace"))) }
+    ensures stats { result.stats ≡ is_from_words (option_and_then (λ a. a.source) (matched_of (found_of matches.now) (codes "stats"))) }
+    ensures file { option_map (λ s. s.now) result.file ≡ first_value (found_of matches.now) (codes "FILE") }
+{
+    Given {
+        mode: matches.get_str("mode"),
+        procs: matches.get_str("procs"),
+        workers: matches.get_str("workers"),
+        fuel: matches.get_str("fuel"),
+        trace: is_from_words(matches, "trace"),
+        stats: is_from_words(matches, "stats"),
+        file: matches.get_str("FILE"),
+    }
+}
+
+/// Finds what the words give each argument, where they are uses of arguments and none is used twice.
+pub fn find_arguments<'a>(alloc: Global, words: &'a [String]) -> Result<Given<'a>, WordsErr>
+    ensures given { IfOk result (λ g. values_in (map string_bytes words.now) ≡ Some (values_seen g)) }
+    ensures usage { IfErr result (λ e. e ≡ Usage → values_in (map string_bytes words.now) ≡ None) }
+{
+    if !all_stand(words) {
+        return Err(WordsErr::Usage);
+    }
+    match command(alloc)?.try_get_matches_from(words) {
+        Ok(matches) => Ok(given_in(&matches)),
+        Err(error) => match error.kind() {
+            ErrorKind::OutOfMemory => Err(WordsErr::Memory),
+            _ => Err(WordsErr::Usage),
+        },
+    }
+}

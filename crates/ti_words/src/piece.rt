@@ -1,0 +1,54 @@
+// Which words can stand in a command.
+ghost use Rattle.std.specs.Prelude.{◌≡◌, map, option_map, string_bytes};
+ghost use Rattle.ti_words.specs.Uses.{behind, dashed_piece, piece_of};
+ghost use Rattle.ti_words.specs.Mirrors.Command.{all_stand, can_stand, is_setting};
+
+// What is left of a word behind its first bytes, where they are these.
+fn behind<'a>(front: &str, word: &'a str) -> Option<&'a [u8]>
+    ensures { option_map (λ s. s.now) result ≡ behind front.now word.now }
+{
+    word.as_bytes().strip_prefix(front.as_bytes())
+}
+
+// Whether a word is this flag, or begins so and has a value behind it.
+fn is_setting(word: &str, flag: &str, front: &str) -> bool
+    ensures { result ≡ is_setting flag.now front.now word.now }
+{
+    if word == flag {
+        return true;
+    }
+    match behind(front, word) {
+        Some([_, ..]) => true,
+        _ => false,
+    }
+}
+
+// Whether a word that begins with `-` can stand in a command.
+fn is_argument(word: &str) -> bool
+    ensures { result ≡ can_stand (dashed_piece word.now) }
+{
+    is_setting(word, "--mode", "--mode=")
+        || is_setting(word, "--procs", "--procs=")
+        || is_setting(word, "--workers", "--workers=")
+        || is_setting(word, "--fuel", "--fuel=")
+        || word == "--trace"
+        || word == "--stats"
+}
+
+// Whether a word can stand in a command.
+fn can_stand(word: &str) -> bool
+    ensures { result ≡ can_stand (piece_of word.now) }
+{
+    match word.as_bytes() {
+        [] => false,
+        [b'-', ..] => is_argument(word),
+        _ => true,
+    }
+}
+
+/// Whether each of the words can stand in a command.
+pub fn all_stand(words: &[String]) -> bool
+    ensures { result ≡ all_stand (map string_bytes words.now) }
+{
+    words.iter().all(|word| can_stand(word.as_str()))
+}
