@@ -1,5 +1,5 @@
 -- Elements of a list that is seen through a view.
-use Rattle.std.proofs.Common.{◌≡◌, ℕ, ◌<◌, ◌≤◌, map, length, get_or, slice_get, List, Option, Some, None, option_map, ap, ◌∙◌}
+use Rattle.std.proofs.Common.{◌≡◌, ℕ, ◌<◌, ◌≤◌, map, length, get_or, slice_get, List, Some, None, option_map, ap, ◌∙◌}
 use Rattle.std.proofs.lemmas.Option.{slice_get-map, slice_get-get_or, slice_get_past}
 use Rattle.ti_lang.specs.declared.program.classes.Class.{Class}
 use Rattle.ti_lang.specs.declared.program.classes.Field.{Field}

@@ -1,5 +1,5 @@
 -- Each form of expression, from what is found of its parts.
-use Rattle.std.proofs.Common.{◌≡◌, ℕ, ◌+◌, false, List, [], ◌∷◌, ◌++◌, map, flat_map, length, slice_get, Option, Some, None, is_some, option_map, option_and_then, refl, sym, ap, ◌∙◌}
+use Rattle.std.proofs.Common.{◌≡◌, ℕ, false, List, [], ◌∷◌, ◌++◌, map, flat_map, length, slice_get, Option, Some, None, is_some, option_map, option_and_then, refl, sym, ap, ◌∙◌}
 use Rattle.ti_base.specs.declared.place.Place.{Place}
 use Rattle.ti_lang.specs.Program.Types.{ValueType, Pt}
 use Rattle.ti_lang.specs.Program.Expressions.{NumberedExp, NumberedExps, NumberedRanges, place_of_numbered}
@@ -57,22 +57,20 @@ wrong_call p s at xs m a count own are is_count is =
 pub call_form : (p : NumberedProgram) (s : ScopeContents) (at : Place) (number : ℕ) (xs : NumberedExps) (m : Option NumberedMethod) (a : Arguments) (count : ℕ) (own j : Judged) → m ≡ slice_get p.methods number → AreArguments p s xs (wanted_types m) a
     → count ≡ length (places_of xs) → typed_of own ≡ told_called m count (option_map told_of a.types) → own.first ≡ told_refusal at (places_of xs) m None count (option_map told_of a.types)
     → typed_of j ≡ typed_of own → j.first ≡ sooner a.inner (sooner a.misplaced own.first) → IsJudged p s (x.Call at number xs) j
-call_form p s at number xs m a count own j is_m are is_count is_known is_own is_typed is_first =
-    (
-      is_typed ∙ known_call p s xs m a count (typed_of own) are is_count is_known ∙ ap (λ o. called o (operands p s xs)) is_m,
-      node p s (x.Call at number xs) (parts_of_all xs) (all_misplaced p s xs) (judged (operands p s xs) (λ ts. call_refusals at (places_of xs) (slice_get p.methods number) ts)) a.inner a.misplaced own.first j.first refl refl are.0 are.1
-          (wrong_call p s at xs m a count own.first are is_count is_own ∙ ap (λ o. first_of (judged (operands p s xs) (λ ts. call_refusals at (places_of xs) o ts))) is_m) is_first,
-    )
+call_form p s at number xs m a count own j is_m are is_count is_known is_own is_typed is_first = (
+  is_typed ∙ known_call p s xs m a count (typed_of own) are is_count is_known ∙ ap (λ o. called o (operands p s xs)) is_m,
+  node p s (x.Call at number xs) (parts_of_all xs) (all_misplaced p s xs) (judged (operands p s xs) (λ ts. call_refusals at (places_of xs) (slice_get p.methods number) ts)) a.inner a.misplaced own.first j.first refl refl are.0 are.1
+      (wrong_call p s at xs m a count own.first are is_count is_own ∙ ap (λ o. first_of (judged (operands p s xs) (λ ts. call_refusals at (places_of xs) o ts))) is_m) is_first,
+)
 
 pub own_call_form : (p : NumberedProgram) (s : ScopeContents) (at : Place) (number : ℕ) (xs : NumberedExps) (m : Option NumberedMethod) (a : Arguments) (count : ℕ) (own j : Judged) → m ≡ slice_get p.methods number → AreArguments p s xs (wanted_types m) a
     → count ≡ length (places_of xs) → typed_of own ≡ told_called m count (option_map told_of a.types) → own.first ≡ told_refusal at (places_of xs) m None count (option_map told_of a.types)
     → typed_of j ≡ typed_of own → j.first ≡ sooner a.inner (sooner a.misplaced own.first) → IsJudged p s (x.OwnCall at number xs) j
-own_call_form p s at number xs m a count own j is_m are is_count is_known is_own is_typed is_first =
-    (
-      is_typed ∙ known_call p s xs m a count (typed_of own) are is_count is_known ∙ ap (λ o. called o (operands p s xs)) is_m,
-      node p s (x.OwnCall at number xs) (parts_of_all xs) (all_misplaced p s xs) (judged (operands p s xs) (λ ts. call_refusals at (places_of xs) (slice_get p.methods number) ts)) a.inner a.misplaced own.first j.first refl refl are.0 are.1
-          (wrong_call p s at xs m a count own.first are is_count is_own ∙ ap (λ o. first_of (judged (operands p s xs) (λ ts. call_refusals at (places_of xs) o ts))) is_m) is_first,
-    )
+own_call_form p s at number xs m a count own j is_m are is_count is_known is_own is_typed is_first = (
+  is_typed ∙ known_call p s xs m a count (typed_of own) are is_count is_known ∙ ap (λ o. called o (operands p s xs)) is_m,
+  node p s (x.OwnCall at number xs) (parts_of_all xs) (all_misplaced p s xs) (judged (operands p s xs) (λ ts. call_refusals at (places_of xs) (slice_get p.methods number) ts)) a.inner a.misplaced own.first j.first refl refl are.0 are.1
+      (wrong_call p s at xs m a count own.first are is_count is_own ∙ ap (λ o. first_of (judged (operands p s xs) (λ ts. call_refusals at (places_of xs) o ts))) is_m) is_first,
+)
 
 -- ---- points and ranges
 
@@ -91,37 +89,34 @@ plain_same a c e = ap (λ o. let k : Typed = record { type = o; is_call = false 
 pub point_form : (p : NumberedProgram) (s : ScopeContents) (at : Place) (xs : NumberedExps) (a : Arguments) (count : ℕ) (own j : Judged) → AreArguments p s xs [] a → count ≡ length (places_of xs)
     → typed_of own ≡ plain (option_and_then (λ (t : ToldTypes). where_true t.ints (Pt count)) (option_map told_of a.types)) → own.first ≡ first_of (judged (option_map told_of a.types) (λ (t : ToldTypes). mistaken at t.ints false))
     → typed_of j ≡ typed_of own → j.first ≡ sooner a.inner (sooner a.misplaced own.first) → IsJudged p s (x.Point at xs) j
-point_form p s at xs a count own j are is_count is_known is_own is_typed is_first =
-    (
-      is_typed ∙ is_known ∙ ap (λ o. plain (option_and_then (λ (t : ToldTypes). where_true t.ints (Pt count)) o)) are.2
-          ∙ plain_same (option_and_then (λ (t : ToldTypes). where_true t.ints (Pt count)) (option_map (told (places_of xs) []) (operands p s xs))) (option_and_then point_literal (operands p s xs)) (point_is (places_of xs) (operands p s xs) count (λ ts e. is_count ∙ count_places p s xs ts e)),
-      node p s (x.Point at xs) (parts_of_all xs) (all_misplaced p s xs) (judged (operands p s xs) (λ ts. mistaken at (all_ints ts) false)) a.inner a.misplaced own.first j.first refl refl are.0 are.1
-          (is_own ∙ ap (λ o. first_of (judged o (λ (t : ToldTypes). mistaken at t.ints false))) are.2 ∙ ap first_of (point_refusal_is at (places_of xs) (operands p s xs))) is_first,
-    )
+point_form p s at xs a count own j are is_count is_known is_own is_typed is_first = (
+  is_typed ∙ is_known ∙ ap (λ o. plain (option_and_then (λ (t : ToldTypes). where_true t.ints (Pt count)) o)) are.2
+      ∙ plain_same (option_and_then (λ (t : ToldTypes). where_true t.ints (Pt count)) (option_map (told (places_of xs) []) (operands p s xs))) (option_and_then point_literal (operands p s xs)) (point_is (places_of xs) (operands p s xs) count (λ ts e. is_count ∙ count_places p s xs ts e)),
+  node p s (x.Point at xs) (parts_of_all xs) (all_misplaced p s xs) (judged (operands p s xs) (λ ts. mistaken at (all_ints ts) false)) a.inner a.misplaced own.first j.first refl refl are.0 are.1
+      (is_own ∙ ap (λ o. first_of (judged o (λ (t : ToldTypes). mistaken at t.ints false))) are.2 ∙ ap first_of (point_refusal_is at (places_of xs) (operands p s xs))) is_first,
+)
 
 pub rect_form : (p : NumberedProgram) (s : ScopeContents) (at : Place) (rs : NumberedRanges) (b : Bounds) (count : ℕ) (own j : Judged) → AreRanges p s rs b → count ≡ range_count rs
     → typed_of own ≡ plain (option_and_then (told_rect count) (option_map ends_of b.types)) → own.first ≡ first_of (judged (option_map ends_of b.types) (λ (e : EndTypes). mistaken at (is_some (told_rect count e)) (told_near count e)))
     → typed_of j ≡ typed_of own → j.first ≡ sooner b.inner (sooner b.misplaced own.first) → IsJudged p s (x.Rect at rs) j
-rect_form p s at rs b count own j are is_count is_known is_own is_typed is_first =
-    (
-      is_typed ∙ is_known ∙ ap (λ o. plain (option_and_then (told_rect count) o)) are.2 ∙ ap (λ n. plain (option_and_then (told_rect n) (ranges_told p s rs))) is_count
-          ∙ plain_same (option_and_then (told_rect (range_count rs)) (ranges_told p s rs)) (option_and_then (rect_literal (range_count rs)) (bounds p s rs)) (rect_is p s rs),
-      node p s (x.Rect at rs) (parts_of_ranges rs) (bounds_misplaced p s rs) (judged (bounds p s rs) (λ ts. mistaken at (is_some (rect_literal (range_count rs) ts)) (is_some (rect_literal (range_count rs) (map one_dim ts))))) b.inner b.misplaced own.first j.first refl refl are.0 are.1
-          (is_own ∙ ap (λ o. first_of (judged o (λ (e : EndTypes). mistaken at (is_some (told_rect count e)) (told_near count e)))) are.2
-          ∙ ap (λ n. first_of (judged (ranges_told p s rs) (λ (e : EndTypes). mistaken at (is_some (told_rect n e)) (told_near n e)))) is_count ∙ ap first_of (rect_refusal_is p s at rs)) is_first,
-    )
+rect_form p s at rs b count own j are is_count is_known is_own is_typed is_first = (
+  is_typed ∙ is_known ∙ ap (λ o. plain (option_and_then (told_rect count) o)) are.2 ∙ ap (λ n. plain (option_and_then (told_rect n) (ranges_told p s rs))) is_count
+      ∙ plain_same (option_and_then (told_rect (range_count rs)) (ranges_told p s rs)) (option_and_then (rect_literal (range_count rs)) (bounds p s rs)) (rect_is p s rs),
+  node p s (x.Rect at rs) (parts_of_ranges rs) (bounds_misplaced p s rs) (judged (bounds p s rs) (λ ts. mistaken at (is_some (rect_literal (range_count rs) ts)) (is_some (rect_literal (range_count rs) (map one_dim ts))))) b.inner b.misplaced own.first j.first refl refl are.0 are.1
+      (is_own ∙ ap (λ o. first_of (judged o (λ (e : EndTypes). mistaken at (is_some (told_rect count e)) (told_near count e)))) are.2
+      ∙ ap (λ n. first_of (judged (ranges_told p s rs) (λ (e : EndTypes). mistaken at (is_some (told_rect n e)) (told_near n e)))) is_count ∙ ap first_of (rect_refusal_is p s at rs)) is_first,
+)
 
 -- ---- fields, members and indices
 
 pub select_form : (p : NumberedProgram) (s : ScopeContents) (at : Place) (e : NumberedExp) (name : ℕ) (place : Place) (t own j : Judged) → IsJudged p s e t → place ≡ place_of_numbered e
     → typed_of own ≡ plain (option_and_then (λ u. select_type p u name) (operand (typed_of t))) → own.first ≡ first_of (judged (operand (typed_of t)) (λ u. mistaken at (is_some (select_type p u name)) false))
     → typed_of j ≡ typed_of own → j.first ≡ sooner t.first (sooner (first_of (misplaced_at place (typed_of t))) own.first) → IsJudged p s (x.Select at e name) j
-select_form p s at e name place t own j is_t is_place is_known is_own is_typed is_first =
-    (
-      is_typed ∙ is_known ∙ ap (λ k. plain (option_and_then (λ u. select_type p u name) (operand k))) is_t.0,
-      node p s (x.Select at e name) (parts e) (misplaced p s e) (judged (operand (known p s e)) (λ u. mistaken at (is_some (select_type p u name)) false)) t.first (first_of (misplaced_at place (typed_of t))) own.first j.first refl refl is_t.1
-          (ap (λ k. first_of (misplaced_at place k)) is_t.0 ∙ ap (λ q. first_of (misplaced_at q (known p s e))) is_place) (is_own ∙ ap (λ k. first_of (judged (operand k) (λ u. mistaken at (is_some (select_type p u name)) false))) is_t.0) is_first,
-    )
+select_form p s at e name place t own j is_t is_place is_known is_own is_typed is_first = (
+  is_typed ∙ is_known ∙ ap (λ k. plain (option_and_then (λ u. select_type p u name) (operand k))) is_t.0,
+  node p s (x.Select at e name) (parts e) (misplaced p s e) (judged (operand (known p s e)) (λ u. mistaken at (is_some (select_type p u name)) false)) t.first (first_of (misplaced_at place (typed_of t))) own.first j.first refl refl is_t.1
+      (ap (λ k. first_of (misplaced_at place k)) is_t.0 ∙ ap (λ q. first_of (misplaced_at q (known p s e))) is_place) (is_own ∙ ap (λ k. first_of (judged (operand k) (λ u. mistaken at (is_some (select_type p u name)) false))) is_t.0) is_first,
+)
 
 -- what is in a receiver and in arguments
 inner_both : (p : NumberedProgram) (s : ScopeContents) (e : NumberedExp) (xs : NumberedExps) (us : List ValueType) (t : Judged) (a : Arguments) → IsJudged p s e t → AreArguments p s xs us a
@@ -138,19 +133,18 @@ pub member_form : (p : NumberedProgram) (s : ScopeContents) (at : Place) (e : Nu
     → m ≡ behind p (operand (typed_of t)) name → AreArguments p s xs (wanted_types m) a → count ≡ length (places_of xs)
     → typed_of own ≡ told_behind p (operand (typed_of t)) name m count (option_map told_of a.types) → own.first ≡ behind_refusal p at (places_of xs) (operand (typed_of t)) name m count (option_map told_of a.types)
     → typed_of j ≡ typed_of own → j.first ≡ sooner (sooner t.first a.inner) (sooner (sooner (first_of (misplaced_at place (typed_of t))) a.misplaced) own.first) → IsJudged p s (x.Member at e name xs) j
-member_form p s at e name xs place m t a count own j is_t is_place is_m are is_count is_known is_own is_typed is_first =
-    (
-      is_typed ∙ is_known ∙ ap (told_behind p (operand (typed_of t)) name m count) are.2
-          ∙ ap (λ n. told_behind p (operand (typed_of t)) name n count (option_map (told (places_of xs) (wanted_types n)) (operands p s xs))) is_m
-          ∙ behind_is p (places_of xs) (operand (typed_of t)) name (operands p s xs) count is_count (count_places p s xs)
-          ∙ ap (λ k. member p (operand k) name (operands p s xs)) is_t.0,
-      node p s (x.Member at e name xs) (parts e ++ parts_of_all xs) (misplaced p s e ++ all_misplaced p s xs) (both_judged (operand (known p s e)) (operands p s xs) (λ u ts. member_refusals p at (places_of xs) name u ts))
-          (sooner t.first a.inner) (sooner (first_of (misplaced_at place (typed_of t))) a.misplaced) own.first j.first refl refl (inner_both p s e xs (wanted_types m) t a is_t are) (placed_both p s e xs (wanted_types m) place t a is_t is_place are)
-          (is_own ∙ ap (behind_refusal p at (places_of xs) (operand (typed_of t)) name m count) are.2
-          ∙ ap (λ n. behind_refusal p at (places_of xs) (operand (typed_of t)) name n count (option_map (told (places_of xs) (wanted_types n)) (operands p s xs))) is_m
-          ∙ behind_refusal_is p at (places_of xs) (operand (typed_of t)) name (operands p s xs) count is_count (count_places p s xs)
-          ∙ ap (λ k. first_of (both_judged (operand k) (operands p s xs) (λ u ts. member_refusals p at (places_of xs) name u ts))) is_t.0) is_first,
-    )
+member_form p s at e name xs place m t a count own j is_t is_place is_m are is_count is_known is_own is_typed is_first = (
+  is_typed ∙ is_known ∙ ap (told_behind p (operand (typed_of t)) name m count) are.2
+      ∙ ap (λ n. told_behind p (operand (typed_of t)) name n count (option_map (told (places_of xs) (wanted_types n)) (operands p s xs))) is_m
+      ∙ behind_is p (places_of xs) (operand (typed_of t)) name (operands p s xs) count is_count (count_places p s xs)
+      ∙ ap (λ k. member p (operand k) name (operands p s xs)) is_t.0,
+  node p s (x.Member at e name xs) (parts e ++ parts_of_all xs) (misplaced p s e ++ all_misplaced p s xs) (both_judged (operand (known p s e)) (operands p s xs) (λ u ts. member_refusals p at (places_of xs) name u ts))
+      (sooner t.first a.inner) (sooner (first_of (misplaced_at place (typed_of t))) a.misplaced) own.first j.first refl refl (inner_both p s e xs (wanted_types m) t a is_t are) (placed_both p s e xs (wanted_types m) place t a is_t is_place are)
+      (is_own ∙ ap (behind_refusal p at (places_of xs) (operand (typed_of t)) name m count) are.2
+      ∙ ap (λ n. behind_refusal p at (places_of xs) (operand (typed_of t)) name n count (option_map (told (places_of xs) (wanted_types n)) (operands p s xs))) is_m
+      ∙ behind_refusal_is p at (places_of xs) (operand (typed_of t)) name (operands p s xs) count is_count (count_places p s xs)
+      ∙ ap (λ k. first_of (both_judged (operand k) (operands p s xs) (λ u ts. member_refusals p at (places_of xs) name u ts))) is_t.0) is_first,
+)
 
 index_both : (places : List Place) (t : Option ValueType) (o : Option (List ValueType)) (count : ℕ) → ((ts : List ValueType) → o ≡ Some ts → count ≡ length ts) → both t (option_map (told places []) o) (told_index count) ≡ both t o index_type
 index_both places None o count same = refl

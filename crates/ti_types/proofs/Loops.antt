@@ -1,5 +1,5 @@
 -- What counts of a list that is walked: what was found so far, and what counts of the rest.
-use Rattle.std.proofs.Common.{◌≡◌, ℕ, Bool, true, false, not, ◌||◌, if◌then◌else◌, map, ◌+◌, ◌<◌, ◌≤◌, List, [], ◌∷◌, ◌++◌, drop, length, get_or, flat_map, Option, None, refl, ap, sym, ◌∙◌, add-one}
+use Rattle.std.proofs.Common.{◌≡◌, ℕ, Bool, not, ◌||◌, if◌then◌else◌, map, ◌+◌, ◌<◌, ◌≤◌, List, [], ◌∷◌, drop, length, get_or, flat_map, Option, None, refl, ap, sym, ◌∙◌, add-one}
 use Rattle.std.proofs.Math.Seq.{drop-cons}
 use Rattle.std.proofs.lemmas.List.{drop_all}
 use Rattle.ti_rules.specs.declared.refusal.Refusal.{Refusal}
@@ -8,7 +8,7 @@ use Rattle.ti_lang.specs.Scopes.{is_single_word}
 use Rattle.ti_rules.specs.declared.rule.Rule.TheVariants.{Y7}
 use Rattle.ti_types.specs.Words.{qualifiers_again}
 use Rattle.ti_rules.specs.First.{sooner, first_of, refused_if}
-use Rattle.ti_rules.proofs.First.{sooner_none, sooner_assoc, first_append, first_append_each}
+use Rattle.ti_rules.proofs.First.{sooner_none, sooner_assoc, first_append}
 
 pub none_sooner : (a : Option Refusal) → a ≡ sooner None a
 unfolding sooner

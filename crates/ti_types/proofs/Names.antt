@@ -1,5 +1,5 @@
 -- The names of members, by number.
-use Rattle.std.proofs.Common.{◌≡◌, ℕ, ◌<◌, ◌≤◌, length, get_or, slice_get, List, Option, Some, None}
+use Rattle.std.proofs.Common.{◌≡◌, ℕ, ◌<◌, ◌≤◌, length, get_or, slice_get, List, Some, None}
 use Rattle.std.proofs.lemmas.Option.{slice_get-get_or, slice_get_past}
 
 pub name_here : (names : List (List ℕ)) (i : ℕ) (d : List ℕ) → i < length names → slice_get names i ≡ Some (get_or names i d)

@@ -1,5 +1,5 @@
 -- The forms whose parts stand in lists of the code.
-use Rattle.std.proofs.Common.{◌≡◌, ℕ, suc, ◌+◌, false, List, [], ◌∷◌, ◌++◌, map, length, slice_get, Option, Some, None, is_some, option_map, option_and_then, refl, sym, ap, ◌∙◌, subst, arith}
+use Rattle.std.proofs.Common.{◌≡◌, ℕ, suc, false, List, [], ◌∷◌, map, length, slice_get, Option, None, is_some, option_map, option_and_then, refl, ap, ◌∙◌, subst, arith}
 use Rattle.ti_base.specs.declared.place.Place.{Place}
 use Rattle.ti_lang.specs.declared.program.exprs.Expr.{Expr}
 use Rattle.ti_lang.specs.declared.program.exprs.Range.{Range}

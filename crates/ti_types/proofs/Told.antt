@@ -1,5 +1,5 @@
 -- What is told of the types of arguments says as much as the types do.
-use Rattle.std.proofs.Common.{◌≡◌, ◌⊎◌, inl, inr, ℕ, zero, suc, ◌+◌, ◌==◌, Bool, true, false, not, ◌&&◌, if◌then◌else◌, List, [], ◌∷◌, ◌++◌, map, drop, length, get_or, slice_get, Option, Some, None, is_some, is_none, option_map, refl, sym, ap, ◌∙◌, true≢false, arith}
+use Rattle.std.proofs.Common.{◌≡◌, ◌⊎◌, inl, inr, ℕ, suc, ◌+◌, ◌==◌, Bool, true, false, ◌&&◌, if◌then◌else◌, List, [], ◌∷◌, ◌++◌, drop, length, get_or, slice_get, Option, Some, None, is_none, option_map, refl, sym, ap, ◌∙◌, true≢false, arith}
 use Rattle.std.proofs.lemmas.Bool.{cases_order}
 use Rattle.std.proofs.lemmas.List.{drop_all}
 use Rattle.std.proofs.lemmas.Option.{slice_get-get_or, slice_get_past}
@@ -10,7 +10,7 @@ use Rattle.ti_lang.specs.Program.Classes.{NumberedParam, NumberedParams, Words, 
 use Rattle.ti_lang.specs.Typing.Kinds.{where_true}
 use Rattle.ti_lang.specs.Typing.Fits.{fits}
 use Rattle.ti_lang.specs.Typing.Declared.{result_type, types_of}
-use Rattle.ti_lang.specs.Typing.Expressions.{Typed, is_int, all_ints, all_fit, takes, call_type, called, both, joined, one}
+use Rattle.ti_lang.specs.Typing.Expressions.{Typed, is_int, all_ints, all_fit, takes, called, both, joined, one}
 use Rattle.ti_rules.specs.declared.rule.Rule.{Rule}
 use Rattle.ti_rules.specs.declared.rule.Rule.TheVariants.{Y1, Y2, Y4, Y5, Q1}
 use Rattle.ti_rules.specs.declared.refusal.Refusal.{Refusal}
@@ -19,7 +19,7 @@ use Rattle.ti_rules.specs.Alike.{one_dim, as_local}
 use Rattle.ti_rules.specs.Broken.Refused.{refused, judged, misfit}
 use Rattle.ti_rules.specs.Broken.Calls.{misfits, first_misfit, params_refusals, call_refusals, instance_refusals}
 use Rattle.ti_rules.proofs.First.{first_append}
-use Rattle.ti_types.specs.Arguments.{ToldTypes, first_type, second_type, told, more, wanted_misfit, types_in, wanted_types, told_takes, told_call, told_params, told_refusal, told_called}
+use Rattle.ti_types.specs.Arguments.{ToldTypes, first_type, told, more, wanted_misfit, types_in, wanted_types, told_takes, told_params, told_refusal, told_called}
 use Rattle.ti_types.proofs.Loops.{drop_next}
 
 -- ---- the parameter of a number
@@ -52,17 +52,17 @@ with_misfit t ts a b e = ap (λ m. let x : ToldTypes = record { ints = is_int t 
 
 pub told_more : (us : List ValueType) (i : ℕ) (at : Place) (places : List Place) (t : ValueType) (ts : List ValueType) → more at (slice_get us i) t (told places (drop (i + 1) us) ts) ≡ told (at ∷ places) (drop i us) (t ∷ ts)
 told_more us i at places t ts = elim (at_or_past Null us i) [
-    | inl there ↦
+  | inl there ↦
       with_misfit t ts (sooner (wanted_misfit at t (slice_get us i)) (first_of (misfits places ts (drop (i + 1) us)))) (first_of (misfits (at ∷ places) (t ∷ ts) (drop i us)))
       (ap (λ o. sooner (wanted_misfit at t o) (first_of (misfits places ts (drop (i + 1) us)))) there.2
       ∙ sym (first_append (misfit at t there.0) (misfits places ts (drop (i + 1) us)))
       ∙ sym (ap (λ l. first_of (misfits (at ∷ places) (t ∷ ts) l)) there.1))
-    | inr past ↦
+  | inr past ↦
       with_misfit t ts (sooner (wanted_misfit at t (slice_get us i)) (first_of (misfits places ts (drop (i + 1) us)))) (first_of (misfits (at ∷ places) (t ∷ ts) (drop i us)))
       (ap (λ o. sooner (wanted_misfit at t o) (first_of (misfits places ts (drop (i + 1) us)))) past.1
       ∙ sym (none_more (misfits places ts (drop (i + 1) us)) (ap (misfits places ts) past.2 ∙ no_misfits places ts))
       ∙ sym (ap (λ l. first_of (misfits (at ∷ places) (t ∷ ts) l)) past.0))
-  ]
+]
 
 -- the same, where all have types
 pub told_step : (us : List ValueType) (i : ℕ) (at : Place) (places : List Place) (o : Option ValueType) (q : Option (List ValueType))

@@ -1,26 +1,25 @@
 -- What is told of indices, of members and of ranges says as much as the types of their parts do.
-use Rattle.std.proofs.Common.{◌≡◌, ℕ, zero, suc, ◌+◌, ◌==◌, Bool, true, false, not, ◌&&◌, ◌||◌, if◌then◌else◌, List, [], ◌∷◌, ◌++◌, map, length, Option, Some, None, is_some, option_map, option_and_then, refl, sym, ap, ◌∙◌, subst, true≢false, arith}
+use Rattle.std.proofs.Common.{◌≡◌, ℕ, suc, ◌==◌, Bool, true, false, not, ◌&&◌, if◌then◌else◌, List, [], ◌∷◌, ◌++◌, map, length, Option, Some, None, is_some, option_map, option_and_then, refl, sym, ap, ◌∙◌, arith}
 use Rattle.std.proofs.lemmas.Bool.Decides.{Decides-eqb}
 use Rattle.ti_base.specs.declared.place.Place.{Place}
-use Rattle.ti_lang.specs.Program.Types.{ValueType, Int, Long, Boolean, Pt, Rc, Dm, Region, Class, Grid, Null, Void}
-use Rattle.ti_lang.specs.Program.Expressions.{NumberedRange, NumberedRanges, NoRange, MoreRange}
-use Rattle.ti_lang.specs.Program.Classes.{NumberedMethod, NumberedProgram}
+use Rattle.ti_lang.specs.Program.Types.{ValueType, Int, Pt, Rc, Dm, Region, Class, Grid}
+use Rattle.ti_lang.specs.Program.Expressions.{NumberedRanges, NoRange, MoreRange}
+use Rattle.ti_lang.specs.Program.Classes.{NumberedProgram}
 use Rattle.ti_lang.specs.Program.Scope.{ScopeContents}
 use Rattle.ti_lang.specs.Typing.Kinds.{where_true, read_through}
 use Rattle.ti_lang.specs.Typing.BuiltIn as b
 use Rattle.ti_lang.specs.Typing.BuiltIn.{BuiltIn, built_in, member_type}
 use Rattle.ti_lang.specs.Typing.Expressions.{Typed, plain, both, joined, is_int, all_ints, range_of_points, rect_literal, range_count, index_type, bound, bounds, member}
-use Rattle.ti_rules.specs.declared.rule.Rule.{Rule}
 use Rattle.ti_rules.specs.declared.rule.Rule.TheVariants.{Y1, Y4}
 use Rattle.ti_rules.specs.declared.refusal.Refusal.{Refusal}
 use Rattle.ti_rules.specs.First.{first_of}
 use Rattle.ti_rules.specs.Alike.{one_dim}
 use Rattle.ti_rules.specs.Broken.Refused.{refused, judged, both_judged, mistaken}
-use Rattle.ti_rules.specs.Broken.Calls.{has_member, arity, argument_refusals, built_in_refusals, member_refusals, instance_refusals}
+use Rattle.ti_rules.specs.Broken.Calls.{has_member, arity, argument_refusals, built_in_refusals, member_refusals}
 use Rattle.ti_rules.specs.Broken.Expressions.{other_indices}
-use Rattle.ti_types.specs.Arguments.{ToldTypes, first_type, second_type, told, wanted_types}
-use Rattle.ti_types.specs.BuiltIn.{listed, told_member, other_refusals, one_refusals, arguments_by, told_arguments, told_built_in}
-use Rattle.ti_types.specs.Nodes.{are_indices, told_index, is_index, told_other, behind, told_behind, behind_refusal, EndTypes, ends, ends_before, ranges_told, told_rect, told_near}
+use Rattle.ti_types.specs.Arguments.{first_type, second_type, told, wanted_types}
+use Rattle.ti_types.specs.BuiltIn.{told_member, other_refusals, one_refusals, arguments_by, told_arguments, told_built_in}
+use Rattle.ti_types.specs.Nodes.{told_index, is_index, told_other, behind, told_behind, behind_refusal, EndTypes, ends, ends_before, ranges_told, told_rect, told_near}
 use Rattle.ti_types.proofs.Told.{differ, called_is, instance_is}
 
 and_false : (b : Bool) → b && false ≡ false
@@ -221,14 +220,13 @@ not_one : (n : ℕ) (q : Option EndTypes) (w : Option (List ValueType)) → n ==
 not_one n None None differs i = tt
 not_one n (Some e) None differs i = absurd i
 not_one n None (Some ts) differs i = absurd i
-not_one n (Some e) (Some ts) differs i =
-    (
-      ap (λ c. if c then Some (Rc n) else if n == 1 then e.range else None) i ∙ ap (λ c. if all_ints ts then Some (Rc n) else if c then e.range else None) differs
-          ∙ sym (ap (λ c. if all_ints ts then Some (Rc n) else if c then range_of_points ts else None) differs),
-      ap (λ c. if c then true else if n == 1 then e.near else false) i ∙ ap (λ c. if all_ints ts then true else if c then e.near else false) differs ∙ by (all_ints ts)
-          ∙ sym (ap (λ c. is_some (if c then Some (Rc n) else if n == 1 then range_of_points (map one_dim ts) else None)) (ints_as ts)
-          ∙ ap (λ c. is_some (if all_ints ts then Some (Rc n) else if c then range_of_points (map one_dim ts) else None)) differs),
-    )
+not_one n (Some e) (Some ts) differs i = (
+  ap (λ c. if c then Some (Rc n) else if n == 1 then e.range else None) i ∙ ap (λ c. if all_ints ts then Some (Rc n) else if c then e.range else None) differs
+      ∙ sym (ap (λ c. if all_ints ts then Some (Rc n) else if c then range_of_points ts else None) differs),
+  ap (λ c. if c then true else if n == 1 then e.near else false) i ∙ ap (λ c. if all_ints ts then true else if c then e.near else false) differs ∙ by (all_ints ts)
+      ∙ sym (ap (λ c. is_some (if c then Some (Rc n) else if n == 1 then range_of_points (map one_dim ts) else None)) (ints_as ts)
+      ∙ ap (λ c. is_some (if all_ints ts then Some (Rc n) else if c then range_of_points (map one_dim ts) else None)) differs),
+)
   where
     by : (c : Bool) → (if c then true else if false then e.near else false) ≡ is_some (if c then Some (Rc n) else if false then range_of_points (map one_dim ts) else None)
     by true = refl
@@ -236,12 +234,11 @@ not_one n (Some e) (Some ts) differs i =
 
 single : (o : Option (List ValueType)) → AreTold 1 (both (option_map ends o) (Some (ends [])) (λ e others. Some (ends_before e others))) (joined o (Some []))
 single None = tt
-single (Some ts) =
-    (
-      ap (λ c. if c then Some (Rc 1) else range_of_points ts) (and_true (all_ints ts)) ∙ sym (ap (rect_literal 1) (alone ts)),
-      ap (λ c. if c then true else is_some (range_of_points (map one_dim ts))) (and_true (all_ints ts)) ∙ by (all_ints ts) ∙ sym (ap (λ c. is_some (if c then Some (Rc 1) else range_of_points (map one_dim ts))) (ints_as ts))
-          ∙ sym (ap (λ l. is_some (rect_literal 1 (map one_dim l))) (alone ts)),
-    )
+single (Some ts) = (
+  ap (λ c. if c then Some (Rc 1) else range_of_points ts) (and_true (all_ints ts)) ∙ sym (ap (rect_literal 1) (alone ts)),
+  ap (λ c. if c then true else is_some (range_of_points (map one_dim ts))) (and_true (all_ints ts)) ∙ by (all_ints ts) ∙ sym (ap (λ c. is_some (if c then Some (Rc 1) else range_of_points (map one_dim ts))) (ints_as ts))
+      ∙ sym (ap (λ l. is_some (rect_literal 1 (map one_dim l))) (alone ts)),
+)
   where
     by : (c : Bool) → (if c then true else is_some (range_of_points (map one_dim ts))) ≡ is_some (if c then Some (Rc 1) else range_of_points (map one_dim ts))
     by true = refl

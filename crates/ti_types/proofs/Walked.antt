@@ -5,11 +5,11 @@ use Rattle.ti_base.specs.declared.place.Place.{Place}
 use Rattle.ti_lang.specs.declared.program.exprs.Expr.{Expr}
 use Rattle.ti_lang.specs.declared.program.exprs.Range.{Range}
 use Rattle.ti_lang.specs.Program.Types.{ValueType}
-use Rattle.ti_lang.specs.Program.Expressions.{NumberedExp, NumberedExps, NoExp, MoreExp, NumberedRange, NumberedRanges, NoRange, MoreRange, Plain, Stepped, numbered_exps, numbered_ranges, place_of_numbered}
+use Rattle.ti_lang.specs.Program.Expressions.{NumberedExp, NumberedExps, MoreExp, NumberedRanges, MoreRange, Plain, Stepped, numbered_exps, numbered_ranges, place_of_numbered}
 use Rattle.ti_lang.specs.Program.Classes.{NumberedProgram}
 use Rattle.ti_lang.specs.Program.Scope.{ScopeContents}
 use Rattle.ti_lang.specs.Program.Views.{expression_of, bound_of}
-use Rattle.ti_lang.specs.Typing.Expressions.{Typed, operand, both, joined, one, known, operands, bound}
+use Rattle.ti_lang.specs.Typing.Expressions.{operand, both, joined, one, known, operands, bound}
 use Rattle.ti_rules.specs.declared.refusal.Refusal.{Refusal}
 use Rattle.ti_rules.specs.First.{sooner, first_of}
 use Rattle.ti_rules.specs.Parts.{parts, parts_of_all, parts_of_range, parts_of_ranges}
@@ -22,7 +22,7 @@ use Rattle.ti_types.specs.declared.rects.Bounds.{Bounds}
 use Rattle.ti_types.specs.declared.rects.Ends.{Ends}
 use Rattle.ti_types.specs.Judged.{typed_of}
 use Rattle.ti_types.specs.Arguments.{told, told_of, more}
-use Rattle.ti_types.specs.Nodes.{ends, ends_of, ends_before, ranges_told}
+use Rattle.ti_types.specs.Nodes.{ends, ends_of, ends_before}
 use Rattle.ti_types.specs.Walk.{IsJudged, AreFound, IsRange, AreBounds}
 use Rattle.ti_types.proofs.Loops.{drop_next}
 use Rattle.ti_types.proofs.Told.{told_step}
@@ -48,17 +48,16 @@ pub one_more : (p : NumberedProgram) (s : ScopeContents) (us : List ValueType) (
     → next_inner ≡ sooner j.first inner → next_placed ≡ sooner (first_of (misplaced_at at (typed_of j))) placed
     → option_map told_of next_types ≡ both (operand (typed_of j)) (option_map told_of types) (λ t others. Some (more at u t others))
     → AreFound p s (MoreExp e rest) (drop i us) next_inner next_placed next_types
-one_more p s us i e rest j inner next_inner placed next_placed types next_types at u is_j is_at is_u are is_inner is_misplaced is_types =
-    (
-      is_inner ∙ ap (λ f. sooner f inner) is_j.1 ∙ ap (sooner (first_of (exp_refusals p s e))) are.0 ∙ sym (first_append_each (refusals_at p s) (parts e) (parts_of_all rest)),
-      is_misplaced ∙ ap (λ k. sooner (first_of (misplaced_at at k)) placed) is_j.0 ∙ ap (λ q. sooner (first_of (misplaced_at q (known p s e))) placed) is_at
-          ∙ ap (sooner (first_of (misplaced p s e))) are.1 ∙ sym (first_append (misplaced p s e) (all_misplaced p s rest)),
-      is_types ∙ ap (λ k. both (operand k) (option_map told_of types) (λ t others. Some (more at u t others))) is_j.0
-          ∙ ap (λ q. both (operand (known p s e)) q (λ t others. Some (more at u t others))) are.2
-          ∙ ap (λ q. both (operand (known p s e)) (option_map (told (places_of rest) (drop (i + 1) us)) (operands p s rest)) (λ t others. Some (more q u t others))) is_at
-          ∙ ap (λ w. both (operand (known p s e)) (option_map (told (places_of rest) (drop (i + 1) us)) (operands p s rest)) (λ t others. Some (more (place_of_numbered e) w t others))) is_u
-          ∙ told_step us i (place_of_numbered e) (places_of rest) (operand (known p s e)) (operands p s rest),
-    )
+one_more p s us i e rest j inner next_inner placed next_placed types next_types at u is_j is_at is_u are is_inner is_misplaced is_types = (
+  is_inner ∙ ap (λ f. sooner f inner) is_j.1 ∙ ap (sooner (first_of (exp_refusals p s e))) are.0 ∙ sym (first_append_each (refusals_at p s) (parts e) (parts_of_all rest)),
+  is_misplaced ∙ ap (λ k. sooner (first_of (misplaced_at at k)) placed) is_j.0 ∙ ap (λ q. sooner (first_of (misplaced_at q (known p s e))) placed) is_at
+      ∙ ap (sooner (first_of (misplaced p s e))) are.1 ∙ sym (first_append (misplaced p s e) (all_misplaced p s rest)),
+  is_types ∙ ap (λ k. both (operand k) (option_map told_of types) (λ t others. Some (more at u t others))) is_j.0
+      ∙ ap (λ q. both (operand (known p s e)) q (λ t others. Some (more at u t others))) are.2
+      ∙ ap (λ q. both (operand (known p s e)) (option_map (told (places_of rest) (drop (i + 1) us)) (operands p s rest)) (λ t others. Some (more q u t others))) is_at
+      ∙ ap (λ w. both (operand (known p s e)) (option_map (told (places_of rest) (drop (i + 1) us)) (operands p s rest)) (λ t others. Some (more (place_of_numbered e) w t others))) is_u
+      ∙ told_step us i (place_of_numbered e) (places_of rest) (operand (known p s e)) (operands p s rest),
+)
 
 -- the same in a list
 pub arguments_step : (p : NumberedProgram) (s : ScopeContents) (us : List ValueType) (xs : List Expr) (i : ℕ) (d : Expr) (j : Judged) (inner next_inner placed next_placed : Option Refusal) (types next_types : Option Told) (at : Place) (u : Option ValueType) → i < length xs
@@ -86,29 +85,27 @@ three_ends (Some t) (Some u) (Some v) = refl
 pub plain_range : (p : NumberedProgram) (s : ScopeContents) (low high : NumberedExp) (j k : Judged) (low_at high_at : Place) (b : Bounds) → IsJudged p s low j → IsJudged p s high k → low_at ≡ place_of_numbered low → high_at ≡ place_of_numbered high
     → b.inner ≡ sooner j.first k.first → b.misplaced ≡ sooner (first_of (misplaced_at low_at (typed_of j))) (first_of (misplaced_at high_at (typed_of k)))
     → option_map ends_of b.types ≡ both (operand (typed_of j)) (operand (typed_of k)) (λ v w. Some (ends (v ∷ w ∷ []))) → IsRange p s (Plain low high) b
-plain_range p s low high j k low_at high_at b is_j is_k is_low is_high is_inner is_misplaced is_types =
-    (
-      is_inner ∙ ap (λ f. sooner f k.first) is_j.1 ∙ ap (sooner (first_of (exp_refusals p s low))) is_k.1 ∙ sym (first_append_each (refusals_at p s) (parts low) (parts high)),
-      is_misplaced ∙ ap (λ z. sooner (first_of (misplaced_at low_at z)) (first_of (misplaced_at high_at (typed_of k)))) is_j.0 ∙ ap (λ q. sooner (first_of (misplaced_at q (known p s low))) (first_of (misplaced_at high_at (typed_of k)))) is_low
-          ∙ ap (λ z. sooner (first_of (misplaced p s low)) (first_of (misplaced_at high_at z))) is_k.0 ∙ ap (λ q. sooner (first_of (misplaced p s low)) (first_of (misplaced_at q (known p s high)))) is_high
-          ∙ sym (first_append (misplaced p s low) (misplaced p s high)),
-      is_types ∙ ap (λ z. both (operand z) (operand (typed_of k)) (λ v w. Some (ends (v ∷ w ∷ [])))) is_j.0 ∙ ap (λ z. both (operand (known p s low)) (operand z) (λ v w. Some (ends (v ∷ w ∷ [])))) is_k.0
-          ∙ two_ends (operand (known p s low)) (operand (known p s high)),
-    )
+plain_range p s low high j k low_at high_at b is_j is_k is_low is_high is_inner is_misplaced is_types = (
+  is_inner ∙ ap (λ f. sooner f k.first) is_j.1 ∙ ap (sooner (first_of (exp_refusals p s low))) is_k.1 ∙ sym (first_append_each (refusals_at p s) (parts low) (parts high)),
+  is_misplaced ∙ ap (λ z. sooner (first_of (misplaced_at low_at z)) (first_of (misplaced_at high_at (typed_of k)))) is_j.0 ∙ ap (λ q. sooner (first_of (misplaced_at q (known p s low))) (first_of (misplaced_at high_at (typed_of k)))) is_low
+      ∙ ap (λ z. sooner (first_of (misplaced p s low)) (first_of (misplaced_at high_at z))) is_k.0 ∙ ap (λ q. sooner (first_of (misplaced p s low)) (first_of (misplaced_at q (known p s high)))) is_high
+      ∙ sym (first_append (misplaced p s low) (misplaced p s high)),
+  is_types ∙ ap (λ z. both (operand z) (operand (typed_of k)) (λ v w. Some (ends (v ∷ w ∷ [])))) is_j.0 ∙ ap (λ z. both (operand (known p s low)) (operand z) (λ v w. Some (ends (v ∷ w ∷ [])))) is_k.0
+      ∙ two_ends (operand (known p s low)) (operand (known p s high)),
+)
 
 pub stepped_range : (p : NumberedProgram) (s : ScopeContents) (low high step : NumberedExp) (j k l : Judged) (step_at : Place) (a b : Bounds) → IsJudged p s low j → IsJudged p s high k → IsJudged p s step l → step_at ≡ place_of_numbered step
     → IsRange p s (Plain low high) a → b.inner ≡ sooner a.inner l.first → b.misplaced ≡ sooner a.misplaced (first_of (misplaced_at step_at (typed_of l)))
     → option_map ends_of b.types ≡ both (operand (typed_of j)) (operand (typed_of k)) (λ v w. option_map (λ z. ends (v ∷ w ∷ z ∷ [])) (operand (typed_of l))) → IsRange p s (Stepped low high step) b
-stepped_range p s low high step j k l step_at a b is_j is_k is_l is_step is_a is_inner is_misplaced is_types =
-    (
-      is_inner ∙ ap (λ f. sooner f l.first) is_a.0 ∙ ap (sooner (first_of (flat_map (refusals_at p s) (parts low ++ parts high)))) is_l.1 ∙ sym (first_append_each (refusals_at p s) (parts low ++ parts high) (parts step)),
-      is_misplaced ∙ ap (λ f. sooner f (first_of (misplaced_at step_at (typed_of l)))) is_a.1 ∙ ap (λ z. sooner (first_of (bound_misplaced p s (Plain low high))) (first_of (misplaced_at step_at z))) is_l.0
-          ∙ ap (λ q. sooner (first_of (bound_misplaced p s (Plain low high))) (first_of (misplaced_at q (known p s step)))) is_step ∙ sym (first_append (misplaced p s low ++ misplaced p s high) (misplaced p s step)),
-      is_types ∙ ap (λ z. both (operand z) (operand (typed_of k)) (λ v w. option_map (λ c. ends (v ∷ w ∷ c ∷ [])) (operand (typed_of l)))) is_j.0
-          ∙ ap (λ z. both (operand (known p s low)) (operand z) (λ v w. option_map (λ c. ends (v ∷ w ∷ c ∷ [])) (operand (typed_of l)))) is_k.0
-          ∙ ap (λ z. both (operand (known p s low)) (operand (known p s high)) (λ v w. option_map (λ c. ends (v ∷ w ∷ c ∷ [])) (operand z))) is_l.0
-          ∙ three_ends (operand (known p s low)) (operand (known p s high)) (operand (known p s step)),
-    )
+stepped_range p s low high step j k l step_at a b is_j is_k is_l is_step is_a is_inner is_misplaced is_types = (
+  is_inner ∙ ap (λ f. sooner f l.first) is_a.0 ∙ ap (sooner (first_of (flat_map (refusals_at p s) (parts low ++ parts high)))) is_l.1 ∙ sym (first_append_each (refusals_at p s) (parts low ++ parts high) (parts step)),
+  is_misplaced ∙ ap (λ f. sooner f (first_of (misplaced_at step_at (typed_of l)))) is_a.1 ∙ ap (λ z. sooner (first_of (bound_misplaced p s (Plain low high))) (first_of (misplaced_at step_at z))) is_l.0
+      ∙ ap (λ q. sooner (first_of (bound_misplaced p s (Plain low high))) (first_of (misplaced_at q (known p s step)))) is_step ∙ sym (first_append (misplaced p s low ++ misplaced p s high) (misplaced p s step)),
+  is_types ∙ ap (λ z. both (operand z) (operand (typed_of k)) (λ v w. option_map (λ c. ends (v ∷ w ∷ c ∷ [])) (operand (typed_of l)))) is_j.0
+      ∙ ap (λ z. both (operand (known p s low)) (operand z) (λ v w. option_map (λ c. ends (v ∷ w ∷ c ∷ [])) (operand (typed_of l)))) is_k.0
+      ∙ ap (λ z. both (operand (known p s low)) (operand (known p s high)) (λ v w. option_map (λ c. ends (v ∷ w ∷ c ∷ [])) (operand z))) is_l.0
+      ∙ three_ends (operand (known p s low)) (operand (known p s high)) (operand (known p s step)),
+)
 
 -- ---- ranges
 
@@ -130,8 +127,7 @@ pub ranges_step : (p : NumberedProgram) (s : ScopeContents) (rs : List Range) (i
 ranges_step p s rs i d b inner next_inner placed next_placed types next_types lt is_b are is_inner is_misplaced is_types =
     let r = bound_of (get_or rs i d) in
     let rest = ranges_from rs (i + 1) in
-    subst (λ z. AreBounds p s z next_inner next_placed next_types) (sym (ranges_next rs i d lt))
-    (
+    subst (λ z. AreBounds p s z next_inner next_placed next_types) (sym (ranges_next rs i d lt)) (
       is_inner ∙ ap (λ f. sooner f inner) is_b.0 ∙ ap (sooner (first_of (flat_map (refusals_at p s) (parts_of_range r)))) are.0 ∙ sym (first_append_each (refusals_at p s) (parts_of_range r) (parts_of_ranges rest)),
       is_misplaced ∙ ap (λ f. sooner f placed) is_b.1 ∙ ap (sooner (first_of (bound_misplaced p s r))) are.1 ∙ sym (first_append (bound_misplaced p s r) (bounds_misplaced p s rest)),
       is_types ∙ ap (λ o. both o (option_map ends_of types) (λ e others. Some (ends_before e others))) is_b.2

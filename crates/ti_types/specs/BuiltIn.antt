@@ -1,5 +1,5 @@
 -- What clauses see of the members that the language gives.
-use Rattle.std.specs.Prelude.{ℕ, zero, suc, ◌==◌, map, is_some, Bool, not, if◌then◌else◌, List, [], ◌∷◌, Option, Some, None, option_and_then}
+use Rattle.std.specs.Prelude.{ℕ, zero, suc, ◌==◌, map, is_some, not, if◌then◌else◌, List, [], ◌∷◌, Option, Some, None, option_and_then}
 use Rattle.ti_base.specs.declared.place.Place.{Place}
 use Rattle.ti_lang.specs.Program.Types.{ValueType}
 use Rattle.ti_lang.specs.Typing.BuiltIn as member

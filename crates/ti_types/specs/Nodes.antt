@@ -1,8 +1,8 @@
 -- What is told of indices, of a member and of ranges, by what the rules ask of the types of their parts.
-use Rattle.std.specs.Prelude.{ℕ, ◌==◌, ◌&&◌, ◌||◌, Bool, true, false, not, is_some, if◌then◌else◌, List, [], ◌∷◌, map, Option, Some, None, option_map, option_and_then}
+use Rattle.std.specs.Prelude.{ℕ, ◌==◌, ◌&&◌, Bool, true, false, not, is_some, if◌then◌else◌, List, [], map, Option, Some, None, option_map, option_and_then}
 use Rattle.ti_base.specs.declared.place.Place.{Place}
 use Rattle.ti_lang.specs.Program.Types.{ValueType, Int, Pt, Rc, Class, Grid}
-use Rattle.ti_lang.specs.Program.Expressions.{NumberedRange, NumberedRanges, NoRange, MoreRange}
+use Rattle.ti_lang.specs.Program.Expressions.{NumberedRanges, NoRange, MoreRange}
 use Rattle.ti_lang.specs.Program.Classes.{NumberedMethod, NumberedProgram}
 use Rattle.ti_lang.specs.Program.Scope.{ScopeContents}
 use Rattle.ti_lang.specs.Typing.Kinds.{where_true, read_through}

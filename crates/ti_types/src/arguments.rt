@@ -146,7 +146,8 @@ impl<'a> Judged<'a> {
         ensures first { result.first ≡ sooner_of (sooner_of self.entry.first found.entry.inner) (sooner_of (sooner_of (first_of (misplaced_at inner (typed_of self.entry))) found.entry.misplaced) own.entry.first) }
     {
         let misplaced = sooner(self.misplaced(inner), found.misplaced);
-        own.behind(misplaced).behind(sooner(self.first, found.inner))
+        own.behind(misplaced)
+            .behind(sooner(self.first, found.inner))
     }
 }
 

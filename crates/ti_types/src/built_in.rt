@@ -164,7 +164,10 @@ fn can_exchange<'a>(t: Seen<'a>, u: Seen<'a>) -> bool
 {
     match t {
         Seen::Grid {
-            elem, any_dim, dim, ..
+            elem,
+            any_dim,
+            dim,
+            ..
         } => dim == 1 && fits(u, Seen::of(elem, any_dim)),
         _ => false,
     }
@@ -269,7 +272,11 @@ pub fn given<'a>(b: BuiltIn, t: Seen<'a>, count: usize, told: Told<'a>) -> Optio
     match (told.first, told.second) {
         (None, _) => if count == 0 { given_none(b, t) } else { None },
         (Some(u), None) => if count == 1 { given_one(b, t, u) } else { None },
-        (Some(u), Some(v)) => if count == 2 { given_two(b, t, u, v) } else { None },
+        (Some(u), Some(v)) => if count == 2 {
+            given_two(b, t, u, v)
+        } else {
+            None
+        },
     }
 }
 
@@ -289,7 +296,10 @@ fn takes_local<'a>(t: Seen<'a>, u: Seen<'a>) -> bool
 {
     match t {
         Seen::Grid {
-            elem, any_dim, dim, ..
+            elem,
+            any_dim,
+            dim,
+            ..
         } => dim == 1 && fits(u.with_local(true), Seen::of(elem, any_dim)),
         _ => false,
     }
@@ -323,7 +333,12 @@ fn slice_refusal<'a>(place: Place, t: Seen<'a>, u: Seen<'a>, v: Seen<'a>) -> Opt
 }
 
 #[tactic(auto, unfolding(ti_rules::specs::First::first_of))]
-fn refusal_of_none<'a>(place: Place, b: BuiltIn, t: Seen<'a>, first: Option<Seen<'a>>) -> Option<Refusal>
+fn refusal_of_none<'a>(
+    place: Place,
+    b: BuiltIn,
+    t: Seen<'a>,
+    first: Option<Seen<'a>>,
+) -> Option<Refusal>
     ensures { result ≡ first_of (arguments_by place (built_in_of b) (seen t.entry) 0 (option_map seen first.entry) None) }
 {
     match first {
@@ -408,7 +423,12 @@ fn built_in_refusal<'a>(
     }
 }
 
-fn maybe_given<'a>(b: Option<BuiltIn>, t: Seen<'a>, count: usize, told: Told<'a>) -> Option<Seen<'a>>
+fn maybe_given<'a>(
+    b: Option<BuiltIn>,
+    t: Seen<'a>,
+    count: usize,
+    told: Told<'a>,
+) -> Option<Seen<'a>>
     ensures { option_map seen result ≡ option_and_then (λ b. told_member b (seen t.entry) count (told_of told.entry)) (option_map built_in_of b) }
 {
     match b {

@@ -26,12 +26,7 @@ pub struct Judge<'a> {
 impl<'a> Judge<'a> {
     /// What is known of the arguments of a call of a method, if there is one.
     #[cycle(exp)]
-    fn arguments(
-        &self,
-        scope: &'a Scope,
-        xs: &'a [Expr],
-        m: Option<&'a Method>,
-    ) -> Arguments<'a>
+    fn arguments(&self, scope: &'a Scope, xs: &'a [Expr], m: Option<&'a Method>) -> Arguments<'a>
         ensures { AreArguments (program_of self.now.program.now) (contents_of scope.now) (numbered_exps (map expression_of xs.now)) (wanted_types (option_map (λ m. numbered_method_of m.now) m.entry)) result }
     {
         let mut found = Arguments::none();

@@ -28,7 +28,11 @@ fn point_type<'a>(count: usize, types: Option<Told<'a>>) -> Option<Seen<'a>>
     ensures { option_map seen result ≡ option_and_then (λ (t : ToldTypes). where_true t.ints (Pt count)) (option_map told_of types.entry) }
 {
     match types {
-        Some(told) => if told.ints { Some(Seen::Pt(count)) } else { None },
+        Some(told) => if told.ints {
+            Some(Seen::Pt(count))
+        } else {
+            None
+        },
         None => None,
     }
 }
@@ -64,7 +68,11 @@ fn index_type<'a>(count: usize, t: Seen<'a>, told: Told<'a>) -> Option<Seen<'a>>
     ensures { option_map seen result ≡ told_index count (seen t.entry) (told_of told.entry) }
 {
     match t {
-        Seen::Pt(_) => if told.ints && count == 1 { Some(Seen::Int) } else { None },
+        Seen::Pt(_) => if told.ints && count == 1 {
+            Some(Seen::Int)
+        } else {
+            None
+        },
         Seen::Grid {
             elem,
             any_dim,
@@ -103,11 +111,7 @@ fn other_indices<'a>(count: usize, t: Seen<'a>, told: Told<'a>) -> bool
     }
 }
 
-fn maybe_index<'a>(
-    count: usize,
-    t: Option<Seen<'a>>,
-    types: Option<Told<'a>>,
-) -> Option<Seen<'a>>
+fn maybe_index<'a>(count: usize, t: Option<Seen<'a>>, types: Option<Told<'a>>) -> Option<Seen<'a>>
     ensures { option_map seen result ≡ both (option_map seen t.entry) (option_map told_of types.entry) (told_index count) }
 {
     match (t, types) {
@@ -201,12 +205,7 @@ fn field_refusal<'a>(
 }
 
 /// A field of a name at a place, behind something.
-pub fn select<'a>(
-    program: &'a Parts,
-    place: Place,
-    t: Option<Seen<'a>>,
-    name: u32,
-) -> Judged<'a>
+pub fn select<'a>(program: &'a Parts, place: Place, t: Option<Seen<'a>>, name: u32) -> Judged<'a>
     ensures known { typed_of result ≡ plain (option_and_then (λ t. select_type (program_of program.now) t name) (option_map seen t.entry)) }
     ensures first { result.first ≡ first_of (judged (option_map seen t.entry) (λ t. mistaken_at place (is_some (select_type (program_of program.now) t name)) false)) }
 {

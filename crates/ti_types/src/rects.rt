@@ -54,7 +54,11 @@ fn points_two<'a>(t: Seen<'a>, u: Seen<'a>) -> Option<Seen<'a>>
     ensures { option_map seen result ≡ range_of_points (seen t.entry ∷ seen u.entry ∷ []) }
 {
     match t {
-        Seen::Pt(n) => if is_point_of(n, u) { Some(Seen::Rc(n)) } else { None },
+        Seen::Pt(n) => if is_point_of(n, u) {
+            Some(Seen::Rc(n))
+        } else {
+            None
+        },
         _ => None,
     }
 }

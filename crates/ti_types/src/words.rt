@@ -10,8 +10,8 @@ ghost use Rattle.ti_lang.specs.Typing.Kinds.{is_object};
 ghost use Rattle.ti_types.specs.Words.{qualifiers_again};
 
 use ti_lang::program::{Ty, TypeUse};
-use ti_syntax::tree::{Brackets, Qualifier, QualifierWord};
 use ti_rules::{Refusal, Rule, refused_if, sooner};
+use ti_syntax::tree::{Brackets, Qualifier, QualifierWord};
 
 fn is_single_word(word: QualifierWord) -> bool
     ensures { result ≡ is_single_word word }

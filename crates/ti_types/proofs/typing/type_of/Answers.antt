@@ -1,4 +1,4 @@
-use Rattle.std.proofs.Common.{◌≡◌, List, [], Option, Some, None, option_map, sym, ap, ◌∙◌}
+use Rattle.std.proofs.Common.{◌≡◌, Option, Some, None, option_map, sym, ap, ◌∙◌}
 use Rattle.ti_lang.specs.Program.Scope.{contents_of}
 use Rattle.ti_lang.specs.Program.Views.{program_of, expression_of}
 use Rattle.ti_lang.specs.Typing.Expressions.{Typed, typed}

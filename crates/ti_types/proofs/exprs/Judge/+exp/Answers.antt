@@ -1,6 +1,5 @@
-use Rattle.std.proofs.Common.{◌≡◌, ap, sym, ◌∙◌, subst, arith, rules, map, length}
+use Rattle.std.proofs.Common.{ap, sym, ◌∙◌, subst, arith, rules, length}
 use Rattle.ti_lang.specs.Program.Scope.{contents_of}
-use Rattle.ti_lang.specs.Program.Expressions.{Plain, Stepped}
 use Rattle.ti_lang.specs.Program.Views.{program_of, expression_of, bound_of}
 use Rattle.ti_lang.proofs.ProgramBridges.{seen_static_call, seen_own_call, seen_numbered_point, seen_numbered_rect, seen_numbered_member, seen_numbered_index}
 use Rattle.ti_types.specs.Walk.{IsJudged, IsRange}

@@ -1,4 +1,4 @@
-use Rattle.std.proofs.Common.{◌≡◌, drop, option_map}
+use Rattle.std.proofs.Common.{drop, option_map}
 use Rattle.ti_lang.specs.Program.Scope.{contents_of}
 use Rattle.ti_lang.specs.Program.Views.{program_of, numbered_method_of}
 use Rattle.ti_types.specs.Arguments.{wanted_types}
