@@ -1,0 +1,22 @@
+-- Counting each number of dimensions as 1 twice is counting it so once.
+use Rattle.std.proofs.Common.{◌≡◌, Bool, true, false, refl, ap}
+use Rattle.ti_lang.specs.Program.Types.{ValueType, Int, Long, Boolean, Pt, Rc, Dm, Region, Class, Grid, Null, Void}
+use Rattle.ti_rules.specs.Alike.{one_dim}
+use Rattle.ti_types.specs.Seen.{erased}
+
+one_dim_twice : (t : ValueType) → one_dim (one_dim t) ≡ one_dim t
+one_dim_twice (Grid t n local) = ap (λ u. Grid u 1 local) (one_dim_twice t)
+one_dim_twice Int = refl
+one_dim_twice Long = refl
+one_dim_twice Boolean = refl
+one_dim_twice (Pt n) = refl
+one_dim_twice (Rc n) = refl
+one_dim_twice (Dm n) = refl
+one_dim_twice Region = refl
+one_dim_twice (Class c local) = refl
+one_dim_twice Null = refl
+one_dim_twice Void = refl
+
+pub erased_again : (any : Bool) (t : ValueType) → one_dim (erased any t) ≡ one_dim t
+erased_again true t = one_dim_twice t
+erased_again false t = refl

@@ -1,0 +1,11 @@
+pub mod Elements
+pub mod Erased
+pub mod Forms
+pub mod Rows
+pub mod Loops
+pub mod Names
+pub mod Parameters
+pub mod Repeated
+pub mod Told
+pub mod ToldNodes
+pub mod Walked

@@ -1,0 +1,19 @@
+-- What `type_of` answers.
+use Rattle.std.specs.Prelude.{◌≡◌, [], Contains, Some, Result, Ok, Err}
+use Rattle.ti_lang.specs.declared.program.types.Ty.{Ty}
+use Rattle.ti_lang.specs.Program.Expressions.{NumberedExp}
+use Rattle.ti_lang.specs.Program.Classes.{NumberedProgram}
+use Rattle.ti_lang.specs.Program.Scope.{ScopeContents}
+use Rattle.ti_lang.specs.Program.Views.{value_type_of}
+use Rattle.ti_lang.specs.Typing.Expressions.{typed}
+use Rattle.ti_rules.specs.Refusals.{IsFirstRefusal}
+use Rattle.ti_rules.specs.Broken.Expressions.{exp_refusals}
+use Rattle.ti_types.specs.declared.error.TypeErr.{TypeErr}
+use Rattle.ti_types.specs.declared.error.TypeErr.TheVariants.{Refused, Memory}
+
+-- a type is that of an expression which breaks no rule of types, a refusal is the first of those of rules that are broken in it, and
+-- memory may be wanting at any time
+abbrev pub GivesType : NumberedProgram → ScopeContents → NumberedExp → Result Ty TypeErr → Type 0
+GivesType p s e (Ok type) = (exp_refusals p s e ≡ []) × (typed p s e ≡ Some (value_type_of type))
+GivesType p s e (Err (Refused refusal)) = IsFirstRefusal (Contains (exp_refusals p s e)) refusal
+GivesType p s e (Err Memory) = Unit {0}

@@ -1,0 +1,51 @@
+-- What is found of an expression, and of those inside another.
+use Rattle.std.specs.Prelude.{◌≡◌, List, flat_map, Option, option_map}
+use Rattle.ti_lang.specs.Program.Types.{ValueType}
+use Rattle.ti_lang.specs.Program.Expressions.{NumberedExp, NumberedExps, NumberedRange, NumberedRanges}
+use Rattle.ti_lang.specs.Program.Classes.{NumberedProgram}
+use Rattle.ti_lang.specs.Program.Scope.{ScopeContents}
+use Rattle.ti_lang.specs.Typing.Expressions.{known, operands, bound}
+use Rattle.ti_rules.specs.declared.refusal.Refusal.{Refusal}
+use Rattle.ti_rules.specs.First.{first_of}
+use Rattle.ti_rules.specs.Parts.{parts_of_all, parts_of_range, parts_of_ranges}
+use Rattle.ti_rules.specs.Broken.Misplaced.{all_misplaced, bound_misplaced, bounds_misplaced}
+use Rattle.ti_rules.specs.Broken.Expressions.{places_of, refusals_at, exp_refusals}
+use Rattle.ti_types.specs.declared.judged.Judged.{Judged}
+use Rattle.ti_types.specs.declared.arguments.Arguments.{Arguments}
+use Rattle.ti_types.specs.declared.arguments.Told.{Told}
+use Rattle.ti_types.specs.declared.rects.Ends.{Ends}
+use Rattle.ti_types.specs.declared.rects.Bounds.{Bounds}
+use Rattle.ti_types.specs.Judged.{typed_of}
+use Rattle.ti_types.specs.Arguments.{told, told_of}
+use Rattle.ti_types.specs.Nodes.{ends, ends_of, ranges_told}
+
+-- an expression has this type, or none, and this counts of what is wrong in it
+abbrev pub IsJudged : NumberedProgram → ScopeContents → NumberedExp → Judged → Type 0
+IsJudged p s e j = (typed_of j ≡ known p s e) × (j.first ≡ first_of (exp_refusals p s e))
+
+-- this is found of arguments, where these types are wanted
+abbrev pub AreFound : NumberedProgram → ScopeContents → NumberedExps → List ValueType → Option Refusal → Option Refusal → Option Told → Type 0
+AreFound p s xs us inner placed types =
+    (inner ≡ first_of (flat_map (refusals_at p s) (parts_of_all xs)))
+    × (placed ≡ first_of (all_misplaced p s xs))
+    × (option_map told_of types ≡ option_map (told (places_of xs) us) (operands p s xs))
+
+abbrev pub AreArguments : NumberedProgram → ScopeContents → NumberedExps → List ValueType → Arguments → Type 0
+AreArguments p s xs us a = AreFound p s xs us a.inner a.misplaced a.types
+
+-- this is found of a range
+abbrev pub IsRange : NumberedProgram → ScopeContents → NumberedRange → Bounds → Type 0
+IsRange p s r b =
+    (b.inner ≡ first_of (flat_map (refusals_at p s) (parts_of_range r)))
+    × (b.misplaced ≡ first_of (bound_misplaced p s r))
+    × (option_map ends_of b.types ≡ option_map ends (bound p s r))
+
+-- this is found of ranges
+abbrev pub AreBounds : NumberedProgram → ScopeContents → NumberedRanges → Option Refusal → Option Refusal → Option Ends → Type 0
+AreBounds p s rs inner placed types =
+    (inner ≡ first_of (flat_map (refusals_at p s) (parts_of_ranges rs)))
+    × (placed ≡ first_of (bounds_misplaced p s rs))
+    × (option_map ends_of types ≡ ranges_told p s rs)
+
+abbrev pub AreRanges : NumberedProgram → ScopeContents → NumberedRanges → Bounds → Type 0
+AreRanges p s rs b = AreBounds p s rs b.inner b.misplaced b.types

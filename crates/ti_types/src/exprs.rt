@@ -1,0 +1,187 @@
+// The types of expressions, and what counts of the rules that are broken in them.
+ghost use Rattle.std.specs.Prelude.{◌≡◌, map};
+ghost use Rattle.std.specs.Option.{option_map};
+ghost use Rattle.ti_lang.specs.Program.Scope.{contents_of};
+ghost use Rattle.ti_lang.specs.Program.Views.{program_of, expression_of, bound_of, numbered_method_of};
+ghost use Rattle.ti_lang.specs.Program.Expressions.{numbered_exps, numbered_ranges};
+ghost use Rattle.ti_types.specs.Arguments.{wanted_types};
+ghost use Rattle.ti_types.specs.Walk.{IsJudged, AreArguments, IsRange, AreRanges};
+ghost use Rattle.ti_types.specs.Seen.{seen};
+ghost use Rattle.ti_types.specs.Nodes.{behind};
+
+use crate::arguments::{Arguments, called, wanted};
+use crate::judged::Judged;
+use crate::lookup::{method, method_behind, own_field_type, this_type, variable_type};
+use crate::nodes::{index, member, point, select};
+use crate::rects::{Bounds, rect};
+use crate::seen::Seen;
+use ti_lang::program::{Expr, Method, Parts, Range, Scope};
+
+/// A program whose expressions are judged.
+#[derive(Clone, Copy)]
+pub struct Judge<'a> {
+    pub program: &'a Parts,
+}
+
+impl<'a> Judge<'a> {
+    /// What is known of the arguments of a call of a method, if there is one.
+    #[cycle(exp)]
+    fn arguments(&self, scope: &'a Scope, xs: &'a [Expr], m: Option<&'a Method>) -> Arguments<'a>
+        ensures { AreArguments (program_of self.now.program.now) (contents_of scope.now) (numbered_exps (map expression_of xs.now)) (wanted_types (option_map (λ m. numbered_method_of m.now) m.entry)) result }
+    {
+        let mut found = Arguments::none();
+        for i in (0..xs.len()).rev() {
+            let x = &xs[i];
+            let judged = self.exp(scope, x);
+            found = found.more(x.place(), judged, wanted(m, i));
+        }
+        found
+    }
+
+    /// What is known of a range.
+    #[cycle(exp)]
+    fn range(&self, scope: &'a Scope, r: &'a Range) -> Bounds<'a>
+        ensures { IsRange (program_of self.now.program.now) (contents_of scope.now) (bound_of r.now) result }
+    {
+        match r {
+            Range::Plain { low, high } => {
+                let first = self.exp(scope, low);
+                let last = self.exp(scope, high);
+                Bounds::plain(low.place(), first, high.place(), last)
+            }
+            Range::Stepped { low, high, step } => {
+                let first = self.exp(scope, low);
+                let last = self.exp(scope, high);
+                let by = self.exp(scope, step);
+                Bounds::plain(low.place(), first, high.place(), last).stepped(
+                    first,
+                    last,
+                    step.place(),
+                    by,
+                )
+            }
+        }
+    }
+
+    /// What is known of ranges.
+    #[cycle(exp)]
+    fn ranges(&self, scope: &'a Scope, rs: &'a [Range]) -> Bounds<'a>
+        ensures { AreRanges (program_of self.now.program.now) (contents_of scope.now) (numbered_ranges (map bound_of rs.now)) result }
+    {
+        let mut found = Bounds::none();
+        for i in (0..rs.len()).rev() {
+            let range = self.range(scope, &rs[i]);
+            found = range.before(found);
+        }
+        found
+    }
+
+    /// The method that is called behind something.
+    fn behind(&self, t: Option<Seen<'a>>, name: u32) -> Option<&'a Method>
+        ensures { option_map (λ m. numbered_method_of m.now) result ≡ behind (program_of self.now.program.now) (option_map seen t.entry) name }
+    {
+        match t {
+            Some(t) => method_behind(self.program, t, name),
+            None => None,
+        }
+    }
+
+    /// What is known of an expression.
+    #[cycle(exp)]
+    #[tactic(auto, using(ti_rules::proofs::First::firsts, ti_lang::proofs::ProgramBridges::program_bridges))]
+    pub fn exp(&self, scope: &'a Scope, e: &'a Expr) -> Judged<'a>
+        ensures { IsJudged (program_of self.now.program.now) (contents_of scope.now) (expression_of e.now) result }
+    {
+        match e {
+            Expr::Int(_, _) => Judged::sound(Some(Seen::Int)),
+            Expr::Long(_, _) => Judged::sound(Some(Seen::Long)),
+            Expr::Truth(_, _) => Judged::sound(Some(Seen::Bool)),
+            Expr::Null(_) => Judged::sound(Some(Seen::Null)),
+            Expr::This(_) => Judged::sound(this_type(scope)),
+            Expr::Variable(_, v) => Judged::sound(variable_type(scope, v)),
+            Expr::OwnField(_, field) => Judged::sound(own_field_type(self.program, scope, *field)),
+            Expr::ThisProc(_) => Judged::sound(Some(Seen::Int)),
+            Expr::NumProcs(_) => Judged::sound(Some(Seen::Int)),
+            Expr::Call {
+                place,
+                method: number,
+                args,
+            } => {
+                let m = method(self.program, *number);
+                let found = self.arguments(scope, args, m);
+                found.whole(called(*place, m, None, args, found.types))
+            }
+            Expr::OwnCall {
+                place,
+                method: number,
+                args,
+            } => {
+                let m = method(self.program, *number);
+                let found = self.arguments(scope, args, m);
+                found.whole(called(*place, m, None, args, found.types))
+            }
+            Expr::Point(place, parts) => {
+                let found = self.arguments(scope, parts, None);
+                found.whole(point(*place, parts.len(), found.types))
+            }
+            Expr::Rect(place, ranges) => {
+                let found = self.ranges(scope, ranges);
+                found.whole(rect(*place, ranges.len(), found.types))
+            }
+            Expr::Unary {
+                place,
+                operator,
+                operand,
+            } => {
+                let judged = self.exp(scope, operand);
+                judged.unary(operand.place(), *place, *operator)
+            }
+            Expr::Binary {
+                place,
+                operator,
+                left,
+                right,
+            } => {
+                let first = self.exp(scope, left);
+                let second = self.exp(scope, right);
+                first.binary(left.place(), second, right.place(), *place, *operator)
+            }
+            Expr::Cast { place, to, operand } => {
+                let judged = self.exp(scope, operand);
+                judged.cast(operand.place(), *place, to)
+            }
+            Expr::Select {
+                place,
+                receiver,
+                name,
+            } => {
+                let judged = self.exp(scope, receiver);
+                let field = select(self.program, *place, judged.operand(), *name);
+                judged.whole(receiver.place(), field)
+            }
+            Expr::Member {
+                place,
+                receiver,
+                name,
+                args,
+            } => {
+                let judged = self.exp(scope, receiver);
+                let t = judged.operand();
+                let m = self.behind(t, *name);
+                let found = self.arguments(scope, args, m);
+                let own = member(self.program, *place, t, *name, m, args, found.types);
+                judged.with(receiver.place(), found, own)
+            }
+            Expr::Index {
+                place,
+                receiver,
+                indices,
+            } => {
+                let judged = self.exp(scope, receiver);
+                let found = self.arguments(scope, indices, None);
+                let own = index(*place, indices.len(), judged.operand(), found.types);
+                judged.with(receiver.place(), found, own)
+            }
+        }
+    }
+}

@@ -1,0 +1,35 @@
+// Which values go where.
+ghost use Rattle.std.specs.Prelude.{◌≡◌};
+ghost use Rattle.ti_lang.specs.Typing.Fits.{becomes, fits, casts};
+ghost use Rattle.ti_types.specs.Seen.{seen};
+
+use crate::seen::Seen;
+
+fn becomes(t: Seen, u: Seen) -> bool
+    ensures { result ≡ becomes (seen t.entry) (seen u.entry) }
+{
+    match (t, u) {
+        (Seen::Int, Seen::Long) => true,
+        (Seen::Rc(n), Seen::Dm(m)) => n == m,
+        _ => false,
+    }
+}
+
+/// Whether a value of the first type goes where the second is wanted.
+pub fn fits<'p>(t: Seen<'p>, u: Seen<'p>) -> bool
+    ensures { result ≡ fits (seen t.entry) (seen u.entry) }
+{
+    t.same(u)
+        || becomes(t, u)
+        || t.is_reference() && t.with_local(false).same(u)
+        || t.is_null() && u.is_reference()
+}
+
+/// Whether a value of the second type can be cast to the first.
+pub fn casts<'p>(to: Seen<'p>, t: Seen<'p>) -> bool
+    ensures { result ≡ casts (seen to.entry) (seen t.entry) }
+{
+    to.with_local(false).same(t.with_local(false))
+        || to.is_reference() && t.is_null()
+        || to.is_whole() && t.is_whole()
+}

@@ -1,0 +1,210 @@
+// What is known of an expression.
+ghost use Rattle.std.specs.Prelude.{◌≡◌, [], ◌++◌, is_some, false};
+ghost use Rattle.std.specs.Option.{option_map, option_and_then};
+ghost use Rattle.ti_lang.specs.Program.Views.{value_type_of, type_use_of};
+ghost use Rattle.ti_lang.specs.Typing.Kinds.{where_true};
+ghost use Rattle.ti_lang.specs.Typing.Fits.{casts as casts_to};
+ghost use Rattle.ti_lang.specs.Typing.Operators.{unary_type, binary_type};
+ghost use Rattle.ti_lang.specs.Typing.Expressions.{plain, operand, both};
+ghost use Rattle.ti_rules.specs.First.{sooner as sooner_of, first_of};
+ghost use Rattle.ti_rules.specs.Alike.{one_dim};
+ghost use Rattle.ti_rules.specs.Broken.Refused.{judged, both_judged, mistaken as mistaken_at};
+ghost use Rattle.ti_rules.specs.Broken.Misplaced.{misplaced_at};
+ghost use Rattle.ti_rules.specs.Broken.Words.{type_word_refusals};
+ghost use Rattle.ti_types.specs.Seen.{seen};
+ghost use Rattle.ti_types.specs.Judged.{typed_of};
+
+use crate::fitting::casts;
+use crate::operators::{binary_type, unary_type};
+use crate::refused::mistaken;
+use crate::seen::Seen;
+use crate::words::type_words;
+use ti_base::Place;
+use ti_lang::program::{Ty, TypeUse};
+use ti_rules::{Refusal, Rule, refused_if, sooner};
+use ti_syntax::tree::{BinaryOperator, UnaryOperator};
+
+/// What is known of an expression.
+#[derive(Clone, Copy)]
+pub struct Judged<'a> {
+    /// Its type, where it has one.
+    pub ty: Option<Seen<'a>>,
+    /// It calls a declared method, and all its operands have types.
+    pub is_call: bool,
+    /// What counts of the rules of types that are broken in it.
+    pub first: Option<Refusal>,
+}
+
+impl<'a> Judged<'a> {
+    /// One that is no call.
+    pub fn plain(ty: Option<Seen<'a>>, first: Option<Refusal>) -> Judged<'a>
+        ensures known { typed_of result ≡ plain (option_map seen ty.entry) }
+        ensures first { result.first ≡ first }
+    {
+        Judged {
+            ty,
+            is_call: false,
+            first,
+        }
+    }
+
+    /// One that is no call and breaks no rule.
+    #[tactic(auto, unfolding(ti_rules::specs::First::first_of))]
+    pub fn sound(ty: Option<Seen<'a>>) -> Judged<'a>
+        ensures known { typed_of result ≡ plain (option_map seen ty.entry) }
+        ensures first { result.first ≡ first_of [] }
+    {
+        Judged::plain(ty, None)
+    }
+
+    /// The same, where this counts too of what is broken in it.
+    pub fn behind(self, inner: Option<Refusal>) -> Judged<'a>
+        ensures known { typed_of result ≡ typed_of self.entry }
+        ensures first { result.first ≡ sooner_of inner self.entry.first }
+    {
+        Judged {
+            ty: self.ty,
+            is_call: self.is_call,
+            first: sooner(inner, self.first),
+        }
+    }
+
+    /// Its type inside another expression.
+    pub fn operand(self) -> Option<Seen<'a>>
+        ensures { option_map seen result ≡ operand (typed_of self.entry) }
+    {
+        if self.is_call {
+            return None;
+        }
+        match self.ty {
+            Some(ty) => { if ty.is_void() { None } else { Some(ty) } }
+            None => None,
+        }
+    }
+
+    /// A call that can't stand inside another expression.
+    pub fn misplaced(self, place: Place) -> Option<Refusal>
+        ensures { result ≡ first_of (misplaced_at place (typed_of self.entry)) }
+    {
+        let nothing = match self.ty {
+            Some(ty) => ty.is_void(),
+            None => false,
+        };
+        refused_if(self.is_call || nothing, Rule::Y6, place)
+    }
+
+    /// An operator at a place, before an operand at its own.
+    #[tactic(auto, using(ti_rules::proofs::First::firsts))]
+    pub fn unary(self, inner: Place, place: Place, op: UnaryOperator) -> Judged<'a>
+        ensures known { typed_of result ≡ plain (option_and_then (unary_type op) (operand (typed_of self.entry))) }
+        ensures first { result.first ≡ sooner_of self.entry.first (first_of (misplaced_at inner (typed_of self.entry) ++ judged (operand (typed_of self.entry)) (λ t. mistaken_at place (is_some (unary_type op t)) false))) }
+    {
+        let t = self.operand();
+        let own = sooner(self.misplaced(inner), unary_mistaken(place, op, t));
+        let ty = match t {
+            Some(t) => unary_type(op, t),
+            None => None,
+        };
+        Judged::plain(ty, sooner(self.first, own))
+    }
+
+    /// An operator at a place, between two operands at theirs.
+    #[tactic(auto, using(ti_rules::proofs::First::firsts))]
+    pub fn binary(
+        self,
+        inner: Place,
+        other: Judged<'a>,
+        other_inner: Place,
+        place: Place,
+        op: BinaryOperator,
+    ) -> Judged<'a>
+        ensures known { typed_of result ≡ plain (both (operand (typed_of self.entry)) (operand (typed_of other.entry)) (binary_type op)) }
+        ensures first { result.first ≡ sooner_of (sooner_of self.entry.first other.entry.first) (first_of ((misplaced_at inner (typed_of self.entry) ++ misplaced_at other_inner (typed_of other.entry)) ++ both_judged (operand (typed_of self.entry)) (operand (typed_of other.entry)) (λ t u. mistaken_at place (is_some (binary_type op t u)) (is_some (binary_type op (one_dim t) (one_dim u)))))) }
+    {
+        let t = self.operand();
+        let u = other.operand();
+        let misplaced = sooner(self.misplaced(inner), other.misplaced(other_inner));
+        let own = sooner(misplaced, binary_mistaken(place, op, t, u));
+        let first = sooner(sooner(self.first, other.first), own);
+        Judged::plain(both(op, t, u), first)
+    }
+
+    /// A cast at a place, of an operand at its own.
+    #[tactic(auto, using(ti_rules::proofs::First::firsts))]
+    pub fn cast(self, inner: Place, place: Place, to: &'a TypeUse) -> Judged<'a>
+        ensures known { typed_of result ≡ plain (option_and_then (λ t. where_true (casts_to (type_use_of to.now).type t) (type_use_of to.now).type) (operand (typed_of self.entry))) }
+        ensures first { result.first ≡ sooner_of self.entry.first (first_of ((type_word_refusals false (type_use_of to.now) ++ misplaced_at inner (typed_of self.entry)) ++ judged (operand (typed_of self.entry)) (λ t. mistaken_at place (casts_to (type_use_of to.now).type t) (casts_to (one_dim (type_use_of to.now).type) (one_dim t))))) }
+    {
+        let t = self.operand();
+        let words = sooner(type_words(false, to), self.misplaced(inner));
+        let own = sooner(words, cast_mistaken(place, &to.ty, t));
+        Judged::plain(cast_type(&to.ty, t), sooner(self.first, own))
+    }
+}
+
+/// An operand that the operator doesn't take.
+#[tactic(auto, unfolding(ti_rules::specs::First::first_of))]
+fn unary_mistaken(place: Place, op: UnaryOperator, t: Option<Seen>) -> Option<Refusal>
+    ensures { result ≡ first_of (judged (option_map seen t.entry) (λ t. mistaken_at place (is_some (unary_type op t)) false)) }
+{
+    match t {
+        Some(t) => mistaken(place, unary_type(op, t).is_some(), false),
+        None => None,
+    }
+}
+
+/// Two operands that the operator doesn't take.
+#[tactic(auto, unfolding(ti_rules::specs::First::first_of))]
+fn binary_mistaken<'a>(
+    place: Place,
+    op: BinaryOperator,
+    t: Option<Seen<'a>>,
+    u: Option<Seen<'a>>,
+) -> Option<Refusal>
+    ensures { result ≡ first_of (both_judged (option_map seen t.entry) (option_map seen u.entry) (λ t u. mistaken_at place (is_some (binary_type op t u)) (is_some (binary_type op (one_dim t) (one_dim u))))) }
+{
+    match (t, u) {
+        (Some(t), Some(u)) => {
+            let taken = binary_type(op, t, u).is_some();
+            let otherwise = binary_type(op, t.one_dim(), u.one_dim()).is_some();
+            mistaken(place, taken, otherwise)
+        }
+        _ => None,
+    }
+}
+
+/// What two operands give, where both have types.
+fn both<'a>(op: BinaryOperator, t: Option<Seen<'a>>, u: Option<Seen<'a>>) -> Option<Seen<'a>>
+    ensures { option_map seen result ≡ both (option_map seen t.entry) (option_map seen u.entry) (binary_type op) }
+{
+    match (t, u) {
+        (Some(t), Some(u)) => binary_type(op, t, u),
+        _ => None,
+    }
+}
+
+fn cast_type<'a>(to: &'a Ty, t: Option<Seen<'a>>) -> Option<Seen<'a>>
+    ensures { option_map seen result ≡ option_and_then (λ t. where_true (casts_to (value_type_of to.now) t) (value_type_of to.now)) (option_map seen t.entry) }
+{
+    match t {
+        Some(t) => {
+            let to = Seen::of(to, false);
+            if casts(to, t) { Some(to) } else { None }
+        }
+        None => None,
+    }
+}
+
+/// An operand that can't be cast.
+#[tactic(auto, unfolding(ti_rules::specs::First::first_of))]
+fn cast_mistaken<'a>(place: Place, to: &'a Ty, t: Option<Seen<'a>>) -> Option<Refusal>
+    ensures { result ≡ first_of (judged (option_map seen t.entry) (λ t. mistaken_at place (casts_to (value_type_of to.now) t) (casts_to (one_dim (value_type_of to.now)) (one_dim t)))) }
+{
+    match t {
+        Some(t) => {
+            let to = Seen::of(to, false);
+            mistaken(place, casts(to, t), casts(to.one_dim(), t.one_dim()))
+        }
+        None => None,
+    }
+}

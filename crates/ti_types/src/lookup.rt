@@ -1,0 +1,211 @@
+// The fields and methods of a program, and the variables in scope.
+ghost use Rattle.std.specs.Prelude.{◌≡◌, ◌==◌, ◌&&◌, false, not, map, find, slice_get};
+ghost use Rattle.std.specs.Option.{option_map, option_and_then};
+ghost use Rattle.ti_lang.specs.Members.{only_if};
+ghost use Rattle.ti_lang.specs.Program.Types.{Class as ClassType};
+ghost use Rattle.ti_lang.specs.Program.Classes.{NumberedField, NumberedMethod};
+ghost use Rattle.ti_lang.specs.Program.Scope.{contents_of, in_scope_of};
+ghost use Rattle.ti_lang.specs.Program.Views.{program_of, variable_of, value_type_of, numbered_field_of, numbered_class_of, numbered_method_of};
+ghost use Rattle.ti_lang.specs.Typing.Kinds.{as_global};
+ghost use Rattle.ti_lang.specs.Typing.Declared.{in_scope, variable_type, fields_of_class, field_type, named_field_type, is_static_method, instance_method};
+ghost use Rattle.ti_lang.specs.Typing.Expressions.{select_type};
+ghost use Rattle.ti_lang.specs.Typing.Called.{method_behind};
+ghost use Rattle.ti_types.specs.Seen.{seen};
+
+use crate::seen::Seen;
+use ti_lang::program::{
+    Class, Declared, Field, InScope, Method, Parts, Scope, Variable, has_static,
+};
+
+/// The variable of a number.
+fn scoped<'a>(scope: &'a Scope, number: u32) -> Option<&'a InScope>
+    ensures { option_map (λ v. in_scope_of v.now) result ≡ in_scope (contents_of scope.now) number }
+{
+    for v in &scope.variables {
+        if v.number == number {
+            return Some(v);
+        }
+    }
+    None
+}
+
+/// The type of a variable.
+pub fn variable_type<'a>(scope: &'a Scope, v: &'a Variable) -> Option<Seen<'a>>
+    ensures { option_map seen result ≡ variable_type (contents_of scope.now) (variable_of v.now) }
+{
+    match &v.declared {
+        Declared::Typed { single: _, ty } => Some(Seen::of(ty, false)),
+        Declared::Foreach => match scoped(scope, v.number) {
+            Some(v) => Some(Seen::of(&v.ty, false)),
+            None => None,
+        },
+    }
+}
+
+/// The type of `this`.
+pub fn this_type<'a>(scope: &Scope) -> Option<Seen<'a>>
+    ensures { option_map seen result ≡ option_map (λ c. ClassType c false) (contents_of scope.now).this_class }
+{
+    match scope.this {
+        Some(class) => Some(Seen::Class {
+            class,
+            local: false,
+        }),
+        None => None,
+    }
+}
+
+#[tactic(auto, using(crate::proofs::Elements::class_lookups))]
+fn class_at(classes: &[Class], number: usize) -> Option<&Class>
+    ensures { option_map (λ c. numbered_class_of c.now) result ≡ slice_get (map numbered_class_of classes.now) number }
+{
+    if number < classes.len() {
+        Some(&classes[number])
+    } else {
+        None
+    }
+}
+
+/// The fields of the class of a number.
+fn fields_of(program: &Parts, class: u32) -> &[Field]
+    ensures { map numbered_field_of result.now ≡ fields_of_class (program_of program.now) class }
+{
+    match class_at(&program.classes, class as usize) {
+        Some(class) => &class.fields,
+        None => &[],
+    }
+}
+
+#[tactic(auto, using(crate::proofs::Elements::field_lookups))]
+fn field_at(fields: &[Field], number: usize) -> Option<&Field>
+    ensures { option_map (λ f. numbered_field_of f.now) result ≡ slice_get (map numbered_field_of fields.now) number }
+{
+    if number < fields.len() {
+        Some(&fields[number])
+    } else {
+        None
+    }
+}
+
+/// The first field of a name.
+fn field_named(fields: &[Field], name: u32) -> Option<&Field>
+    ensures { option_map (λ f. numbered_field_of f.now) result ≡ find (λ (f : NumberedField). f.name == name) (map numbered_field_of fields.now) }
+{
+    for f in fields {
+        if f.name == name {
+            return Some(f);
+        }
+    }
+    None
+}
+
+/// The type of the field of a number.
+fn field_type<'a>(program: &'a Parts, class: u32, field: u32) -> Option<Seen<'a>>
+    ensures { option_map seen result ≡ field_type (program_of program.now) class field }
+{
+    match field_at(fields_of(program, class), field as usize) {
+        Some(field) => Some(Seen::of(&field.ty.ty, false)),
+        None => None,
+    }
+}
+
+/// The type of a field of `this`, which is global.
+pub fn own_field_type<'a>(program: &'a Parts, scope: &Scope, field: u32) -> Option<Seen<'a>>
+    ensures { option_map seen result ≡ option_map as_global (option_and_then (λ c. field_type (program_of program.now) c field) (contents_of scope.now).this_class) }
+{
+    match scope.this {
+        Some(class) => match field_type(program, class, field) {
+            Some(ty) => Some(ty.with_local(false)),
+            None => None,
+        },
+        None => None,
+    }
+}
+
+/// The type of the first field of a name.
+#[tactic(auto, unfolding(ti_lang::specs::Typing::Declared::named_field_type))]
+fn named_field_type<'a>(program: &'a Parts, class: u32, name: u32) -> Option<Seen<'a>>
+    ensures { option_map seen result ≡ named_field_type (program_of program.now) class name }
+{
+    match field_named(fields_of(program, class), name) {
+        Some(field) => Some(Seen::of(&field.ty.ty, false)),
+        None => None,
+    }
+}
+
+/// The type of a field of what is seen.
+pub fn select_type<'a>(program: &'a Parts, t: Seen<'a>, name: u32) -> Option<Seen<'a>>
+    ensures { option_map seen result ≡ select_type (program_of program.now) (seen t.entry) name }
+{
+    match t {
+        Seen::Class { class, local } => match named_field_type(program, class, name) {
+            Some(ty) => Some(ty.read_through(local)),
+            None => None,
+        },
+        _ => None,
+    }
+}
+
+#[tactic(auto, using(crate::proofs::Elements::method_lookups))]
+fn method_at(methods: &[Method], number: usize) -> Option<&Method>
+    ensures { option_map (λ m. numbered_method_of m.now) result ≡ slice_get (map numbered_method_of methods.now) number }
+{
+    if number < methods.len() {
+        Some(&methods[number])
+    } else {
+        None
+    }
+}
+
+/// The method of a number.
+pub fn method(program: &Parts, number: u32) -> Option<&Method>
+    ensures { option_map (λ m. numbered_method_of m.now) result ≡ slice_get (program_of program.now).methods number }
+{
+    method_at(&program.methods, number as usize)
+}
+
+/// The first method of a class and a name.
+fn method_named(methods: &[Method], class: u32, name: u32) -> Option<&Method>
+    ensures { option_map (λ m. numbered_method_of m.now) result ≡ find (λ (m : NumberedMethod). (m.class == class) && (m.name == name)) (map numbered_method_of methods.now) }
+{
+    for m in methods {
+        if m.class == class && m.name == name {
+            return Some(m);
+        }
+    }
+    None
+}
+
+fn is_instance(m: &Method) -> bool
+    ensures { result ≡ not (is_static_method (numbered_method_of m.now)) }
+{
+    !has_static(&m.modifiers)
+}
+
+/// The same, where it's an instance method.
+fn only_instance(m: Option<&Method>) -> Option<&Method>
+    ensures { option_map (λ m. numbered_method_of m.now) result ≡ only_if (λ (m : NumberedMethod). not (is_static_method m)) (option_map (λ m. numbered_method_of m.now) m.entry) }
+{
+    match m {
+        Some(m) => if is_instance(m) { Some(m) } else { None },
+        None => None,
+    }
+}
+
+/// The first method of a class and a name, where it's an instance method.
+#[tactic(auto, unfolding(ti_lang::specs::Typing::Declared::instance_method))]
+fn instance_method(program: &Parts, class: u32, name: u32) -> Option<&Method>
+    ensures { option_map (λ m. numbered_method_of m.now) result ≡ instance_method (program_of program.now) class name }
+{
+    only_instance(method_named(&program.methods, class, name))
+}
+
+/// The instance method of a name, behind an object.
+pub fn method_behind<'a>(program: &'a Parts, t: Seen<'a>, name: u32) -> Option<&'a Method>
+    ensures { option_map (λ m. numbered_method_of m.now) result ≡ method_behind (program_of program.now) (seen t.entry) name }
+{
+    match t {
+        Seen::Class { class, local: _ } => instance_method(program, class, name),
+        _ => None,
+    }
+}
