@@ -272,7 +272,7 @@ impl<'t, 'a> Site<'t, 'a> {
         ensures refusal { IfOk result (λ r. r.refusal ≡ first_in (stms_nodes (site_of self.old) (stms (map stm_of xs.now)))) }
         ensures site { OnOk result (site_of self.new ≡ behind_all (site_of self.old) (stms (map stm_of xs.now))) }
     {
-        let mut ys = Vec::new(self.alloc);
+        let mut ys = Vec::with_capacity(self.alloc, xs.len())?;
         let mut refusal = None;
         for x in xs {
             let y = self.stm(x)?;
