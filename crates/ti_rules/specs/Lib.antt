@@ -1,7 +1,6 @@
 pub mod Alike
 pub mod Broken
 pub mod BrokenNames
-pub mod EffectsAt
 pub mod First
 pub mod InitialTypes
 pub mod Known

@@ -579,80 +579,40 @@ const ARRIVE: Action = Action::Arrive {
     deposit: Deposit::Nothing,
 };
 
+/// An entry of a process at a column of line 1.
+macro_rules! entry {
+    ($proc:expr, $col:expr, $act:expr) => {
+        Entry {
+            proc: $proc,
+            place: Place { line: 1, col: $col },
+            act: $act,
+            answer: Answer::Done,
+        }
+    };
+}
+
+/// A print of a literal, or of none, and a number.
+macro_rules! printed {
+    ($literal:expr, $value:expr) => {
+        Action::Print {
+            literal: $literal,
+            value: Some(Value::Int($value)),
+        }
+    };
+}
+
 /// Of two processes.
 const OF_TWO_PRINTS: &[Entry] = &[
-    Entry {
-        proc: 0,
-        place: Place { line: 1, col: 62 },
-        act: Action::Print {
-            literal: None,
-            value: Some(Value::Int(0)),
-        },
-        answer: Answer::Done,
-    },
-    Entry {
-        proc: 0,
-        place: Place { line: 1, col: 89 },
-        act: ARRIVE,
-        answer: Answer::Done,
-    },
-    Entry {
-        proc: 1,
-        place: Place { line: 1, col: 62 },
-        act: Action::Print {
-            literal: None,
-            value: Some(Value::Int(1)),
-        },
-        answer: Answer::Done,
-    },
-    Entry {
-        proc: 1,
-        place: Place { line: 1, col: 89 },
-        act: ARRIVE,
-        answer: Answer::Done,
-    },
-    Entry {
-        proc: 0,
-        place: Place { line: 1, col: 89 },
-        act: Action::Depart,
-        answer: Answer::Done,
-    },
-    Entry {
-        proc: 0,
-        place: Place { line: 1, col: 100 },
-        act: Action::Print {
-            literal: None,
-            value: Some(Value::Int(2)),
-        },
-        answer: Answer::Done,
-    },
-    Entry {
-        proc: 0,
-        place: Place { line: 1, col: 124 },
-        act: Action::End,
-        answer: Answer::Done,
-    },
-    Entry {
-        proc: 1,
-        place: Place { line: 1, col: 89 },
-        act: Action::Depart,
-        answer: Answer::Done,
-    },
-    Entry {
-        proc: 1,
-        place: Place { line: 1, col: 100 },
-        act: Action::Print {
-            literal: None,
-            value: Some(Value::Int(2)),
-        },
-        answer: Answer::Done,
-    },
-    Entry {
-        proc: 1,
-        place: Place { line: 1, col: 124 },
-        act: Action::End,
-        answer: Answer::Done,
-    },
+    entry!(0, 62, printed!(None, 0)),
+    entry!(0, 89, ARRIVE),
+    entry!(1, 62, printed!(None, 1)),
+    entry!(1, 89, ARRIVE),
+    entry!(0, 89, Action::Depart),
+    entry!(0, 100, printed!(None, 2)),
+    entry!(0, 124, Action::End),
+    entry!(1, 89, Action::Depart),
+    entry!(1, 100, printed!(None, 2)),
+    entry!(1, 124, Action::End),
 ];
 
 /// Two prints with a text.
@@ -660,30 +620,9 @@ const LITERALS: &str = "println(\"a\\tb\" + 3); println(\"c\" + Ti.numProcs());"
 
 /// Of one process.
 const OF_LITERALS: &[Entry] = &[
-    Entry {
-        proc: 0,
-        place: Place { line: 1, col: 62 },
-        act: Action::Print {
-            literal: Some(0),
-            value: Some(Value::Int(3)),
-        },
-        answer: Answer::Done,
-    },
-    Entry {
-        proc: 0,
-        place: Place { line: 1, col: 83 },
-        act: Action::Print {
-            literal: Some(1),
-            value: Some(Value::Int(1)),
-        },
-        answer: Answer::Done,
-    },
-    Entry {
-        proc: 0,
-        place: Place { line: 1, col: 113 },
-        act: Action::End,
-        answer: Answer::Done,
-    },
+    entry!(0, 62, printed!(Some(0), 3)),
+    entry!(0, 83, printed!(Some(1), 1)),
+    entry!(0, 113, Action::End),
 ];
 
 /// Whether a command over statements of `main` has these entries.
@@ -706,17 +645,13 @@ fn entries_stand_in_order(rt: HostRuntime) -> Result<(), Fail> {
 }
 
 /// The entry behind which the command of `fuel_runs_out` ends.
-const OUT_OF_FUEL: Entry = Entry {
-    proc: 0,
-    place: Place {
-        line: 1,
-        col: 1_000_055,
-    },
-    act: Action::Fault {
-        kind: FaultKind::Fuel,
-    },
-    answer: Answer::Done,
-};
+const OUT_OF_FUEL: Entry = entry!(
+    0,
+    1_000_055,
+    Action::Fault {
+        kind: FaultKind::Fuel
+    }
+);
 
 /// Whether process 0 ran out of fuel behind 99999 lines.
 fn has_no_fuel(left: &Left) -> bool {

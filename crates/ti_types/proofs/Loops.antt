@@ -6,7 +6,7 @@ use Rattle.ti_rules.specs.declared.refusal.Refusal.{Refusal}
 use Rattle.ti_syntax.specs.declared.tree.types.Qualifier.{Qualifier}
 use Rattle.ti_lang.specs.Scopes.{is_single_word}
 use Rattle.ti_rules.specs.declared.rule.Rule.TheVariants.{Y7}
-use Rattle.ti_types.specs.Words.{qualifiers_again}
+use Rattle.ti_types.specs.Mirrors.Words.{qualifiers_again}
 use Rattle.ti_rules.specs.First.{sooner, first_of, refused_if}
 use Rattle.ti_rules.proofs.First.{sooner_none, sooner_assoc, first_append}
 

@@ -7,7 +7,7 @@ use Rattle.ti_rules.specs.declared.rule.Rule.TheVariants.{Y7}
 use Rattle.ti_rules.specs.First.{refused_if, first_of}
 use Rattle.ti_rules.specs.Broken.Words.{same_qualifier, repeated_qualifiers}
 use Rattle.ti_lang.specs.Typing.Kinds.{same_truth}
-use Rattle.ti_types.specs.Words.{qualifiers_again}
+use Rattle.ti_types.specs.Mirrors.Words.{qualifiers_again}
 
 -- a `single` among these, and a `local`
 abbrev any_single : List Qualifier → Bool

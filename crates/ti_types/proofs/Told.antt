@@ -19,7 +19,7 @@ use Rattle.ti_rules.specs.Alike.{one_dim, as_local}
 use Rattle.ti_rules.specs.Broken.Refused.{refused, judged, misfit}
 use Rattle.ti_rules.specs.Broken.Calls.{misfits, first_misfit, params_refusals, call_refusals, instance_refusals}
 use Rattle.ti_rules.proofs.First.{first_append}
-use Rattle.ti_types.specs.Arguments.{ToldTypes, first_type, told, more, wanted_misfit, types_in, wanted_types, told_takes, told_params, told_refusal, told_called}
+use Rattle.ti_types.specs.Mirrors.Arguments.{ToldTypes, first_type, told, more, wanted_misfit, types_in, wanted_types, told_takes, told_params, told_refusal, told_called}
 use Rattle.ti_types.proofs.Loops.{drop_next}
 
 -- ---- the parameter of a number

@@ -17,9 +17,9 @@ use Rattle.ti_rules.specs.Alike.{one_dim}
 use Rattle.ti_rules.specs.Broken.Refused.{refused, judged, both_judged, mistaken}
 use Rattle.ti_rules.specs.Broken.Calls.{has_member, arity, argument_refusals, built_in_refusals, member_refusals}
 use Rattle.ti_rules.specs.Broken.Expressions.{other_indices}
-use Rattle.ti_types.specs.Arguments.{first_type, second_type, told, wanted_types}
-use Rattle.ti_types.specs.BuiltIn.{told_member, other_refusals, one_refusals, arguments_by, told_arguments, told_built_in}
-use Rattle.ti_types.specs.Nodes.{told_index, is_index, told_other, behind, told_behind, behind_refusal, EndTypes, ends, ends_before, ranges_told, told_rect, told_near}
+use Rattle.ti_types.specs.Mirrors.Arguments.{first_type, second_type, told, wanted_types}
+use Rattle.ti_types.specs.Mirrors.BuiltIn.{told_member, other_refusals, one_refusals, arguments_by, told_arguments, told_built_in}
+use Rattle.ti_types.specs.Mirrors.Nodes.{told_index, is_index, told_other, behind, told_behind, behind_refusal, EndTypes, ends, ends_before, ranges_told, told_rect, told_near}
 use Rattle.ti_types.proofs.Told.{differ, called_is, instance_is}
 
 and_false : (b : Bool) → b && false ≡ false

@@ -5,10 +5,10 @@ ghost use Rattle.ti_lang.specs.Program.Views.{program_of};
 ghost use Rattle.ti_lang.specs.Typing.BuiltIn.{spelled, built_in, same_grids, has_local_elements, can_copy, can_exchange, member_type, Contains, Restrict, Translate};
 ghost use Rattle.ti_rules.specs.First.{first_of};
 ghost use Rattle.ti_rules.specs.Broken.Calls.{has_member, arity, copy_refusals, exchange_refusals, slice_refusals, takes_local};
-ghost use Rattle.ti_types.specs.Seen.{seen};
-ghost use Rattle.ti_types.specs.Arguments.{told_of};
-ghost use Rattle.ti_types.specs.BuiltIn.{built_in_of, arguments_by, told_member, other_refusals, one_refusals, told_arguments, told_built_in};
-ghost use Rattle.ti_types.specs.Judged.{typed_of};
+ghost use Rattle.ti_types.specs.Mirrors.Seen.{seen};
+ghost use Rattle.ti_types.specs.Mirrors.Arguments.{told_of};
+ghost use Rattle.ti_types.specs.Mirrors.BuiltIn.{built_in_of, arguments_by, told_member, other_refusals, one_refusals, told_arguments, told_built_in};
+ghost use Rattle.ti_types.specs.Mirrors.Judged.{typed_of};
 ghost use Rattle.ti_lang.specs.Typing.Expressions.{plain};
 ghost use Rattle.ti_lang.specs.Typing.Kinds.{where_true};
 

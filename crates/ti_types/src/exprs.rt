@@ -4,10 +4,10 @@ ghost use Rattle.std.specs.Option.{option_map};
 ghost use Rattle.ti_lang.specs.Program.Scope.{contents_of};
 ghost use Rattle.ti_lang.specs.Program.Views.{program_of, expression_of, bound_of, numbered_method_of};
 ghost use Rattle.ti_lang.specs.Program.Expressions.{numbered_exps, numbered_ranges};
-ghost use Rattle.ti_types.specs.Arguments.{wanted_types};
-ghost use Rattle.ti_types.specs.Walk.{IsJudged, AreArguments, IsRange, AreRanges};
-ghost use Rattle.ti_types.specs.Seen.{seen};
-ghost use Rattle.ti_types.specs.Nodes.{behind};
+ghost use Rattle.ti_types.specs.Mirrors.Arguments.{wanted_types};
+ghost use Rattle.ti_types.specs.Mirrors.Walk.{IsJudged, AreArguments, IsRange, AreRanges};
+ghost use Rattle.ti_types.specs.Mirrors.Seen.{seen};
+ghost use Rattle.ti_types.specs.Mirrors.Nodes.{behind};
 
 use crate::arguments::{Arguments, called, wanted};
 use crate::judged::Judged;

@@ -1,7 +1,7 @@
 // Which values go where.
 ghost use Rattle.std.specs.Prelude.{◌≡◌};
 ghost use Rattle.ti_lang.specs.Typing.Fits.{becomes, fits, casts};
-ghost use Rattle.ti_types.specs.Seen.{seen};
+ghost use Rattle.ti_types.specs.Mirrors.Seen.{seen};
 
 use crate::seen::Seen;
 

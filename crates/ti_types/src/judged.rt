@@ -11,8 +11,8 @@ ghost use Rattle.ti_rules.specs.Alike.{one_dim};
 ghost use Rattle.ti_rules.specs.Broken.Refused.{judged, both_judged, mistaken as mistaken_at};
 ghost use Rattle.ti_rules.specs.Broken.Misplaced.{misplaced_at};
 ghost use Rattle.ti_rules.specs.Broken.Words.{type_word_refusals};
-ghost use Rattle.ti_types.specs.Seen.{seen};
-ghost use Rattle.ti_types.specs.Judged.{typed_of};
+ghost use Rattle.ti_types.specs.Mirrors.Seen.{seen};
+ghost use Rattle.ti_types.specs.Mirrors.Judged.{typed_of};
 
 use crate::fitting::casts;
 use crate::operators::{binary_type, unary_type};

@@ -10,7 +10,7 @@ ghost use Rattle.ti_lang.specs.Typing.Kinds.{as_global};
 ghost use Rattle.ti_lang.specs.Typing.Declared.{in_scope, variable_type, fields_of_class, field_type, named_field_type, is_static_method, instance_method};
 ghost use Rattle.ti_lang.specs.Typing.Expressions.{select_type};
 ghost use Rattle.ti_lang.specs.Typing.Called.{method_behind};
-ghost use Rattle.ti_types.specs.Seen.{seen};
+ghost use Rattle.ti_types.specs.Mirrors.Seen.{seen};
 
 use crate::seen::Seen;
 use ti_lang::program::{

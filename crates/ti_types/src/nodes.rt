@@ -9,10 +9,10 @@ ghost use Rattle.ti_lang.specs.Typing.Expressions.{plain, both, select_type};
 ghost use Rattle.ti_rules.specs.First.{first_of};
 ghost use Rattle.ti_rules.specs.Broken.Refused.{judged, both_judged, mistaken as mistaken_at};
 ghost use Rattle.ti_rules.specs.Broken.Expressions.{places_of};
-ghost use Rattle.ti_types.specs.Judged.{typed_of};
-ghost use Rattle.ti_types.specs.Seen.{seen};
-ghost use Rattle.ti_types.specs.Arguments.{ToldTypes, told_of};
-ghost use Rattle.ti_types.specs.Nodes.{are_indices, told_index, is_index, told_other, told_behind, behind_refusal};
+ghost use Rattle.ti_types.specs.Mirrors.Judged.{typed_of};
+ghost use Rattle.ti_types.specs.Mirrors.Seen.{seen};
+ghost use Rattle.ti_types.specs.Mirrors.Arguments.{ToldTypes, told_of};
+ghost use Rattle.ti_types.specs.Mirrors.Nodes.{are_indices, told_index, is_index, told_other, told_behind, behind_refusal};
 
 use crate::arguments::{Told, called};
 use crate::built_in::{built_in, member_given};

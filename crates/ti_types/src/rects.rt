@@ -7,9 +7,9 @@ ghost use Rattle.ti_lang.specs.Program.Types.{Pt};
 ghost use Rattle.ti_rules.specs.First.{sooner as sooner_of, first_of};
 ghost use Rattle.ti_rules.specs.Broken.Refused.{judged, mistaken as mistaken_at};
 ghost use Rattle.ti_rules.specs.Broken.Misplaced.{misplaced_at};
-ghost use Rattle.ti_types.specs.Judged.{typed_of};
-ghost use Rattle.ti_types.specs.Seen.{seen};
-ghost use Rattle.ti_types.specs.Nodes.{EndTypes, ends, ends_of, ends_before, told_rect, told_near};
+ghost use Rattle.ti_types.specs.Mirrors.Judged.{typed_of};
+ghost use Rattle.ti_types.specs.Mirrors.Seen.{seen};
+ghost use Rattle.ti_types.specs.Mirrors.Nodes.{EndTypes, ends, ends_of, ends_before, told_rect, told_near};
 
 use crate::arguments::is_int;
 use crate::judged::Judged;

@@ -2,7 +2,7 @@
 ghost use Rattle.std.specs.Prelude.{◌≡◌};
 ghost use Rattle.ti_rules.specs.First.{first_of};
 ghost use Rattle.ti_rules.specs.Broken.Refused.{mistaken, misfit};
-ghost use Rattle.ti_types.specs.Seen.{seen};
+ghost use Rattle.ti_types.specs.Mirrors.Seen.{seen};
 
 use crate::fitting::fits;
 use crate::seen::Seen;

@@ -5,7 +5,7 @@ ghost use Rattle.ti_lang.specs.Program.Views.{program_of, expression_of, value_t
 ghost use Rattle.ti_rules.specs.Alike.{one_dim};
 ghost use Rattle.ti_rules.specs.Known.{IsKnown};
 ghost use Rattle.ti_types.specs.Answer.{GivesType};
-ghost use Rattle.ti_types.specs.Seen.{seen, erased};
+ghost use Rattle.ti_types.specs.Mirrors.Seen.{seen, erased};
 
 use crate::error::TypeErr;
 use crate::exprs::Judge;

@@ -7,7 +7,7 @@ ghost use Rattle.ti_rules.specs.First.{first_of, refused_if};
 ghost use Rattle.ti_rules.specs.declared.rule.Rule.TheVariants.{Y7};
 ghost use Rattle.ti_rules.specs.Broken.Words.{repeated_qualifiers, base_of, is_grid, base_word_refusals, grid_word_refusals, grid_refusals, type_word_refusals};
 ghost use Rattle.ti_lang.specs.Typing.Kinds.{is_object};
-ghost use Rattle.ti_types.specs.Words.{qualifiers_again};
+ghost use Rattle.ti_types.specs.Mirrors.Words.{qualifiers_again};
 
 use ti_lang::program::{Ty, TypeUse};
 use ti_rules::{Refusal, Rule, refused_if, sooner};

@@ -8,8 +8,8 @@ pub enum WordsErr {
     /// The words are no command.
     #[error("the words are no command")]
     Usage,
-    /// Memory was wanting.
-    #[error("memory was wanting")]
+    /// Out of memory.
+    #[error("out of memory")]
     Memory,
 }
 

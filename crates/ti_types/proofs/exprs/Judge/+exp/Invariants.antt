@@ -1,8 +1,8 @@
 use Rattle.std.proofs.Common.{drop, option_map}
 use Rattle.ti_lang.specs.Program.Scope.{contents_of}
 use Rattle.ti_lang.specs.Program.Views.{program_of, numbered_method_of}
-use Rattle.ti_types.specs.Arguments.{wanted_types}
-use Rattle.ti_types.specs.Walk.{AreFound, AreBounds}
+use Rattle.ti_types.specs.Mirrors.Arguments.{wanted_types}
+use Rattle.ti_types.specs.Mirrors.Walk.{AreFound, AreBounds}
 use Rattle.ti_types.proofs.Walked.{rest_of, ranges_from}
 use Rattle.ti_types.proofs.exprs.Judge.+exp.Given as goal
 

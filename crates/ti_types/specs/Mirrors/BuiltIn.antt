@@ -1,3 +1,4 @@
+-- Nobody has to believe this: it mirrors code, and only contracts of private functions speak of it.
 -- What clauses see of the members that the language gives.
 use Rattle.std.specs.Prelude.{ℕ, zero, suc, ◌==◌, map, is_some, not, if◌then◌else◌, List, [], ◌∷◌, Option, Some, None, option_and_then}
 use Rattle.ti_base.specs.declared.place.Place.{Place}
@@ -11,8 +12,9 @@ use Rattle.ti_rules.specs.Broken.Refused.{refused, mistaken}
 use Rattle.ti_rules.specs.Broken.Calls.{has_member, arity, copy_refusals, exchange_refusals, slice_refusals}
 use Rattle.ti_types.specs.declared.built_in.BuiltIn.{BuiltIn}
 use Rattle.ti_types.specs.declared.built_in.BuiltIn.TheVariants as b
-use Rattle.ti_types.specs.Arguments.{ToldTypes}
+use Rattle.ti_types.specs.Mirrors.Arguments.{ToldTypes}
 
+-- the same member
 abbrev pub built_in_of : BuiltIn → member.BuiltIn
 built_in_of b.Size = member.Size
 built_in_of b.Min = member.Min
@@ -53,6 +55,7 @@ arguments_by at b t (suc zero) (Some u) None = one_refusals at b t u
 arguments_by at b t (suc (suc n)) (Some u) (Some v) = slice_refusals at t (u ∷ v ∷ [])
 arguments_by at b t n u v = []
 
+-- the same, by what is told of the arguments
 abbrev pub told_arguments : Place → member.BuiltIn → ValueType → ToldTypes → List Refusal
 told_arguments at b t told = arguments_by at b t (arity b) told.first told.second
 

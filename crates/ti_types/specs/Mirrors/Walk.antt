@@ -1,3 +1,4 @@
+-- Nobody has to believe this: it mirrors code, and only contracts of private functions speak of it.
 -- What is found of an expression, and of those inside another.
 use Rattle.std.specs.Prelude.{◌≡◌, List, flat_map, Option, option_map}
 use Rattle.ti_lang.specs.Program.Types.{ValueType}
@@ -15,9 +16,9 @@ use Rattle.ti_types.specs.declared.arguments.Arguments.{Arguments}
 use Rattle.ti_types.specs.declared.arguments.Told.{Told}
 use Rattle.ti_types.specs.declared.rects.Ends.{Ends}
 use Rattle.ti_types.specs.declared.rects.Bounds.{Bounds}
-use Rattle.ti_types.specs.Judged.{typed_of}
-use Rattle.ti_types.specs.Arguments.{told, told_of}
-use Rattle.ti_types.specs.Nodes.{ends, ends_of, ranges_told}
+use Rattle.ti_types.specs.Mirrors.Judged.{typed_of}
+use Rattle.ti_types.specs.Mirrors.Arguments.{told, told_of}
+use Rattle.ti_types.specs.Mirrors.Nodes.{ends, ends_of, ranges_told}
 
 -- an expression has this type, or none, and this counts of what is wrong in it
 abbrev pub IsJudged : NumberedProgram → ScopeContents → NumberedExp → Judged → Type 0
@@ -30,6 +31,7 @@ AreFound p s xs us inner placed types =
     × (placed ≡ first_of (all_misplaced p s xs))
     × (option_map told_of types ≡ option_map (told (places_of xs) us) (operands p s xs))
 
+-- all that is told of them
 abbrev pub AreArguments : NumberedProgram → ScopeContents → NumberedExps → List ValueType → Arguments → Type 0
 AreArguments p s xs us a = AreFound p s xs us a.inner a.misplaced a.types
 
@@ -47,5 +49,6 @@ AreBounds p s rs inner placed types =
     × (placed ≡ first_of (bounds_misplaced p s rs))
     × (option_map ends_of types ≡ ranges_told p s rs)
 
+-- all that is told of them
 abbrev pub AreRanges : NumberedProgram → ScopeContents → NumberedRanges → Bounds → Type 0
 AreRanges p s rs b = AreBounds p s rs b.inner b.misplaced b.types

@@ -1,3 +1,4 @@
+-- Nobody has to believe this: it mirrors code, and only contracts of private functions speak of it.
 -- What clauses see of the checker's types.
 use Rattle.std.specs.Prelude.{Bool, if◌then◌else◌}
 use Rattle.ti_lang.specs.Program.Types.{ValueType}
@@ -11,6 +12,7 @@ use Rattle.ti_types.specs.declared.seen.Seen.TheVariants as t
 abbrev pub erased : Bool → ValueType → ValueType
 erased any type = if any then one_dim type else type
 
+-- the type that is seen
 abbrev pub seen : Seen → ValueType
 seen t.Int = ty.Int
 seen t.Long = ty.Long

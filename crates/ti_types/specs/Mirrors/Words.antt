@@ -1,3 +1,4 @@
+-- Nobody has to believe this: it mirrors code, and only contracts of private functions speak of it.
 -- Words that stand twice, by which of the two stand before.
 use Rattle.std.specs.Prelude.{Bool, not, ◌||◌, if◌then◌else◌, List, [], ◌∷◌, ◌++◌}
 use Rattle.ti_syntax.specs.declared.tree.types.Qualifier.{Qualifier}

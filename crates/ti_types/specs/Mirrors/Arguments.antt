@@ -1,3 +1,4 @@
+-- Nobody has to believe this: it mirrors code, and only contracts of private functions speak of it.
 -- What the rules ask of the types of arguments, and of the parameters for which they are.
 use Rattle.std.specs.Prelude.{ℕ, ◌&&◌, ◌==◌, Bool, false, is_none, is_some, if◌then◌else◌, List, [], ◌∷◌, length, Option, Some, None, option_map}
 use Rattle.ti_base.specs.declared.place.Place.{Place}
@@ -12,7 +13,7 @@ use Rattle.ti_rules.specs.First.{sooner, first_of}
 use Rattle.ti_rules.specs.Broken.Refused.{refused, misfit}
 use Rattle.ti_rules.specs.Broken.Calls.{misfits, first_misfit}
 use Rattle.ti_types.specs.declared.arguments.Told.{Told}
-use Rattle.ti_types.specs.Seen.{seen}
+use Rattle.ti_types.specs.Mirrors.Seen.{seen}
 
 -- what the rules ask of a list of types: whether all are ints, the first two, and what counts of those that don't fit their parameters
 pub record ToldTypes : Type 0 where

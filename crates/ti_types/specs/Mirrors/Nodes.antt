@@ -1,3 +1,4 @@
+-- Nobody has to believe this: it mirrors code, and only contracts of private functions speak of it.
 -- What is told of indices, of a member and of ranges, by what the rules ask of the types of their parts.
 use Rattle.std.specs.Prelude.{ℕ, ◌==◌, ◌&&◌, Bool, true, false, not, is_some, if◌then◌else◌, List, [], map, Option, Some, None, option_map, option_and_then}
 use Rattle.ti_base.specs.declared.place.Place.{Place}
@@ -16,9 +17,9 @@ use Rattle.ti_rules.specs.First.{first_of}
 use Rattle.ti_rules.specs.Alike.{one_dim}
 use Rattle.ti_rules.specs.Broken.Refused.{refused}
 use Rattle.ti_types.specs.declared.rects.Ends.{Ends}
-use Rattle.ti_types.specs.Seen.{seen}
-use Rattle.ti_types.specs.Arguments.{ToldTypes, told_refusal, told_called}
-use Rattle.ti_types.specs.BuiltIn.{told_member, told_built_in}
+use Rattle.ti_types.specs.Mirrors.Seen.{seen}
+use Rattle.ti_types.specs.Mirrors.Arguments.{ToldTypes, told_refusal, told_called}
+use Rattle.ti_types.specs.Mirrors.BuiltIn.{told_member, told_built_in}
 
 -- ---- indices
 

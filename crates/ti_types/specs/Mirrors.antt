@@ -1,0 +1,8 @@
+-- Nobody has to believe what stands here: it mirrors the code, and only contracts of private functions speak of it.
+pub mod Arguments
+pub mod BuiltIn
+pub mod Judged
+pub mod Nodes
+pub mod Seen
+pub mod Walk
+pub mod Words
