@@ -1,5 +1,6 @@
 -- The types of the expressions of a program; and what the text alone tells of expressions and statements: types, single values,
 -- global effects.
+pub mod Alike
 pub mod Kinds
 pub mod Fits
 pub mod Operators
@@ -10,3 +11,4 @@ pub mod TextTypes
 pub mod Called
 pub mod Singleness
 pub mod Effects
+pub mod Seen

@@ -12,10 +12,13 @@ use Rattle.ti_lang.specs.Numbering.{Numbers}
 use Rattle.ti_lang.specs.Listings.{IsListing}
 use Rattle.ti_lang.proofs.OneListing.{one_listing as one_listing_of}
 use Rattle.ti_rules.specs.declared.refusal.Refusal.{Refusal}
+use Rattle.ti_rules.specs.Refusals.{IsFirstRefusal}
 use Rattle.ti_rules.specs.LexicalRefusals.{most_bytes, IsLexicalRefusal}
 use Rattle.ti_rules.specs.BrokenNames.{BreaksNames}
-use Rattle.ti_rules.specs.RefusalOf.{BreaksTypes, IsTreeRefusal, of_names, of_types, IsAccepted, HasTokens, HasTree, rule_of_misfit, IsRefusal, of_bytes, of_tokens, of_tree, HasProgram, HasListing}
+use Rattle.ti_rules.specs.ProgramRefusals.{IsProgramRefusal}
+use Rattle.ti_rules.specs.RefusalOf.{IsTreeRefusal, of_names, of_program, HasUnbuilt, HasTokens, HasTree, rule_of_misfit, IsRefusal, of_bytes, of_tokens, of_tree, HasProgram, HasListing, IsUnbuiltRefusal, of_forms}
 use Rattle.ti_rules.proofs.FirstRefusal.{first_only}
+use Rattle.ti_rules.proofs.OneProgramRefusal.{one_first as only_refusal, not_both as unbroken_or_refused_by}
 
 -- that texts, lists of tokens and trees are read in one way
 pub record OneReading : Type 0 where
@@ -42,11 +45,12 @@ one_tree_of known text a b has other =
 abbrev refusal_at : Misfit × Place → Refusal
 refusal_at found = record { rule = rule_of_misfit found.0; place = found.1 }
 
-one_tree_refusal : (tree : TextTree) (r s : Refusal) → IsTreeRefusal tree r → IsTreeRefusal tree s → r ≡ s
-one_tree_refusal tree r s (of_names first) (of_names other) = first_only (BreaksNames tree) r s first other
-one_tree_refusal tree r s (of_names first) (of_types none other) = absurd (none r first.is_broken)
-one_tree_refusal tree r s (of_types none first) (of_names other) = absurd (none s other.is_broken)
-one_tree_refusal tree r s (of_types none first) (of_types nothing other) = first_only (BreaksTypes tree) r s first other
+one_tree_refusal : OneReading → (tree : TextTree) (r s : Refusal) → IsTreeRefusal tree r → IsTreeRefusal tree s → r ≡ s
+one_tree_refusal known tree r s (of_names first) (of_names other) = first_only (BreaksNames tree) r s first other
+one_tree_refusal known tree r s (of_names first) (of_program none numbers is) = absurd (none r first.is_broken)
+one_tree_refusal known tree r s (of_program none numbers is) (of_names other) = absurd (none s other.is_broken)
+one_tree_refusal known tree r s (of_program {program = p} none numbers is) (of_program {program = q} nothing others other) =
+    only_refusal q r s (subst (λ (x : NumberedProgram). IsProgramRefusal x r) (known.one_numbered tree p q numbers others) is) other
 
 pub one_refusal : OneReading → (text : List ℕ) (r s : Refusal) → IsRefusal text r → IsRefusal text s → r ≡ s
 one_refusal known text r s (of_bytes is) (of_bytes other) = known.one_flaw text r s is other
@@ -61,17 +65,18 @@ one_refusal known text r s (of_tokens {tokens = tokens} {misfit = misfit} {place
 one_refusal known text r s (of_tree has is) (of_bytes other) = absurd (tokens_or_bytes known text has.tokens s has.has_tokens other)
 one_refusal known text r s (of_tree {tree = tree} has_tree is) (of_tokens {tokens = tokens} {misfit = misfit} {place = place} has other) = absurd (tree_or_misfit known text tree tokens (misfit, place) has_tree has other)
 one_refusal known text r s (of_tree {tree = tree} has is) (of_tree {tree = another} other_has other) =
-    one_tree_refusal another r s (subst (λ (t : TextTree). IsTreeRefusal t r) (one_tree_of known text tree another has other_has) is) other
+    one_tree_refusal known another r s (subst (λ (t : TextTree). IsTreeRefusal t r) (one_tree_of known text tree another has other_has) is) other
 
-accepted_or_refused : (tree : TextTree) (r : Refusal) → IsAccepted tree → IsTreeRefusal tree r → ⊥
-accepted_or_refused tree r accepted (of_names first) = accepted.names r first.is_broken
-accepted_or_refused tree r accepted (of_types none first) = accepted.types r first.is_broken
+unbroken_or_refused : OneReading → (text : List ℕ) (program : NumberedProgram) (has : HasProgram text program) (r : Refusal) → IsTreeRefusal has.tree r → ⊥
+unbroken_or_refused known text program has r (of_names first) = has.named r first.is_broken
+unbroken_or_refused known text program has r (of_program {program = other} none numbers is) =
+    unbroken_or_refused_by program r has.unbroken (subst (λ (x : NumberedProgram). IsProgramRefusal x r) (known.one_numbered has.tree other program numbers has.numbers) is)
 
 pub never_both : OneReading → (text : List ℕ) (program : NumberedProgram) (r : Refusal) → HasProgram text program → IsRefusal text r → ⊥
 never_both known text program r has (of_bytes is) = tokens_or_bytes known text has.has_tree.tokens r has.has_tree.has_tokens is
 never_both known text program r has (of_tokens {tokens = tokens} {misfit = misfit} {place = place} others is) = tree_or_misfit known text has.tree tokens (misfit, place) has.has_tree others is
 never_both known text program r has (of_tree {tree = tree} other is) =
-    accepted_or_refused tree r (subst IsAccepted (one_tree_of known text has.tree tree has.has_tree other) has.accepted) is
+    unbroken_or_refused known text program has r (subst (λ (t : TextTree). IsTreeRefusal t r) (one_tree_of known text tree has.tree other has.has_tree) is)
 
 pub one_program : OneReading → (text : List ℕ) (p q : NumberedProgram) → HasProgram text p → HasProgram text q → p ≡ q
 one_program known text p q has other =
@@ -82,3 +87,21 @@ pub one_listing : OneReading → (text : List ℕ) (p q : ListedProgram) → Has
 one_listing known text p q has other =
     let same = one_program known text has.program other.program has.has_program other.has_program in
     one_listing_of other.program p q (subst (λ (x : NumberedProgram). IsListing x p) same has.is_listing) other.is_listing
+
+-- the forms of a text that aren't built are those of each of its trees
+same_unbuilt : OneReading → (text : List ℕ) (p q : NumberedProgram) (has : HasProgram text p) (other : HasProgram text q) (r : Refusal) → IsFirstRefusal (HasUnbuilt has.tree) r → IsFirstRefusal (HasUnbuilt other.tree) r
+same_unbuilt known text p q has other r first =
+    subst (λ (t : TextTree). IsFirstRefusal (HasUnbuilt t) r) (one_tree_of known text has.tree other.tree has.has_tree other.has_tree) first
+
+pub one_unbuilt : OneReading → (text : List ℕ) (r s : Refusal) → IsUnbuiltRefusal text r → IsUnbuiltRefusal text s → r ≡ s
+one_unbuilt known text r s (of_forms {program = p} has first) (of_forms {program = q} others other) =
+    first_only (HasUnbuilt others.tree) r s (same_unbuilt known text p q has others r first) other
+
+-- a program with a listing has no form that isn't built
+pub listed_or_unbuilt : OneReading → (text : List ℕ) (listing : ListedProgram) (r : Refusal) → HasListing text listing → IsUnbuiltRefusal text r → ⊥
+listed_or_unbuilt known text listing r has (of_forms {program = p} other first) =
+    let same = same_unbuilt known text p has.program other has.has_program r first in has.built r same.is_broken
+
+-- and a program that can't be run has no refusal
+pub refused_or_unbuilt : OneReading → (text : List ℕ) (r s : Refusal) → IsRefusal text r → IsUnbuiltRefusal text s → ⊥
+refused_or_unbuilt known text r s is (of_forms {program = p} has first) = never_both known text p r has is

@@ -1,4 +1,3 @@
-pub mod Alike
 pub mod Broken
 pub mod BrokenNames
 pub mod First

@@ -16,27 +16,19 @@ use Rattle.ti_rules.specs.declared.refusal.Refusal.{Refusal}
 use Rattle.ti_rules.specs.Refusals.{IsFirstRefusal}
 use Rattle.ti_rules.specs.LexicalRefusals.{most_bytes, IsLexicalRefusal}
 use Rattle.ti_rules.specs.BrokenNames.{BreaksNames}
+use Rattle.ti_rules.specs.ProgramRefusals.{IsProgramRefusal, BreaksNothing}
 use Rattle.ti_rules.specs.Unbuilt.{IsUnbuilt}
 
 -- ---- the phases over trees
-
--- the tree breaks a rule of types and qualifiers
-pub data BreaksTypes (tree : TextTree) : Refusal → Type 0 where
-  unbuilt : {place : Place} → IsUnbuilt tree place → BreaksTypes tree (record { rule = Y1; place = place })
 
 -- none of these refusals is there
 abbrev pub HasNone : (Refusal → Type 0) → Type 0
 HasNone broken = (refusal : Refusal) → broken refusal → ⊥
 
--- the refusal of a tree is the first one of its first phase that has any
+-- the refusal of a tree: by the rules of names, or, where none of them is broken, that of its program
 pub data IsTreeRefusal (tree : TextTree) : Refusal → Type 0 where
   of_names : {refusal : Refusal} → IsFirstRefusal (BreaksNames tree) refusal → IsTreeRefusal tree refusal
-  of_types : {refusal : Refusal} → HasNone (BreaksNames tree) → IsFirstRefusal (BreaksTypes tree) refusal → IsTreeRefusal tree refusal
-
--- the tree has no refusal
-pub record IsAccepted (tree : TextTree) : Type 0 where
-  pub names : HasNone (BreaksNames tree)
-  pub types : HasNone (BreaksTypes tree)
+  of_program : {program : NumberedProgram} {refusal : Refusal} → HasNone (BreaksNames tree) → Numbers tree program → IsProgramRefusal program refusal → IsTreeRefusal tree refusal
 
 -- ---- texts
 
@@ -68,11 +60,23 @@ pub data IsRefusal (text : List ℕ) : Refusal → Type 0 where
 pub record HasProgram (text : List ℕ) (program : NumberedProgram) : Type 0 where
   pub tree : TextTree
   pub has_tree : HasTree text tree
-  pub accepted : IsAccepted tree
+  pub named : HasNone (BreaksNames tree)
   pub numbers : Numbers tree program
+  pub unbroken : BreaksNothing program
 
--- what the `main` of the program of a text does
+-- ---- forms that can't be run yet
+
+-- a form of the tree that isn't built, refused at its first token
+pub data HasUnbuilt (tree : TextTree) : Refusal → Type 0 where
+  unbuilt : {place : Place} → IsUnbuilt tree place → HasUnbuilt tree (record { rule = Y1; place = place })
+
+-- the text has no refusal, but can't be run: the first of its forms that aren't built is refused
+pub data IsUnbuiltRefusal (text : List ℕ) : Refusal → Type 0 where
+  of_forms : {program : NumberedProgram} {refusal : Refusal} → (has : HasProgram text program) → IsFirstRefusal (HasUnbuilt has.tree) refusal → IsUnbuiltRefusal text refusal
+
+-- what the `main` of the program of a text does, where all its forms are built
 pub record HasListing (text : List ℕ) (listing : ListedProgram) : Type 0 where
   pub program : NumberedProgram
   pub has_program : HasProgram text program
+  pub built : HasNone (HasUnbuilt has_program.tree)
   pub is_listing : IsListing program listing

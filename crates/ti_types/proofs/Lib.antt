@@ -1,9 +1,6 @@
-pub mod Elements
-pub mod Erased
 pub mod Forms
 pub mod Rows
 pub mod Loops
-pub mod Names
 pub mod Parameters
 pub mod Repeated
 pub mod Told

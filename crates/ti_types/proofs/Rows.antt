@@ -22,15 +22,12 @@ use Rattle.ti_types.specs.Mirrors.Judged.{typed_of}
 use Rattle.ti_types.specs.Mirrors.Arguments.{ToldTypes, told_of, wanted_types, told_refusal, told_called}
 use Rattle.ti_types.specs.Mirrors.Nodes.{told_index, told_other, behind, told_behind, behind_refusal, EndTypes, ends_of, told_rect, told_near}
 use Rattle.ti_types.specs.Mirrors.Walk.{IsJudged, AreArguments, AreRanges}
+use Rattle.ti_lang.proofs.RangeDims.{count_ranges}
 use Rattle.ti_types.proofs.Forms.{call_form, own_call_form, point_form, rect_form, member_form, index_form}
 
 pub count_args : (xs : List Expr) → length xs ≡ length (places_of (numbered_exps (map expression_of xs)))
 count_args [] = refl
 count_args (x ∷ rest) = ap suc (count_args rest)
-
-pub count_ranges : (rs : List Range) → length rs ≡ range_count (numbered_ranges (map bound_of rs))
-count_ranges [] = refl
-count_ranges (r ∷ rest) = let others = count_ranges rest in omega (arith, others)
 
 -- the same list
 same_arguments : (p : NumberedProgram) (s : ScopeContents) (xs v : List Expr) (us : List ValueType) (a : Arguments) → xs ≡ v → AreArguments p s (numbered_exps (map expression_of xs)) us a → AreArguments p s (numbered_exps (map expression_of v)) us a

@@ -3,6 +3,5 @@ pub mod Arguments
 pub mod BuiltIn
 pub mod Judged
 pub mod Nodes
-pub mod Seen
 pub mod Walk
 pub mod Words

@@ -10,12 +10,12 @@ ghost use Rattle.ti_rules.specs.Broken.Misplaced.{misplaced_at};
 ghost use Rattle.ti_rules.specs.Broken.Expressions.{places_of};
 ghost use Rattle.ti_rules.specs.Broken.Calls.{first_misfit};
 ghost use Rattle.ti_types.specs.Mirrors.Judged.{typed_of};
-ghost use Rattle.ti_types.specs.Mirrors.Seen.{seen};
+ghost use Rattle.ti_lang.specs.Typing.Seen.{seen};
 ghost use Rattle.ti_types.specs.Mirrors.Arguments.{told_of, told, more, wanted_misfit, types_in, wanted_types, told_takes, told_call, told_params, told_refusal, told_called};
 
 use crate::judged::Judged;
 use crate::refused::misfit;
-use crate::seen::Seen;
+use ti_lang::typing::Seen;
 use ti_base::Place;
 use ti_lang::program::{Expr, Method, Param, Params, ResultType};
 use ti_rules::{Refusal, Rule, refused_if, sooner};

@@ -1,13 +1,13 @@
 // The members that the language gives to domains, grids and regions.
-ghost use Rattle.std.specs.Prelude.{◌≡◌, [], ◌∷◌, bytes_eq, None};
+ghost use Rattle.std.specs.Prelude.{◌≡◌, [], ◌∷◌, None};
 ghost use Rattle.std.specs.Option.{option_map, option_and_then};
 ghost use Rattle.ti_lang.specs.Program.Views.{program_of};
-ghost use Rattle.ti_lang.specs.Typing.BuiltIn.{spelled, built_in, same_grids, has_local_elements, can_copy, can_exchange, member_type, Contains, Restrict, Translate};
+ghost use Rattle.ti_lang.specs.Typing.BuiltIn.{same_grids, has_local_elements, can_copy, can_exchange, member_type, Contains, Restrict, Translate};
 ghost use Rattle.ti_rules.specs.First.{first_of};
 ghost use Rattle.ti_rules.specs.Broken.Calls.{has_member, arity, copy_refusals, exchange_refusals, slice_refusals, takes_local};
-ghost use Rattle.ti_types.specs.Mirrors.Seen.{seen};
+ghost use Rattle.ti_lang.specs.Typing.Seen.{seen, built_in_of};
 ghost use Rattle.ti_types.specs.Mirrors.Arguments.{told_of};
-ghost use Rattle.ti_types.specs.Mirrors.BuiltIn.{built_in_of, arguments_by, told_member, other_refusals, one_refusals, told_arguments, told_built_in};
+ghost use Rattle.ti_types.specs.Mirrors.BuiltIn.{arguments_by, told_member, other_refusals, one_refusals, told_arguments, told_built_in};
 ghost use Rattle.ti_types.specs.Mirrors.Judged.{typed_of};
 ghost use Rattle.ti_lang.specs.Typing.Expressions.{plain};
 ghost use Rattle.ti_lang.specs.Typing.Kinds.{where_true};
@@ -16,77 +16,9 @@ use crate::arguments::{Told, is_int};
 use crate::fitting::fits;
 use crate::judged::Judged;
 use crate::refused::mistaken;
-use crate::seen::{Seen, same_elements};
 use ti_base::Place;
-use ti_lang::program::Parts;
+use ti_lang::typing::{BuiltIn, Seen, same_elements};
 use ti_rules::{Refusal, Rule, refused_if, sooner};
-use ti_syntax::Spelled;
-
-/// A member of the language.
-#[derive(Clone, Copy)]
-pub enum BuiltIn {
-    Size,
-    Min,
-    Max,
-    Contains,
-    Domain,
-    Restrict,
-    Translate,
-    Slice,
-    Copy,
-    Exchange,
-    Delete,
-}
-
-fn is_spelled(name: &Spelled, text: &[u8]) -> bool
-    ensures { result ≡ bytes_eq name.now text.now }
-{
-    name.as_bytes() == text
-}
-
-/// The member of a spelling.
-fn spelled(name: &Spelled) -> Option<BuiltIn>
-    ensures { option_map built_in_of result ≡ spelled name.now }
-{
-    if is_spelled(name, b"size") {
-        Some(BuiltIn::Size)
-    } else if is_spelled(name, b"min") {
-        Some(BuiltIn::Min)
-    } else if is_spelled(name, b"max") {
-        Some(BuiltIn::Max)
-    } else if is_spelled(name, b"contains") {
-        Some(BuiltIn::Contains)
-    } else if is_spelled(name, b"domain") {
-        Some(BuiltIn::Domain)
-    } else if is_spelled(name, b"restrict") {
-        Some(BuiltIn::Restrict)
-    } else if is_spelled(name, b"translate") {
-        Some(BuiltIn::Translate)
-    } else if is_spelled(name, b"slice") {
-        Some(BuiltIn::Slice)
-    } else if is_spelled(name, b"copy") {
-        Some(BuiltIn::Copy)
-    } else if is_spelled(name, b"exchange") {
-        Some(BuiltIn::Exchange)
-    } else if is_spelled(name, b"delete") {
-        Some(BuiltIn::Delete)
-    } else {
-        None
-    }
-}
-
-/// The member of a number among the names of a program.
-#[tactic(auto, unfolding(ti_lang::specs::Typing::BuiltIn::built_in), using(crate::proofs::Names::name_lookups))]
-pub fn built_in(program: &Parts, name: u32) -> Option<BuiltIn>
-    ensures { option_map built_in_of result ≡ built_in (program_of program.now) name }
-{
-    let number = name as usize;
-    if number < program.names.len() {
-        spelled(&program.names[number])
-    } else {
-        None
-    }
-}
 
 fn has_member(b: BuiltIn, t: Seen) -> bool
     ensures { result ≡ has_member (built_in_of b) (seen t.entry) }

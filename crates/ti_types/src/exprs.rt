@@ -6,16 +6,15 @@ ghost use Rattle.ti_lang.specs.Program.Views.{program_of, expression_of, bound_o
 ghost use Rattle.ti_lang.specs.Program.Expressions.{numbered_exps, numbered_ranges};
 ghost use Rattle.ti_types.specs.Mirrors.Arguments.{wanted_types};
 ghost use Rattle.ti_types.specs.Mirrors.Walk.{IsJudged, AreArguments, IsRange, AreRanges};
-ghost use Rattle.ti_types.specs.Mirrors.Seen.{seen};
+ghost use Rattle.ti_lang.specs.Typing.Seen.{seen};
 ghost use Rattle.ti_types.specs.Mirrors.Nodes.{behind};
 
 use crate::arguments::{Arguments, called, wanted};
 use crate::judged::Judged;
-use crate::lookup::{method, method_behind, own_field_type, this_type, variable_type};
 use crate::nodes::{index, member, point, select};
 use crate::rects::{Bounds, rect};
-use crate::seen::Seen;
 use ti_lang::program::{Expr, Method, Parts, Range, Scope};
+use ti_lang::typing::{Seen, method, method_behind, own_field_type, this_type, variable_type};
 
 /// A program whose expressions are judged.
 #[derive(Clone, Copy)]
@@ -97,9 +96,9 @@ impl<'a> Judge<'a> {
             Expr::Long(_, _) => Judged::sound(Some(Seen::Long)),
             Expr::Truth(_, _) => Judged::sound(Some(Seen::Bool)),
             Expr::Null(_) => Judged::sound(Some(Seen::Null)),
-            Expr::This(_) => Judged::sound(this_type(scope)),
+            Expr::This(_) => Judged::sound(this_type(scope.this)),
             Expr::Variable(_, v) => Judged::sound(variable_type(scope, v)),
-            Expr::OwnField(_, field) => Judged::sound(own_field_type(self.program, scope, *field)),
+            Expr::OwnField(_, field) => Judged::sound(own_field_type(self.program, scope.this, *field)),
             Expr::ThisProc(_) => Judged::sound(Some(Seen::Int)),
             Expr::NumProcs(_) => Judged::sound(Some(Seen::Int)),
             Expr::Call {

@@ -1,9 +1,9 @@
 // Which values go where.
 ghost use Rattle.std.specs.Prelude.{◌≡◌};
 ghost use Rattle.ti_lang.specs.Typing.Fits.{becomes, fits, casts};
-ghost use Rattle.ti_types.specs.Mirrors.Seen.{seen};
+ghost use Rattle.ti_lang.specs.Typing.Seen.{seen};
 
-use crate::seen::Seen;
+use ti_lang::typing::Seen;
 
 fn becomes(t: Seen, u: Seen) -> bool
     ensures { result ≡ becomes (seen t.entry) (seen u.entry) }

@@ -7,12 +7,10 @@ mod error;
 mod exprs;
 mod fitting;
 mod judged;
-mod lookup;
 mod nodes;
 mod operators;
 mod rects;
 mod refused;
-mod seen;
 mod typing;
 mod words;
 

@@ -10,18 +10,17 @@ ghost use Rattle.ti_rules.specs.First.{first_of};
 ghost use Rattle.ti_rules.specs.Broken.Refused.{judged, both_judged, mistaken as mistaken_at};
 ghost use Rattle.ti_rules.specs.Broken.Expressions.{places_of};
 ghost use Rattle.ti_types.specs.Mirrors.Judged.{typed_of};
-ghost use Rattle.ti_types.specs.Mirrors.Seen.{seen};
+ghost use Rattle.ti_lang.specs.Typing.Seen.{seen};
 ghost use Rattle.ti_types.specs.Mirrors.Arguments.{ToldTypes, told_of};
 ghost use Rattle.ti_types.specs.Mirrors.Nodes.{are_indices, told_index, is_index, told_other, told_behind, behind_refusal};
 
 use crate::arguments::{Told, called};
-use crate::built_in::{built_in, member_given};
+use crate::built_in::member_given;
 use crate::judged::Judged;
-use crate::lookup::select_type;
 use crate::refused::mistaken;
-use crate::seen::Seen;
 use ti_base::Place;
 use ti_lang::program::{Expr, Method, Parts};
+use ti_lang::typing::{Seen, built_in, select_type};
 use ti_rules::{Refusal, Rule, refused_if};
 
 fn point_type<'a>(count: usize, types: Option<Told<'a>>) -> Option<Seen<'a>>

@@ -4,9 +4,9 @@ ghost use Rattle.std.specs.Option.{option_map, option_or};
 ghost use Rattle.ti_lang.specs.Typing.Operators.{wider, whole_type, truth_type, point_type, rect_type, domain_type, are_references, are_comparable, are_ordered, binary_type, unary_type};
 ghost use Rattle.ti_lang.specs.Program.Types.{Boolean};
 ghost use Rattle.ti_lang.specs.Typing.Kinds.{where_true};
-ghost use Rattle.ti_types.specs.Mirrors.Seen.{seen};
+ghost use Rattle.ti_lang.specs.Typing.Seen.{seen};
 
-use crate::seen::Seen;
+use ti_lang::typing::Seen;
 use ti_syntax::tree::{BinaryOperator, UnaryOperator};
 
 fn whole_type<'p>(t: Seen<'p>, u: Seen<'p>) -> Option<Seen<'p>>

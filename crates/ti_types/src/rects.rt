@@ -8,13 +8,13 @@ ghost use Rattle.ti_rules.specs.First.{sooner as sooner_of, first_of};
 ghost use Rattle.ti_rules.specs.Broken.Refused.{judged, mistaken as mistaken_at};
 ghost use Rattle.ti_rules.specs.Broken.Misplaced.{misplaced_at};
 ghost use Rattle.ti_types.specs.Mirrors.Judged.{typed_of};
-ghost use Rattle.ti_types.specs.Mirrors.Seen.{seen};
+ghost use Rattle.ti_lang.specs.Typing.Seen.{seen};
 ghost use Rattle.ti_types.specs.Mirrors.Nodes.{EndTypes, ends, ends_of, ends_before, told_rect, told_near};
 
 use crate::arguments::is_int;
 use crate::judged::Judged;
 use crate::refused::mistaken;
-use crate::seen::Seen;
+use ti_lang::typing::Seen;
 use ti_base::Place;
 use ti_rules::{Refusal, sooner};
 

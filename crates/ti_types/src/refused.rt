@@ -2,10 +2,10 @@
 ghost use Rattle.std.specs.Prelude.{◌≡◌};
 ghost use Rattle.ti_rules.specs.First.{first_of};
 ghost use Rattle.ti_rules.specs.Broken.Refused.{mistaken, misfit};
-ghost use Rattle.ti_types.specs.Mirrors.Seen.{seen};
+ghost use Rattle.ti_lang.specs.Typing.Seen.{seen};
 
 use crate::fitting::fits;
-use crate::seen::Seen;
+use ti_lang::typing::Seen;
 use ti_base::Place;
 use ti_rules::{Refusal, Rule};
 

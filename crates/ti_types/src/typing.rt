@@ -2,14 +2,14 @@
 ghost use Rattle.std.specs.Prelude.{◌≡◌, IfOk, if◌then◌else◌};
 ghost use Rattle.ti_lang.specs.Program.Scope.{contents_of};
 ghost use Rattle.ti_lang.specs.Program.Views.{program_of, expression_of, value_type_of};
-ghost use Rattle.ti_rules.specs.Alike.{one_dim};
+ghost use Rattle.ti_lang.specs.Typing.Alike.{one_dim};
 ghost use Rattle.ti_rules.specs.Known.{IsKnown};
 ghost use Rattle.ti_types.specs.Answer.{GivesType};
-ghost use Rattle.ti_types.specs.Mirrors.Seen.{seen, erased};
+ghost use Rattle.ti_lang.specs.Typing.Seen.{seen, erased};
 
 use crate::error::TypeErr;
 use crate::exprs::Judge;
-use crate::seen::Seen;
+use ti_lang::typing::Seen;
 use std::alloc::Global;
 use ti_base::Memory;
 use ti_lang::program::{Expr, Program, Scope, Ty};

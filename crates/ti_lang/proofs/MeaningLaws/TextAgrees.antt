@@ -361,10 +361,11 @@ module _ (program : NumberedProgram) (s : ScopeContents) (dims : ℕ → ℕ) (a
 
     ranges_ints : (rs : NumberedRanges) (ts : List ValueType) → bounds program s rs ≡ Some ts → all_ints ts ≡ true → dims_of_ranges program s.this_class dims rs ≡ range_count rs
     ranges_ints e.NoRange ts h z = refl
-    ranges_ints (e.MoreRange r rs) ts h z =
-        let k = split (bound program s r) (bounds program s rs) ts h in
+    ranges_ints (e.MoreRange r e.NoRange) ts h z =
+        let k = split (bound program s r) (Some []) ts h in
         let m = ints_split k.front k.back (subst (λ x. all_ints x ≡ true) (sym k.whole) z) in
-        omega (arith, range_ints r k.front k.front_is m.0, ranges_ints rs k.back k.back_is m.1)
+        range_ints r k.front k.front_is m.0
+    ranges_ints (e.MoreRange r (e.MoreRange q rs)) ts h z = refl
 
     range_points : (r : NumberedRange) (ts : List ValueType) (ty : ValueType) → bound program s r ≡ Some ts → range_of_points ts ≡ Some ty → t.Rc (dims_of_range program s.this_class dims r) ≡ ty
     range_points (e.Plain low high) ts ty h z =
@@ -380,5 +381,5 @@ module _ (program : NumberedProgram) (s : ScopeContents) (dims : ℕ → ℕ) (a
         let k = split (bound program s r) (Some []) ts h in
         let nil : [] ≡ k.back = some_same _ _ k.back_is in
         let same : k.front ≡ ts = sym (append-nil k.front) ∙ (ap (λ x. k.front ++ x) nil ∙ k.whole) in
-        ap t.Rc (omega arith) ∙ range_points r k.front ty k.front_is (subst (λ x. range_of_points x ≡ Some ty) (sym same) z)
+        range_points r k.front ty k.front_is (subst (λ x. range_of_points x ≡ Some ty) (sym same) z)
     ranges_points (e.MoreRange r (e.MoreRange q rs)) ts ty h n z = absurd (omega (arith, n))

@@ -13,6 +13,7 @@ use Rattle.ti_lang.specs.Program.Scope.{ScopeContents}
 use Rattle.ti_lang.specs.Typing.Kinds.{read_through, as_global, dim_of_type}
 use Rattle.ti_lang.specs.Typing.BuiltIn.{BuiltIn, Size, Min, Max, Contains, Domain, Restrict, Translate, Slice, built_in}
 use Rattle.ti_lang.specs.Typing.Declared.{declared_type, field_type, named_field_type, instance_method, result_type}
+use Rattle.ti_lang.specs.Typing.Expressions.{range_count}
 
 -- ---- names
 
@@ -120,10 +121,10 @@ module _ (program : NumberedProgram) (this : Option ℕ) (dims : ℕ → ℕ) wh
     dims_of_range (e.Plain low high) = dim_of_type (type_at low)
     dims_of_range (e.Stepped low high step) = dim_of_type (type_at low)
 
-    -- the dimensions of all ranges together
+    -- the dimensions of a literal with these ranges: a single one tells them itself, several are of numbers, one each
     pub dims_of_ranges : NumberedRanges → ℕ
-    dims_of_ranges e.NoRange = 0
-    dims_of_ranges (e.MoreRange r rs) = dims_of_range r + dims_of_ranges rs
+    dims_of_ranges (e.MoreRange r e.NoRange) = dims_of_range r
+    dims_of_ranges rs = range_count rs
 
 -- The type of an expression wherever it stands. Of foreach variables no dimensions are known here and 1 is taken: no class, no field,
 -- no element and no form of a node hangs on them.

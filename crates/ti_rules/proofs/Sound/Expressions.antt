@@ -15,7 +15,7 @@ use Rattle.ti_rules.specs.declared.refusal.Refusal.{Refusal}
 use Rattle.ti_rules.specs.Broken.Refused.{judged, both_judged, mistaken}
 use Rattle.ti_rules.specs.Broken.Words.{type_word_refusals}
 use Rattle.ti_rules.specs.Broken.Calls.{call_refusals, member_refusals}
-use Rattle.ti_rules.specs.Alike.{one_dim}
+use Rattle.ti_lang.specs.Typing.Alike.{one_dim}
 use Rattle.ti_rules.specs.Parts.{parts, parts_of_all, parts_of_range, parts_of_ranges}
 use Rattle.ti_rules.specs.Broken.Misplaced.{misplaced, all_misplaced, bound_misplaced, bounds_misplaced}
 use Rattle.ti_rules.specs.Broken.Expressions.{places_of, other_indices, refusals_at, exp_refusals}

@@ -11,7 +11,7 @@ use Rattle.ti_lang.specs.Typing.Fits.{casts}
 use Rattle.ti_lang.specs.Typing.Operators.{unary_type, binary_type}
 use Rattle.ti_lang.specs.Typing.Expressions.{operand_type, operands, bounds, range_count, is_int, all_ints, rect_literal, index_type, select_type}
 use Rattle.ti_rules.specs.declared.refusal.Refusal.{Refusal}
-use Rattle.ti_rules.specs.Alike.{one_dim}
+use Rattle.ti_lang.specs.Typing.Alike.{one_dim}
 use Rattle.ti_rules.specs.Parts.{parts}
 use Rattle.ti_rules.specs.Broken.Refused.{judged, both_judged, mistaken}
 use Rattle.ti_rules.specs.Broken.Misplaced.{misplaced, all_misplaced, bounds_misplaced}

@@ -6,7 +6,7 @@ use Rattle.ti_lang.specs.Typing.Fits.{fits}
 use Rattle.ti_rules.specs.declared.rule.Rule.{Rule}
 use Rattle.ti_rules.specs.declared.rule.Rule.TheVariants.{Y1, Y2, Y5, Q1}
 use Rattle.ti_rules.specs.declared.refusal.Refusal.{Refusal}
-use Rattle.ti_rules.specs.Alike.{one_dim, as_local}
+use Rattle.ti_lang.specs.Typing.Alike.{one_dim, as_local}
 
 -- a rule that is broken at a place
 abbrev pub refused : Rule → Place → List Refusal

@@ -10,7 +10,7 @@ use Rattle.ti_lang.specs.Typing.Expressions.{typed, operand_type}
 use Rattle.ti_rules.specs.declared.rule.Rule.TheVariants.{Y6}
 use Rattle.ti_rules.specs.declared.refusal.Refusal.{Refusal}
 use Rattle.ti_rules.specs.First.{refused_if}
-use Rattle.ti_rules.specs.Alike.{one_dim}
+use Rattle.ti_lang.specs.Typing.Alike.{one_dim}
 use Rattle.ti_rules.specs.InitialTypes.{is_region, region_type, Spread, Over, Ranged, spread, new_grid_type, broadcast_type}
 use Rattle.ti_rules.specs.Parts.{parts_of_ranges}
 use Rattle.ti_rules.specs.Broken.Refused.{judged, both_judged, mistaken}

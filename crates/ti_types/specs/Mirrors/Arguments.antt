@@ -13,7 +13,7 @@ use Rattle.ti_rules.specs.First.{sooner, first_of}
 use Rattle.ti_rules.specs.Broken.Refused.{refused, misfit}
 use Rattle.ti_rules.specs.Broken.Calls.{misfits, first_misfit}
 use Rattle.ti_types.specs.declared.arguments.Told.{Told}
-use Rattle.ti_types.specs.Mirrors.Seen.{seen}
+use Rattle.ti_lang.specs.Typing.Seen.{seen}
 
 -- what the rules ask of a list of types: whether all are ints, the first two, and what counts of those that don't fit their parameters
 pub record ToldTypes : Type 0 where

@@ -7,26 +7,10 @@ use Rattle.ti_lang.specs.Typing.BuiltIn as member
 use Rattle.ti_lang.specs.Typing.BuiltIn.{member_type}
 use Rattle.ti_rules.specs.declared.rule.Rule.TheVariants.{Y1, Y4}
 use Rattle.ti_rules.specs.declared.refusal.Refusal.{Refusal}
-use Rattle.ti_rules.specs.Alike.{one_dim}
+use Rattle.ti_lang.specs.Typing.Alike.{one_dim}
 use Rattle.ti_rules.specs.Broken.Refused.{refused, mistaken}
 use Rattle.ti_rules.specs.Broken.Calls.{has_member, arity, copy_refusals, exchange_refusals, slice_refusals}
-use Rattle.ti_types.specs.declared.built_in.BuiltIn.{BuiltIn}
-use Rattle.ti_types.specs.declared.built_in.BuiltIn.TheVariants as b
 use Rattle.ti_types.specs.Mirrors.Arguments.{ToldTypes}
-
--- the same member
-abbrev pub built_in_of : BuiltIn → member.BuiltIn
-built_in_of b.Size = member.Size
-built_in_of b.Min = member.Min
-built_in_of b.Max = member.Max
-built_in_of b.Contains = member.Contains
-built_in_of b.Domain = member.Domain
-built_in_of b.Restrict = member.Restrict
-built_in_of b.Translate = member.Translate
-built_in_of b.Slice = member.Slice
-built_in_of b.Copy = member.Copy
-built_in_of b.Exchange = member.Exchange
-built_in_of b.Delete = member.Delete
 
 -- so many types of which these are the first two, if they are no more than two
 abbrev pub listed : ℕ → Option ValueType → Option ValueType → Option (List ValueType)

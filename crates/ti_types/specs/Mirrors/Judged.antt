@@ -3,7 +3,7 @@
 use Rattle.std.specs.Option.{option_map}
 use Rattle.ti_lang.specs.Typing.Expressions.{Typed}
 use Rattle.ti_types.specs.declared.judged.Judged.{Judged}
-use Rattle.ti_types.specs.Mirrors.Seen.{seen}
+use Rattle.ti_lang.specs.Typing.Seen.{seen}
 
 -- its type, and whether it's a call of a declared method whose operands all have types
 abbrev pub typed_of : Judged → Typed

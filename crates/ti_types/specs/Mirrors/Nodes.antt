@@ -14,10 +14,10 @@ use Rattle.ti_lang.specs.Typing.Called.{method_behind}
 use Rattle.ti_rules.specs.declared.rule.Rule.TheVariants.{Y1}
 use Rattle.ti_rules.specs.declared.refusal.Refusal.{Refusal}
 use Rattle.ti_rules.specs.First.{first_of}
-use Rattle.ti_rules.specs.Alike.{one_dim}
+use Rattle.ti_lang.specs.Typing.Alike.{one_dim}
 use Rattle.ti_rules.specs.Broken.Refused.{refused}
 use Rattle.ti_types.specs.declared.rects.Ends.{Ends}
-use Rattle.ti_types.specs.Mirrors.Seen.{seen}
+use Rattle.ti_lang.specs.Typing.Seen.{seen}
 use Rattle.ti_types.specs.Mirrors.Arguments.{ToldTypes, told_refusal, told_called}
 use Rattle.ti_types.specs.Mirrors.BuiltIn.{told_member, told_built_in}
 

@@ -6,7 +6,7 @@ use Rattle.ti_rules.specs.Known.{IsThere}
 use Rattle.ti_rules.specs.Broken.Expressions.{exp_refusals}
 use Rattle.ti_rules.proofs.First.{first_is, first_none}
 use Rattle.ti_rules.proofs.Sound.Expressions.{has_type}
-use Rattle.ti_types.specs.Mirrors.Seen.{seen}
+use Rattle.ti_lang.specs.Typing.Seen.{seen}
 use Rattle.ti_types.proofs.typing.type_of.Goals as goal
 
 not_there : {A : Type 0} (o : Option A) → o ≡ None → IsThere o → ⊥

@@ -1,7 +1,7 @@
 use Rattle.std.proofs.Common.{◌≡◌, ◌==◌, map, drop, find}
 use Rattle.ti_lang.specs.Program.Classes.{NumberedField}
 use Rattle.ti_lang.specs.Program.Views.{numbered_field_of}
-use Rattle.ti_types.proofs.lookup.field_named.Given as goal
+use Rattle.ti_lang.proofs.typing.lookup.field_named.Given as goal
 
 abbrev pub invariant-loop-f : goal.invariant-loop-f
 invariant-loop-f l =

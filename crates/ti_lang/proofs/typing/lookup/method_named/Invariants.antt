@@ -1,7 +1,7 @@
 use Rattle.std.proofs.Common.{◌≡◌, ◌==◌, ◌&&◌, map, drop, find}
 use Rattle.ti_lang.specs.Program.Classes.{NumberedMethod}
 use Rattle.ti_lang.specs.Program.Views.{numbered_method_of}
-use Rattle.ti_types.proofs.lookup.method_named.Given as goal
+use Rattle.ti_lang.proofs.typing.lookup.method_named.Given as goal
 
 abbrev pub invariant-loop-m : goal.invariant-loop-m
 invariant-loop-m l =

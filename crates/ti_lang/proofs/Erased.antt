@@ -1,8 +1,8 @@
 -- Counting each number of dimensions as 1 twice is counting it so once.
 use Rattle.std.proofs.Common.{◌≡◌, Bool, true, false, refl, ap}
 use Rattle.ti_lang.specs.Program.Types.{ValueType, Int, Long, Boolean, Pt, Rc, Dm, Region, Class, Grid, Null, Void}
-use Rattle.ti_rules.specs.Alike.{one_dim}
-use Rattle.ti_types.specs.Mirrors.Seen.{erased}
+use Rattle.ti_lang.specs.Typing.Alike.{one_dim}
+use Rattle.ti_lang.specs.Typing.Seen.{erased}
 
 one_dim_twice : (t : ValueType) → one_dim (one_dim t) ≡ one_dim t
 one_dim_twice (Grid t n local) = ap (λ u. Grid u 1 local) (one_dim_twice t)

@@ -2,10 +2,10 @@
 ghost use Rattle.std.specs.Prelude.{◌≡◌, if◌then◌else◌};
 ghost use Rattle.ti_lang.specs.Program.Views.{value_type_of};
 ghost use Rattle.ti_lang.specs.Typing.Kinds.{same_type, is_whole, is_null, is_void, is_reference, is_object, is_local, as_global, read_through, domain_dim};
-ghost use Rattle.ti_rules.specs.Alike.{one_dim, as_local};
-ghost use Rattle.ti_types.specs.Mirrors.Seen.{seen, erased};
+ghost use Rattle.ti_lang.specs.Typing.Alike.{one_dim, as_local};
+ghost use Rattle.ti_lang.specs.Typing.Seen.{seen, erased};
 
-use ti_lang::program::Ty;
+use crate::program::Ty;
 
 /// A type. That of a grid's elements is borrowed; where `any_dim` holds, each number of dimensions in it counts as 1.
 #[derive(Clone, Copy)]

@@ -10,10 +10,10 @@ ghost use Rattle.ti_lang.specs.Typing.Kinds.{as_global};
 ghost use Rattle.ti_lang.specs.Typing.Declared.{in_scope, variable_type, fields_of_class, field_type, named_field_type, is_static_method, instance_method};
 ghost use Rattle.ti_lang.specs.Typing.Expressions.{select_type};
 ghost use Rattle.ti_lang.specs.Typing.Called.{method_behind};
-ghost use Rattle.ti_types.specs.Mirrors.Seen.{seen};
+ghost use Rattle.ti_lang.specs.Typing.Seen.{seen};
 
-use crate::seen::Seen;
-use ti_lang::program::{
+use super::seen::Seen;
+use crate::program::{
     Class, Declared, Field, InScope, Method, Parts, Scope, Variable, has_static,
 };
 
@@ -42,11 +42,11 @@ pub fn variable_type<'a>(scope: &'a Scope, v: &'a Variable) -> Option<Seen<'a>>
     }
 }
 
-/// The type of `this`.
-pub fn this_type<'a>(scope: &Scope) -> Option<Seen<'a>>
-    ensures { option_map seen result ≡ option_map (λ c. ClassType c false) (contents_of scope.now).this_class }
+/// The type of `this`, which is of a class where there is one.
+pub fn this_type<'a>(this: Option<u32>) -> Option<Seen<'a>>
+    ensures { option_map seen result ≡ option_map (λ c. ClassType c false) this }
 {
-    match scope.this {
+    match this {
         Some(class) => Some(Seen::Class {
             class,
             local: false,
@@ -109,11 +109,11 @@ fn field_type<'a>(program: &'a Parts, class: u32, field: u32) -> Option<Seen<'a>
     }
 }
 
-/// The type of a field of `this`, which is global.
-pub fn own_field_type<'a>(program: &'a Parts, scope: &Scope, field: u32) -> Option<Seen<'a>>
-    ensures { option_map seen result ≡ option_map as_global (option_and_then (λ c. field_type (program_of program.now) c field) (contents_of scope.now).this_class) }
+/// The type of a field of `this`, which is global, by its number.
+pub fn own_field_type<'a>(program: &'a Parts, this: Option<u32>, field: u32) -> Option<Seen<'a>>
+    ensures { option_map seen result ≡ option_map as_global (option_and_then (λ c. field_type (program_of program.now) c field) this) }
 {
-    match scope.this {
+    match this {
         Some(class) => match field_type(program, class, field) {
             Some(ty) => Some(ty.with_local(false)),
             None => None,
@@ -123,8 +123,8 @@ pub fn own_field_type<'a>(program: &'a Parts, scope: &Scope, field: u32) -> Opti
 }
 
 /// The type of the first field of a name.
-#[tactic(auto, unfolding(ti_lang::specs::Typing::Declared::named_field_type))]
-fn named_field_type<'a>(program: &'a Parts, class: u32, name: u32) -> Option<Seen<'a>>
+#[tactic(auto, unfolding(crate::specs::Typing::Declared::named_field_type))]
+pub fn named_field_type<'a>(program: &'a Parts, class: u32, name: u32) -> Option<Seen<'a>>
     ensures { option_map seen result ≡ named_field_type (program_of program.now) class name }
 {
     match field_named(fields_of(program, class), name) {
@@ -193,8 +193,8 @@ fn only_instance(m: Option<&Method>) -> Option<&Method>
 }
 
 /// The first method of a class and a name, where it's an instance method.
-#[tactic(auto, unfolding(ti_lang::specs::Typing::Declared::instance_method))]
-fn instance_method(program: &Parts, class: u32, name: u32) -> Option<&Method>
+#[tactic(auto, unfolding(crate::specs::Typing::Declared::instance_method))]
+pub fn instance_method(program: &Parts, class: u32, name: u32) -> Option<&Method>
     ensures { option_map (λ m. numbered_method_of m.now) result ≡ instance_method (program_of program.now) class name }
 {
     only_instance(method_named(&program.methods, class, name))

@@ -1,6 +1,6 @@
 use Rattle.std.proofs.Common.{◌≡◌, ◌==◌, map, drop, find}
 use Rattle.ti_lang.specs.Program.Scope.{ScopeVariable, in_scope_of}
-use Rattle.ti_types.proofs.lookup.scoped.Given as goal
+use Rattle.ti_lang.proofs.typing.lookup.scoped.Given as goal
 
 abbrev pub invariant-loop-v : goal.invariant-loop-v
 invariant-loop-v l =

@@ -1,0 +1,14 @@
+//! The types of expressions as the text tells them, borrowed from the program, so that reading one takes no memory.
+
+mod lookup;
+mod members;
+mod seen;
+mod text;
+
+pub use lookup::{
+    instance_method, method, method_behind, named_field_type, own_field_type, select_type,
+    this_type, variable_type,
+};
+pub use members::{BuiltIn, built_in};
+pub use seen::{Seen, same_elements};
+pub use text::{called_method, member_called, type_in_text};

@@ -1,0 +1,306 @@
+// The type of an expression in the text, whether or not a rule of types is broken in it.
+ghost use Rattle.std.specs.Prelude.{◌≡◌, ℕ, map};
+ghost use Rattle.std.specs.Option.{option_map, option_map_or, unwrap_or};
+ghost use Rattle.ti_lang.specs.Program.Types.{Void};
+ghost use Rattle.ti_lang.specs.Program.Expressions.{numbered_exps, numbered_ranges};
+ghost use Rattle.ti_lang.specs.Program.Views.{program_of, expression_of, bound_of, variable_of, numbered_method_of};
+ghost use Rattle.ti_lang.specs.Typing.Kinds.{dim_of_type};
+ghost use Rattle.ti_lang.specs.Typing.Declared.{result_type};
+ghost use Rattle.ti_lang.specs.Typing.Seen.{seen, built_in_of};
+ghost use Rattle.ti_lang.specs.Typing.TextTypes.{used_type, joined_type, product_type, operator_type, field_seen, element_seen, sliced, how_many, built_in_type, member_seen, dims_of_range, dims_of_ranges, type_in_text};
+ghost use Rattle.ti_lang.specs.Typing.Called.{called_method, member_called};
+
+use super::lookup::{
+    instance_method, method, method_behind, named_field_type, own_field_type, this_type,
+};
+use super::members::{BuiltIn, built_in};
+use super::seen::Seen;
+use crate::program::{Declared, Expr, Method, Parts, Range, ResultType, Variable};
+use ti_syntax::tree::BinaryOperator;
+
+// ---- names
+
+// The declared type of a variable; that of a foreach is a point, of one dimension in the text.
+fn used_type<'p>(variable: &'p Variable) -> Seen<'p>
+    ensures { seen result ≡ used_type (λ (number : ℕ). 1) (variable_of variable.now).number (variable_of variable.now).declared }
+{
+    match &variable.declared {
+        Declared::Typed { single: _, ty } => Seen::of(ty, false),
+        Declared::Foreach => Seen::Pt(1),
+    }
+}
+
+// A type, where there is one.
+fn or_void<'p>(t: Option<Seen<'p>>) -> Seen<'p>
+    ensures { seen result ≡ unwrap_or (option_map seen t.entry) Void }
+{
+    match t {
+        Some(t) => t,
+        None => Seen::Void,
+    }
+}
+
+// What a call of a method gives, if there is one.
+fn result_of<'p>(m: Option<&'p Method>) -> Seen<'p>
+    ensures { seen result ≡ option_map_or result_type (option_map (λ m. numbered_method_of m.now) m.entry) Void }
+{
+    match m {
+        Some(m) => match &m.result {
+            ResultType::Void => Seen::Void,
+            ResultType::Typed(t) => Seen::of(&t.ty, false),
+        },
+        None => Seen::Void,
+    }
+}
+
+// ---- operators
+
+// An int beside a long becomes one, and a rectangular domain beside any a domain.
+fn joined<'p>(x: Seen<'p>, y: Seen<'p>) -> Seen<'p>
+    ensures { seen result ≡ joined_type (seen x.entry) (seen y.entry) }
+{
+    match (x, y) {
+        (Seen::Int, Seen::Long) => Seen::Long,
+        (Seen::Rc(n), _) => Seen::Dm(n),
+        _ => x,
+    }
+}
+
+// Two rectangular domains meet in one.
+fn product<'p>(x: Seen<'p>, y: Seen<'p>) -> Seen<'p>
+    ensures { seen result ≡ product_type (seen x.entry) (seen y.entry) }
+{
+    match (x, y) {
+        (Seen::Rc(n), Seen::Rc(_)) => Seen::Rc(n),
+        _ => joined(x, y),
+    }
+}
+
+// What an operator gives: a shift the type of its left operand, a comparison a boolean.
+fn operated<'p>(operator: BinaryOperator, x: Seen<'p>, y: Seen<'p>) -> Seen<'p>
+    ensures { seen result ≡ operator_type operator (seen x.entry) (seen y.entry) }
+{
+    match operator {
+        BinaryOperator::Add
+        | BinaryOperator::Subtract
+        | BinaryOperator::Divide
+        | BinaryOperator::Remainder
+        | BinaryOperator::And
+        | BinaryOperator::Or
+        | BinaryOperator::Xor => joined(x, y),
+        BinaryOperator::Multiply => product(x, y),
+        BinaryOperator::ShiftLeft
+        | BinaryOperator::ShiftRight
+        | BinaryOperator::UnsignedShiftRight => x,
+        _ => Seen::Bool,
+    }
+}
+
+// ---- parts and members
+
+// The field of a name in an object, global where the object is.
+fn field_seen<'p>(program: &'p Parts, name: u32, t: Seen<'p>) -> Seen<'p>
+    ensures { seen result ≡ field_seen (program_of program.now) name (seen t.entry) }
+{
+    match t {
+        Seen::Class { class, local } => match named_field_type(program, class, name) {
+            Some(ty) => ty.read_through(local),
+            None => Seen::Void,
+        },
+        _ => Seen::Void,
+    }
+}
+
+// What an index gives: a coordinate of a point, or an element of a grid, global where the grid is.
+fn element_seen<'p>(t: Seen<'p>) -> Seen<'p>
+    ensures { seen result ≡ element_seen (seen t.entry) }
+{
+    match t {
+        Seen::Pt(_) => Seen::Int,
+        Seen::Grid {
+            elem,
+            any_dim,
+            dim: _,
+            local,
+        } => Seen::of(elem, any_dim).read_through(local),
+        _ => Seen::Void,
+    }
+}
+
+// A slice of a grid has one dimension less.
+fn sliced<'p>(t: Seen<'p>) -> Seen<'p>
+    ensures { seen result ≡ sliced (seen t.entry) }
+{
+    match t {
+        Seen::Grid {
+            elem,
+            any_dim,
+            dim,
+            local,
+        } => Seen::Grid {
+            elem,
+            any_dim,
+            dim: dim.saturating_sub(1),
+            local,
+        },
+        _ => t,
+    }
+}
+
+// How many dimensions a type has; 1 for one without.
+fn dims_of(t: Seen) -> usize
+    ensures { result ≡ dim_of_type (seen t.entry) }
+{
+    match t {
+        Seen::Pt(n) | Seen::Rc(n) | Seen::Dm(n) => n,
+        Seen::Grid { dim, .. } => dim,
+        _ => 1,
+    }
+}
+
+// What a member of the language gives, for a receiver of a type.
+fn member_gives<'p>(b: BuiltIn, t: Seen<'p>) -> Seen<'p>
+    ensures { seen result ≡ built_in_type (Some (built_in_of b)) (seen t.entry) }
+{
+    match b {
+        BuiltIn::Size => Seen::Int,
+        BuiltIn::Min | BuiltIn::Max => Seen::Pt(dims_of(t)),
+        BuiltIn::Contains => Seen::Bool,
+        BuiltIn::Domain => Seen::Rc(dims_of(t)),
+        BuiltIn::Restrict | BuiltIn::Translate => t,
+        BuiltIn::Slice => sliced(t),
+        BuiltIn::Copy | BuiltIn::Exchange | BuiltIn::Delete => Seen::Void,
+    }
+}
+
+// The same, where it is one.
+fn built_in_type<'p>(b: Option<BuiltIn>, t: Seen<'p>) -> Seen<'p>
+    ensures { seen result ≡ built_in_type (option_map built_in_of b) (seen t.entry) }
+{
+    match b {
+        Some(b) => member_gives(b, t),
+        None => Seen::Void,
+    }
+}
+
+// Behind an object there is a method, behind another value a member of the language.
+fn member_seen<'p>(program: &'p Parts, name: u32, t: Seen<'p>) -> Seen<'p>
+    ensures { seen result ≡ member_seen (program_of program.now) name (seen t.entry) }
+{
+    match t {
+        Seen::Class { class, local: _ } => result_of(instance_method(program, class, name)),
+        _ => built_in_type(built_in(program, name), t),
+    }
+}
+
+// ---- expressions
+
+// How many expressions there are.
+#[tactic(auto, using(crate::proofs::RangeDims::many_arguments))]
+fn how_many(xs: &[Expr]) -> usize
+    ensures { result ≡ how_many (numbered_exps (map expression_of xs.now)) }
+{
+    xs.len()
+}
+
+// A range of numbers has one dimension, one of points as many as these.
+#[cycle(text)]
+fn dims_of_range(program: &Parts, this: Option<u32>, range: &Range) -> usize
+    ensures { result ≡ dims_of_range (program_of program.now) this (λ (number : ℕ). 1) (bound_of range.now) }
+{
+    match range {
+        Range::Plain { low, .. } => dims_of(type_in_text(program, this, low)),
+        Range::Stepped { low, .. } => dims_of(type_in_text(program, this, low)),
+    }
+}
+
+// The dimensions of a literal with these ranges: a single one tells them itself, several are one each.
+#[cycle(text)]
+#[tactic(auto, using(crate::proofs::RangeDims::range_dims))]
+fn dims_of_ranges(program: &Parts, this: Option<u32>, ranges: &[Range]) -> usize
+    ensures { result ≡ dims_of_ranges (program_of program.now) this (λ (number : ℕ). 1) (numbered_ranges (map bound_of ranges.now)) }
+{
+    if ranges.len() == 1 {
+        dims_of_range(program, this, &ranges[0])
+    } else {
+        ranges.len()
+    }
+}
+
+/// The type that an expression has in the text, in a method with `this` of a class, or with none. No
+/// operand is judged: it means nothing where a rule of types is broken. A foreach variable counts as a
+/// point of one dimension: no class, no field, no element and no form of a node hangs on that.
+#[cycle(text)]
+#[tactic(auto, using(crate::proofs::ProgramBridges::program_bridges))]
+pub fn type_in_text<'p>(program: &'p Parts, this: Option<u32>, e: &'p Expr) -> Seen<'p>
+    ensures { seen result ≡ type_in_text (program_of program.now) this (expression_of e.now) }
+{
+    match e {
+        Expr::Int(_, _) => Seen::Int,
+        Expr::Long(_, _) => Seen::Long,
+        Expr::Truth(_, _) => Seen::Bool,
+        Expr::Null(_) => Seen::Null,
+        Expr::This(_) => or_void(this_type(this)),
+        Expr::Variable(_, variable) => used_type(variable),
+        Expr::OwnField(_, field) => or_void(own_field_type(program, this, *field)),
+        Expr::Call { method: number, .. } => result_of(method(program, *number)),
+        Expr::OwnCall { method: number, .. } => result_of(method(program, *number)),
+        Expr::ThisProc(_) => Seen::Int,
+        Expr::NumProcs(_) => Seen::Int,
+        Expr::Point(_, parts) => Seen::Pt(how_many(parts)),
+        Expr::Rect(_, ranges) => Seen::Rc(dims_of_ranges(program, this, ranges)),
+        Expr::Unary { operand, .. } => type_in_text(program, this, operand),
+        Expr::Binary {
+            operator,
+            left,
+            right,
+            ..
+        } => {
+            let first = type_in_text(program, this, left);
+            let second = type_in_text(program, this, right);
+            operated(*operator, first, second)
+        }
+        Expr::Cast { to, .. } => Seen::of(&to.ty, false),
+        Expr::Select { receiver, name, .. } => {
+            field_seen(program, *name, type_in_text(program, this, receiver))
+        }
+        Expr::Member { receiver, name, .. } => {
+            member_seen(program, *name, type_in_text(program, this, receiver))
+        }
+        Expr::Index { receiver, .. } => element_seen(type_in_text(program, this, receiver)),
+    }
+}
+
+// ---- calls
+
+/// The declared method that an expression calls, if it is such a call: `x.f(..)` is one where `x` is an
+/// object.
+#[tactic(auto, using(crate::proofs::ProgramBridges::program_bridges))]
+pub fn called_method<'p>(program: &'p Parts, this: Option<u32>, e: &'p Expr) -> Option<&'p Method>
+    ensures { option_map (λ m. numbered_method_of m.now) result ≡ called_method (program_of program.now) this (expression_of e.now) }
+{
+    match e {
+        Expr::Call { method: number, .. } => method(program, *number),
+        Expr::OwnCall { method: number, .. } => method(program, *number),
+        Expr::Member { receiver, name, .. } => {
+            method_behind(program, type_in_text(program, this, receiver), *name)
+        }
+        _ => None,
+    }
+}
+
+/// The member of the language that a name means behind an expression; behind an object it means none.
+pub fn member_called(
+    program: &Parts,
+    this: Option<u32>,
+    receiver: &Expr,
+    name: u32,
+) -> Option<BuiltIn>
+    ensures { option_map built_in_of result ≡ member_called (program_of program.now) this (expression_of receiver.now) name }
+{
+    if type_in_text(program, this, receiver).is_object() {
+        None
+    } else {
+        built_in(program, name)
+    }
+}
