@@ -1,5 +1,5 @@
 -- The numbers of dimensions of literals, by the lengths of the lists in the code.
-use Rattle.std.proofs.Common.{◌≡◌, ℕ, suc, List, [], ◌∷◌, map, length, get_or, Option, refl, sym, ap, arith}
+use Rattle.std.proofs.Common.{◌≡◌, ℕ, List, [], ◌∷◌, map, length, get_or, Option, refl, sym, arith}
 use Rattle.ti_lang.specs.declared.program.exprs.Expr.{Expr}
 use Rattle.ti_lang.specs.declared.program.exprs.Range.{Range}
 use Rattle.ti_lang.specs.Program.Expressions.{numbered_exps, numbered_ranges}

@@ -1,5 +1,6 @@
 //! The types of expressions as the text tells them, borrowed from the program, so that reading one takes no memory.
 
+mod copied;
 mod lookup;
 mod members;
 mod seen;

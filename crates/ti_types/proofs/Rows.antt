@@ -1,5 +1,5 @@
 -- The forms whose parts stand in lists of the code.
-use Rattle.std.proofs.Common.{◌≡◌, ℕ, suc, false, List, [], ◌∷◌, map, length, slice_get, Option, None, is_some, option_map, option_and_then, refl, ap, ◌∙◌, subst, arith}
+use Rattle.std.proofs.Common.{◌≡◌, ℕ, suc, false, List, [], ◌∷◌, map, length, slice_get, Option, None, is_some, option_map, option_and_then, refl, ap, ◌∙◌, subst}
 use Rattle.ti_base.specs.declared.place.Place.{Place}
 use Rattle.ti_lang.specs.declared.program.exprs.Expr.{Expr}
 use Rattle.ti_lang.specs.declared.program.exprs.Range.{Range}
@@ -10,7 +10,7 @@ use Rattle.ti_lang.specs.Program.Classes.{NumberedMethod, NumberedProgram}
 use Rattle.ti_lang.specs.Program.Scope.{ScopeContents}
 use Rattle.ti_lang.specs.Program.Views.{expression_of, bound_of}
 use Rattle.ti_lang.specs.Typing.Kinds.{where_true}
-use Rattle.ti_lang.specs.Typing.Expressions.{plain, operand, both, range_count}
+use Rattle.ti_lang.specs.Typing.Expressions.{plain, operand, both}
 use Rattle.ti_rules.specs.First.{sooner, first_of}
 use Rattle.ti_rules.specs.Broken.Refused.{judged, both_judged, mistaken}
 use Rattle.ti_rules.specs.Broken.Misplaced.{misplaced_at}

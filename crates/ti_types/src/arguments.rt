@@ -15,9 +15,9 @@ ghost use Rattle.ti_types.specs.Mirrors.Arguments.{told_of, told, more, wanted_m
 
 use crate::judged::Judged;
 use crate::refused::misfit;
-use ti_lang::typing::Seen;
 use ti_base::Place;
 use ti_lang::program::{Expr, Method, Param, Params, ResultType};
+use ti_lang::typing::Seen;
 use ti_rules::{Refusal, Rule, refused_if, sooner};
 
 /// What the rules ask of the types of arguments.

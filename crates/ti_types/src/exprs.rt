@@ -98,7 +98,11 @@ impl<'a> Judge<'a> {
             Expr::Null(_) => Judged::sound(Some(Seen::Null)),
             Expr::This(_) => Judged::sound(this_type(scope.this)),
             Expr::Variable(_, v) => Judged::sound(variable_type(scope, v)),
-            Expr::OwnField(_, field) => Judged::sound(own_field_type(self.program, scope.this, *field)),
+            Expr::OwnField(_, field) => Judged::sound(own_field_type(
+                self.program,
+                scope.this,
+                *field,
+            )),
             Expr::ThisProc(_) => Judged::sound(Some(Seen::Int)),
             Expr::NumProcs(_) => Judged::sound(Some(Seen::Int)),
             Expr::Call {

@@ -17,10 +17,10 @@ ghost use Rattle.ti_types.specs.Mirrors.Judged.{typed_of};
 use crate::fitting::casts;
 use crate::operators::{binary_type, unary_type};
 use crate::refused::mistaken;
-use ti_lang::typing::Seen;
 use crate::words::type_words;
 use ti_base::Place;
 use ti_lang::program::{Ty, TypeUse};
+use ti_lang::typing::Seen;
 use ti_rules::{Refusal, Rule, refused_if, sooner};
 use ti_syntax::tree::{BinaryOperator, UnaryOperator};
 

@@ -14,8 +14,8 @@ ghost use Rattle.ti_types.specs.Mirrors.Nodes.{EndTypes, ends, ends_of, ends_bef
 use crate::arguments::is_int;
 use crate::judged::Judged;
 use crate::refused::mistaken;
-use ti_lang::typing::Seen;
 use ti_base::Place;
+use ti_lang::typing::Seen;
 use ti_rules::{Refusal, sooner};
 
 /// What the rules ask of the types of bounds and steps.

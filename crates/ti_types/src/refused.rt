@@ -5,8 +5,8 @@ ghost use Rattle.ti_rules.specs.Broken.Refused.{mistaken, misfit};
 ghost use Rattle.ti_lang.specs.Typing.Seen.{seen};
 
 use crate::fitting::fits;
-use ti_lang::typing::Seen;
 use ti_base::Place;
+use ti_lang::typing::Seen;
 use ti_rules::{Refusal, Rule};
 
 /// Operands that aren't taken, though perhaps with other numbers of dimensions.

@@ -1,102 +1,13 @@
 // The type of an expression of a program.
-ghost use Rattle.std.specs.Prelude.{◌≡◌, IfOk, if◌then◌else◌};
 ghost use Rattle.ti_lang.specs.Program.Scope.{contents_of};
-ghost use Rattle.ti_lang.specs.Program.Views.{program_of, expression_of, value_type_of};
-ghost use Rattle.ti_lang.specs.Typing.Alike.{one_dim};
+ghost use Rattle.ti_lang.specs.Program.Views.{program_of, expression_of};
 ghost use Rattle.ti_rules.specs.Known.{IsKnown};
 ghost use Rattle.ti_types.specs.Answer.{GivesType};
-ghost use Rattle.ti_lang.specs.Typing.Seen.{seen, erased};
 
 use crate::error::TypeErr;
 use crate::exprs::Judge;
-use ti_lang::typing::Seen;
 use std::alloc::Global;
-use ti_base::Memory;
 use ti_lang::program::{Expr, Program, Scope, Ty};
-
-/// A number of dimensions; one that no type can hold is a want of memory.
-fn small(dim: usize) -> Result<u8, Memory>
-    ensures { IfOk result (λ n. n ≡ dim) }
-{
-    match u8::try_from(dim) {
-        Ok(dim) => Ok(dim),
-        Err(_) => Err(Memory),
-    }
-}
-
-/// The same type with 1 for each number of dimensions.
-fn copy_ones(alloc: Global, ty: &Ty) -> Result<Ty, Memory>
-    ensures { IfOk result (λ t. value_type_of t ≡ one_dim (value_type_of ty.now)) }
-{
-    match ty {
-        Ty::Pt(_) => Ok(Ty::Pt(1)),
-        Ty::Rc(_) => Ok(Ty::Rc(1)),
-        Ty::Dm(_) => Ok(Ty::Dm(1)),
-        Ty::Grid {
-            elem,
-            dim: _,
-            local,
-        } => {
-            let elem = Box::new(alloc, copy_ones(alloc, elem)?)?;
-            Ok(Ty::Grid {
-                elem,
-                dim: 1,
-                local: *local,
-            })
-        }
-        Ty::Int => Ok(Ty::Int),
-        Ty::Long => Ok(Ty::Long),
-        Ty::Bool => Ok(Ty::Bool),
-        Ty::Region => Ok(Ty::Region),
-        Ty::Class { class, local } => Ok(Ty::Class {
-            class: *class,
-            local: *local,
-        }),
-        Ty::Null => Ok(Ty::Null),
-        Ty::Void => Ok(Ty::Void),
-    }
-}
-
-/// The type of elements, in room of its own.
-fn copy_elements(alloc: Global, ty: &Ty, any_dim: bool) -> Result<Ty, Memory>
-    ensures { IfOk result (λ t. value_type_of t ≡ erased any_dim (value_type_of ty.now)) }
-{
-    if any_dim {
-        copy_ones(alloc, ty)
-    } else {
-        ty.copy(alloc)
-    }
-}
-
-impl<'p> Seen<'p> {
-    /// The type, in room of its own.
-    fn copy(self, alloc: Global) -> Result<Ty, Memory>
-        ensures { IfOk result (λ t. value_type_of t ≡ seen self.entry) }
-    {
-        match self {
-            Seen::Int => Ok(Ty::Int),
-            Seen::Long => Ok(Ty::Long),
-            Seen::Bool => Ok(Ty::Bool),
-            Seen::Pt(dim) => Ok(Ty::Pt(small(dim)?)),
-            Seen::Rc(dim) => Ok(Ty::Rc(small(dim)?)),
-            Seen::Dm(dim) => Ok(Ty::Dm(small(dim)?)),
-            Seen::Region => Ok(Ty::Region),
-            Seen::Class { class, local } => Ok(Ty::Class { class, local }),
-            Seen::Grid {
-                elem,
-                any_dim,
-                dim,
-                local,
-            } => {
-                let dim = small(dim)?;
-                let elem = Box::new(alloc, copy_elements(alloc, elem, any_dim)?)?;
-                Ok(Ty::Grid { elem, dim, local })
-            }
-            Seen::Null => Ok(Ty::Null),
-            Seen::Void => Ok(Ty::Void),
-        }
-    }
-}
 
 /// The type of an expression in a scope of a program.
 ///

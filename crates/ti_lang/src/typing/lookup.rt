@@ -13,9 +13,7 @@ ghost use Rattle.ti_lang.specs.Typing.Called.{method_behind};
 ghost use Rattle.ti_lang.specs.Typing.Seen.{seen};
 
 use super::seen::Seen;
-use crate::program::{
-    Class, Declared, Field, InScope, Method, Parts, Scope, Variable, has_static,
-};
+use crate::program::{Class, Declared, Field, InScope, Method, Parts, Scope, Variable, has_static};
 
 /// The variable of a number.
 fn scoped<'a>(scope: &'a Scope, number: u32) -> Option<&'a InScope>
