@@ -1,8 +1,9 @@
 -- From what was done and how the line on err was written to the clauses of the command.
-use Rattle.std.proofs.Common.{◌≡◌, ◌⊎◌, inl, inr, ℕ, ◌≤◌, true, List, [], ◌∷◌, ◌++◌, refl, sym, ◌∙◌, ap, subst, arith, append-nil}
+use Rattle.std.proofs.Common.{◌≡◌, ◌⊎◌, inl, inr, ℕ, ◌≤◌, true, List, [], ◌∷◌, ◌++◌, length, refl, sym, ◌∙◌, ap, subst, arith, append-nil}
 use Rattle.ti_base.specs.declared.entry.Entry.{Entry}
-use Rattle.ti_io.specs.Source.{IsMissing}
-use Rattle.ti_io.specs.Sink.{GrewBy, GrewByFront}
+use Rattle.ti_io.specs.Source.{IsMissing, SameFiles}
+use Rattle.ti_io.specs.Sink.{SinkState, GrewBy, GrewByFront}
+use Rattle.ti_lang.specs.Listed.{ListedProgram}
 use Rattle.ti_lang.specs.Runs.{AllEnded, IsRun, IsSolo, IsComplete as IsCompleteRun, none, has_fault}
 use Rattle.ti_lang.specs.Lines.{lines_of}
 use Rattle.ti_lang.specs.Alignment.{IsAligned}
@@ -14,18 +15,20 @@ use Rattle.ti_top.specs.declared.reading.ReadEnd.{ReadEnd}
 use Rattle.ti_top.specs.declared.reading.ReadEnd.TheVariants as Read
 use Rattle.ti_top.specs.declared.ending.Ending.{Ending}
 use Rattle.ti_top.specs.declared.ending.Ending.TheVariants.{Done, Refused, Faulted, NoCommand, CantRead, CantWrite, NoMemory}
-use Rattle.ti_top.specs.Job.{Job}
+use Rattle.ti_words.specs.declared.job.Job.{Job}
+use Rattle.ti_words.specs.declared.job.Mode.{Mode}
+use Rattle.ti_words.specs.declared.job.Mode.TheVariants.{Run, Check}
+use Rattle.ti_top.specs.Modes.{RefusalIn, AcceptedIn}
 use Rattle.ti_top.specs.Mirrors.Reading.{ReadsWhole}
 use Rattle.ti_top.specs.Ending.{status_of}
 use Rattle.ti_top.specs.Mirrors.Ended.{Ended}
 use Rattle.ti_top.specs.Run.{fault_entry, EndsWithFault}
-use Rattle.ti_top.specs.Mirrors.Compiling.{IsRefusedAs}
 use Rattle.ti_top.specs.Run.{run_of}
-use Rattle.ti_top.specs.Mirrors.Work.{RanNothing, Ran, FileSays, WorkSays, work_of, DidNothing}
-use Rattle.ti_top.specs.Call.{Call, IsCommand, IsNoCommand, file_in, SourceRose, ErrRose, Yields}
+use Rattle.ti_top.specs.Mirrors.Work.{RanNothing, Ran, WasRefused, WasChecked, TextSays, FileSays, WorkSays, work_of, DidNothing}
+use Rattle.ti_top.specs.Call.{most_read, Call, IsCommand, IsNoCommand, file_in, file_of, SourceRose, ErrRose, Yields}
 use Rattle.ti_top.specs.Clauses.{IsReadWhole, ReadsText, RefusesExactly, KeepsRun, WritesLines, WritesOutput, IsAlignedRun, EndsRun, NothingFailed, IsComplete, MeetsBesideErr, Says, before_err, Meets}
 use Rattle.ti_top.proofs.StatusFrom.{StatusFrom, status_from, not_five, is_done, is_faulted, is_no_memory}
-use Rattle.ti_top.proofs.WordsAnswered.{not_both, no_command_answers, command_answers}
+use Rattle.ti_top.proofs.WordsAnswered.{known, not_both, no_command_answers, command_answers}
 use Rattle.ti_top.proofs.TextRead.{EndsAs, read_whole, reads_text}
 use Rattle.ti_top.proofs.ErrWritten.{writes_err}
 use Rattle.ti_top.proofs.Turns.{unbegun}
@@ -58,15 +61,17 @@ output_nothing c x =
       no_command = λ _. same;
       not_whole = λ _ _ _. same;
       no_program = λ _. same;
+      checked = λ _ _ _. same;
       failed = λ _ _ program has. (lines_of program c.history, ([], append-nil (lines_of program c.history)), grew program has);
       no_memory = λ _ _. grew;
     }
 
 run_nothing : (job : Job) (c : Call) → RanNothing c.out c.out_after c.history → KeepsRun job c
 run_nothing job c x = record {
-  run = λ program _. subst (IsRun (run_of program job.procs)) (sym x.no_entry) none;
-  solo = λ program _. subst (IsSolo (run_of program job.procs)) (sym x.no_entry) none;
+  run = λ program _. subst (IsRun (run_of program job)) (sym x.no_entry) none;
+  solo = λ program _. subst (IsSolo (run_of program job)) (sym x.no_entry) none;
   none = λ _. x.no_entry;
+  checked = λ _. x.no_entry;
 }
 
 -- where nothing was run, no fault is last
@@ -121,15 +126,15 @@ not_no_command Read.CantRead before fits is = let x = sym fits ∙ is in cc
 not_no_command Read.NoMemory before fits is = let x = sym fits ∙ is in cc
 
 -- the text is refused
-clauses_refused : (refusal : Refusal) (job : Job) (c : Call) → StatusFrom (Refused refusal) c → IsReadWhole job c → IsRefusedAs c.text refusal → RanNothing c.out c.out_after c.history → Clauses job c
-clauses_refused refusal job c from whole refused x = record {
+clauses_refused : (refusal : Refusal) (job : Job) (c : Call) → StatusFrom (Refused refusal) c → IsReadWhole job c → WasRefused job.mode c.text c.out c.out_after c.history refusal → Clauses job c
+clauses_refused refusal job c from whole refused = let x = refused.nothing in record {
   refusal = record {
     only_where = λ _. (refusal, record { whole = whole; refused = refused.is });
     everywhere = λ _ _. yields (Refused refusal) c from (λ same. inl same) (λ y. inr (inl y));
     no_history = λ _ _. x.no_entry;
     no_output = λ _ _. ap (λ s. s.taken) x.unwritten;
-    program_at_zero = λ is. absurd (never (Refused refusal) c 0 from (λ e. omega arith) (λ e. omega arith) is);
-    program_at_two = λ is. absurd (never (Refused refusal) c 2 from (λ e. omega arith) (λ e. omega arith) is);
+    accepted_at_zero = λ is. absurd (never (Refused refusal) c 0 from (λ e. omega arith) (λ e. omega arith) is);
+    accepted_at_two = λ is. absurd (never (Refused refusal) c 2 from (λ e. omega arith) (λ e. omega arith) is);
   };
   run = run_nothing job c x;
   output = output_nothing c x;
@@ -138,7 +143,7 @@ clauses_refused refusal job c from whole refused x = record {
     faulted = λ _ program has. absurd (refused.no_program program has);
   };
   end = record {
-    ended = λ _ program has. absurd (refused.no_program program has);
+    ended = λ _ _ program has. absurd (refused.no_program program has);
     fault_only_where = λ is. absurd (never (Refused refusal) c 2 from (λ e. omega arith) (λ e. omega arith) is);
     fault_everywhere = λ fault e. absurd (no_fault_of_nothing c fault x e);
     unfinished = λ _ program has. absurd (refused.no_program program has);
@@ -147,7 +152,7 @@ clauses_refused refusal job c from whole refused x = record {
     refused = λ _ _. calm (Refused refusal) c from nothing.err;
     accepted = λ unrefused. absurd (unrefused refusal refused.is);
     program = λ unrefused. absurd (unrefused refusal refused.is);
-    ended = λ program has. absurd (refused.no_program program has);
+    ended = λ _ program has. absurd (refused.no_program program has);
   };
 }
 
@@ -161,8 +166,8 @@ clauses_cant_read job c from cause x = record {
         (λ y. inr (inl y));
     no_history = λ _ _. x.no_entry;
     no_output = λ _ _. ap (λ s. s.taken) x.unwritten;
-    program_at_zero = λ is. absurd (never CantRead c 0 from (λ e. omega arith) (λ e. omega arith) is);
-    program_at_two = λ is. absurd (never CantRead c 2 from (λ e. omega arith) (λ e. omega arith) is);
+    accepted_at_zero = λ is. absurd (never CantRead c 0 from (λ e. omega arith) (λ e. omega arith) is);
+    accepted_at_two = λ is. absurd (never CantRead c 2 from (λ e. omega arith) (λ e. omega arith) is);
   };
   run = run_nothing job c x;
   output = output_nothing c x;
@@ -187,8 +192,8 @@ clauses_no_memory job c some from x = record {
     everywhere = λ _ _. yields NoMemory c from (λ same. inr (inl (inl same))) (λ y. inr (inl y));
     no_history = λ _ _. x.no_entry;
     no_output = λ _ _. ap (λ s. s.taken) x.unwritten;
-    program_at_zero = λ is. absurd (never NoMemory c 0 from (λ e. omega arith) (λ e. omega arith) is);
-    program_at_two = λ is. absurd (never NoMemory c 2 from (λ e. omega arith) (λ e. omega arith) is);
+    accepted_at_zero = λ is. absurd (never NoMemory c 0 from (λ e. omega arith) (λ e. omega arith) is);
+    accepted_at_two = λ is. absurd (never NoMemory c 2 from (λ e. omega arith) (λ e. omega arith) is);
   };
   run = run_nothing job c x;
   output = output_nothing c x;
@@ -200,7 +205,7 @@ clauses_no_memory job c some from x = record {
     ended = λ is. absurd (never NoMemory c 0 from (λ e. omega arith) (λ e. omega arith) is);
     fault_only_where = λ is. absurd (never NoMemory c 2 from (λ e. omega arith) (λ e. omega arith) is);
     fault_everywhere = λ fault e. absurd (no_fault_of_nothing c fault x e);
-    unfinished = λ _ program _ complete. unbegun (run_of program job.procs) some (subst (λ h. IsCompleteRun (run_of program job.procs) h) x.no_entry complete);
+    unfinished = λ _ program _ complete. unbegun (run_of program job) some (subst (λ h. IsCompleteRun (run_of program job) h) x.no_entry complete);
   };
   completeness = λ nothing. absurd (nothing.memory (calm NoMemory c from nothing.err));
 }
@@ -224,25 +229,30 @@ faulted_not_cut before fault x y = let e = sym x ∙ y in cc
 memory_not_cut : (before : Ending) → before ≡ NoMemory → before ≡ CantWrite → ⊥
 memory_not_cut before x y = let e = sym x ∙ y in cc
 
+run_or_check : (mode : Mode) → mode ≡ Run → mode ≡ Check → ⊥
+run_or_check mode run check = let e = sym run ∙ check in cc
+
 -- the program was run
-clauses_ran : (before : Ending) (job : Job) (c : Call) → IsCommand c job → StatusFrom before c → IsReadWhole job c → Ran job.procs c.text c.out c.out_after c.history before → Clauses job c
-clauses_ran before job c command from whole x =
+clauses_ran : (before : Ending) (job : Job) (c : Call) → job.mode ≡ Run → IsCommand c job → StatusFrom before c → IsReadWhole job c → Ran job c.text c.out c.out_after c.history before → Clauses job c
+clauses_ran before job c mode command from whole x =
     let says = x.says in
     let only = x.compiled.only in
-    let unrefused = x.compiled.unrefused in
+    let unrefused : (refusal : Refusal) → RefusalIn job.mode c.text refusal → ⊥ = λ refusal is. x.compiled.unrefused refusal (subst (λ m. RefusalIn m c.text refusal) mode is) in
+    let accepted : AcceptedIn job.mode c.text = subst (λ m. AcceptedIn m c.text) (sym mode) (x.program, x.compiled.has) in
     record {
       refusal = record {
         only_where = λ is. absurd (other 1 (λ e. omega arith) (λ e. omega arith) (λ e. omega arith) (λ e. omega arith) is);
         everywhere = λ refusal refused. absurd (unrefused refusal refused.refused);
         no_history = λ refusal refused. absurd (unrefused refusal refused);
         no_output = λ refusal refused. absurd (unrefused refusal refused);
-        program_at_zero = λ _. (x.program, x.compiled.has);
-        program_at_two = λ _. (x.program, x.compiled.has);
+        accepted_at_zero = λ _. accepted;
+        accepted_at_two = λ _. accepted;
       };
       run = record {
-        run = λ p has. subst (λ q. IsRun (run_of q job.procs) c.history) (sym (only p has)) says.run;
-        solo = λ p has. subst (λ q. IsSolo (run_of q job.procs) c.history) (sym (only p has)) says.solo;
+        run = λ p has. subst (λ q. IsRun (run_of q job) c.history) (sym (only p has)) says.run;
+        solo = λ p has. subst (λ q. IsSolo (run_of q job) c.history) (sym (only p has)) says.solo;
         none = λ h. absurd (h x.program x.compiled.has);
+        checked = λ check. absurd (run_or_check job.mode mode check);
       };
       output = record {
         done = λ is told. lines (done_not_cut before (done_at before c from is)) told;
@@ -253,6 +263,7 @@ clauses_ran before job c command from whole x =
         no_command = λ none. absurd (not_both c job command none);
         not_whole = λ j some cut. absurd (cut (subst (λ j. IsReadWhole j c) (job_same c job j command some) whole));
         no_program = λ h. absurd (h x.program x.compiled.has);
+        checked = λ j some check. absurd (run_or_check job.mode mode (subst (λ k. k.mode ≡ Check) (job_same c j job some command) check));
         failed = λ _ told p has. subst (λ q. GrewByFront c.out c.out_after (lines_of q c.history)) (sym (only p has)) (says.part told);
         no_memory = λ is told. lines (memory_not_cut before (no_memory_at before c from is)) told;
       };
@@ -261,8 +272,8 @@ clauses_ran before job c command from whole x =
         faulted = λ _ p has. subst IsAligned (sym (only p has)) says.aligned;
       };
       end = record {
-        ended = λ is p has. subst (λ q. AllEnded (run_of q job.procs) c.history) (sym (only p has)) (says.ended (done_at before c from is));
-        fault_only_where = λ is. let f = faulted_at before c from is in (f.0, says.faulted f.0 f.1);
+        ended = λ is _ p has. subst (λ q. AllEnded (run_of q job) c.history) (sym (only p has)) (says.ended (done_at before c from is));
+        fault_only_where = λ is. let f = faulted_at before c from is in (mode, (f.0, says.faulted f.0 f.1));
         fault_everywhere = λ fault last. by_end
             (λ e. absurd (true_false (sym (fault_is_there c.history fault last) ∙ says.no_fault e)))
             (λ f. yields before c from (λ same. inl (same ∙ ap status_of f.1)) (λ y. elim y [
@@ -276,7 +287,7 @@ clauses_ran before job c command from whole x =
               | inl six ↦ absurd (memory_not_cut before (no_memory_at before c from six) e)
               | inr five ↦ inr five
             ]));
-        unfinished = λ is p has complete. says.unfinished (no_memory_at before c from is) (subst (λ q. IsCompleteRun (run_of q job.procs) c.history) (only p has) complete);
+        unfinished = λ is p has complete. says.unfinished (no_memory_at before c from is) (subst (λ q. IsCompleteRun (run_of q job) c.history) (only p has) complete);
       };
       completeness = λ nothing.
           let is = calm before c from nothing.err in
@@ -284,14 +295,14 @@ clauses_ran before job c command from whole x =
           (λ e. record {
             refused = λ refusal refused. absurd (unrefused refusal refused);
             accepted = λ _. inl (is ∙ ap status_of e);
-            program = λ _. (x.program, x.compiled.has);
-            ended = λ p has. inr (subst (λ q. AllEnded (run_of q job.procs) c.history) (sym (only p has)) (says.ended e));
+            program = λ _. accepted;
+            ended = λ _ p has. inr (subst (λ q. AllEnded (run_of q job) c.history) (sym (only p has)) (says.ended e));
           })
           (λ f. record {
             refused = λ refusal refused. absurd (unrefused refusal refused);
             accepted = λ _. inr (is ∙ ap status_of f.1);
-            program = λ _. (x.program, x.compiled.has);
-            ended = λ p has. inl (fault_is_there c.history f.0 (says.faulted f.0 f.1));
+            program = λ _. accepted;
+            ended = λ _ p has. inl (fault_is_there c.history f.0 (says.faulted f.0 f.1));
           })
           (λ e. absurd (nothing.memory (is ∙ ap status_of e)))
           (λ e. absurd (nothing.out (says.rose e)));
@@ -315,22 +326,64 @@ clauses_ran before job c command from whole x =
     lines : (before ≡ CantWrite → ⊥) → c.out.tells ≡ true → WritesLines c
     lines whole told p has = subst (λ q. GrewBy c.out c.out_after (lines_of q c.history)) (sym (x.compiled.only p has)) (x.says.lines whole told)
 
+-- the text was checked, and has a program
+clauses_checked : (job : Job) (c : Call) → ((p : ListedProgram) → IsAligned p) → job.mode ≡ Check → 1 ≤ job.procs → StatusFrom Done c → IsReadWhole job c → WasChecked c.text c.out c.out_after c.history → Clauses job c
+clauses_checked job c aligned mode some from whole x =
+    let accepted : AcceptedIn job.mode c.text = subst (λ m. AcceptedIn m c.text) (sym mode) x.accepted in
+    let unrefused : (refusal : Refusal) → RefusalIn job.mode c.text refusal → ⊥ = λ refusal is. x.unrefused refusal (subst (λ m. RefusalIn m c.text refusal) mode is) in
+    record {
+      refusal = record {
+        only_where = λ is. absurd (never Done c 1 from (λ e. omega arith) (λ e. omega arith) is);
+        everywhere = λ refusal refused. absurd (unrefused refusal refused.refused);
+        no_history = λ _ _. x.nothing.no_entry;
+        no_output = λ _ _. ap (λ s. s.taken) x.nothing.unwritten;
+        accepted_at_zero = λ _. accepted;
+        accepted_at_two = λ _. accepted;
+      };
+      run = run_nothing job c x.nothing;
+      output = output_nothing c x.nothing;
+      alignment = record { done = λ _ p _. aligned p; faulted = λ _ p _. aligned p };
+      end = record {
+        ended = λ _ run. absurd (run_or_check job.mode run mode);
+        fault_only_where = λ is. absurd (never Done c 2 from (λ e. omega arith) (λ e. omega arith) is);
+        fault_everywhere = λ fault e. absurd (no_fault_of_nothing c fault x.nothing e);
+        unfinished = λ is. absurd (never Done c 6 from (λ e. omega arith) (λ e. omega arith) is);
+      };
+      completeness = λ nothing. record {
+        refused = λ refusal is. absurd (unrefused refusal is);
+        accepted = λ _. inl (calm Done c from nothing.err);
+        program = λ _. accepted;
+        ended = λ run. absurd (run_or_check job.mode run mode);
+      };
+    }
+
 -- ---- a call whose words are a command
 
 -- what was done in it
 record Commanded (before : Ending) (job : Job) (c : Call) : Type 0 where
   pub command : IsCommand c job
   pub some : 1 ≤ job.procs
+  pub aligned : (p : ListedProgram) → IsAligned p
   pub work : WorkSays job before (work_of c)
 
+ends_text : (mode : Mode) (before : Ending) (job : Job) (c : Call) → TextSays mode before job c.text c.out c.out_after c.history → EndsAs Read.Whole before
+ends_text Run Done job c says = (λ e. let x = e in cc, λ e. let x = e in cc)
+ends_text Run (Refused refusal) job c says = (λ e. let x = e in cc, λ e. let x = e in cc)
+ends_text Run (Faulted fault) job c says = (λ e. let x = e in cc, λ e. let x = e in cc)
+ends_text Run NoCommand job c says = absurd says
+ends_text Run CantRead job c says = absurd says
+ends_text Run CantWrite job c says = (λ e. let x = e in cc, λ e. let x = e in cc)
+ends_text Run NoMemory job c says = (λ e. let x = e in cc, λ e. let x = e in cc)
+ends_text Check Done job c says = (λ e. let x = e in cc, λ e. let x = e in cc)
+ends_text Check (Refused refusal) job c says = (λ e. let x = e in cc, λ e. let x = e in cc)
+ends_text Check (Faulted fault) job c says = absurd says
+ends_text Check NoCommand job c says = absurd says
+ends_text Check CantRead job c says = absurd says
+ends_text Check CantWrite job c says = absurd says
+ends_text Check NoMemory job c says = (λ e. let x = e in cc, λ e. let x = e in cc)
+
 ends_as : (end : ReadEnd) (before : Ending) (job : Job) (c : Call) → FileSays end before job (work_of c) → EndsAs end before
-ends_as Read.Whole Done job c says = (λ e. let x = e in cc, λ e. let x = e in cc)
-ends_as Read.Whole (Refused refusal) job c says = (λ e. let x = e in cc, λ e. let x = e in cc)
-ends_as Read.Whole (Faulted fault) job c says = (λ e. let x = e in cc, λ e. let x = e in cc)
-ends_as Read.Whole NoCommand job c says = absurd says
-ends_as Read.Whole CantRead job c says = absurd says
-ends_as Read.Whole CantWrite job c says = (λ e. let x = e in cc, λ e. let x = e in cc)
-ends_as Read.Whole NoMemory job c says = (λ e. let x = e in cc, λ e. let x = e in cc)
+ends_as Read.Whole before job c says = ends_text job.mode before job c says
 ends_as Read.CantRead before job c says = says.0
 ends_as Read.NoMemory before job c says = says.0
 
@@ -339,28 +392,42 @@ pub record Told (before : Ending) (job : Job) (c : Call) : Type 0 where
   pub clauses : Clauses job c
   pub says : Says c before
 
-told_text : (before : Ending) (job : Job) (c : Call) → IsCommand c job → 1 ≤ job.procs → IsReadWhole job c → FileSays Read.Whole before job (work_of c) → StatusFrom before c → Told before job c
-told_text Done job c command some whole says from = record { clauses = clauses_ran Done job c command from whole says; says = (job, command, (says.program, says.compiled.has)) }
-told_text (Refused refusal) job c command some whole says from = record { clauses = clauses_refused refusal job c from whole says.0 says.1; says = (job, command, record { whole = whole; refused = says.0.is }) }
-told_text (Faulted fault) job c command some whole says from = record { clauses = clauses_ran (Faulted fault) job c command from whole says; says = (job, command, says.says.faulted fault refl) }
-told_text NoCommand job c command some whole says from = absurd says
-told_text CantRead job c command some whole says from = absurd says
-told_text CantWrite job c command some whole says from = record { clauses = clauses_ran CantWrite job c command from whole says; says = (job, command, says.says.rose refl) }
-told_text NoMemory job c command some whole says from =
-    record { clauses = elim says [ inl nothing ↦ clauses_no_memory job c some from nothing | inr ran ↦ clauses_ran NoMemory job c command from whole ran ]; says = (job, command) }
+told_refused : (refusal : Refusal) (job : Job) (c : Call) → IsCommand c job → StatusFrom (Refused refusal) c → IsReadWhole job c → WasRefused job.mode c.text c.out c.out_after c.history refusal → Told (Refused refusal) job c
+told_refused refusal job c command from whole refused = record { clauses = clauses_refused refusal job c from whole refused; says = (job, command, record { whole = whole; refused = refused.is }) }
 
-told_file : (before : Ending) (end : ReadEnd) (job : Job) (c : Call) → IsCommand c job → 1 ≤ job.procs → ReadsWhole job.file c.source c.source_after c.text end → FileSays end before job (work_of c) → StatusFrom before c → Told before job c
-told_file before Read.Whole job c command some read says from = told_text before job c command some (read_whole before job c read (ends_as Read.Whole before job c says) from) says from
-told_file before Read.CantRead job c command some read says from =
+told_text : (mode : Mode) (before : Ending) (job : Job) (c : Call) → job.mode ≡ mode → IsCommand c job → 1 ≤ job.procs → ((p : ListedProgram) → IsAligned p) → IsReadWhole job c
+    → TextSays mode before job c.text c.out c.out_after c.history → StatusFrom before c → Told before job c
+told_text Run Done job c mode command some aligned whole says from =
+    record { clauses = clauses_ran Done job c mode command from whole says; says = (job, command, subst (λ m. AcceptedIn m c.text) (sym mode) (says.program, says.compiled.has)) }
+told_text Run (Refused refusal) job c mode command some aligned whole says from = told_refused refusal job c command from whole (subst (λ m. WasRefused m c.text c.out c.out_after c.history refusal) (sym mode) says)
+told_text Run (Faulted fault) job c mode command some aligned whole says from = record { clauses = clauses_ran (Faulted fault) job c mode command from whole says; says = (job, command, says.says.faulted fault refl) }
+told_text Run NoCommand job c mode command some aligned whole says from = absurd says
+told_text Run CantRead job c mode command some aligned whole says from = absurd says
+told_text Run CantWrite job c mode command some aligned whole says from = record { clauses = clauses_ran CantWrite job c mode command from whole says; says = (job, command, says.says.rose refl) }
+told_text Run NoMemory job c mode command some aligned whole says from =
+    record { clauses = elim says [ inl nothing ↦ clauses_no_memory job c some from nothing | inr ran ↦ clauses_ran NoMemory job c mode command from whole ran ]; says = tt }
+told_text Check Done job c mode command some aligned whole says from =
+    record { clauses = clauses_checked job c aligned mode some from whole says; says = (job, command, subst (λ m. AcceptedIn m c.text) (sym mode) says.accepted) }
+told_text Check (Refused refusal) job c mode command some aligned whole says from = told_refused refusal job c command from whole (subst (λ m. WasRefused m c.text c.out c.out_after c.history refusal) (sym mode) says)
+told_text Check (Faulted fault) job c mode command some aligned whole says from = absurd says
+told_text Check NoCommand job c mode command some aligned whole says from = absurd says
+told_text Check CantRead job c mode command some aligned whole says from = absurd says
+told_text Check CantWrite job c mode command some aligned whole says from = absurd says
+told_text Check NoMemory job c mode command some aligned whole says from = record { clauses = clauses_no_memory job c some from says; says = tt }
+
+told_file : (before : Ending) (end : ReadEnd) (job : Job) (c : Call) → IsCommand c job → 1 ≤ job.procs → ((p : ListedProgram) → IsAligned p) → ReadsWhole job.file c.source c.source_after c.text end → FileSays end before job (work_of c) → StatusFrom before c → Told before job c
+told_file before Read.Whole job c command some aligned read says from =
+    told_text job.mode before job c refl command some aligned (read_whole before job c read (ends_as Read.Whole before job c says) from) says from
+told_file before Read.CantRead job c command some aligned read says from =
     let cause = read.cause refl in
     let from' = subst (λ b. StatusFrom b c) says.0 from in
     subst (λ b. Told b job c) (sym says.0) (record { clauses = clauses_cant_read job c from' cause says.1; says = (job, command, cause) })
-told_file before Read.NoMemory job c command some read says from =
+told_file before Read.NoMemory job c command some aligned read says from =
     let from' = subst (λ b. StatusFrom b c) says.0 from in
-    subst (λ b. Told b job c) (sym says.0) (record { clauses = clauses_no_memory job c some from' says.1; says = (job, command) })
+    subst (λ b. Told b job c) (sym says.0) (record { clauses = clauses_no_memory job c some from' says.1; says = tt })
 
 told : (before : Ending) (job : Job) (c : Call) → Commanded before job c → StatusFrom before c → Told before job c
-told before job c x from = told_file before x.work.end job c x.command x.some x.work.read x.work.says from
+told before job c x from = told_file before x.work.end job c x.command x.some x.aligned x.work.read x.work.says from
 
 beside_command : (before : Ending) (job : Job) (c : Call) → Commanded before job c → StatusFrom before c → MeetsBesideErr c
 beside_command before job c x from =
@@ -377,15 +444,73 @@ beside_command before job c x from =
     }
 
 -- what was done, and how the line on err was written, meet the clauses
-pub meets_command : (before : Ending) (job : Job) (c : Call) → IsCommand c job → 1 ≤ job.procs → WorkSays job before (work_of c) → Ended before job.file c.err c.err_after c.status → Meets c
-meets_command before job c command some work written =
+pub meets_command : (before : Ending) (job : Job) (c : Call) → IsCommand c job → 1 ≤ job.procs → ((p : ListedProgram) → IsAligned p) → WorkSays job before (work_of c) → Ended before job.file c.err c.err_after c.status → Meets c
+meets_command before job c command some aligned work written =
     let ended = subst (λ file. Ended before file c.err c.err_after c.status) (sym (ap file_in command)) written in
-    let x : Commanded before job c = record { command = command; some = some; work = work } in
+    let x : Commanded before job c = record { command = command; some = some; aligned = aligned; work = work } in
     let from = status_from before c ended in
     let all = told before job c x from in
-    let earlier : Commanded before job (before_err c before) = record { command = command; some = some; work = work } in
+    let earlier : Commanded before job (before_err c before) = record { command = command; some = some; aligned = aligned; work = work } in
     record {
       beside_err = beside_command before job c x from;
       err = writes_err c before all.says (beside_command before job (before_err c before) earlier (inl refl)) ended;
       completeness = λ other some. subst (λ j. NothingFailed j c → IsComplete j c) (job_same c job other command some) all.clauses.completeness;
+    }
+
+-- ---- a call whose words weren't read, for want of memory
+
+reads_nothing : (job : Job) (c : Call) → DidNothing c → StatusFrom NoMemory c → ReadsText job c
+reads_nothing job c x from = record {
+  front = λ bytes _. (bytes, ap (λ t. t ++ bytes) x.text);
+  bound = subst (λ t. length t ≤ most_read) (sym x.text) (omega arith);
+  whole_at_zero = λ is. absurd (never NoMemory c 0 from (λ e. omega arith) (λ e. omega arith) is);
+  whole_at_one = λ is. absurd (never NoMemory c 1 from (λ e. omega arith) (λ e. omega arith) is);
+  whole_at_two = λ is. absurd (never NoMemory c 2 from (λ e. omega arith) (λ e. omega arith) is);
+  nothing_of_missing = λ _. x.text;
+  four_only_where = λ is. absurd (never NoMemory c 4 from (λ e. omega arith) (λ e. omega arith) is);
+  missing = λ _. yields NoMemory c from (λ same. inr (inl same)) inr;
+  same_files = subst (λ s. SameFiles c.source s) (sym x.source) (record { same = refl; tells = refl });
+}
+
+-- it answers as one whose words are a command, and as one whose words are none
+beside_unread : (c : Call) → ((job : Job) → IsCommand c job → 1 ≤ job.procs) → DidNothing c → StatusFrom NoMemory c → MeetsBesideErr c
+beside_unread c some x from = record {
+  words = record {
+    known = known NoMemory c from;
+    only_where = λ is. absurd (never NoMemory c 3 from (λ e. omega arith) (λ e. omega arith) is);
+    everywhere = λ _. yields NoMemory c from (λ same. inr (inl same)) inr;
+    source_as_before = λ _. x.source;
+    no_text = λ _. x.text;
+    no_history = λ _. x.nothing.no_entry;
+  };
+  text = λ job _. reads_nothing job c x from;
+  refusal = λ job command. (clauses_no_memory job c (some job command) from x.nothing).refusal;
+  run = λ job command. (clauses_no_memory job c (some job command) from x.nothing).run;
+  output = output_nothing c x.nothing;
+  alignment = record {
+    done = λ is. absurd (never NoMemory c 0 from (λ e. omega arith) (λ e. omega arith) is);
+    faulted = λ is. absurd (never NoMemory c 2 from (λ e. omega arith) (λ e. omega arith) is);
+  };
+  end = λ job command. (clauses_no_memory job c (some job command) from x.nothing).end;
+}
+
+-- the line of want of memory names no file
+any_file : (file : List ℕ) (old new : SinkState) (status : ℕ) → Ended NoMemory [] old new status → Ended NoMemory file old new status
+any_file file old new status told = record {
+  never_falls = told.never_falls;
+  tells = told.tells;
+  written = elim told.written [
+    | inl whole ↦ inl (record { same = whole.same; nothing = whole.nothing; grew = whole.grew })
+    | inr cut ↦ inr (record { five = cut.five; not_done = cut.not_done; rose = cut.rose; grew = cut.grew })
+  ];
+}
+
+pub meets_unread : (c : Call) → ((job : Job) → IsCommand c job → 1 ≤ job.procs) → DidNothing c → Ended NoMemory [] c.err c.err_after c.status → Meets c
+meets_unread c some x told =
+    let ended = any_file (file_of c) c.err c.err_after c.status told in
+    let from = status_from NoMemory c ended in
+    record {
+      beside_err = beside_unread c some x from;
+      err = writes_err c NoMemory tt (beside_unread (before_err c NoMemory) some (record { source = x.source; text = x.text; nothing = x.nothing }) (inl refl)) ended;
+      completeness = λ job command. λ nothing. absurd (nothing.memory (calm NoMemory c from nothing.err));
     }

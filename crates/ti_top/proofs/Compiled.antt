@@ -1,5 +1,5 @@
--- From the answers of the lexer, the parser, the resolver of names and the judge to that of the compiler.
-use Rattle.std.proofs.Common.{◌≡◌, ℕ, List, Ok, Err, sym, ap, subst}
+-- From the answers of the phases to that of the compiler.
+use Rattle.std.proofs.Common.{◌≡◌, inl, inr, ℕ, List, Ok, Err, sym, ap, subst}
 use Rattle.std.specs.declared.vec.Vec.{Vec}
 use Rattle.std.specs.declared.alloc.Global.{Global}
 use Rattle.ti_base.specs.declared.place.Place.{Place}
@@ -8,12 +8,16 @@ use Rattle.ti_syntax.specs.declared.tree.text.Tree.{Tree}
 use Rattle.ti_lang.specs.declared.listing.Listing.{Listing}
 use Rattle.ti_lang.specs.Listed.{ListedProgram, listed_program}
 use Rattle.ti_lang.specs.Program.Classes.{NumberedProgram}
+use Rattle.ti_lang.specs.Program.Views.{program_of}
 use Rattle.ti_lang.specs.Numbering.{Numbers}
 use Rattle.ti_lang.specs.Listings.{IsListing}
 use Rattle.ti_syntax.specs.Trees.Text.{tree_of}
 use Rattle.ti_rules.specs.declared.rule.Rule.{Rule}
 use Rattle.ti_rules.specs.declared.refusal.Refusal.{Refusal}
-use Rattle.ti_rules.specs.RefusalOf.{IsTreeRefusal, of_names as of_names_first, IsAccepted, HasTokens, HasTree, rule_of_misfit, IsRefusal, of_bytes, of_tokens, of_tree, HasProgram, HasListing}
+use Rattle.ti_rules.specs.BrokenNames.{BreaksNames}
+use Rattle.ti_rules.specs.Refusals.{IsFirstRefusal}
+use Rattle.ti_rules.specs.ProgramRefusals.{IsProgramRefusal, BreaksNothing}
+use Rattle.ti_rules.specs.RefusalOf.{HasNone, of_names as of_names_first, of_program, HasTokens, HasTree, rule_of_misfit, IsRefusal, of_bytes, of_tokens, of_tree, HasProgram, HasUnbuilt, HasListing, IsUnbuiltRefusal, of_forms}
 use Rattle.ti_lex.specs.declared.error.LexErr.{LexErr}
 use Rattle.ti_lex.specs.declared.error.LexErr.TheVariants as lexer
 use Rattle.ti_lex.specs.Answer.{Lexes}
@@ -23,56 +27,89 @@ use Rattle.ti_parse.specs.Answer.{Parsed}
 use Rattle.ti_names.specs.declared.error.NameErr.{NameErr}
 use Rattle.ti_names.specs.declared.error.NameErr.TheVariants as names
 use Rattle.ti_names.specs.Answer.{Resolves}
+use Rattle.ti_check.specs.declared.error.CheckErr.{CheckErr}
+use Rattle.ti_check.specs.declared.error.CheckErr.TheVariants as checker
+use Rattle.ti_words.specs.declared.job.Mode.TheVariants.{Run}
+use Rattle.ti_top.specs.declared.compiling.Compiled.{Compiled}
 use Rattle.ti_top.specs.declared.compiling.CompileErr.TheVariants.{Refused}
-use Rattle.ti_top.specs.Mirrors.Compiling.{IsRefusedAs, Compiles, of_lexer, of_parser, of_names}
+use Rattle.ti_top.specs.Modes.{RefusalIn}
+use Rattle.ti_top.specs.Mirrors.Compiling.{IsCompiled, HasNoListing, Compiles, HasListingAlone, Lists, of_lexer, of_parser, of_names, of_check}
 
 -- that a text has one answer
 pub record OneAnswer : Type 0 where
   pub one_listing : (text : List ℕ) (p q : ListedProgram) → HasListing text p → HasListing text q → p ≡ q
   pub never_both : (text : List ℕ) (program : NumberedProgram) (refusal : Refusal) → HasProgram text program → IsRefusal text refusal → ⊥
+  pub never_unbuilt : (text : List ℕ) (listing : ListedProgram) (refusal : Refusal) → HasListing text listing → IsUnbuiltRefusal text refusal → ⊥
+
+-- ---- programs
 
 -- a refused text has no listing
-refused_as : OneAnswer → (text : List ℕ) (refusal : Refusal) → IsRefusal text refusal → IsRefusedAs text refusal
-refused_as known text refusal is = record { is = is; no_program = λ listing has. known.never_both text has.program refusal has.has_program is }
+no_listing : OneAnswer → (text : List ℕ) (refusal : Refusal) → IsRefusal text refusal → HasNoListing text
+no_listing known text refusal is = λ listing has. known.never_both text has.program refusal has.has_program is
+
+refused : OneAnswer → (text : List ℕ) (refusal : Refusal) → IsRefusal text refusal → Compiles text (Err (Refused refusal))
+refused known text refusal is = (is, no_listing known text refusal is)
 
 has_tokens : (text : List ℕ) (tokens : Vec Token Global) → Lexes text (Ok tokens) → HasTokens text tokens.items
 has_tokens text tokens lexed = record { short = lexed.0; tokenized = lexed.1 }
 
-has_tree : (text : List ℕ) (tokens : Vec Token Global) (tree : Tree) → Lexes text (Ok tokens) → Parsed tokens.items (Ok tree) → HasTree text (tree_of tree)
+pub has_tree : (text : List ℕ) (tokens : Vec Token Global) (tree : Tree) → Lexes text (Ok tokens) → Parsed tokens.items (Ok tree) → HasTree text (tree_of tree)
 has_tree text tokens tree lexed parsed = record { tokens = tokens.items; has_tokens = has_tokens text tokens lexed; spells = parsed.0; shallow = parsed.1 }
 
 -- the text has no tokens
 pub not_lexed : OneAnswer → (text : List ℕ) (e : LexErr) → Lexes text (Err e) → Compiles text (Err (of_lexer e))
-not_lexed known text (lexer.Refused refusal) lexed = refused_as known text refusal (of_bytes lexed)
+not_lexed known text (lexer.Refused refusal) lexed = refused known text refusal (of_bytes lexed)
 not_lexed known text lexer.Memory lexed = tt
 
 -- its tokens have no tree
 pub not_parsed : OneAnswer → (text : List ℕ) (tokens : Vec Token Global) (e : ParseErr) → Lexes text (Ok tokens) → Parsed tokens.items (Err e) → Compiles text (Err (of_parser e))
 not_parsed known text tokens (parser.Refused refusal) lexed (misfit, rule, is) =
     let same : rule_of_misfit misfit ≡ refusal.rule = sym rule in
-    refused_as known text refusal (subst (IsRefusal text) (ap (λ r. refusal_at r refusal.place) same) (of_tokens (has_tokens text tokens lexed) is))
+    refused known text refusal (subst (IsRefusal text) (ap (λ r. refusal_at r refusal.place) same) (of_tokens (has_tokens text tokens lexed) is))
   where
     refusal_at : Rule → Place → Refusal
     refusal_at rule place = record { rule = rule; place = place }
 not_parsed known text tokens parser.Memory lexed parsed = tt
 
 -- its tree breaks a rule of names
-pub not_named : OneAnswer → (text : List ℕ) (tokens : Vec Token Global) (tree : Tree) (e : NameErr) → Lexes text (Ok tokens) → Parsed tokens.items (Ok tree) → Resolves (tree_of tree) (Err e) → Compiles text (Err (of_names e))
-not_named known text tokens tree (names.Refused refusal) lexed parsed first = refused_as known text refusal (of_tree (has_tree text tokens tree lexed parsed) (of_names_first first))
-not_named known text tokens tree names.Memory lexed parsed first = tt
+pub not_named : OneAnswer → (text : List ℕ) (tree : Tree) (e : NameErr) → HasTree text (tree_of tree) → Resolves (tree_of tree) (Err e) → Compiles text (Err (of_names e))
+not_named known text tree (names.Refused refusal) has first = refused known text refusal (of_tree has (of_names_first first))
+not_named known text tree names.Memory has first = tt
 
--- its tree breaks another rule
-pub judged : OneAnswer → (text : List ℕ) (tokens : Vec Token Global) (tree : Tree) (refusal : Refusal) → Lexes text (Ok tokens) → Parsed tokens.items (Ok tree) → IsTreeRefusal (tree_of tree) refusal → Compiles text (Err (Refused refusal))
-judged known text tokens tree refusal lexed parsed broken = refused_as known text refusal (of_tree (has_tree text tokens tree lexed parsed) broken)
+-- what the checker says of a program
+abbrev pub Refuses : NumberedProgram → CheckErr → Type 0
+Refuses program (checker.Refused refusal) = IsProgramRefusal program refusal
+Refuses program checker.Memory = Unit {0}
 
--- its tree breaks none
-pub compiled : OneAnswer → (text : List ℕ) (tokens : Vec Token Global) (tree : Tree) (program : NumberedProgram) (listing : Listing) → Lexes text (Ok tokens) → Parsed tokens.items (Ok tree) → IsAccepted (tree_of tree)
-    → Numbers (tree_of tree) program → IsListing program (listed_program listing) → Compiles text (Ok listing)
-compiled known text tokens tree program listing lexed parsed accepted numbers is =
-    let has_program : HasProgram text program = record { tree = tree_of tree; has_tree = has_tree text tokens tree lexed parsed; accepted = accepted; numbers = numbers } in
-    let has : HasListing text (listed_program listing) = record { program = program; has_program = has_program; is_listing = is } in
+-- its program breaks a rule
+pub not_checked : OneAnswer → (text : List ℕ) (tree : Tree) (program : NumberedProgram) (e : CheckErr) → HasTree text (tree_of tree) → HasNone (BreaksNames (tree_of tree)) → Numbers (tree_of tree) program → Refuses program e → Compiles text (Err (of_check e))
+not_checked known text tree program (checker.Refused refusal) has named numbers is = refused known text refusal (of_tree has (of_program named numbers is))
+not_checked known text tree program checker.Memory has named numbers is = tt
+
+pub has_program : (text : List ℕ) (compiled : Compiled) → IsCompiled text compiled → HasProgram text (program_of compiled.checked.program.parts)
+has_program text compiled is = record { tree = tree_of compiled.tree; has_tree = is.has_tree; named = is.named; numbers = is.numbers; unbroken = is.unbroken }
+
+-- it breaks none
+pub compiled : OneAnswer → (text : List ℕ) (c : Compiled) → IsCompiled text c → Compiles text (Ok c)
+compiled known text c is = (is, λ refusal other. known.never_both text (program_of c.checked.program.parts) refusal (has_program text c is) other)
+
+-- ---- listings
+
+-- a form of the program isn't built
+pub not_listed : OneAnswer → (text : List ℕ) (c : Compiled) (refusal : Refusal) → IsCompiled text c → IsFirstRefusal (HasUnbuilt (tree_of c.tree)) refusal → Lists text (Err (Refused refusal))
+not_listed known text c refusal is first =
+    let unbuilt : IsUnbuiltRefusal text refusal = of_forms (has_program text c is) first in
+    (unbuilt, λ listing has. known.never_unbuilt text listing refusal has unbuilt)
+
+-- all are
+pub listed : OneAnswer → (text : List ℕ) (c : Compiled) (listing : Listing) → IsCompiled text c → HasNone (HasUnbuilt (tree_of c.tree)) → IsListing (program_of c.checked.program.parts) (listed_program listing) → Lists text (Ok listing)
+listed known text c listing is built lists =
+    let has : HasListing text (listed_program listing) = record { program = program_of c.checked.program.parts; has_program = has_program text c is; built = built; is_listing = lists } in
     record {
       has = has;
       only = λ other others. known.one_listing text other (listed_program listing) others has;
-      unrefused = λ refusal refused. known.never_both text program refusal has_program refused;
+      unrefused = λ refusal other. elim other [
+        | inl rule ↦ known.never_both text (program_of c.checked.program.parts) refusal (has_program text c is) rule
+        | inr form ↦ known.never_unbuilt text (listed_program listing) refusal has form
+      ];
     }

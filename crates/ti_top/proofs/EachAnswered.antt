@@ -1,4 +1,4 @@
--- Each text has a program or a refusal, since each phase has an answer.
+-- Each text has a program or a refusal, since each phase has an answer; and each program a listing or a refusal.
 use Rattle.std.proofs.Common.{◌≡◌, ◌⊎◌, inl, inr, ℕ, ◌≤◌, List, length, Option, None, Some, refl}
 use Rattle.ti_base.specs.declared.place.Place.{Place}
 use Rattle.ti_base.specs.Places.{end_place}
@@ -14,36 +14,37 @@ use Rattle.ti_rules.specs.declared.refusal.Refusal.{Refusal}
 use Rattle.ti_rules.specs.Refusals.{IsFirstRefusal}
 use Rattle.ti_rules.specs.LexicalRefusals.{most_bytes, IsLexicalRefusal}
 use Rattle.ti_rules.specs.Unbuilt.{unbuilt_places}
+use Rattle.ti_rules.specs.ProgramRefusals.{IsProgramRefusal, BreaksNothing, program_refusal}
 use Rattle.ti_rules.specs.BrokenNames.{BreaksNames}
-use Rattle.ti_rules.specs.RefusalOf.{HasNone, of_names, HasTokens, HasTree, IsRefusal, of_bytes, of_tokens, of_tree, HasListing}
+use Rattle.ti_rules.specs.RefusalOf.{HasNone, of_names, of_program, HasTokens, HasTree, IsRefusal, of_bytes, of_tokens, of_tree, HasProgram, HasListing, IsUnbuiltRefusal, of_forms}
 use Rattle.ti_parse_expr.specs.Answers.{EndsAtEnd}
 use Rattle.ti_top.specs.Mirrors.Unbuilt.{first_unbuilt}
 use Rattle.ti_top.proofs.BuiltPrograms.{has_listing}
-use Rattle.ti_top.proofs.TreeRefusals.{all_built, refused_tree, accepted_tree}
+use Rattle.ti_top.proofs.TreeRefusals.{first_form, all_built, none_unbuilt}
 
--- that the phases of bytes, tokens and names have answers
+-- that the phases have answers
 pub record Answered : Type 0 where
   pub reading : (text : List ℕ) → ((tokens : List Token) × (length text ≤ most_bytes) × IsTokenized text tokens) ⊎ ((refusal : Refusal) × IsLexicalRefusal text refusal)
   pub fitting : (list : List Token) → EndsAtEnd list → (a : Option (Misfit × Place)) × IsGrammarRefusal list a
   pub numbering : (tree : TextTree) → ((program : NumberedProgram) × Numbers tree program) ⊎ ((refusal : Refusal) × IsFirstRefusal (BreaksNames tree) refusal)
   pub unbroken : (tree : TextTree) (program : NumberedProgram) → Numbers tree program → HasNone (BreaksNames tree)
+  pub found : (p : NumberedProgram) (r : Refusal) → program_refusal p ≡ Some r → IsProgramRefusal p r
+  pub fine : (p : NumberedProgram) → program_refusal p ≡ None → BreaksNothing p
 
 abbrev Answer : List ℕ → Type 0
-Answer text = ((listing : ListedProgram) × HasListing text listing) ⊎ ((refusal : Refusal) × IsRefusal text refusal)
+Answer text = ((program : NumberedProgram) × HasProgram text program) ⊎ ((refusal : Refusal) × IsRefusal text refusal)
 
 -- a tree that has a program
-numbered_answer : (text : List ℕ) (tree : TextTree) (program : NumberedProgram) → HasTree text tree → HasNone (BreaksNames tree) → Numbers tree program → (o : Option Refusal)
-    → first_unbuilt (unbuilt_places tree) ≡ o → Answer text
-numbered_answer text tree program has none numbers None found =
-    let built = all_built tree found in
-    let listing = has_listing tree program built numbers in
-    inl (listing.0, record { program = program; has_program = record { tree = tree; has_tree = has; accepted = accepted_tree tree none built; numbers = numbers }; is_listing = listing.1 })
-numbered_answer text tree program has none numbers (Some refusal) found = inr (refusal, of_tree has (refused_tree tree refusal none found))
+numbered_answer : Answered → (text : List ℕ) (tree : TextTree) (program : NumberedProgram) → HasTree text tree → HasNone (BreaksNames tree) → Numbers tree program → (o : Option Refusal)
+    → program_refusal program ≡ o → Answer text
+numbered_answer known text tree program has none numbers None found =
+    inl (program, record { tree = tree; has_tree = has; named = none; numbers = numbers; unbroken = known.fine program found })
+numbered_answer known text tree program has none numbers (Some refusal) found = inr (refusal, of_tree has (of_program none numbers (known.found program refusal found)))
 
 tree_answer : Answered → (text : List ℕ) (tree : TextTree) → HasTree text tree → Answer text
 tree_answer known text tree has =
     elim (known.numbering tree) [
-      | inl found ↦ numbered_answer text tree found.0 has (known.unbroken tree found.0 found.1) found.1 (first_unbuilt (unbuilt_places tree)) refl
+      | inl found ↦ numbered_answer known text tree found.0 has (known.unbroken tree found.0 found.1) found.1 (program_refusal found.0) refl
       | inr broken ↦ inr (broken.0, of_tree has (of_names broken.1))
     ]
 
@@ -61,3 +62,16 @@ some_answer known text =
           tokens_answer known text read.0 has fitting.0 fitting.1
       | inr flaw ↦ inr (flaw.0, of_bytes flaw.1)
     ]
+
+-- ---- listings
+
+-- a program whose forms are built has a listing
+pub built_answer : (text : List ℕ) (program : NumberedProgram) → HasProgram text program → ((listing : ListedProgram) × HasListing text listing) ⊎ ((refusal : Refusal) × IsUnbuiltRefusal text refusal)
+built_answer text program has = by (first_unbuilt (unbuilt_places has.tree)) refl
+  where
+    by : (o : Option Refusal) → first_unbuilt (unbuilt_places has.tree) ≡ o → ((listing : ListedProgram) × HasListing text listing) ⊎ ((refusal : Refusal) × IsUnbuiltRefusal text refusal)
+    by None found =
+        let built = all_built has.tree found in
+        let listing = has_listing has.tree program built has.numbers in
+        inl (listing.0, record { program = program; has_program = has; built = none_unbuilt has.tree built; is_listing = listing.1 })
+    by (Some refusal) found = inr (refusal, of_forms has (first_form has.tree refusal found))

@@ -5,7 +5,7 @@ use Rattle.ti_top.specs.declared.reading.ReadEnd.{ReadEnd}
 use Rattle.ti_top.specs.declared.reading.ReadEnd.TheVariants as Read
 use Rattle.ti_top.specs.declared.ending.Ending.{Ending}
 use Rattle.ti_top.specs.declared.ending.Ending.TheVariants.{NoCommand, CantRead, NoMemory}
-use Rattle.ti_top.specs.Job.{Job}
+use Rattle.ti_words.specs.declared.job.Job.{Job}
 use Rattle.ti_top.specs.Mirrors.Reading.{ReadsWhole}
 use Rattle.ti_top.specs.Ending.{status_of}
 use Rattle.ti_top.specs.Call.{Call, Yields}

@@ -1,4 +1,4 @@
--- The refusal of a tree that breaks no rule of names, from what counts of its forms that aren't built.
+-- The refusal of the forms of a tree that aren't built, from what counts of them.
 use Rattle.std.proofs.Common.{◌≡◌, List, [], ◌∷◌, ℕ, Option, None, Some, map, Contains, arith, refl, sym, ap, ◌∙◌, subst}
 use Rattle.std.specs.List.{slice_get}
 use Rattle.std.specs.Option.{option_map}
@@ -8,8 +8,7 @@ use Rattle.ti_syntax.specs.Trees.Classes.{TextTree}
 use Rattle.ti_rules.specs.declared.refusal.Refusal.{Refusal}
 use Rattle.ti_rules.specs.Refusals.{refusal_lt, IsFirstRefusal}
 use Rattle.ti_rules.specs.Unbuilt.{unbuilt_places}
-use Rattle.ti_rules.specs.BrokenNames.{BreaksNames}
-use Rattle.ti_rules.specs.RefusalOf.{BreaksTypes, unbuilt, HasNone, IsTreeRefusal, of_types, IsAccepted}
+use Rattle.ti_rules.specs.RefusalOf.{HasNone, HasUnbuilt, unbuilt}
 use Rattle.ti_rules.proofs.First.{first_is, first_none}
 use Rattle.ti_top.specs.Mirrors.Unbuilt.{unbuilt_at, first_unbuilt}
 
@@ -29,17 +28,17 @@ place_in ps r c = by (slice_get ps c.0) refl (sym (slice_get-map unbuilt_at ps c
     by None e h = absurd (let x = h in cc)
     by (Some p) e h = (p, contains ps c.0 p e, cc)
 
-types_first : (tree : TextTree) (r : Refusal) → IsFirstRefusal (Contains (map unbuilt_at (unbuilt_places tree))) r → IsFirstRefusal (BreaksTypes tree) r
-types_first tree r first =
+-- the refusal that counts is the first of them
+pub first_form : (tree : TextTree) (r : Refusal) → first_unbuilt (unbuilt_places tree) ≡ Some r → IsFirstRefusal (HasUnbuilt tree) r
+first_form tree r e =
     let p = place_in (unbuilt_places tree) r first.is_broken in
-    record { is_broken = subst (BreaksTypes tree) p.2 (unbuilt p.1); none_before = before }
+    record { is_broken = subst (HasUnbuilt tree) p.2 (unbuilt p.1); none_before = before }
   where
-    before : (other : Refusal) → BreaksTypes tree other → refusal_lt other r → ⊥
-    before other (unbuilt {place = q} c) lt = first.none_before (unbuilt_at q) (refused_in (unbuilt_places tree) q c) lt
+    first : IsFirstRefusal (Contains (map unbuilt_at (unbuilt_places tree))) r
+    first = first_is (map unbuilt_at (unbuilt_places tree)) r e
 
--- the refusal that counts is that of the tree
-pub refused_tree : (tree : TextTree) (r : Refusal) → HasNone (BreaksNames tree) → first_unbuilt (unbuilt_places tree) ≡ Some r → IsTreeRefusal tree r
-refused_tree tree r none e = of_types none (types_first tree r (first_is (map unbuilt_at (unbuilt_places tree)) r e))
+    before : (other : Refusal) → HasUnbuilt tree other → refusal_lt other r → ⊥
+    before other (unbuilt {place = q} c) lt = (first_is (map unbuilt_at (unbuilt_places tree)) r e).none_before (unbuilt_at q) (refused_in (unbuilt_places tree) q c) lt
 
 -- where none counts there is none
 pub all_built : (tree : TextTree) → first_unbuilt (unbuilt_places tree) ≡ None → unbuilt_places tree ≡ []
@@ -49,8 +48,5 @@ all_built tree e = no_place (unbuilt_places tree) (first_none (map unbuilt_at (u
     no_place [] e = refl
     no_place (p ∷ ps) e = absurd (let x = e in cc)
 
-pub accepted_tree : (tree : TextTree) → HasNone (BreaksNames tree) → unbuilt_places tree ≡ [] → IsAccepted tree
-accepted_tree tree none built = record { names = none; types = types }
-  where
-    types : HasNone (BreaksTypes tree)
-    types other (unbuilt {place = q} c) = let in_none = subst (λ ps. Contains ps q) built c in absurd (omega (arith, in_none.1))
+pub none_unbuilt : (tree : TextTree) → unbuilt_places tree ≡ [] → HasNone (HasUnbuilt tree)
+none_unbuilt tree built other (unbuilt {place = q} c) = let in_none = subst (λ ps. Contains ps q) built c in absurd (omega (arith, in_none.1))

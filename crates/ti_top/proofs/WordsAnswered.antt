@@ -2,13 +2,13 @@
 use Rattle.std.proofs.Common.{◌≡◌, inl, inr, [], arith}
 use Rattle.ti_top.specs.declared.ending.Ending.{Ending}
 use Rattle.ti_top.specs.declared.ending.Ending.TheVariants.{NoCommand, CantWrite}
-use Rattle.ti_top.specs.Job.{Job}
+use Rattle.ti_words.specs.declared.job.Job.{Job}
 use Rattle.ti_top.specs.Ending.{status_of}
 use Rattle.ti_top.specs.Call.{Call, IsCommand, IsNoCommand}
 use Rattle.ti_top.specs.Clauses.{AnswersWords}
 use Rattle.ti_top.proofs.StatusFrom.{StatusFrom, not_five, is_no_command}
 
-known : (before : Ending) (c : Call) → StatusFrom before c → (ending : Ending) × (c.status ≡ status_of ending)
+pub known : (before : Ending) (c : Call) → StatusFrom before c → (ending : Ending) × (c.status ≡ status_of ending)
 known before c (inl same) = (before, same)
 known before c (inr cut) = (CantWrite, cut.0)
 

@@ -6,7 +6,8 @@ use Rattle.ti_io.specs.Faults.{Rose}
 use Rattle.ti_io.specs.Source.{SourceState}
 use Rattle.ti_io.specs.Sink.{SinkState}
 use Rattle.ti_rules.specs.LexicalRefusals.{most_bytes}
-use Rattle.ti_top.specs.Job.{Job, job_of}
+use Rattle.ti_words.specs.declared.job.Job.{Job}
+use Rattle.ti_words.specs.Job.{job_of}
 
 -- at most so many bytes of a file are read: one more than a text may have
 abbrev pub most_read : ℕ

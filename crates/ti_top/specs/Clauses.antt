@@ -7,11 +7,13 @@ use Rattle.ti_lang.specs.Runs.{AllEnded, IsRun, IsSolo, IsComplete as IsComplete
 use Rattle.ti_lang.specs.Lines.{lines_of}
 use Rattle.ti_lang.specs.Alignment.{IsAligned}
 use Rattle.ti_rules.specs.declared.refusal.Refusal.{Refusal}
-use Rattle.ti_rules.specs.RefusalOf.{HasNone, HasListing, IsRefusal}
+use Rattle.ti_rules.specs.RefusalOf.{HasNone, HasListing}
+use Rattle.ti_words.specs.declared.job.Job.{Job}
+use Rattle.ti_words.specs.declared.job.Mode.TheVariants.{Run, Check}
 use Rattle.ti_top.specs.declared.fault.Fault.{Fault}
 use Rattle.ti_top.specs.declared.ending.Ending.{Ending}
 use Rattle.ti_top.specs.declared.ending.Ending.TheVariants.{Done, Refused, Faulted, NoCommand, CantRead, CantWrite, NoMemory}
-use Rattle.ti_top.specs.Job.{Job}
+use Rattle.ti_top.specs.Modes.{RefusalIn, AcceptedIn}
 use Rattle.ti_top.specs.Run.{EndsWithFault}
 use Rattle.ti_top.specs.Ending.{status_of, err_line}
 use Rattle.ti_top.specs.Run.{run_of}
@@ -50,25 +52,26 @@ pub record ReadsText (job : Job) (c : Call) : Type 0 where
 -- The text was read whole, and this is its refusal.
 pub record IsRefused (job : Job) (c : Call) (refusal : Refusal) : Type 0 where
   pub whole : IsReadWhole job c
-  pub refused : IsRefusal c.text refusal
+  pub refused : RefusalIn job.mode c.text refusal
 
 -- The refusal: status 1 says that the text is refused, and then nothing was run and nothing written; with status 0 or 2 it
--- has a program.
+-- is accepted.
 pub record RefusesExactly (job : Job) (c : Call) : Type 0 where
   pub only_where : c.status ≡ 1 → (refusal : Refusal) × IsRefused job c refusal
   -- it may run out of memory, and a sink or a reading may fail
   pub everywhere : (refusal : Refusal) → IsRefused job c refusal → (c.status ≡ 1) ⊎ (Yields c ⊎ ((c.status ≡ 4) × SourceRose c))
-  pub no_history : (refusal : Refusal) → IsRefusal c.text refusal → c.history ≡ []
-  pub no_output : (refusal : Refusal) → IsRefusal c.text refusal → c.out_after.taken ≡ c.out.taken
-  pub program_at_zero : c.status ≡ 0 → (program : ListedProgram) × HasListing c.text program
-  pub program_at_two : c.status ≡ 2 → (program : ListedProgram) × HasListing c.text program
+  pub no_history : (refusal : Refusal) → RefusalIn job.mode c.text refusal → c.history ≡ []
+  pub no_output : (refusal : Refusal) → RefusalIn job.mode c.text refusal → c.out_after.taken ≡ c.out.taken
+  pub accepted_at_zero : c.status ≡ 0 → AcceptedIn job.mode c.text
+  pub accepted_at_two : c.status ≡ 2 → AcceptedIn job.mode c.text
 
 -- The run: whatever the status, the history is a run of the text's program, and as far as it goes the one in which each
--- entry is that of the lowest-numbered process that can take one; where there is no program it is empty.
+-- entry is that of the lowest-numbered process that can take one; where there is no program, or the text is only checked, it is empty.
 pub record KeepsRun (job : Job) (c : Call) : Type 0 where
-  pub run : (program : ListedProgram) → HasListing c.text program → IsRun (run_of program job.procs) c.history
-  pub solo : (program : ListedProgram) → HasListing c.text program → IsSolo (run_of program job.procs) c.history
+  pub run : (program : ListedProgram) → HasListing c.text program → IsRun (run_of program job) c.history
+  pub solo : (program : ListedProgram) → HasListing c.text program → IsSolo (run_of program job) c.history
   pub none : ((program : ListedProgram) → HasListing c.text program → ⊥) → c.history ≡ []
+  pub checked : job.mode ≡ Check → c.history ≡ []
 
 -- out grew by the lines of the history
 abbrev pub WritesLines : Call → Type 0
@@ -84,6 +87,7 @@ pub record WritesOutput (c : Call) : Type 0 where
   pub no_command : IsNoCommand c → c.out_after.taken ≡ c.out.taken
   pub not_whole : (job : Job) → IsCommand c job → (IsReadWhole job c → ⊥) → c.out_after.taken ≡ c.out.taken
   pub no_program : ((program : ListedProgram) → HasListing c.text program → ⊥) → c.out_after.taken ≡ c.out.taken
+  pub checked : (job : Job) → IsCommand c job → job.mode ≡ Check → c.out_after.taken ≡ c.out.taken
   -- a write to out or err failed
   pub failed : c.status ≡ 5 → c.out.tells ≡ true → (program : ListedProgram) → HasListing c.text program
       → GrewByFront c.out c.out_after (lines_of program c.history)
@@ -95,14 +99,14 @@ pub record IsAlignedRun (c : Call) : Type 0 where
   pub done : c.status ≡ 0 → (program : ListedProgram) → HasListing c.text program → IsAligned program
   pub faulted : c.status ≡ 2 → (program : ListedProgram) → HasListing c.text program → IsAligned program
 
--- The end: with status 0 all processes have their end; status 2 says that the last entry is a fault, which the line on err
--- names with its process and place; status 6 never comes with a complete history.
+-- The end: where the text is run, all processes have their end with status 0, and status 2 says that the last entry is a fault,
+-- which the line on err names with its process and place; status 6 never comes with a complete history.
 pub record EndsRun (job : Job) (c : Call) : Type 0 where
-  pub ended : c.status ≡ 0 → (program : ListedProgram) → HasListing c.text program → AllEnded (run_of program job.procs) c.history
-  pub fault_only_where : c.status ≡ 2 → (fault : Fault) × EndsWithFault c.history fault
+  pub ended : c.status ≡ 0 → job.mode ≡ Run → (program : ListedProgram) → HasListing c.text program → AllEnded (run_of program job) c.history
+  pub fault_only_where : c.status ≡ 2 → (job.mode ≡ Run) × ((fault : Fault) × EndsWithFault c.history fault)
   -- a sink may fail
   pub fault_everywhere : (fault : Fault) → EndsWithFault c.history fault → (c.status ≡ 2) ⊎ ((c.status ≡ 5) × SinkRose c)
-  pub unfinished : c.status ≡ 6 → (program : ListedProgram) → HasListing c.text program → IsCompleteRun (run_of program job.procs) c.history → ⊥
+  pub unfinished : c.status ≡ 6 → (program : ListedProgram) → HasListing c.text program → IsCompleteRun (run_of program job) c.history → ⊥
 
 -- What the command promises of everything but its line on err.
 pub record MeetsBesideErr (c : Call) : Type 0 where
@@ -116,13 +120,13 @@ pub record MeetsBesideErr (c : Call) : Type 0 where
 
 -- What an ending says of the call.
 abbrev pub Says : Call → Ending → Type 0
-Says c Done = (job : Job) × IsCommand c job × ((program : ListedProgram) × HasListing c.text program)
+Says c Done = (job : Job) × IsCommand c job × AcceptedIn job.mode c.text
 Says c (Refused refusal) = (job : Job) × IsCommand c job × IsRefused job c refusal
 Says c (Faulted fault) = (job : Job) × IsCommand c job × EndsWithFault c.history fault
 Says c NoCommand = IsNoCommand c
 Says c CantRead = (job : Job) × IsCommand c job × (IsMissing c.source job.file ⊎ SourceRose c)
 Says c CantWrite = (job : Job) × IsCommand c job × OutRose c
-Says c NoMemory = (job : Job) × IsCommand c job
+Says c NoMemory = Unit {0}
 
 -- the line on err of an ending of the call
 abbrev pub line : Call → Ending → List ℕ
@@ -157,13 +161,13 @@ pub record NothingFailed (job : Job) (c : Call) : Type 0 where
   pub there : IsMissing c.source job.file → ⊥
   pub memory : c.status ≡ 6 → ⊥
 
--- Completeness: where nothing failed the text decides, and one without a refusal has a program, which is run until all processes
--- have their end, or one has a fault.
+-- Completeness: where nothing failed the text decides, and one without a refusal has a program; where it is to be run, it is run until
+-- all processes have their end, or one has a fault.
 pub record IsComplete (job : Job) (c : Call) : Type 0 where
-  pub refused : (refusal : Refusal) → IsRefusal c.text refusal → c.status ≡ 1
-  pub accepted : HasNone (IsRefusal c.text) → (c.status ≡ 0) ⊎ (c.status ≡ 2)
-  pub program : HasNone (IsRefusal c.text) → (program : ListedProgram) × HasListing c.text program
-  pub ended : (program : ListedProgram) → HasListing c.text program → IsCompleteRun (run_of program job.procs) c.history
+  pub refused : (refusal : Refusal) → RefusalIn job.mode c.text refusal → c.status ≡ 1
+  pub accepted : HasNone (RefusalIn job.mode c.text) → (c.status ≡ 0) ⊎ (c.status ≡ 2)
+  pub program : HasNone (RefusalIn job.mode c.text) → AcceptedIn job.mode c.text
+  pub ended : job.mode ≡ Run → (program : ListedProgram) → HasListing c.text program → IsCompleteRun (run_of program job) c.history
 
 -- What the command promises.
 pub record Meets (c : Call) : Type 0 where

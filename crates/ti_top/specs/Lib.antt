@@ -1,6 +1,6 @@
 pub mod Call
 pub mod Clauses
 pub mod Ending
-pub mod Job
 pub mod Mirrors
+pub mod Modes
 pub mod Run

@@ -2,6 +2,7 @@
 pub mod Compiling
 pub mod Ended
 pub mod Flattening
+pub mod Jobs
 pub mod Line
 pub mod Reading
 pub mod RunEnds

@@ -1,15 +1,16 @@
 -- The run of a command: what its processes share, and how it ends with a fault.
-use Rattle.std.specs.Prelude.{◌≡◌, ◌++◌, ◌∷◌, [], ℕ, List}
+use Rattle.std.specs.Prelude.{◌≡◌, ◌++◌, ◌∷◌, [], List}
 use Rattle.ti_base.specs.declared.action.Action.TheVariants as act
 use Rattle.ti_base.specs.declared.entry.Answer.TheVariants.{Done}
 use Rattle.ti_base.specs.declared.entry.Entry.{Entry}
 use Rattle.ti_lang.specs.Listed.{ListedProgram}
 use Rattle.ti_lang.specs.Processes.{Setting}
+use Rattle.ti_words.specs.declared.job.Job.{Job}
 use Rattle.ti_top.specs.declared.fault.Fault.{Fault}
 
--- the program, run by so many processes with 100000 ticks each
-abbrev pub run_of : ListedProgram → ℕ → Setting
-run_of program procs = record { program = program; procs = procs; fuel = 100000 }
+-- the program, run by as many processes as the job asks for, with as many ticks each
+abbrev pub run_of : ListedProgram → Job → Setting
+run_of program job = record { program = program; procs = job.procs; fuel = job.fuel }
 
 -- the entry of a fault
 abbrev pub fault_entry : Fault → Entry

@@ -1,13 +1,13 @@
 // The whole command.
-ghost use Rattle.std.specs.Prelude.{map, string_bytes};
+ghost use Rattle.std.specs.Prelude.{◌≡◌, [], map, string_bytes};
 ghost use Rattle.ti_top.specs.Clauses.{Meets};
 
 use crate::ending::{Ending, end_with};
-use crate::words::read_words;
 use crate::work::work;
-use std::alloc::AllocGlobal;
+use std::alloc::{AllocGlobal, Global};
 use ti_base::Entry;
 use ti_io::{Sink, Source};
+use ti_words::{WordsErr, read_words};
 
 /// What the command did.
 #[derive(Drop)]
@@ -22,11 +22,28 @@ pub struct Outcome {
     pub history: Vec<Entry>,
 }
 
+impl Outcome {
+    // Nothing was read and nothing run.
+    fn nothing(alloc: Global, status: u8) -> Self
+        ensures status { result.status ≡ status }
+        ensures text { result.text.items ≡ [] }
+        ensures history { result.history.items ≡ [] }
+    {
+        Outcome {
+            status,
+            text: Vec::new(alloc),
+            history: Vec::new(alloc),
+        }
+    }
+}
+
 /// The command of these words, those after the program's name: reads the file that they name, refuses
 /// its text or runs it, writes the lines of the run to `out`, and where it can't be done a line to `err`.
+/// In mode check it runs nothing and writes nothing to `out`.
 ///
-/// The words are a file's name, or `--procs`, a number from 1 to 32 and a file's name. What the call
-/// promises is `Meets`, one record of `specs/Clauses.antt` for each clause.
+/// The words are `--mode run` or `--mode check`, `--procs`, `--workers`, `--fuel`, each with a number, and
+/// `--trace` and `--stats`, each at most once, and a file's name; `docs/LANGUAGE.md` says their ranges. What
+/// the call promises is `Meets`, one record of `specs/Clauses.antt` for each clause.
 pub fn titan_top<R: AllocGlobal, S: Source, K: Sink>(
     rt: &R,
     words: &[String],
@@ -48,15 +65,17 @@ pub fn titan_top<R: AllocGlobal, S: Source, K: Sink>(
     }) }
 {
     let alloc = rt.alloc();
-    let Some(command) = read_words(words) else {
-        return Outcome {
-            status: end_with(err, Ending::NoCommand, ""),
-            text: Vec::new(alloc),
-            history: Vec::new(alloc),
-        };
+    let job = match read_words(alloc, words) {
+        Ok(job) => job,
+        Err(WordsErr::Usage) => {
+            return Outcome::nothing(alloc, end_with(err, Ending::NoCommand, ""));
+        }
+        Err(WordsErr::Memory) => {
+            return Outcome::nothing(alloc, end_with(err, Ending::NoMemory, ""));
+        }
     };
-    let worked = work(alloc, command, source, out);
-    let status = end_with(err, worked.ending, command.file);
+    let worked = work(alloc, &job, source, out);
+    let status = end_with(err, worked.ending, job.file.as_str());
     Outcome {
         status,
         text: worked.text,

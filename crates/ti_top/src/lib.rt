@@ -14,7 +14,6 @@ mod runner;
 mod seat;
 mod unbuilt;
 mod walker;
-mod words;
 mod work;
 
 pub use command::{Outcome, titan_top};

@@ -15,8 +15,12 @@ use Rattle.ti_top.specs.declared.reading.ReadEnd.TheVariants as Read
 use Rattle.ti_top.specs.declared.runner.How.{How}
 use Rattle.ti_top.specs.declared.ending.Ending.{Ending}
 use Rattle.ti_top.specs.declared.ending.Ending.TheVariants.{Done, Refused, Faulted, NoCommand, CantRead, CantWrite, NoMemory}
-use Rattle.ti_top.specs.Mirrors.Compiling.{HasListingAlone, IsRefusedAs}
-use Rattle.ti_top.specs.Job.{Job}
+use Rattle.ti_rules.specs.declared.refusal.Refusal.{Refusal}
+use Rattle.ti_words.specs.declared.job.Job.{Job}
+use Rattle.ti_words.specs.declared.job.Mode.{Mode}
+use Rattle.ti_words.specs.declared.job.Mode.TheVariants.{Run, Check}
+use Rattle.ti_top.specs.Modes.{RefusalIn, AcceptedIn}
+use Rattle.ti_top.specs.Mirrors.Compiling.{IsUnrefused, HasNoListing, HasListingAlone}
 use Rattle.ti_top.specs.Call.{Call}
 use Rattle.ti_top.specs.Mirrors.Reading.{ReadsWhole}
 use Rattle.ti_top.specs.Run.{run_of, EndsWithFault}
@@ -43,14 +47,14 @@ pub record RanNothing (out out_after : SinkState) (history : List Entry) : Type 
   pub no_entry : history ≡ []
 
 -- the program was run, and its lines were written up to the first call that failed
-pub record RunSays (program : ListedProgram) (procs : ℕ) (out out_after : SinkState) (history : List Entry) (ending : Ending) : Type 0 where
+pub record RunSays (program : ListedProgram) (job : Job) (out out_after : SinkState) (history : List Entry) (ending : Ending) : Type 0 where
   pub aligned : IsAligned program
-  pub run : IsRun (run_of program procs) history
-  pub solo : IsSolo (run_of program procs) history
-  pub ended : ending ≡ Done → AllEnded (run_of program procs) history
+  pub run : IsRun (run_of program job) history
+  pub solo : IsSolo (run_of program job) history
+  pub ended : ending ≡ Done → AllEnded (run_of program job) history
   pub no_fault : ending ≡ Done → has_fault history ≡ false
   pub faulted : (fault : Fault) → ending ≡ Faulted fault → EndsWithFault history fault
-  pub unfinished : ending ≡ NoMemory → IsComplete (run_of program procs) history → ⊥
+  pub unfinished : ending ≡ NoMemory → IsComplete (run_of program job) history → ⊥
   pub known : (ending ≡ Done) ⊎ ((fault : Fault) × (ending ≡ Faulted fault)) ⊎ (ending ≡ NoMemory) ⊎ (ending ≡ CantWrite)
   pub never_falls : out.faults ≤ out_after.faults
   pub tells : out_after.tells ≡ out.tells
@@ -59,24 +63,48 @@ pub record RunSays (program : ListedProgram) (procs : ℕ) (out out_after : Sink
   pub part : out.tells ≡ true → GrewByFront out out_after (lines_of program history)
 
 -- so was the program of the text
-pub record Ran (procs : ℕ) (text : List ℕ) (out out_after : SinkState) (history : List Entry) (ending : Ending) : Type 0 where
+pub record Ran (job : Job) (text : List ℕ) (out out_after : SinkState) (history : List Entry) (ending : Ending) : Type 0 where
   pub program : ListedProgram
   pub compiled : HasListingAlone text program
-  pub says : RunSays program procs out out_after history ending
+  pub says : RunSays program job out out_after history ending
 
--- what became of a text that was read whole
-abbrev pub TextSays : Ending → ℕ → List ℕ → SinkState → SinkState → List Entry → Type 0
-TextSays Done procs text out out_after history = Ran procs text out out_after history Done
-TextSays (Refused refusal) procs text out out_after history = IsRefusedAs text refusal × RanNothing out out_after history
-TextSays (Faulted fault) procs text out out_after history = Ran procs text out out_after history (Faulted fault)
-TextSays CantWrite procs text out out_after history = Ran procs text out out_after history CantWrite
-TextSays NoMemory procs text out out_after history = RanNothing out out_after history ⊎ Ran procs text out out_after history NoMemory
-TextSays NoCommand procs text out out_after history = ⊥
-TextSays CantRead procs text out out_after history = ⊥
+-- the text is refused in a mode, and nothing was run
+pub record WasRefused (mode : Mode) (text : List ℕ) (out out_after : SinkState) (history : List Entry) (refusal : Refusal) : Type 0 where
+  pub is : RefusalIn mode text refusal
+  pub no_program : HasNoListing text
+  pub nothing : RanNothing out out_after history
+
+-- the text has a program and no refusal, and nothing was run
+pub record WasChecked (text : List ℕ) (out out_after : SinkState) (history : List Entry) : Type 0 where
+  pub accepted : AcceptedIn Check text
+  pub unrefused : IsUnrefused text
+  pub nothing : RanNothing out out_after history
+
+-- what became of a text that was read whole and is to be run
+abbrev pub RunTextSays : Ending → Job → List ℕ → SinkState → SinkState → List Entry → Type 0
+RunTextSays Done job text out out_after history = Ran job text out out_after history Done
+RunTextSays (Refused refusal) job text out out_after history = WasRefused Run text out out_after history refusal
+RunTextSays (Faulted fault) job text out out_after history = Ran job text out out_after history (Faulted fault)
+RunTextSays CantWrite job text out out_after history = Ran job text out out_after history CantWrite
+RunTextSays NoMemory job text out out_after history = RanNothing out out_after history ⊎ Ran job text out out_after history NoMemory
+RunTextSays NoCommand job text out out_after history = ⊥
+RunTextSays CantRead job text out out_after history = ⊥
+
+-- what became of one that is to be checked
+abbrev pub CheckTextSays : Ending → List ℕ → SinkState → SinkState → List Entry → Type 0
+CheckTextSays Done text out out_after history = WasChecked text out out_after history
+CheckTextSays (Refused refusal) text out out_after history = WasRefused Check text out out_after history refusal
+CheckTextSays NoMemory text out out_after history = RanNothing out out_after history
+CheckTextSays ending text out out_after history = ⊥
+
+-- what became of a text that was read whole, in a mode
+abbrev pub TextSays : Mode → Ending → Job → List ℕ → SinkState → SinkState → List Entry → Type 0
+TextSays Run ending job text out out_after history = RunTextSays ending job text out out_after history
+TextSays Check ending job text out out_after history = CheckTextSays ending text out out_after history
 
 -- what a reading that ended so leads to
 abbrev pub FileSays : ReadEnd → Ending → Job → Work → Type 0
-FileSays Read.Whole ending job w = TextSays ending job.procs w.text w.out w.out_after w.history
+FileSays Read.Whole ending job w = TextSays job.mode ending job w.text w.out w.out_after w.history
 FileSays Read.CantRead ending job w = (ending ≡ CantRead) × RanNothing w.out w.out_after w.history
 FileSays Read.NoMemory ending job w = (ending ≡ NoMemory) × RanNothing w.out w.out_after w.history
 

@@ -1,15 +1,14 @@
 use Rattle.ti_base.specs.declared.memory.Memory.{Memory}
 use Rattle.ti_top.specs.Mirrors.Walking.{setting_of}
-use Rattle.ti_top.specs.declared.runner.TheConstants.{FUEL}
 use Rattle.ti_top.proofs.Turns.{Turn, open_seat, pushed, leaves}
 use Rattle.ti_top.proofs.runner.turn.Goals as goal
 
 pub go_on-fault-requires-clause-going : goal.go_on-fault-requires-clause-going
-go_on-fault-requires-clause-going c = open_seat FUEL c.args.seats.now.items c.args.lowest c.index.result.now c.requires.lowest c.index.ensures
+go_on-fault-requires-clause-going c = open_seat c.args.fuel c.args.seats.now.items c.args.lowest c.index.result.now c.requires.lowest c.index.ensures
 
 pub returns : goal.returns
 returns c =
-    let s = setting_of c.args.listing.now c.args.procs FUEL in
+    let s = setting_of c.args.listing.now c.args.procs c.args.fuel in
     let turn : Turn s c.args.history.now.items c.args.seats.now.items c.args.lowest c.index.result.now c.advance-next.result = record {
       standing = c.requires.standing;
       lowest = c.requires.lowest;

@@ -1,0 +1,83 @@
+-- The numbers of a job that words ask for are in their ranges.
+use Rattle.std.proofs.Common.{◌≡◌, inl, inr, ℕ, ◌≤◌, ◌*◌, nat_le, Bool, true, false, ◌&&◌, if◌then◌else◌, List, Option, None, Some, option_map, option_and_then, arith, refl, sym, ◌∙◌, ap, subst}
+use Rattle.std.proofs.lemmas.Bool.Decides.{leb_tells}
+use Rattle.std.proofs.lemmas.Option.{same_Some}
+use Rattle.ti_words.specs.Uses.{Word}
+use Rattle.ti_words.specs.Job.{Values, values_in, mode_of, is_number, number_of, number_in, number_up_to, most_fuel, procs_of, workers_of, fuel_of, job_by, job_of}
+use Rattle.ti_words.specs.declared.job.Job.{Job}
+use Rattle.ti_words.specs.declared.job.Mode.{Mode}
+use Rattle.ti_top.specs.Mirrors.Jobs.{IsInRange}
+
+no_some : {A B : Type 0} (b : B) → ◌≡◌ {A = Option B} None (Some b) → A
+no_some {A} {B} b h = absurd (wrong b h)
+  where
+    wrong : (b : B) → ◌≡◌ {A = Option B} None (Some b) → ⊥
+    wrong b h = cc
+
+-- what is there at the end of two steps
+record Stepped {A B : Type 0} (o : Option A) (f : A → Option B) (b : B) : Type 0 where
+  first : A
+  is : o ≡ Some first
+  next : f first ≡ Some b
+
+stepped : {A B : Type 0} (o : Option A) (f : A → Option B) (b : B) → option_and_then f o ≡ Some b → Stepped o f b
+stepped None f b h = no_some b h
+stepped (Some a) f b h = record { first = a; is = refl; next = h }
+
+mapped : {A B : Type 0} (f : A → B) (o : Option A) (b : B) → option_map f o ≡ Some b → (a : A) × (o ≡ Some a) × (f a ≡ b)
+mapped f None b h = no_some b h
+mapped f (Some a) b h = (a, refl, same_Some (f a) b h)
+
+-- ---- numbers
+
+low : (a b : ℕ) → nat_le a b ≡ true → a ≤ b
+low a b h = elim (leb_tells a b) [ inl is ↦ is.1 | inr is ↦ absurd (wrong (sym is.0 ∙ h)) ]
+  where
+    wrong : false ≡ true → ⊥
+    wrong h = cc
+
+picked : (a b c : Bool) (k n : ℕ) → (if a && b && c then Some k else None) ≡ Some n → (b ≡ true) × (c ≡ true) × (k ≡ n)
+picked true true true k n e = (refl, refl, same_Some k n e)
+picked true true false k n e = no_some n e
+picked true false c k n e = no_some n e
+picked false b c k n e = no_some n e
+
+-- a number that a word writes
+in_range : (most : ℕ) (word : Word) (n : ℕ) → number_in most word ≡ Some n → (1 ≤ n) × (n ≤ most)
+in_range most word n e =
+    let p = picked (is_number word) (nat_le 1 (number_of word)) (nat_le (number_of word) most) (number_of word) n e in
+    (subst (λ k. 1 ≤ k) p.2 (low 1 (number_of word) p.0), subst (λ k. k ≤ most) p.2 (low (number_of word) most p.1))
+
+-- or the default
+up_to : (most default : ℕ) (word : Option Word) (n : ℕ) → 1 ≤ default → default ≤ most → number_up_to most default word ≡ Some n → (1 ≤ n) × (n ≤ most)
+up_to most default None n some few e = let same = same_Some default n e in (subst (λ k. 1 ≤ k) same some, subst (λ k. k ≤ most) same few)
+up_to most default (Some word) n some few e = in_range most word n e
+
+fuel_up_to : (procs : ℕ) (values : Values) (n : ℕ) → fuel_of procs values ≡ Some n → (1 ≤ n) × (n ≤ most_fuel)
+fuel_up_to procs values n e =
+    let k = stepped (number_up_to most_fuel 100000 values.fuel) (λ fuel. if nat_le (procs * fuel) most_fuel then Some fuel else None) n e in
+    subst (λ m. (1 ≤ m) × (m ≤ most_fuel)) (kept (nat_le (procs * k.first) most_fuel) k.first k.next) (up_to most_fuel 100000 values.fuel k.first (omega arith) (omega arith) k.is)
+  where
+    kept : (test : Bool) (m : ℕ) → (if test then Some m else None) ≡ Some n → m ≡ n
+    kept true m h = same_Some m n h
+    kept false m h = no_some n h
+
+-- ---- jobs
+
+abbrev job_with : Values → Word → Mode → ℕ → ℕ → ℕ → Job
+job_with values file mode procs workers fuel =
+    record { mode = mode; procs = procs; workers = workers; fuel = fuel; trace = values.trace; stats = values.stats; file = file }
+
+ranges : (values : Values) (job : Job) → job_by values ≡ Some job → IsInRange job
+ranges values job e =
+    let file = stepped values.file (λ file. option_and_then (λ mode. option_and_then (λ procs. option_and_then (λ workers. option_map (job_with values file mode procs workers) (fuel_of procs values)) (workers_of procs values)) (procs_of values)) (mode_of values.mode)) job e in
+    let mode = stepped (mode_of values.mode) (λ mode. option_and_then (λ procs. option_and_then (λ workers. option_map (job_with values file.first mode procs workers) (fuel_of procs values)) (workers_of procs values)) (procs_of values)) job file.next in
+    let procs = stepped (procs_of values) (λ procs. option_and_then (λ workers. option_map (job_with values file.first mode.first procs workers) (fuel_of procs values)) (workers_of procs values)) job mode.next in
+    let workers = stepped (workers_of procs.first values) (λ workers. option_map (job_with values file.first mode.first procs.first workers) (fuel_of procs.first values)) job procs.next in
+    let fuel = mapped (job_with values file.first mode.first procs.first workers.first) (fuel_of procs.first values) job workers.next in
+    let p = up_to 32 1 values.procs procs.first (omega arith) (omega arith) procs.is in
+    let f = fuel_up_to procs.first values fuel.0 fuel.1 in
+    subst IsInRange fuel.2 (record { procs_some = p.0; procs_most = p.1; fuel_some = f.0; fuel_most = f.1 })
+
+pub in_ranges : (words : List Word) (job : Job) → job_of words ≡ Some job → IsInRange job
+in_ranges words job e = let k = stepped (values_in words) job_by job e in ranges k.first job k.next
