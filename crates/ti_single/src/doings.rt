@@ -175,7 +175,9 @@ pub fn doings_of_statement(p: &Program, this: Option<u32>, x: &Stmt) -> Doings
         Stmt::Barrier(_) => Doings::acting(true),
         Stmt::Block(body) => doings_of_statements(p, this, body),
         Stmt::If {
-            then, otherwise, ..
+            then,
+            otherwise,
+            ..
         } => {
             let then = doings_of_statement(p, this, then);
             match otherwise {

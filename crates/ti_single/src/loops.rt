@@ -42,7 +42,9 @@ fn loop_in<'a>(at: Place, x: &'a Stmt) -> Option<&'a Stmt>
     match x {
         Stmt::Block(body) => loop_in_all(at, body),
         Stmt::If {
-            then, otherwise, ..
+            then,
+            otherwise,
+            ..
         } => {
             let then = loop_in(at, then);
             match otherwise {

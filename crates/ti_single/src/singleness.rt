@@ -139,7 +139,9 @@ pub fn is_single_part(p: &Program, scope: &Scope, e: &Expr) -> bool
             !Seen::of(&to.ty, false).is_local() && is_single_part(p, scope, operand)
         }
         Expr::Index {
-            receiver, indices, ..
+            receiver,
+            indices,
+            ..
         } => {
             let of_point = is_point(type_in_text(&p.parts, scope.this, receiver));
             let part = is_single_part(p, scope, receiver);
