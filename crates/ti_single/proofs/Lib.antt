@@ -1,0 +1,3 @@
+pub mod FirstLoop
+pub mod Parts
+pub mod Together

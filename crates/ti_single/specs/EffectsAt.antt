@@ -1,0 +1,49 @@
+-- Whether a statement has global effects at a place of a program.
+use Rattle.std.specs.Prelude.{Bool, false, List, map, Option, Some, None, find, slice_get}
+use Rattle.std.specs.Option.{option_map_or}
+use Rattle.ti_base.specs.declared.place.Place.{Place}
+use Rattle.ti_lang.specs.Program.Statements.{NumberedStm}
+use Rattle.ti_lang.specs.Program.Statements as st
+use Rattle.ti_lang.specs.Program.Classes.{NumberedMethod, NumberedProgram}
+use Rattle.ti_lang.specs.Program.Scope.{Whereabouts, this_of}
+use Rattle.ti_lang.specs.Typing.Effects.{Doings, nothing, doings, return_acts, jump_acts, has_global_effects}
+use Rattle.ti_rules.specs.First.{same_place}
+use Rattle.ti_rules.specs.Standing.{Standing, doings_of_loop, standing_in_method}
+
+-- ---- the loop at a place
+
+-- a loop whose word stands at this place
+abbrev pub is_loop_at : Place → NumberedStm → Bool
+is_loop_at at (st.While place c body) = same_place at place
+is_loop_at at (st.For place first c update body) = same_place at place
+is_loop_at at (st.Foreach place variable domain body) = same_place at place
+is_loop_at at x = false
+
+-- the statements of a method, with all statements in them
+abbrev pub statements_in : NumberedProgram → NumberedMethod → List NumberedStm
+statements_in p m = map (λ (x : Standing). x.statement) (standing_in_method p m)
+
+-- the loop of a method at this place; a place that is no loop's word is that of none
+abbrev pub loop_at : NumberedProgram → NumberedMethod → Place → Option NumberedStm
+loop_at p m at = find (is_loop_at at) (statements_in p m)
+
+-- ---- its jumps
+
+-- what the update and the body of a loop of a method do
+abbrev pub doings_in_loop : NumberedProgram → NumberedMethod → NumberedStm → Doings
+doings_in_loop p m (st.While place c body) = doings_of_loop p m st.NoStm body
+doings_in_loop p m (st.For place first c update body) = doings_of_loop p m update body
+doings_in_loop p m (st.Foreach place variable domain body) = doings_of_loop p m st.NoStm body
+doings_in_loop p m x = nothing
+
+-- a jump out of the loop at this place, if there is one, has an effect
+abbrev pub jump_acts_at : NumberedProgram → NumberedMethod → Option Place → Bool
+jump_acts_at p m None = false
+jump_acts_at p m (Some at) = option_map_or (λ (x : NumberedStm). jump_acts (return_acts p m) (doings_in_loop p m x)) (loop_at p m at) false
+
+-- ---- statements
+
+-- a statement has global effects where it is in a method and, perhaps, in a loop of it; in no method it has none
+abbrev pub has_effects_at : NumberedProgram → Whereabouts → NumberedStm → Bool
+has_effects_at p at x =
+    option_map_or (λ (m : NumberedMethod). has_global_effects (return_acts p m) (jump_acts_at p m at.innermost_loop) (doings p (this_of m) x)) (slice_get p.methods at.method) false

@@ -1,0 +1,2 @@
+-- Nobody has to believe what stands here: it mirrors the code, and only contracts of private functions speak of it.
+pub mod Loops

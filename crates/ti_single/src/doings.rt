@@ -1,0 +1,264 @@
+// What statements do: whether they act together with all other processes, return or jump.
+ghost use Rattle.std.specs.Prelude.{◌≡◌, map, true, false};
+ghost use Rattle.std.specs.Option.{option_map, option_map_or};
+ghost use Rattle.ti_lang.specs.Program.Classes.{NumberedMethod};
+ghost use Rattle.ti_lang.specs.Program.Scope.{this_of};
+ghost use Rattle.ti_lang.specs.Program.Statements.{numbered_stms};
+ghost use Rattle.ti_lang.specs.Program.Views.{program_of, expression_of, initial_of, statement_of, numbered_method_of};
+ghost use Rattle.ti_lang.specs.Typing.Seen.{built_in_of};
+ghost use Rattle.ti_lang.specs.Typing.Singleness.{has_single_result};
+ghost use Rattle.ti_lang.specs.Typing.Effects.{is_collective, is_collective_call, acts, initial_acts, nothing, acting, together, kept_in_loop, doings, doings_of_all, doings_of_method, return_acts, jump_acts, has_global_effects};
+ghost use Rattle.ti_single.specs.Doings.{doings_of};
+
+use crate::singleness::is_single_target;
+use ti_lang::program::{Expr, Init, Method, Program, ResultType, Stmt, has_static};
+use ti_lang::typing::{BuiltIn, called_method, member_called};
+
+/// What a statement does, with all statements in it.
+#[derive(Clone, Copy, Debug, PartialEq, Eq)]
+pub struct Doings {
+    /// It declares or changes a single variable, performs a collective, or calls a method declared single.
+    pub acts: bool,
+    /// It returns from the method.
+    pub returns: bool,
+    /// It leaves or goes on with the loop around it.
+    pub jumps: bool,
+}
+
+impl Doings {
+    /// None of these.
+    pub fn none() -> Doings
+        ensures { doings_of result ≡ nothing }
+    {
+        Doings {
+            acts: false,
+            returns: false,
+            jumps: false,
+        }
+    }
+
+    fn acting(acts: bool) -> Doings
+        ensures { doings_of result ≡ acting acts }
+    {
+        Doings {
+            acts,
+            returns: false,
+            jumps: false,
+        }
+    }
+
+    fn jumping() -> Doings
+        ensures { doings_of result ≡ record nothing { jumps = true } }
+    {
+        Doings {
+            acts: false,
+            returns: false,
+            jumps: true,
+        }
+    }
+
+    fn returning() -> Doings
+        ensures { doings_of result ≡ record nothing { returns = true } }
+    {
+        Doings {
+            acts: false,
+            returns: true,
+            jumps: false,
+        }
+    }
+
+    /// What either does.
+    pub fn together(self, other: Doings) -> Doings
+        ensures { doings_of result ≡ together (doings_of self) (doings_of other) }
+    {
+        Doings {
+            acts: self.acts || other.acts,
+            returns: self.returns || other.returns,
+            jumps: self.jumps || other.jumps,
+        }
+    }
+
+    /// What a loop does whose body does so much: it keeps the jumps.
+    fn kept_in_loop(self) -> Doings
+        ensures { doings_of result ≡ kept_in_loop (doings_of self) }
+    {
+        Doings {
+            acts: self.acts,
+            returns: self.returns,
+            jumps: false,
+        }
+    }
+}
+
+// ---- expressions that stand whole
+
+fn is_collective(b: Option<BuiltIn>) -> bool
+    ensures { result ≡ is_collective (option_map built_in_of b) }
+{
+    matches!(b, Some(BuiltIn::Exchange | BuiltIn::Delete))
+}
+
+// A member of the language that is a collective.
+#[tactic(auto, using(ti_lang::proofs::ProgramBridges::program_bridges))]
+fn is_collective_call(p: &Program, this: Option<u32>, e: &Expr) -> bool
+    ensures { result ≡ is_collective_call (program_of p.now.parts) this (expression_of e.now) }
+{
+    match e {
+        Expr::Member { receiver, name, .. } => {
+            is_collective(member_called(&p.parts, this, receiver, *name))
+        }
+        _ => false,
+    }
+}
+
+fn is_single_method(m: Option<&Method>) -> bool
+    ensures { result ≡ option_map_or (λ (m : NumberedMethod). m.is_single) (option_map (λ m. numbered_method_of m.now) m.entry) false }
+{
+    match m {
+        Some(m) => m.single,
+        None => false,
+    }
+}
+
+// It performs a collective or calls a method declared single.
+fn acts(p: &Program, this: Option<u32>, e: &Expr) -> bool
+    ensures { result ≡ acts (program_of p.now.parts) this (expression_of e.now) }
+{
+    is_single_method(called_method(&p.parts, this, e)) || is_collective_call(p, this, e)
+}
+
+// So does a right side.
+fn initial_acts(p: &Program, this: Option<u32>, value: &Init) -> bool
+    ensures { result ≡ initial_acts (program_of p.now.parts) this (initial_of value.now) }
+{
+    match value {
+        Init::Value(e) => acts(p, this, e),
+        Init::NewRegion(_) => true,
+        Init::NewObject { .. } => false,
+        Init::NewGrid { .. } => false,
+        Init::Broadcast { .. } => true,
+    }
+}
+
+// ---- statements
+
+/// What all of these statements do, in a method with `this` of a class, or with none.
+#[cycle(doings)]
+pub fn doings_of_statements(p: &Program, this: Option<u32>, xs: &[Stmt]) -> Doings
+    ensures { doings_of result ≡ doings_of_all (program_of p.now.parts) this (numbered_stms (map statement_of xs.now)) }
+{
+    let mut found = Doings::none();
+    for x in xs {
+        found = found.together(doings_of_statement(p, this, x));
+    }
+    found
+}
+
+/// What a statement does, with all statements in it, in a method with `this` of a class, or with none.
+#[cycle(doings)]
+#[tactic(auto, using(ti_lang::proofs::ProgramBridges::program_bridges))]
+pub fn doings_of_statement(p: &Program, this: Option<u32>, x: &Stmt) -> Doings
+    ensures { doings_of result ≡ doings (program_of p.now.parts) this (statement_of x.now) }
+{
+    match x {
+        Stmt::Declare { ty, value, .. } => {
+            Doings::acting(ty.single || initial_acts(p, this, value))
+        }
+        Stmt::Assign { target, value, .. } => {
+            Doings::acting(is_single_target(target) || initial_acts(p, this, value))
+        }
+        Stmt::Update { target, value, .. } => {
+            Doings::acting(is_single_target(target) || acts(p, this, value))
+        }
+        Stmt::Step { target, .. } => Doings::acting(is_single_target(target)),
+        Stmt::Call(e) => Doings::acting(acts(p, this, e)),
+        Stmt::Barrier(_) => Doings::acting(true),
+        Stmt::Block(body) => doings_of_statements(p, this, body),
+        Stmt::If {
+            then,
+            otherwise,
+            ..
+        } => {
+            let then = doings_of_statement(p, this, then);
+            match otherwise {
+                Some(otherwise) => then.together(doings_of_statement(p, this, otherwise)),
+                None => then,
+            }
+        }
+        Stmt::While { body, .. } => doings_of_statement(p, this, body).kept_in_loop(),
+        Stmt::For {
+            first,
+            update,
+            body,
+            ..
+        } => {
+            let first = match first {
+                Some(first) => doings_of_statement(p, this, first),
+                None => Doings::none(),
+            };
+            let update = match update {
+                Some(update) => doings_of_statement(p, this, update),
+                None => Doings::none(),
+            };
+            let body = doings_of_statement(p, this, body);
+            first.together(update.together(body).kept_in_loop())
+        }
+        Stmt::Foreach { body, .. } => doings_of_statement(p, this, body).kept_in_loop(),
+        Stmt::Break(_) => Doings::jumping(),
+        Stmt::Continue(_) => Doings::jumping(),
+        Stmt::Return(_, _) => Doings::returning(),
+        Stmt::Empty => Doings::none(),
+        Stmt::Print(_, _) => Doings::none(),
+    }
+}
+
+// ---- methods
+
+/// The class of `this` in a method, where it has one.
+pub fn this_of(m: &Method) -> Option<u32>
+    ensures { result ≡ this_of (numbered_method_of m.now) }
+{
+    if has_static(&m.modifiers) {
+        None
+    } else {
+        Some(m.class)
+    }
+}
+
+/// Whether a method has a single result.
+pub fn has_single_result(m: &Method) -> bool
+    ensures { result ≡ has_single_result (numbered_method_of m.now) }
+{
+    match &m.result {
+        ResultType::Void => false,
+        ResultType::Typed(ty) => ty.single,
+    }
+}
+
+/// What the statements of a method do.
+pub fn doings_of_method(p: &Program, m: &Method) -> Doings
+    ensures { doings_of result ≡ doings_of_method (program_of p.now.parts) (numbered_method_of m.now) }
+{
+    doings_of_statements(p, this_of(m), &m.body)
+}
+
+/// Whether a `return` of a method has an effect: the method has a single result or a statement that acts.
+pub fn return_acts(p: &Program, m: &Method) -> bool
+    ensures { result ≡ return_acts (program_of p.now.parts) (numbered_method_of m.now) }
+{
+    has_single_result(m) || doings_of_method(p, m).acts
+}
+
+/// Whether a jump has an effect whose loop does so much, where a `return` has one or not.
+pub fn jump_acts(return_has: bool, d: Doings) -> bool
+    ensures { result ≡ jump_acts return_has (doings_of d) }
+{
+    d.acts || d.returns && return_has
+}
+
+/// Whether a statement that does so much has global effects, where a `return` and a jump have one or not.
+pub fn has_global_effects(return_has: bool, jump_has: bool, d: Doings) -> bool
+    ensures { result ≡ has_global_effects return_has jump_has (doings_of d) }
+{
+    jump_acts(return_has, d) || d.jumps && jump_has
+}

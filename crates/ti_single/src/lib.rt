@@ -1,0 +1,15 @@
+//! Which expressions are single, and which statements have global effects.
+#![tactic(auto)]
+
+mod doings;
+mod effects;
+mod loops;
+mod singleness;
+
+pub use doings::{
+    Doings, doings_of_method, doings_of_statement, doings_of_statements, has_global_effects,
+    has_single_result, jump_acts, return_acts, this_of,
+};
+pub use effects::has_effects;
+pub use loops::doings_in_loop;
+pub use singleness::{is_single, is_single_initial, is_single_part, is_single_target};
