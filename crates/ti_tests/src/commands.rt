@@ -151,6 +151,58 @@ const COMMANDS: &[Command] = &[
         },
     },
     Command {
+        words: "--mode check --procs 2 a.ti",
+        frame: MAIN,
+        text: TWO_PRINTS,
+        end: End {
+            status: 0,
+            out: "",
+            err: "",
+        },
+    },
+    // it is checked, though it can't be run yet
+    Command {
+        words: "--mode=check a.ti",
+        frame: MAIN,
+        text: "int single k = broadcast 1 from 0; while (k > 0) { Ti.barrier(); k--; }",
+        end: End {
+            status: 0,
+            out: "",
+            err: "",
+        },
+    },
+    Command {
+        words: "--mode check a.ti",
+        frame: MAIN,
+        text: "println(x);",
+        end: End {
+            status: 1,
+            out: "",
+            err: "a.ti:1:70: N1 an unknown name\n",
+        },
+    },
+    // a print, an arrival and a departure are three ticks
+    Command {
+        words: "--fuel 4 a.ti",
+        frame: MAIN,
+        text: TWO_PRINTS,
+        end: End {
+            status: 0,
+            out: "0\n1\n",
+            err: "",
+        },
+    },
+    Command {
+        words: "--fuel=3 a.ti",
+        frame: MAIN,
+        text: TWO_PRINTS,
+        end: End {
+            status: 2,
+            out: "0\n",
+            err: "titan: fault fuel in process 0 at 1:100\n",
+        },
+    },
+    Command {
         words: "a.ti",
         frame: MAIN,
         text: "println();",
@@ -288,6 +340,21 @@ const REFUSED: &[Refused] = &[
         text: "`200#int v$ = 0; `long w = 0;",
         err: "1:2757: N4 too many variables in scope",
     },
+    Refused {
+        frame: MAIN,
+        text: "{ break; }",
+        err: "1:64: Y8 a break or continue outside a loop",
+    },
+    Refused {
+        frame: MAIN,
+        text: "boolean b = 1; if (Ti.thisProc() == 0) { Ti.barrier(); }",
+        err: "1:70: Y2 a value of the wrong type",
+    },
+    Refused {
+        frame: MAIN,
+        text: "if (Ti.thisProc() == 0) { Ti.barrier(); }",
+        err: "1:62: S1 an if with global effects needs a single condition",
+    },
 ];
 
 /// Forms that the command doesn't run yet are refused at their first token.
@@ -325,16 +392,6 @@ const UNBUILT: &[Refused] = &[
     Refused {
         frame: MAIN,
         text: "return;",
-        err: "1:62",
-    },
-    Refused {
-        frame: MAIN,
-        text: "{ break; }",
-        err: "1:64",
-    },
-    Refused {
-        frame: MAIN,
-        text: "continue;",
         err: "1:62",
     },
     Refused {

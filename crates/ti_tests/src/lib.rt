@@ -33,3 +33,5 @@ mod tokens;
 mod trees;
 #[cfg(test)]
 mod values;
+#[cfg(test)]
+mod words;

@@ -9,6 +9,7 @@ use crate::programs::FORMS;
 use crate::texts::{MAIN, WHOLE, WITH_MAIN, framed};
 use std::alloc::Global;
 use std::test::Fail;
+use ti_base::Place;
 use ti_lang::program::{Program, Scope, Ty};
 
 /// Statements of `main`, which begin in column 62.
@@ -730,12 +731,27 @@ fn a_scope_grows_behind_its_parameters(rt: HostRuntime) -> Result<(), Fail> {
     assert_eq!(rt;
         grown.as_str(),
         "Scope { this: Some(0), variables: [InScope { number: 0, ty: Int, single: true }, InScope { number: 1, ty: Class { class: \
-        0, local: false }, single: false }, InScope { number: 2, ty: Bool, single: false }] }"
+        0, local: false }, single: false }, InScope { number: 2, ty: Bool, single: false }], method: 0, innermost_loop: None }"
     );
     let cut = cut(rt.alloc(), &mut scope)?;
     assert_eq!(rt;
         cut.as_str(),
-        "Scope { this: Some(0), variables: [InScope { number: 0, ty: Int, single: true }] }"
+        "Scope { this: Some(0), variables: [InScope { number: 0, ty: Int, single: true }], method: 0, innermost_loop: None }"
     );
+    Ok(())
+}
+
+fn in_loop(alloc: Global, scope: &mut Scope) -> Result<String, Fail> {
+    let none = scope.set_loop(Some(Place { line: 2, col: 3 }));
+    let set = scope.set_loop(None);
+    Ok(format!(in alloc; "{none:?} {set:?} {:?}", scope.innermost_loop)?)
+}
+
+#[test]
+fn a_scope_knows_its_loop(rt: HostRuntime) -> Result<(), Fail> {
+    let text = framed(rt.alloc(), WITH_MAIN, METHOD)?;
+    let mut scope = scope_of(rt.alloc(), text.as_bytes())?;
+    let loops = in_loop(rt.alloc(), &mut scope)?;
+    assert_eq!(rt; loops.as_str(), "None Some(2:3) None");
     Ok(())
 }
