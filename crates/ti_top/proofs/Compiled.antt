@@ -16,7 +16,7 @@ use Rattle.ti_rules.specs.declared.rule.Rule.{Rule}
 use Rattle.ti_rules.specs.declared.refusal.Refusal.{Refusal}
 use Rattle.ti_rules.specs.BrokenNames.{BreaksNames}
 use Rattle.ti_rules.specs.Refusals.{IsFirstRefusal}
-use Rattle.ti_rules.specs.ProgramRefusals.{IsProgramRefusal, BreaksNothing}
+use Rattle.ti_rules.specs.ProgramRefusals.{BreaksNothing}
 use Rattle.ti_rules.specs.RefusalOf.{HasNone, of_names as of_names_first, of_program, HasTokens, HasTree, rule_of_misfit, IsRefusal, of_bytes, of_tokens, of_tree, HasProgram, HasUnbuilt, HasListing, IsUnbuiltRefusal, of_forms}
 use Rattle.ti_lex.specs.declared.error.LexErr.{LexErr}
 use Rattle.ti_lex.specs.declared.error.LexErr.TheVariants as lexer
@@ -27,6 +27,8 @@ use Rattle.ti_parse.specs.Answer.{Parsed}
 use Rattle.ti_names.specs.declared.error.NameErr.{NameErr}
 use Rattle.ti_names.specs.declared.error.NameErr.TheVariants as names
 use Rattle.ti_names.specs.Answer.{Resolves}
+use Rattle.ti_lang.specs.declared.program.numbered.Program.{Program}
+use Rattle.ti_check.specs.Answer.{Checks}
 use Rattle.ti_check.specs.declared.error.CheckErr.{CheckErr}
 use Rattle.ti_check.specs.declared.error.CheckErr.TheVariants as checker
 use Rattle.ti_words.specs.declared.job.Mode.TheVariants.{Run}
@@ -76,20 +78,23 @@ pub not_named : OneAnswer → (text : List ℕ) (tree : Tree) (e : NameErr) → 
 not_named known text tree (names.Refused refusal) has first = refused known text refusal (of_tree has (of_names_first first))
 not_named known text tree names.Memory has first = tt
 
--- what the checker says of a program
-abbrev pub Refuses : NumberedProgram → CheckErr → Type 0
-Refuses program (checker.Refused refusal) = IsProgramRefusal program refusal
-Refuses program checker.Memory = Unit {0}
-
 -- its program breaks a rule
-pub not_checked : OneAnswer → (text : List ℕ) (tree : Tree) (program : NumberedProgram) (e : CheckErr) → HasTree text (tree_of tree) → HasNone (BreaksNames (tree_of tree)) → Numbers (tree_of tree) program → Refuses program e → Compiles text (Err (of_check e))
-not_checked known text tree program (checker.Refused refusal) has named numbers is = refused known text refusal (of_tree has (of_program named numbers is))
-not_checked known text tree program checker.Memory has named numbers is = tt
+pub not_checked : OneAnswer → (text : List ℕ) (tree : Tree) (p : Program) (e : CheckErr) → HasTree text (tree_of tree) → HasNone (BreaksNames (tree_of tree)) → Numbers (tree_of tree) (program_of p.parts) → Checks p (Err e) → Compiles text (Err (of_check e))
+not_checked known text tree p (checker.Refused refusal) has named numbers is = refused known text refusal (of_tree has (of_program named numbers is))
+not_checked known text tree p checker.Memory has named numbers is = tt
+
+-- it breaks none
+pub is_compiled : (text : List ℕ) (tree : Tree) (p : Program) (c : Compiled) → c.tree ≡ tree → HasTree text (tree_of tree) → HasNone (BreaksNames (tree_of tree)) → Numbers (tree_of tree) (program_of p.parts) → Checks p (Ok c.checked) → IsCompiled text c
+is_compiled text tree p c same has named numbers checks = record {
+  has_tree = subst (λ t. HasTree text (tree_of t)) (sym same) has;
+  named = subst (λ t. HasNone (BreaksNames (tree_of t))) (sym same) named;
+  numbers = subst (λ t. Numbers (tree_of t) (program_of c.checked.program.parts)) (sym same) (subst (λ (q : Program). Numbers (tree_of tree) (program_of q.parts)) (sym checks.0) numbers);
+  unbroken = subst (λ (q : Program). BreaksNothing (program_of q.parts)) (sym checks.0) checks.1;
+}
 
 pub has_program : (text : List ℕ) (compiled : Compiled) → IsCompiled text compiled → HasProgram text (program_of compiled.checked.program.parts)
 has_program text compiled is = record { tree = tree_of compiled.tree; has_tree = is.has_tree; named = is.named; numbers = is.numbers; unbroken = is.unbroken }
 
--- it breaks none
 pub compiled : OneAnswer → (text : List ℕ) (c : Compiled) → IsCompiled text c → Compiles text (Ok c)
 compiled known text c is = (is, λ refusal other. known.never_both text (program_of c.checked.program.parts) refusal (has_program text c is) other)
 

@@ -1,10 +1,10 @@
-use Rattle.std.proofs.Common.{List, Ok, Err, sym, subst}
+use Rattle.std.proofs.Common.{List, Ok, Err, refl, subst}
 use Rattle.std.proofs.lemmas.Result.{err_from_is_err_and}
 use Rattle.ti_syntax.specs.declared.token.Token.{Token}
 use Rattle.ti_syntax.specs.Trees.Text.{tree_of}
 use Rattle.ti_lang.specs.Program.Views.{program_of}
 use Rattle.ti_parse.specs.Answer.{Parsed}
-use Rattle.ti_top.proofs.Compiled.{OneAnswer, has_tree, not_lexed, not_parsed, not_named, not_checked, compiled}
+use Rattle.ti_top.proofs.Compiled.{OneAnswer, has_tree, not_lexed, not_parsed, not_named, not_checked, is_compiled, compiled}
 use Rattle.ti_top.proofs.compiling.compile.Goals as goal
 
 pub returns-in_err-tokens : goal.returns-in_err-tokens
@@ -36,7 +36,7 @@ returns-in_err-checked c =
     let has = has_tree c.args.text.now c.in_ok-tokens.tokens c.in_ok-tree.tree c.in_ok-tokens.ensures.answer parsed in
     let program = program_of c.in_ok-program.program.parts in
     let named = c.one_program.ensures.unbroken (tree_of c.in_ok-tree.tree) program c.in_ok-program.ensures.resolves in
-    rw p.1 (rw p.2 (not_checked known c.args.text.now c.in_ok-tree.tree program c.in_err-checked.field-0.0 has named c.in_ok-program.ensures.resolves c.in_err-checked.ensures))
+    rw p.1 (rw p.2 (not_checked known c.args.text.now c.in_ok-tree.tree c.in_ok-program.program c.in_err-checked.field-0.0 has named c.in_ok-program.ensures.resolves c.in_err-checked.ensures))
 
 pub returns : goal.returns
 returns c =
@@ -44,9 +44,6 @@ returns c =
     let parsed = subst (λ (toks : List Token). Parsed toks (Ok c.in_ok-tree.tree)) c.deref.ensures.value c.in_ok-tree.ensures.answer in
     let tree = tree_of c.in_ok-tree.tree in
     let program = program_of c.in_ok-program.program.parts in
-    compiled known c.args.text.now _ (record {
-      has_tree = has_tree c.args.text.now c.in_ok-tokens.tokens c.in_ok-tree.tree c.in_ok-tokens.ensures.answer parsed;
-      named = c.one_program.ensures.unbroken tree program c.in_ok-program.ensures.resolves;
-      numbers = c.in_ok-program.ensures.resolves;
-      unbroken = c.in_ok-checked.ensures;
-    })
+    let has = has_tree c.args.text.now c.in_ok-tokens.tokens c.in_ok-tree.tree c.in_ok-tokens.ensures.answer parsed in
+    let named = c.one_program.ensures.unbroken tree program c.in_ok-program.ensures.resolves in
+    compiled known c.args.text.now _ (is_compiled c.args.text.now c.in_ok-tree.tree c.in_ok-program.program _ refl has named c.in_ok-program.ensures.resolves c.in_ok-checked.ensures)
