@@ -7,6 +7,7 @@ mod error;
 mod exprs;
 mod fitting;
 mod judged;
+mod literals;
 mod nodes;
 mod operators;
 mod rects;
@@ -15,4 +16,10 @@ mod typing;
 mod words;
 
 pub use error::TypeErr;
+pub use exprs::Judge;
+pub use judged::Judged;
+pub use operators::binary_type;
+pub use rects::{Literal, Ranges};
+pub use refused::{misfit, mistaken};
 pub use typing::type_of;
+pub use words::type_words;
