@@ -191,7 +191,8 @@ fn takes(params: &Params, count: usize, misfit: Option<Refusal>) -> bool
     }
 }
 
-fn result_type(m: &Method) -> Seen<'_>
+/// What a call of a method gives.
+pub fn result_type(m: &Method) -> Seen<'_>
     ensures { seen result ≡ result_type (numbered_method_of m.now) }
 {
     match &m.result {

@@ -15,6 +15,7 @@ mod refused;
 mod typing;
 mod words;
 
+pub use arguments::result_type;
 pub use error::TypeErr;
 pub use exprs::Judge;
 pub use judged::Judged;
