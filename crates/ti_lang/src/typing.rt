@@ -7,8 +7,8 @@ mod seen;
 mod text;
 
 pub use lookup::{
-    instance_method, method, method_behind, named_field_type, own_field_type, select_type,
-    this_type, variable_type,
+    field_type, instance_method, method, method_behind, named_field_type, own_field_type,
+    select_type, this_type, variable_type,
 };
 pub use members::{BuiltIn, built_in};
 pub use seen::{Seen, same_elements};

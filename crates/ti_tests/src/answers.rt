@@ -7,12 +7,13 @@ use crate::texts::{Frame, framed};
 use std::alloc::{AllocError, Global};
 use std::fmt::Debug;
 use std::test::Fail;
+use ti_check::{CheckErr, check};
 use ti_lang::program::Program;
 use ti_lex::{LexErr, lex};
 use ti_names::{NameErr, resolve};
 use ti_parse::{ParseErr, parse};
 use ti_parse_expr::{Form, parse_expr};
-use ti_rules::Refusal;
+use ti_rules::{Checked, Refusal};
 use ti_syntax::Token;
 use ti_syntax::tree::{Class, Expr, Member, Tree};
 
@@ -40,6 +41,8 @@ pub(crate) enum Asked {
     Grammar,
     /// Whether it is accepted by the rules of names.
     Names,
+    /// Whether it is accepted by all rules.
+    Rules,
     /// Its program, in which what is answered stands somewhere.
     Program,
 }
@@ -84,6 +87,15 @@ impl From<NameErr> for Stopped {
     }
 }
 
+impl From<CheckErr> for Stopped {
+    fn from(error: CheckErr) -> Stopped {
+        match error {
+            CheckErr::Refused(refusal) => Stopped::Refused(refusal),
+            CheckErr::Memory => Stopped::Memory,
+        }
+    }
+}
+
 impl From<AllocError> for Stopped {
     fn from(_: AllocError) -> Stopped {
         Stopped::Memory
@@ -107,6 +119,12 @@ pub(crate) fn parsed(alloc: Global, text: &[u8]) -> Result<Tree, Stopped> {
 pub(crate) fn resolved(alloc: Global, text: &[u8]) -> Result<Program, Stopped> {
     let tree = parsed(alloc, text)?;
     Ok(resolve(alloc, &tree)?)
+}
+
+/// The program of a text that breaks no rule.
+fn checked(alloc: Global, text: &[u8]) -> Result<Checked, Stopped> {
+    let program = resolved(alloc, text)?;
+    Ok(check(alloc, program)?)
 }
 
 /// A token behind its place.
@@ -202,6 +220,7 @@ fn given(alloc: Global, asked: Asked, text: &[u8]) -> Result<String, Stopped> {
         Asked::Statements => statements(alloc, text),
         Asked::Grammar => accepted(alloc, parsed(alloc, text)),
         Asked::Names => accepted(alloc, resolved(alloc, text)),
+        Asked::Rules => accepted(alloc, checked(alloc, text)),
         Asked::Program => program(alloc, text),
     }
 }

@@ -23,10 +23,10 @@ use Rattle.ti_rules.proofs.Sound.Expressions.{count_places}
 use Rattle.ti_types.specs.declared.judged.Judged.{Judged}
 use Rattle.ti_types.specs.declared.arguments.Arguments.{Arguments}
 use Rattle.ti_types.specs.declared.rects.Bounds.{Bounds}
-use Rattle.ti_types.specs.Mirrors.Judged.{typed_of}
+use Rattle.ti_types.specs.Judging.{typed_of, IsJudged}
 use Rattle.ti_types.specs.Mirrors.Arguments.{ToldTypes, told, told_of, wanted_types, told_refusal, told_called}
 use Rattle.ti_types.specs.Mirrors.Nodes.{told_index, told_other, behind, told_behind, behind_refusal, EndTypes, ends_of, ranges_told, told_rect, told_near}
-use Rattle.ti_types.specs.Mirrors.Walk.{IsJudged, AreArguments, AreRanges}
+use Rattle.ti_types.specs.Mirrors.Walk.{AreArguments, AreRanges}
 use Rattle.ti_types.proofs.Told.{called_is, refusal_is}
 use Rattle.ti_types.proofs.ToldNodes.{index_is, other_is, behind_is, behind_refusal_is, rect_is, rect_refusal_is}
 

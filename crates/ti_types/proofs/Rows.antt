@@ -18,10 +18,10 @@ use Rattle.ti_rules.specs.Broken.Expressions.{places_of}
 use Rattle.ti_types.specs.declared.judged.Judged.{Judged}
 use Rattle.ti_types.specs.declared.arguments.Arguments.{Arguments}
 use Rattle.ti_types.specs.declared.rects.Bounds.{Bounds}
-use Rattle.ti_types.specs.Mirrors.Judged.{typed_of}
+use Rattle.ti_types.specs.Judging.{typed_of, IsJudged}
 use Rattle.ti_types.specs.Mirrors.Arguments.{ToldTypes, told_of, wanted_types, told_refusal, told_called}
 use Rattle.ti_types.specs.Mirrors.Nodes.{told_index, told_other, behind, told_behind, behind_refusal, EndTypes, ends_of, told_rect, told_near}
-use Rattle.ti_types.specs.Mirrors.Walk.{IsJudged, AreArguments, AreRanges}
+use Rattle.ti_types.specs.Mirrors.Walk.{AreArguments, AreRanges}
 use Rattle.ti_lang.proofs.RangeDims.{count_ranges}
 use Rattle.ti_types.proofs.Forms.{call_form, own_call_form, point_form, rect_form, member_form, index_form}
 

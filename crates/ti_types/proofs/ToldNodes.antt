@@ -19,7 +19,8 @@ use Rattle.ti_rules.specs.Broken.Calls.{has_member, arity, argument_refusals, bu
 use Rattle.ti_rules.specs.Broken.Expressions.{other_indices}
 use Rattle.ti_types.specs.Mirrors.Arguments.{first_type, second_type, told, wanted_types}
 use Rattle.ti_types.specs.Mirrors.BuiltIn.{told_member, other_refusals, one_refusals, arguments_by, told_arguments, told_built_in}
-use Rattle.ti_types.specs.Mirrors.Nodes.{told_index, is_index, told_other, behind, told_behind, behind_refusal, EndTypes, ends, ends_before, ranges_told, told_rect, told_near}
+use Rattle.ti_types.specs.Mirrors.Nodes.{told_index, is_index, told_other, behind, told_behind, behind_refusal, EndTypes, ends, ends_before, ranges_told, told_rect, told_near, told_literal}
+use Rattle.ti_types.specs.Judging.{literal}
 use Rattle.ti_types.proofs.Told.{differ, called_is, instance_is}
 
 and_false : (b : Bool) → b && false ≡ false
@@ -250,6 +251,16 @@ are_told p s (MoreRange r NoRange) = single (bound p s r)
 are_told p s (MoreRange r (MoreRange q rest)) =
     let rs = MoreRange r (MoreRange q rest) in
     not_one (range_count rs) (ranges_told p s rs) (bounds p s rs) (differ (range_count rs) 1 (λ e. omega (arith, e))) (in_step p s rs)
+
+literal_of_told : (n : ℕ) (q : Option EndTypes) (w : Option (List ValueType)) → AreTold n q w → option_map (told_literal n) q ≡ option_map (literal n) w
+literal_of_told n None None i = refl
+literal_of_told n (Some e) (Some ts) i = ap Some (λ j. record { type = i.0 j; near = i.1 j })
+literal_of_told n (Some e) None i = absurd i
+literal_of_told n None (Some ts) i = absurd i
+
+-- the literal that ranges are
+pub literal_is : (p : NumberedProgram) (s : ScopeContents) (rs : NumberedRanges) → option_map (told_literal (range_count rs)) (ranges_told p s rs) ≡ option_map (literal (range_count rs)) (bounds p s rs)
+literal_is p s rs = literal_of_told (range_count rs) (ranges_told p s rs) (bounds p s rs) (are_told p s rs)
 
 rect_of : (n : ℕ) (q : Option EndTypes) (w : Option (List ValueType)) → AreTold n q w → option_and_then (told_rect n) q ≡ option_and_then (rect_literal n) w
 rect_of n None None i = refl

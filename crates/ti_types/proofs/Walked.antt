@@ -20,10 +20,10 @@ use Rattle.ti_types.specs.declared.judged.Judged.{Judged}
 use Rattle.ti_types.specs.declared.arguments.Told.{Told}
 use Rattle.ti_types.specs.declared.rects.Bounds.{Bounds}
 use Rattle.ti_types.specs.declared.rects.Ends.{Ends}
-use Rattle.ti_types.specs.Mirrors.Judged.{typed_of}
+use Rattle.ti_types.specs.Judging.{typed_of, IsJudged}
 use Rattle.ti_types.specs.Mirrors.Arguments.{told, told_of, more}
 use Rattle.ti_types.specs.Mirrors.Nodes.{ends, ends_of, ends_before}
-use Rattle.ti_types.specs.Mirrors.Walk.{IsJudged, AreFound, IsRange, AreBounds}
+use Rattle.ti_types.specs.Mirrors.Walk.{AreFound, IsRange, AreBounds}
 use Rattle.ti_types.proofs.Loops.{drop_next}
 use Rattle.ti_types.proofs.Told.{told_step}
 

@@ -9,7 +9,7 @@ ghost use Rattle.ti_rules.specs.First.{sooner as sooner_of, first_of};
 ghost use Rattle.ti_rules.specs.Broken.Misplaced.{misplaced_at};
 ghost use Rattle.ti_rules.specs.Broken.Expressions.{places_of};
 ghost use Rattle.ti_rules.specs.Broken.Calls.{first_misfit};
-ghost use Rattle.ti_types.specs.Mirrors.Judged.{typed_of};
+ghost use Rattle.ti_types.specs.Judging.{typed_of};
 ghost use Rattle.ti_lang.specs.Typing.Seen.{seen};
 ghost use Rattle.ti_types.specs.Mirrors.Arguments.{told_of, told, more, wanted_misfit, types_in, wanted_types, told_takes, told_call, told_params, told_refusal, told_called};
 
@@ -133,7 +133,7 @@ impl<'a> Arguments<'a> {
 
 impl<'a> Judged<'a> {
     /// A form with this receiver, from what is wrong with the form itself.
-    pub fn whole(self, inner: Place, own: Judged<'a>) -> Judged<'a>
+    pub(crate) fn whole(self, inner: Place, own: Judged<'a>) -> Judged<'a>
         ensures known { typed_of result ≡ typed_of own.entry }
         ensures first { result.first ≡ sooner_of self.entry.first (sooner_of (first_of (misplaced_at inner (typed_of self.entry))) own.entry.first) }
     {
@@ -141,7 +141,7 @@ impl<'a> Judged<'a> {
     }
 
     /// A form with this receiver and these arguments.
-    pub fn with(self, inner: Place, found: Arguments<'a>, own: Judged<'a>) -> Judged<'a>
+    pub(crate) fn with(self, inner: Place, found: Arguments<'a>, own: Judged<'a>) -> Judged<'a>
         ensures known { typed_of result ≡ typed_of own.entry }
         ensures first { result.first ≡ sooner_of (sooner_of self.entry.first found.entry.inner) (sooner_of (sooner_of (first_of (misplaced_at inner (typed_of self.entry))) found.entry.misplaced) own.entry.first) }
     {
@@ -191,7 +191,8 @@ fn takes(params: &Params, count: usize, misfit: Option<Refusal>) -> bool
     }
 }
 
-fn result_type(m: &Method) -> Seen<'_>
+/// What a call of a method gives.
+pub fn result_type(m: &Method) -> Seen<'_>
     ensures { seen result ≡ result_type (numbered_method_of m.now) }
 {
     match &m.result {

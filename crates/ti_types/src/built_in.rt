@@ -8,7 +8,7 @@ ghost use Rattle.ti_rules.specs.Broken.Calls.{has_member, arity, copy_refusals, 
 ghost use Rattle.ti_lang.specs.Typing.Seen.{seen, built_in_of};
 ghost use Rattle.ti_types.specs.Mirrors.Arguments.{told_of};
 ghost use Rattle.ti_types.specs.Mirrors.BuiltIn.{arguments_by, told_member, other_refusals, one_refusals, told_arguments, told_built_in};
-ghost use Rattle.ti_types.specs.Mirrors.Judged.{typed_of};
+ghost use Rattle.ti_types.specs.Judging.{typed_of};
 ghost use Rattle.ti_lang.specs.Typing.Expressions.{plain};
 ghost use Rattle.ti_lang.specs.Typing.Kinds.{where_true};
 

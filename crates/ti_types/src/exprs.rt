@@ -5,7 +5,8 @@ ghost use Rattle.ti_lang.specs.Program.Scope.{contents_of};
 ghost use Rattle.ti_lang.specs.Program.Views.{program_of, expression_of, bound_of, numbered_method_of};
 ghost use Rattle.ti_lang.specs.Program.Expressions.{numbered_exps, numbered_ranges};
 ghost use Rattle.ti_types.specs.Mirrors.Arguments.{wanted_types};
-ghost use Rattle.ti_types.specs.Mirrors.Walk.{IsJudged, AreArguments, IsRange, AreRanges};
+ghost use Rattle.ti_types.specs.Mirrors.Walk.{AreArguments, IsRange, AreRanges};
+ghost use Rattle.ti_types.specs.Judging.{IsJudged};
 ghost use Rattle.ti_lang.specs.Typing.Seen.{seen};
 ghost use Rattle.ti_types.specs.Mirrors.Nodes.{behind};
 
@@ -16,7 +17,7 @@ use crate::rects::{Bounds, rect};
 use ti_lang::program::{Expr, Method, Parts, Range, Scope};
 use ti_lang::typing::{Seen, method, method_behind, own_field_type, this_type, variable_type};
 
-/// A program whose expressions are judged.
+/// A program whose expressions are judged by the rules of types, without memory: what is known of them is borrowed.
 #[derive(Clone, Copy)]
 pub struct Judge<'a> {
     pub program: &'a Parts,
@@ -64,7 +65,7 @@ impl<'a> Judge<'a> {
 
     /// What is known of ranges.
     #[cycle(exp)]
-    fn ranges(&self, scope: &'a Scope, rs: &'a [Range]) -> Bounds<'a>
+    pub(crate) fn ranges(&self, scope: &'a Scope, rs: &'a [Range]) -> Bounds<'a>
         ensures { AreRanges (program_of self.now.program.now) (contents_of scope.now) (numbered_ranges (map bound_of rs.now)) result }
     {
         let mut found = Bounds::none();
@@ -85,7 +86,8 @@ impl<'a> Judge<'a> {
         }
     }
 
-    /// What is known of an expression.
+    /// What is known of an expression in a scope: its type, where no rule of types is broken in it, and the one that counts of the
+    /// rules that are. There is no condition: a name that means nothing has no type.
     #[cycle(exp)]
     #[tactic(auto, using(ti_rules::proofs::First::firsts, ti_lang::proofs::ProgramBridges::program_bridges))]
     pub fn exp(&self, scope: &'a Scope, e: &'a Expr) -> Judged<'a>

@@ -12,7 +12,7 @@ ghost use Rattle.ti_rules.specs.Broken.Refused.{judged, both_judged, mistaken as
 ghost use Rattle.ti_rules.specs.Broken.Misplaced.{misplaced_at};
 ghost use Rattle.ti_rules.specs.Broken.Words.{type_word_refusals};
 ghost use Rattle.ti_lang.specs.Typing.Seen.{seen};
-ghost use Rattle.ti_types.specs.Mirrors.Judged.{typed_of};
+ghost use Rattle.ti_types.specs.Judging.{typed_of};
 
 use crate::fitting::casts;
 use crate::operators::{binary_type, unary_type};
@@ -37,7 +37,7 @@ pub struct Judged<'a> {
 
 impl<'a> Judged<'a> {
     /// One that is no call.
-    pub fn plain(ty: Option<Seen<'a>>, first: Option<Refusal>) -> Judged<'a>
+    pub(crate) fn plain(ty: Option<Seen<'a>>, first: Option<Refusal>) -> Judged<'a>
         ensures known { typed_of result ≡ plain (option_map seen ty.entry) }
         ensures first { result.first ≡ first }
     {
@@ -50,7 +50,7 @@ impl<'a> Judged<'a> {
 
     /// One that is no call and breaks no rule.
     #[tactic(auto, unfolding(ti_rules::specs::First::first_of))]
-    pub fn sound(ty: Option<Seen<'a>>) -> Judged<'a>
+    pub(crate) fn sound(ty: Option<Seen<'a>>) -> Judged<'a>
         ensures known { typed_of result ≡ plain (option_map seen ty.entry) }
         ensures first { result.first ≡ first_of [] }
     {
@@ -58,7 +58,7 @@ impl<'a> Judged<'a> {
     }
 
     /// The same, where this counts too of what is broken in it.
-    pub fn behind(self, inner: Option<Refusal>) -> Judged<'a>
+    pub(crate) fn behind(self, inner: Option<Refusal>) -> Judged<'a>
         ensures known { typed_of result ≡ typed_of self.entry }
         ensures first { result.first ≡ sooner_of inner self.entry.first }
     {
@@ -69,7 +69,7 @@ impl<'a> Judged<'a> {
         }
     }
 
-    /// Its type inside another expression.
+    /// Its type inside another expression, where it has one there: a call of a declared method has none, nor has what gives nothing.
     pub fn operand(self) -> Option<Seen<'a>>
         ensures { option_map seen result ≡ operand (typed_of self.entry) }
     {
@@ -82,7 +82,7 @@ impl<'a> Judged<'a> {
         }
     }
 
-    /// A call that can't stand inside another expression.
+    /// A call of a declared method, and what gives nothing, can't stand inside another expression: the rule that it breaks at its place.
     pub fn misplaced(self, place: Place) -> Option<Refusal>
         ensures { result ≡ first_of (misplaced_at place (typed_of self.entry)) }
     {
@@ -95,7 +95,7 @@ impl<'a> Judged<'a> {
 
     /// An operator at a place, before an operand at its own.
     #[tactic(auto, using(ti_rules::proofs::First::firsts))]
-    pub fn unary(self, inner: Place, place: Place, op: UnaryOperator) -> Judged<'a>
+    pub(crate) fn unary(self, inner: Place, place: Place, op: UnaryOperator) -> Judged<'a>
         ensures known { typed_of result ≡ plain (option_and_then (unary_type op) (operand (typed_of self.entry))) }
         ensures first { result.first ≡ sooner_of self.entry.first (first_of (misplaced_at inner (typed_of self.entry) ++ judged (operand (typed_of self.entry)) (λ t. mistaken_at place (is_some (unary_type op t)) false))) }
     {
@@ -110,7 +110,7 @@ impl<'a> Judged<'a> {
 
     /// An operator at a place, between two operands at theirs.
     #[tactic(auto, using(ti_rules::proofs::First::firsts))]
-    pub fn binary(
+    pub(crate) fn binary(
         self,
         inner: Place,
         other: Judged<'a>,
@@ -131,7 +131,7 @@ impl<'a> Judged<'a> {
 
     /// A cast at a place, of an operand at its own.
     #[tactic(auto, using(ti_rules::proofs::First::firsts))]
-    pub fn cast(self, inner: Place, place: Place, to: &'a TypeUse) -> Judged<'a>
+    pub(crate) fn cast(self, inner: Place, place: Place, to: &'a TypeUse) -> Judged<'a>
         ensures known { typed_of result ≡ plain (option_and_then (λ t. where_true (casts_to (type_use_of to.now).type t) (type_use_of to.now).type) (operand (typed_of self.entry))) }
         ensures first { result.first ≡ sooner_of self.entry.first (first_of ((type_word_refusals false (type_use_of to.now) ++ misplaced_at inner (typed_of self.entry)) ++ judged (operand (typed_of self.entry)) (λ t. mistaken_at place (casts_to (type_use_of to.now).type t) (casts_to (one_dim (type_use_of to.now).type) (one_dim t))))) }
     {

@@ -9,7 +9,7 @@ ghost use Rattle.ti_lang.specs.Typing.Expressions.{plain, both, select_type};
 ghost use Rattle.ti_rules.specs.First.{first_of};
 ghost use Rattle.ti_rules.specs.Broken.Refused.{judged, both_judged, mistaken as mistaken_at};
 ghost use Rattle.ti_rules.specs.Broken.Expressions.{places_of};
-ghost use Rattle.ti_types.specs.Mirrors.Judged.{typed_of};
+ghost use Rattle.ti_types.specs.Judging.{typed_of};
 ghost use Rattle.ti_lang.specs.Typing.Seen.{seen};
 ghost use Rattle.ti_types.specs.Mirrors.Arguments.{ToldTypes, told_of};
 ghost use Rattle.ti_types.specs.Mirrors.Nodes.{are_indices, told_index, is_index, told_other, told_behind, behind_refusal};

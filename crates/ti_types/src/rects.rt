@@ -7,9 +7,9 @@ ghost use Rattle.ti_lang.specs.Program.Types.{Pt};
 ghost use Rattle.ti_rules.specs.First.{sooner as sooner_of, first_of};
 ghost use Rattle.ti_rules.specs.Broken.Refused.{judged, mistaken as mistaken_at};
 ghost use Rattle.ti_rules.specs.Broken.Misplaced.{misplaced_at};
-ghost use Rattle.ti_types.specs.Mirrors.Judged.{typed_of};
+ghost use Rattle.ti_types.specs.Judging.{typed_of, literal_of};
 ghost use Rattle.ti_lang.specs.Typing.Seen.{seen};
-ghost use Rattle.ti_types.specs.Mirrors.Nodes.{EndTypes, ends, ends_of, ends_before, told_rect, told_near};
+ghost use Rattle.ti_types.specs.Mirrors.Nodes.{EndTypes, ends, ends_of, ends_before, told_rect, told_near, told_literal};
 
 use crate::arguments::is_int;
 use crate::judged::Judged;
@@ -27,6 +27,24 @@ pub struct Ends<'a> {
     pub range: Option<Seen<'a>>,
     /// It would be one with other numbers of dimensions.
     pub near: bool,
+}
+
+/// What ranges give as a literal.
+#[derive(Clone, Copy)]
+pub struct Literal<'a> {
+    /// The rectangular domain, where their bounds and steps are taken.
+    pub ty: Option<Seen<'a>>,
+    /// Whether these would be taken with other numbers of dimensions.
+    pub near: bool,
+}
+
+/// What is known of ranges that stand as in a literal.
+#[derive(Clone, Copy)]
+pub struct Ranges<'a> {
+    /// What counts of the rules that are broken in them; a call that can't stand there is one.
+    pub first: Option<Refusal>,
+    /// What they give, where all their bounds and steps have types.
+    pub types: Option<Literal<'a>>,
 }
 
 /// What is known of ranges.
@@ -190,6 +208,29 @@ impl<'a> Bounds<'a> {
         ensures first { result.first ≡ sooner_of self.entry.inner (sooner_of self.entry.misplaced own.entry.first) }
     {
         own.behind(self.misplaced).behind(self.inner)
+    }
+
+    /// The literal of these, which are so many.
+    pub fn literal(self, count: usize) -> Ranges<'a>
+        ensures first { result.first ≡ sooner_of self.entry.inner self.entry.misplaced }
+        ensures types { option_map literal_of result.types ≡ option_map (told_literal count) (option_map ends_of self.entry.types) }
+    {
+        Ranges {
+            first: sooner(self.inner, self.misplaced),
+            types: maybe_literal(count, self.types),
+        }
+    }
+}
+
+fn maybe_literal<'a>(count: usize, types: Option<Ends<'a>>) -> Option<Literal<'a>>
+    ensures { option_map literal_of result ≡ option_map (told_literal count) (option_map ends_of types.entry) }
+{
+    match types {
+        Some(types) => Some(Literal {
+            ty: rect_type(count, types),
+            near: is_near(count, types),
+        }),
+        None => None,
     }
 }
 

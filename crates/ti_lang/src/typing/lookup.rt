@@ -97,8 +97,8 @@ fn field_named(fields: &[Field], name: u32) -> Option<&Field>
     None
 }
 
-/// The type of the field of a number.
-fn field_type<'a>(program: &'a Parts, class: u32, field: u32) -> Option<Seen<'a>>
+/// The declared type of the field of a number, in the class of one.
+pub fn field_type<'a>(program: &'a Parts, class: u32, field: u32) -> Option<Seen<'a>>
     ensures { option_map seen result ≡ field_type (program_of program.now) class field }
 {
     match field_at(fields_of(program, class), field as usize) {

@@ -17,6 +17,7 @@ use Rattle.ti_rules.specs.First.{first_of}
 use Rattle.ti_lang.specs.Typing.Alike.{one_dim}
 use Rattle.ti_rules.specs.Broken.Refused.{refused}
 use Rattle.ti_types.specs.declared.rects.Ends.{Ends}
+use Rattle.ti_types.specs.Judging.{LiteralTypes}
 use Rattle.ti_lang.specs.Typing.Seen.{seen}
 use Rattle.ti_types.specs.Mirrors.Arguments.{ToldTypes, told_refusal, told_called}
 use Rattle.ti_types.specs.Mirrors.BuiltIn.{told_member, told_built_in}
@@ -100,3 +101,7 @@ told_rect count e = if e.ints then Some (Rc count) else if count == 1 then e.ran
 -- whether they would give something with other numbers of dimensions
 abbrev pub told_near : ℕ → EndTypes → Bool
 told_near count e = if e.ints then true else if count == 1 then e.near else false
+
+-- what clauses see of the literal that so many ranges are
+abbrev pub told_literal : ℕ → EndTypes → LiteralTypes
+told_literal count e = record { type = told_rect count e; near = told_near count e }

@@ -1,28 +1,22 @@
 -- Nobody has to believe this: it mirrors code, and only contracts of private functions speak of it.
--- What is found of an expression, and of those inside another.
+-- What is found of the expressions inside another.
 use Rattle.std.specs.Prelude.{◌≡◌, List, flat_map, Option, option_map}
 use Rattle.ti_lang.specs.Program.Types.{ValueType}
-use Rattle.ti_lang.specs.Program.Expressions.{NumberedExp, NumberedExps, NumberedRange, NumberedRanges}
+use Rattle.ti_lang.specs.Program.Expressions.{NumberedExps, NumberedRange, NumberedRanges}
 use Rattle.ti_lang.specs.Program.Classes.{NumberedProgram}
 use Rattle.ti_lang.specs.Program.Scope.{ScopeContents}
-use Rattle.ti_lang.specs.Typing.Expressions.{known, operands, bound}
+use Rattle.ti_lang.specs.Typing.Expressions.{operands, bound}
 use Rattle.ti_rules.specs.declared.refusal.Refusal.{Refusal}
 use Rattle.ti_rules.specs.First.{first_of}
 use Rattle.ti_rules.specs.Parts.{parts_of_all, parts_of_range, parts_of_ranges}
 use Rattle.ti_rules.specs.Broken.Misplaced.{all_misplaced, bound_misplaced, bounds_misplaced}
-use Rattle.ti_rules.specs.Broken.Expressions.{places_of, refusals_at, exp_refusals}
-use Rattle.ti_types.specs.declared.judged.Judged.{Judged}
+use Rattle.ti_rules.specs.Broken.Expressions.{places_of, refusals_at}
 use Rattle.ti_types.specs.declared.arguments.Arguments.{Arguments}
 use Rattle.ti_types.specs.declared.arguments.Told.{Told}
 use Rattle.ti_types.specs.declared.rects.Ends.{Ends}
 use Rattle.ti_types.specs.declared.rects.Bounds.{Bounds}
-use Rattle.ti_types.specs.Mirrors.Judged.{typed_of}
 use Rattle.ti_types.specs.Mirrors.Arguments.{told, told_of}
 use Rattle.ti_types.specs.Mirrors.Nodes.{ends, ends_of, ranges_told}
-
--- an expression has this type, or none, and this counts of what is wrong in it
-abbrev pub IsJudged : NumberedProgram → ScopeContents → NumberedExp → Judged → Type 0
-IsJudged p s e j = (typed_of j ≡ known p s e) × (j.first ≡ first_of (exp_refusals p s e))
 
 -- this is found of arguments, where these types are wanted
 abbrev pub AreFound : NumberedProgram → ScopeContents → NumberedExps → List ValueType → Option Refusal → Option Refusal → Option Told → Type 0

@@ -2,7 +2,8 @@ use Rattle.std.proofs.Common.{ap, sym, ◌∙◌, subst, arith, rules, length}
 use Rattle.ti_lang.specs.Program.Scope.{contents_of}
 use Rattle.ti_lang.specs.Program.Views.{program_of, expression_of, bound_of}
 use Rattle.ti_lang.proofs.ProgramBridges.{seen_static_call, seen_own_call, seen_numbered_point, seen_numbered_rect, seen_numbered_member, seen_numbered_index}
-use Rattle.ti_types.specs.Mirrors.Walk.{IsJudged, IsRange}
+use Rattle.ti_types.specs.Mirrors.Walk.{IsRange}
+use Rattle.ti_types.specs.Judging.{IsJudged}
 use Rattle.ti_types.proofs.Walked.{none_found, arguments_back, arguments_end, plain_range, stepped_range, no_ranges, ranges_back, ranges_end}
 use Rattle.ti_types.proofs.Forms.{binary_form}
 use Rattle.ti_types.proofs.Rows.{call_at, own_call_at, point_at, rect_at, member_at, index_at}

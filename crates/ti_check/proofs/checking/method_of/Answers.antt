@@ -1,0 +1,7 @@
+use Rattle.std.proofs.Common.{Some, ap, sym, ◌∙◌}
+use Rattle.ti_lang.specs.Program.Views.{numbered_method_of}
+use Rattle.ti_lang.proofs.Elements.{method_here}
+use Rattle.ti_check.proofs.checking.method_of.Goals as goal
+
+pub returns : goal.returns
+returns c = method_here c.args.methods.now c.args.i c.index-methods-i.result c.requires ∙ ap (λ z. Some (numbered_method_of z)) (sym c.index-methods-i.is)

@@ -1,0 +1,25 @@
+use Rattle.std.proofs.Common.{◌≡◌, List, [], map, Option, None, ap, ◌∙◌}
+use Rattle.std.specs.Option.{option_map_or}
+use Rattle.ti_lang.specs.Program.Classes.{NumberedMethod}
+use Rattle.ti_lang.specs.Program.Scope.{ScopeVariable, ScopeContents, contents_of, parameters, method_scope}
+use Rattle.ti_lang.specs.Program.Statements.{numbered_stms}
+use Rattle.ti_lang.specs.Program.Views.{program_of, statement_of, numbered_method_of}
+use Rattle.ti_rules.specs.Standing.{Around, inside_all, standing_in_method}
+use Rattle.ti_check.specs.declared.found.Found.{Found}
+use Rattle.ti_check.proofs.Heads.{method_found}
+use Rattle.ti_check.proofs.Walked.{same_found}
+use Rattle.ti_check.proofs.methods.method.Goals as goal
+
+pub returns : goal.returns
+returns c =
+    let p = program_of c.args.p.now.parts in
+    let m = numbered_method_of c.args.m.now in
+    let own : Found = record { types = c.sooner.result; single = c.sooner-2.result } in
+    let around : List ScopeVariable → Around = λ v. record { method = m; variables = v; jump_has = None } in
+    let variables = (contents_of c.in_ok-scope.scope).variables in
+    let nowhere : ScopeContents = record { this_class = None; variables = [] } in
+    let is_variables : variables ≡ parameters m.params = ap (λ (s : ScopeContents). s.variables) (c.in_ok-scope.ensures.contents ∙ ap (λ (o : Option NumberedMethod). option_map_or method_scope o nowhere) c.requires.is_method) in
+    method_found p m c.head.result c.end.result c.effects.result c.single_result.result own c.in_ok-body.body c.and.result c.head.ensures c.end.ensures c.sooner.ensures c.effects.ensures c.single_result.ensures c.sooner-2.ensures
+    (same_found p (inside_all p (around variables) (numbered_stms (map statement_of c.deref.result.now))) (standing_in_method p m) c.in_ok-body.body
+    (ap (λ l. inside_all p (around variables) (numbered_stms (map statement_of l))) c.deref.ensures.value ∙ ap (λ v. inside_all p (around v) (numbered_stms m.body)) is_variables) c.in_ok-body.ensures)
+    c.and.ensures.types c.and.ensures.single

@@ -1,0 +1,30 @@
+-- Nobody has to believe this: it mirrors code, and only contracts of private functions speak of it.
+-- What is found of statements.
+use Rattle.std.specs.Prelude.{◌≡◌, List, [], ◌++◌, flat_map}
+use Rattle.ti_lang.specs.Program.Statements.{NumberedStm}
+use Rattle.ti_lang.specs.Program.Statements as st
+use Rattle.ti_lang.specs.Program.Classes.{NumberedProgram}
+use Rattle.ti_rules.specs.declared.refusal.Refusal.{Refusal}
+use Rattle.ti_rules.specs.First.{first_of}
+use Rattle.ti_rules.specs.Standing.{Around, Standing, in_loop, in_foreach, inside, inside_maybe, inside_all}
+use Rattle.ti_rules.specs.Broken.Statements.{standing_refusals}
+use Rattle.ti_rules.specs.SingleRules.{standing_single_refusals}
+use Rattle.ti_check.specs.declared.found.Found.{Found}
+
+-- this counts of what is wrong by the rules of types, and of what is by those of single values
+abbrev pub IsFirst : List Refusal → List Refusal → Found → Type 0
+IsFirst types single f = (f.types ≡ first_of types) × (f.single ≡ first_of single)
+
+-- this is found of statements where they stand
+abbrev pub IsFound : NumberedProgram → List Standing → Found → Type 0
+IsFound p xs f = IsFirst (flat_map (standing_refusals p) xs) (flat_map (standing_single_refusals p) xs) f
+
+-- the statements in a statement, without itself
+abbrev pub below : NumberedProgram → Around → NumberedStm → List Standing
+below p around (st.Block body) = inside_all p around body
+below p around (st.If at c a) = inside p around a
+below p around (st.IfElse at c a b) = inside p around a ++ inside p around b
+below p around (st.While at c body) = inside p (in_loop p around st.NoStm body) body
+below p around (st.For at first c update body) = inside_maybe p around first ++ (inside_maybe p around update ++ inside p (in_loop p around update body) body)
+below p around (st.Foreach at number domain body) = inside p (in_foreach p around number domain body) body
+below p around x = []

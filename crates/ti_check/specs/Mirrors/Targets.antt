@@ -1,0 +1,17 @@
+-- Nobody has to believe this: it mirrors code, and only contracts of private functions speak of it.
+-- What counts of what is wrong with writing a target, by what counts of what is wrong with the value.
+use Rattle.std.specs.Prelude.{◌++◌, if◌then◌else◌, Option}
+use Rattle.ti_base.specs.declared.place.Place.{Place}
+use Rattle.ti_lang.specs.Program.Expressions.{NumberedExp}
+use Rattle.ti_lang.specs.Program.Classes.{NumberedProgram}
+use Rattle.ti_lang.specs.Program.Scope.{ScopeContents}
+use Rattle.ti_rules.specs.declared.rule.Rule.TheVariants.{Y1, Y2, Q2}
+use Rattle.ti_rules.specs.declared.refusal.Refusal.{Refusal}
+use Rattle.ti_rules.specs.First.{sooner, first_of, refused_if}
+use Rattle.ti_rules.specs.Broken.Refused.{refused}
+use Rattle.ti_rules.specs.Broken.Targets.{is_foreach_variable, is_coordinate, is_hidden_local}
+
+abbrev pub written : NumberedProgram → ScopeContents → Place → NumberedExp → Option Refusal → Option Refusal
+written p s at target value =
+    if is_coordinate p s target then first_of (refused Y1 at) else
+    sooner (first_of (refused_if (is_foreach_variable target) Y2 at ++ refused_if (is_hidden_local p s target) Q2 at)) value

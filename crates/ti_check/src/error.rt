@@ -1,0 +1,27 @@
+// Why a program isn't accepted.
+
+use thiserror::Error;
+use ti_base::Memory;
+use ti_rules::Refusal;
+
+/// Why a program isn't accepted.
+#[derive(Debug, Drop, Error)]
+pub enum CheckErr {
+    /// The program breaks a rule of types, qualifiers or single values, and where.
+    #[error("the text is refused")]
+    Refused(Refusal),
+    /// Out of memory.
+    #[error("out of memory")]
+    Memory,
+}
+
+impl From<Memory> for CheckErr {
+    ghost use Rattle.std.specs.Prelude.{◌≡◌};
+    ghost use Rattle.ti_check.specs.declared.error.CheckErr.TheVariants.{Memory};
+
+    ghost from_gives = { λ _ e. e ≡ Memory };
+
+    fn from(_: Memory) -> CheckErr {
+        CheckErr::Memory
+    }
+}

@@ -1,0 +1,19 @@
+//! The rules of types, qualifiers and single values over whole programs.
+#![tactic(auto)]
+
+mod checking;
+mod declarations;
+mod error;
+mod found;
+mod methods;
+mod modifiers;
+mod right_sides;
+mod single;
+mod site;
+mod statements;
+mod targets;
+mod values;
+mod walk;
+
+pub use checking::check;
+pub use error::CheckErr;

@@ -1,0 +1,128 @@
+// Modifiers that can't stand where they do.
+ghost use Rattle.std.specs.Prelude.{◌≡◌, false, [], flat_map};
+ghost use Rattle.ti_lang.specs.Members.{is_single_word, is_static_word};
+ghost use Rattle.ti_rules.specs.First.{first_of};
+ghost use Rattle.ti_rules.specs.Broken.Words.{repeated_modifiers, field_modifier_refusals, method_modifier_refusals};
+ghost use Rattle.ti_check.specs.Mirrors.Modifiers.{met_again, has_met, meeting, nothing_met};
+
+use ti_rules::{Refusal, Rule, refused_if, sooner};
+use ti_syntax::tree::{Modifier, ModifierWord};
+
+/// Which words stand among some modifiers.
+#[derive(Clone, Copy)]
+pub struct Met {
+    pub with_public: bool,
+    pub with_private: bool,
+    pub with_protected: bool,
+    pub with_static: bool,
+    pub with_final: bool,
+    pub with_single: bool,
+}
+
+impl Met {
+    fn none() -> Met
+        ensures { result ≡ record { with_public = false; with_private = false; with_protected = false; with_static = false; with_final = false; with_single = false } }
+    {
+        Met {
+            with_public: false,
+            with_private: false,
+            with_protected: false,
+            with_static: false,
+            with_final: false,
+            with_single: false,
+        }
+    }
+
+    fn has(self, word: ModifierWord) -> bool
+        ensures { result ≡ has_met self word }
+    {
+        match word {
+            ModifierWord::Public => self.with_public,
+            ModifierWord::Private => self.with_private,
+            ModifierWord::Protected => self.with_protected,
+            ModifierWord::Static => self.with_static,
+            ModifierWord::Final => self.with_final,
+            ModifierWord::Single => self.with_single,
+        }
+    }
+
+    fn with(self, word: ModifierWord) -> Met
+        ensures { result ≡ meeting self word }
+    {
+        let mut met = self;
+        match word {
+            ModifierWord::Public => met.with_public = true,
+            ModifierWord::Private => met.with_private = true,
+            ModifierWord::Protected => met.with_protected = true,
+            ModifierWord::Static => met.with_static = true,
+            ModifierWord::Final => met.with_final = true,
+            ModifierWord::Single => met.with_single = true,
+        }
+        met
+    }
+}
+
+fn again(words: &[Modifier]) -> Option<Refusal>
+    ensures { result ≡ first_of (met_again nothing_met words.now) }
+{
+    let mut found = None;
+    let mut met = Met::none();
+    for m in words {
+        found = sooner(found, refused_if(met.has(m.word), Rule::Y7, m.place));
+        met = met.with(m.word);
+    }
+    found
+}
+
+/// Modifiers whose word stands before them.
+pub fn repeated_modifiers(words: &[Modifier]) -> Option<Refusal>
+    ensures { result ≡ first_of (repeated_modifiers [] words.now) }
+{
+    again(words)
+}
+
+fn is_single(word: ModifierWord) -> bool
+    ensures { result ≡ is_single_word word }
+{
+    matches!(word, ModifierWord::Single)
+}
+
+fn is_static(word: ModifierWord) -> bool
+    ensures { result ≡ is_static_word word }
+{
+    matches!(word, ModifierWord::Static)
+}
+
+fn field_modifier(m: Modifier) -> Option<Refusal>
+    ensures { result ≡ first_of (field_modifier_refusals m) }
+{
+    refused_if(is_single(m.word) || is_static(m.word), Rule::Y7, m.place)
+}
+
+/// The modifiers of a field: it is neither single nor static.
+pub fn field_modifiers(words: &[Modifier]) -> Option<Refusal>
+    ensures { result ≡ first_of (flat_map field_modifier_refusals words.now) }
+{
+    let mut found = None;
+    for m in words {
+        found = sooner(found, field_modifier(*m));
+    }
+    found
+}
+
+fn method_modifier(is_static: bool, m: Modifier) -> Option<Refusal>
+    ensures { result ≡ first_of (method_modifier_refusals is_static m) }
+{
+    refused_if(is_single(m.word) && !is_static, Rule::Y7, m.place)
+}
+
+/// The modifiers of a method: one that isn't static isn't single.
+pub fn method_modifiers(is_static: bool, words: &[Modifier]) -> Option<Refusal>
+    ensures { result ≡ first_of (flat_map (method_modifier_refusals is_static) words.now) }
+{
+    let mut found = None;
+    for m in words {
+        found = sooner(found, method_modifier(is_static, *m));
+    }
+    found
+}

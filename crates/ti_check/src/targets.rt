@@ -1,0 +1,125 @@
+// What can be written.
+ghost use Rattle.std.specs.Prelude.{◌≡◌, false};
+ghost use Rattle.std.specs.Option.{option_map, option_map_or, option_and_then};
+ghost use Rattle.ti_lang.specs.Program.Views.{program_of, expression_of};
+ghost use Rattle.ti_lang.specs.Typing.Declared.{field_type};
+ghost use Rattle.ti_lang.specs.Typing.Kinds.{is_point};
+ghost use Rattle.ti_lang.specs.Typing.Seen.{seen};
+ghost use Rattle.ti_rules.specs.Broken.Targets.{is_foreach_variable, is_coordinate, maybe_local, hidden_field, hidden_element, is_hidden_local};
+ghost use Rattle.ti_check.specs.Mirrors.Sites.{program_at, scope_at};
+ghost use Rattle.ti_check.specs.Mirrors.Targets.{written};
+
+use crate::site::Site;
+use ti_base::Place;
+use ti_lang::program::{Declared, Expr, Parts};
+use ti_lang::typing::{Seen, field_type, named_field_type};
+use ti_rules::{Refusal, Rule, refused_if, sooner};
+
+/// Whether this is a variable that a foreach declares.
+#[tactic(auto, using(ti_lang::proofs::ProgramBridges::program_bridges))]
+fn is_foreach_variable(target: &Expr) -> bool
+    ensures { result ≡ is_foreach_variable (expression_of target.now) }
+{
+    match target {
+        Expr::Variable(_, v) => match &v.declared {
+            Declared::Typed { single: _, ty: _ } => false,
+            Declared::Foreach => true,
+        },
+        _ => false,
+    }
+}
+
+fn is_point(t: Option<Seen>) -> bool
+    ensures { result ≡ option_map_or is_point (option_map seen t.entry) false }
+{
+    matches!(t, Some(Seen::Pt(_)))
+}
+
+fn is_local(t: Option<Seen>) -> bool
+    ensures { result ≡ maybe_local (option_map seen t.entry) }
+{
+    match t {
+        Some(t) => t.is_local(),
+        None => false,
+    }
+}
+
+// A field of `this` that is of local type; `this` is global.
+fn is_own_local(program: &Parts, this: Option<u32>, field: u32) -> bool
+    ensures { result ≡ maybe_local (option_and_then (λ c. field_type (program_of program.now) c field) this) }
+{
+    match this {
+        Some(class) => is_local(field_type(program, class, field)),
+        None => false,
+    }
+}
+
+// A field of local type in a global object.
+fn hidden_field(program: &Parts, t: Option<Seen>, name: u32) -> bool
+    ensures { result ≡ hidden_field (program_of program.now) (option_map seen t.entry) name }
+{
+    match t {
+        Some(Seen::Class { class, local }) => {
+            is_local(named_field_type(program, class, name)) && !local
+        }
+        _ => false,
+    }
+}
+
+// Elements of local type in a global grid.
+fn hidden_element(t: Option<Seen>) -> bool
+    ensures { result ≡ hidden_element (option_map seen t.entry) }
+{
+    match t {
+        Some(
+            Seen::Grid {
+                elem,
+                any_dim,
+                dim: _,
+                local,
+            },
+        ) => Seen::of(elem, any_dim).is_local() && !local,
+        _ => false,
+    }
+}
+
+impl<'a> Site<'a> {
+    // A coordinate of a point.
+    #[tactic(auto, using(ti_lang::proofs::ProgramBridges::program_bridges))]
+    fn is_coordinate(self, target: &'a Expr) -> bool
+        ensures { result ≡ is_coordinate (program_at self.entry) (scope_at self.entry) (expression_of target.now) }
+    {
+        match target {
+            Expr::Index { receiver, .. } => is_point(self.target(receiver).ty),
+            _ => false,
+        }
+    }
+
+    // A field or an element of local type that is reached through a global reference.
+    #[tactic(auto, using(ti_lang::proofs::ProgramBridges::program_bridges))]
+    fn is_hidden_local(self, target: &'a Expr) -> bool
+        ensures { result ≡ is_hidden_local (program_at self.entry) (scope_at self.entry) (expression_of target.now) }
+    {
+        match target {
+            Expr::OwnField(_, field) => is_own_local(&self.program.parts, self.this(), *field),
+            Expr::Select { receiver, name, .. } => {
+                hidden_field(&self.program.parts, self.target(receiver).ty, *name)
+            }
+            Expr::Index { receiver, .. } => hidden_element(self.target(receiver).ty),
+            _ => false,
+        }
+    }
+
+    /// What counts of what is wrong with writing a target at an assignment, by what counts of what is wrong with the value.
+    #[tactic(auto, using(ti_rules::proofs::First::firsts))]
+    pub fn write(self, place: Place, target: &'a Expr, value: Option<Refusal>) -> Option<Refusal>
+        ensures { result ≡ written (program_at self.entry) (scope_at self.entry) place (expression_of target.now) value }
+    {
+        if self.is_coordinate(target) {
+            return refused_if(true, Rule::Y1, place);
+        }
+        let of_foreach = refused_if(is_foreach_variable(target), Rule::Y2, place);
+        let hidden = refused_if(self.is_hidden_local(target), Rule::Q2, place);
+        sooner(sooner(of_foreach, hidden), value)
+    }
+}

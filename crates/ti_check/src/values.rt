@@ -1,0 +1,184 @@
+// Expressions of a statement: what counts of the rules of types in them, and whether they are single.
+ghost use Rattle.std.specs.Prelude.{◌≡◌, ◌++◌, map, flat_map, not, false};
+ghost use Rattle.std.specs.Option.{option_map, unwrap_or};
+ghost use Rattle.ti_lang.specs.Members.{only_if};
+ghost use Rattle.ti_lang.specs.Program.Expressions.{numbered_ranges};
+ghost use Rattle.ti_lang.specs.Program.Scope.{this_of};
+ghost use Rattle.ti_lang.specs.Program.Views.{expression_of, bound_of, initial_of, statement_of};
+ghost use Rattle.ti_lang.specs.Typing.Effects.{jump_acts, return_acts};
+ghost use Rattle.ti_lang.specs.Typing.Expressions.{bounds, range_count, operand_type};
+ghost use Rattle.ti_lang.specs.Typing.Kinds.{is_void};
+ghost use Rattle.ti_lang.specs.Typing.Seen.{seen};
+ghost use Rattle.ti_rules.specs.First.{first_of};
+ghost use Rattle.ti_lang.specs.Typing.Singleness.{is_single_part};
+ghost use Rattle.ti_rules.specs.InitialTypes.{value_type};
+ghost use Rattle.ti_rules.specs.Standing.{singles_in};
+ghost use Rattle.ti_rules.specs.Parts.{parts_of_ranges};
+ghost use Rattle.ti_rules.specs.Broken.Expressions.{refusals_at, exp_refusals};
+ghost use Rattle.ti_rules.specs.Broken.Misplaced.{gives_nothing, bounds_misplaced};
+ghost use Rattle.ti_rules.specs.Broken.RightSides.{inner_refusals, value_refusals};
+ghost use Rattle.ti_rules.specs.SingleRules.{is_plain_part, is_plain, is_plain_initial, has_effects};
+ghost use Rattle.ti_single.specs.EffectsAt.{doings_in_loop};
+ghost use Rattle.ti_types.specs.Judging.{IsJudged, literal, literal_of};
+ghost use Rattle.ti_check.specs.Mirrors.Sites.{program_at, around_of, scope_at};
+
+use crate::site::Site;
+use ti_lang::program::{Expr, Init, Range, Stmt};
+use ti_lang::typing::Seen;
+use ti_rules::{Refusal, Rule, refused_if, sooner};
+use ti_single::{
+    doings_in_loop, doings_of_statement, has_global_effects, is_single, is_single_initial,
+    is_single_part, jump_acts, this_of,
+};
+use ti_types::{Judge, Judged, Ranges};
+
+/// A value: its type, where it has one, and what counts of the rules of types that are broken in it.
+#[derive(Clone, Copy)]
+pub struct Value<'a> {
+    pub ty: Option<Seen<'a>>,
+    pub first: Option<Refusal>,
+}
+
+/// Whether this is the type of what gives nothing.
+fn gives_nothing(t: Option<Seen>) -> bool
+    ensures { result ≡ gives_nothing (option_map seen t.entry) }
+{
+    match t {
+        Some(t) => t.is_void(),
+        None => false,
+    }
+}
+
+/// The type, where something is given.
+fn given<'a>(t: Option<Seen<'a>>) -> Option<Seen<'a>>
+    ensures { option_map seen result ≡ only_if (λ u. not (is_void u)) (option_map seen t.entry) }
+{
+    match t {
+        Some(t) => if t.is_void() { None } else { Some(t) },
+        None => None,
+    }
+}
+
+fn or_false(b: Option<bool>) -> bool
+    ensures { result ≡ unwrap_or b false }
+{
+    match b {
+        Some(b) => b,
+        None => false,
+    }
+}
+
+impl<'a> Site<'a> {
+    /// What is known of an expression.
+    pub fn exp(self, e: &'a Expr) -> Judged<'a>
+        ensures { IsJudged (program_at self.entry) (scope_at self.entry) (expression_of e.now) result }
+    {
+        let judge = Judge {
+            program: &self.program.parts,
+        };
+        judge.exp(self.scope, e)
+    }
+
+    /// What is known of ranges that stand as in a literal.
+    pub fn literal(self, ranges: &'a [Range]) -> Ranges<'a>
+        ensures first { result.first ≡ first_of (flat_map (refusals_at (program_at self.entry) (scope_at self.entry)) (parts_of_ranges (numbered_ranges (map bound_of ranges.now))) ++ bounds_misplaced (program_at self.entry) (scope_at self.entry) (numbered_ranges (map bound_of ranges.now))) }
+        ensures types { option_map literal_of result.types ≡ option_map (literal (range_count (numbered_ranges (map bound_of ranges.now)))) (bounds (program_at self.entry) (scope_at self.entry) (numbered_ranges (map bound_of ranges.now))) }
+    {
+        let judge = Judge {
+            program: &self.program.parts,
+        };
+        judge.literal(self.scope, ranges)
+    }
+
+    /// An expression where no call can stand.
+    #[tactic(auto, using(ti_rules::proofs::First::firsts))]
+    pub fn inner(self, e: &'a Expr) -> Value<'a>
+        ensures ty { option_map seen result.ty ≡ operand_type (program_at self.entry) (scope_at self.entry) (expression_of e.now) }
+        ensures first { result.first ≡ first_of (inner_refusals (program_at self.entry) (scope_at self.entry) (expression_of e.now)) }
+    {
+        let judged = self.exp(e);
+        Value {
+            ty: judged.operand(),
+            first: sooner(judged.first, judged.misplaced(e.place())),
+        }
+    }
+
+    /// An expression that is a whole right side: a call that gives something can stand there.
+    #[tactic(auto, using(ti_rules::proofs::First::firsts))]
+    pub fn value(self, e: &'a Expr) -> Value<'a>
+        ensures ty { option_map seen result.ty ≡ value_type (program_at self.entry) (scope_at self.entry) (expression_of e.now) }
+        ensures first { result.first ≡ first_of (value_refusals (program_at self.entry) (scope_at self.entry) (expression_of e.now)) }
+    {
+        let judged = self.exp(e);
+        let nothing = refused_if(gives_nothing(judged.ty), Rule::Y6, e.place());
+        Value {
+            ty: given(judged.ty),
+            first: sooner(judged.first, nothing),
+        }
+    }
+
+    /// A target: its type, and what counts of the rules that are broken in it apart from those of writing.
+    pub fn target(self, e: &'a Expr) -> Value<'a>
+        ensures ty { option_map seen result.ty ≡ operand_type (program_at self.entry) (scope_at self.entry) (expression_of e.now) }
+        ensures first { result.first ≡ first_of (exp_refusals (program_at self.entry) (scope_at self.entry) (expression_of e.now)) }
+    {
+        let judged = self.exp(e);
+        Value {
+            ty: judged.operand(),
+            first: judged.first,
+        }
+    }
+
+    /// Whether an expression inside another one, or a condition, is single.
+    pub fn is_single_inside(self, e: &Expr) -> bool
+        ensures { result ≡ is_single_part (program_at self.entry) (this_of (around_of self.entry).method) (singles_in (scope_at self.entry)) (expression_of e.now) }
+    {
+        is_single_part(self.program, self.scope, e)
+    }
+
+    /// Whether it is plain.
+    pub fn is_plain_part(self, e: &Expr) -> bool
+        ensures { result ≡ is_plain_part (program_at self.entry) (around_of self.entry) (expression_of e.now) }
+    {
+        !self.is_single_inside(e)
+    }
+
+    /// Whether an expression that is a whole right side is plain.
+    pub fn is_plain(self, e: &Expr) -> bool
+        ensures { result ≡ is_plain (program_at self.entry) (around_of self.entry) (expression_of e.now) }
+    {
+        !is_single(self.program, self.scope, e)
+    }
+
+    /// Whether a right side is plain.
+    pub fn is_plain_initial(self, value: &Init) -> bool
+        ensures { result ≡ is_plain_initial (program_at self.entry) (around_of self.entry) (initial_of value.now) }
+    {
+        !is_single_initial(self.program, self.scope, value)
+    }
+
+    /// The class of `this`, where there is one.
+    pub fn this(self) -> Option<u32>
+        ensures { result ≡ this_of (around_of self.entry).method }
+    {
+        this_of(self.method)
+    }
+
+    /// Whether a statement has global effects.
+    pub fn has_effects(self, x: &Stmt) -> bool
+        ensures { result ≡ has_effects (program_at self.entry) (around_of self.entry) (statement_of x.now) }
+    {
+        let jump_has = or_false(self.jump_has);
+        let this = self.this();
+        let doings = doings_of_statement(self.program, this, x);
+        has_global_effects(self.return_has, jump_has, doings)
+    }
+
+    /// Whether a loop has global effects, and a jump out of it one.
+    pub fn loop_acts(self, x: &Stmt) -> bool
+        ensures { result ≡ jump_acts (return_acts (program_at self.entry) (around_of self.entry).method) (doings_in_loop (program_at self.entry) (around_of self.entry).method (statement_of x.now)) }
+    {
+        let doings = doings_in_loop(self.program, self.method, x);
+        jump_acts(self.return_has, doings)
+    }
+}
