@@ -469,7 +469,7 @@ reads_nothing job c x from = record {
   nothing_of_missing = λ _. x.text;
   four_only_where = λ is. absurd (never NoMemory c 4 from (λ e. omega arith) (λ e. omega arith) is);
   missing = λ _. yields NoMemory c from (λ same. inr (inl same)) inr;
-  same_files = subst (λ s. SameFiles c.source s) (sym x.source) (record { same = refl; tells = refl });
+  same_files = subst (λ s. SameFiles c.source s) (sym x.source) (record { tells = refl; files = refl });
 }
 
 -- it answers as one whose words are a command, and as one whose words are none

@@ -28,7 +28,7 @@ use Rattle.ti_names.specs.declared.error.NameErr.{NameErr}
 use Rattle.ti_names.specs.declared.error.NameErr.TheVariants as names
 use Rattle.ti_names.specs.Answer.{Resolves}
 use Rattle.ti_lang.specs.declared.program.numbered.Program.{Program}
-use Rattle.ti_check.specs.Answer.{Checks}
+use Rattle.ti_check.specs.Answer.{GivesChecked}
 use Rattle.ti_check.specs.declared.error.CheckErr.{CheckErr}
 use Rattle.ti_check.specs.declared.error.CheckErr.TheVariants as checker
 use Rattle.ti_words.specs.declared.job.Mode.TheVariants.{Run}
@@ -79,12 +79,12 @@ not_named known text tree (names.Refused refusal) has first = refused known text
 not_named known text tree names.Memory has first = tt
 
 -- its program breaks a rule
-pub not_checked : OneAnswer → (text : List ℕ) (tree : Tree) (p : Program) (e : CheckErr) → HasTree text (tree_of tree) → HasNone (BreaksNames (tree_of tree)) → Numbers (tree_of tree) (program_of p.parts) → Checks p (Err e) → Compiles text (Err (of_check e))
+pub not_checked : OneAnswer → (text : List ℕ) (tree : Tree) (p : Program) (e : CheckErr) → HasTree text (tree_of tree) → HasNone (BreaksNames (tree_of tree)) → Numbers (tree_of tree) (program_of p.parts) → GivesChecked p (Err e) → Compiles text (Err (of_check e))
 not_checked known text tree p (checker.Refused refusal) has named numbers is = refused known text refusal (of_tree has (of_program named numbers is))
 not_checked known text tree p checker.Memory has named numbers is = tt
 
 -- it breaks none
-pub is_compiled : (text : List ℕ) (tree : Tree) (p : Program) (c : Compiled) → c.tree ≡ tree → HasTree text (tree_of tree) → HasNone (BreaksNames (tree_of tree)) → Numbers (tree_of tree) (program_of p.parts) → Checks p (Ok c.checked) → IsCompiled text c
+pub is_compiled : (text : List ℕ) (tree : Tree) (p : Program) (c : Compiled) → c.tree ≡ tree → HasTree text (tree_of tree) → HasNone (BreaksNames (tree_of tree)) → Numbers (tree_of tree) (program_of p.parts) → GivesChecked p (Ok c.checked) → IsCompiled text c
 is_compiled text tree p c same has named numbers checks = record {
   has_tree = subst (λ t. HasTree text (tree_of t)) (sym same) has;
   named = subst (λ t. HasNone (BreaksNames (tree_of t))) (sym same) named;
@@ -102,12 +102,14 @@ compiled known text c is = (is, λ refusal other. known.never_both text (program
 
 -- a form of the program isn't built
 pub not_listed : OneAnswer → (text : List ℕ) (c : Compiled) (refusal : Refusal) → IsCompiled text c → IsFirstRefusal (HasUnbuilt (tree_of c.tree)) refusal → Lists text (Err (Refused refusal))
+unfolding has_program
 not_listed known text c refusal is first =
     let unbuilt : IsUnbuiltRefusal text refusal = of_forms (has_program text c is) first in
     (unbuilt, λ listing has. known.never_unbuilt text listing refusal has unbuilt)
 
 -- all are
 pub listed : OneAnswer → (text : List ℕ) (c : Compiled) (listing : Listing) → IsCompiled text c → HasNone (HasUnbuilt (tree_of c.tree)) → IsListing (program_of c.checked.program.parts) (listed_program listing) → Lists text (Ok listing)
+unfolding has_program
 listed known text c listing is built lists =
     let has : HasListing text (listed_program listing) = record { program = program_of c.checked.program.parts; has_program = has_program text c is; built = built; is_listing = lists } in
     record {

@@ -7,6 +7,7 @@ use crate::work::work;
 use std::alloc::{AllocGlobal, Global};
 use ti_base::Entry;
 use ti_io::{Sink, Source};
+use ti_lang::aligned;
 use ti_words::{WordsErr, read_words};
 
 /// What the command did.
@@ -64,6 +65,7 @@ pub fn titan_top<R: AllocGlobal, S: Source, K: Sink>(
       history = result.history.items;
     }) }
 {
+    aligned();
     let alloc = rt.alloc();
     let job = match read_words(alloc, words) {
         Ok(job) => job,
