@@ -22,6 +22,8 @@ mod refused_expressions;
 #[cfg(test)]
 mod refused_statements;
 #[cfg(test)]
+mod regions_and_rounds;
+#[cfg(test)]
 mod reports;
 #[cfg(test)]
 mod rules_and_faults;
