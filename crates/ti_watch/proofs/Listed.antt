@@ -1,8 +1,11 @@
--- Texts of two or three dimensions with `,` between them.
+-- Texts of one, two or three dimensions with `,` between them.
 use Rattle.std.proofs.Common.{◌≡◌, ◌≢◌, ℕ, zero, suc, List, [], ◌∷◌, ◌++◌, take, refl, append_assoc, arith}
 use Rattle.std.proofs.lemmas.List.{take_all}
 use Rattle.std.specs.Prelude.{codes}
 use Rattle.ti_watch.specs.Texts.{listed}
+
+pub one_listed : (line : List ℕ) (dim : ℕ) (a b c : List ℕ) → dim ≡ 1 → line ++ a ≡ line ++ listed (take dim (a ∷ b ∷ c ∷ []))
+one_listed line dim a b c one = rw one refl
 
 pub two_listed : (line : List ℕ) (dim : ℕ) (a b c : List ℕ) → dim ≡ 2 → line ++ a ++ codes "," ++ b ≡ line ++ listed (take dim (a ∷ b ∷ c ∷ []))
 two_listed line dim a b c two = rw two (simp append_assoc)

@@ -1,6 +1,7 @@
 // Statistics: how many entries there are of each act.
-ghost use Rattle.std.specs.Prelude.{◌≡◌, [], ◌++◌, length, take, vec_len, count_by, flat_map, bytes_eq, OnOk};
+ghost use Rattle.std.specs.Prelude.{◌≡◌, ◌+◌, ◌≤◌, [], ◌++◌, length, take, vec_len, count_by, flat_map, bytes_eq, OnOk};
 ghost use Rattle.ti_watch.specs.Acts.{word_of};
+ghost use Rattle.ti_watch.specs.Mirrors.{line_room};
 ghost use Rattle.ti_watch.specs.Reports.{number_text, count_text, stats_text};
 
 use crate::Watch;
@@ -49,14 +50,24 @@ fn count_of(entries: &[Entry], word: &str) -> usize
     entries.iter().filter(|e| act_word(e.act) == word).count()
 }
 
+impl Line {
+    // Adds a number behind a blank, with the line end.
+    fn last_number(&mut self, n: usize)
+        requires { length self.old + 22 ≤ line_room }
+        ensures { self.new ≡ self.old ++ number_text n }
+    {
+        self.text(b" ");
+        self.number(n);
+        self.text(b"\n");
+    }
+}
+
 // A number behind a blank, with the line end.
 fn number_line(n: usize) -> Line
     ensures { result ≡ number_text n }
 {
     let mut line = Line::new();
-    line.text(b" ");
-    line.number(n);
-    line.text(b"\n");
+    line.last_number(n);
     line
 }
 

@@ -1,5 +1,6 @@
 // Traces: a line for each entry.
-ghost use Rattle.std.specs.Prelude.{◌≡◌, [], ◌++◌, take, vec_len, OnOk};
+ghost use Rattle.std.specs.Prelude.{◌≡◌, ◌+◌, ◌≤◌, [], ◌++◌, length, take, vec_len, OnOk};
+ghost use Rattle.ti_watch.specs.Mirrors.{line_room};
 ghost use Rattle.ti_watch.specs.Reports.{entry_text, trace_text};
 
 use crate::Watch;
@@ -34,22 +35,32 @@ impl TraceWatch {
     }
 }
 
+impl Line {
+    // Adds the line of an entry.
+    #[tactic(auto, unfolding(crate::specs::Reports::entry_text))]
+    fn entry(&mut self, number: usize, e: &Entry)
+        requires { length self.old + 345 ≤ line_room }
+        ensures { self.new ≡ self.old ++ entry_text number e.now }
+    {
+        self.number(number);
+        self.text(b" p");
+        self.number(e.proc);
+        self.text(b" ");
+        self.place(e.place);
+        self.text(b" ");
+        self.act(e.act);
+        self.text(b" -> ");
+        self.answer(e.answer);
+        self.text(b"\n");
+    }
+}
+
 // The line of an entry.
-#[tactic(auto, unfolding(crate::specs::Reports::entry_text))]
 fn entry_line(number: usize, e: &Entry) -> Line
     ensures { result ≡ entry_text number e.now }
 {
     let mut line = Line::new();
-    line.number(number);
-    line.text(b" p");
-    line.number(e.proc);
-    line.text(b" ");
-    line.place(e.place);
-    line.text(b" ");
-    line.act(e.act);
-    line.text(b" -> ");
-    line.answer(e.answer);
-    line.text(b"\n");
+    line.entry(number, e);
     line
 }
 
