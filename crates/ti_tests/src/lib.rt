@@ -24,6 +24,10 @@ mod refused_expressions;
 #[cfg(test)]
 mod refused_statements;
 #[cfg(test)]
+mod regions_and_rounds;
+#[cfg(test)]
+mod reports;
+#[cfg(test)]
 mod rules_and_faults;
 #[cfg(test)]
 mod sinks_and_sources;

@@ -1,0 +1,73 @@
+// The text of the program of a seed.
+ghost use Rattle.std.specs.Prelude.{◌≡◌, ◌++◌, IfOk, OnOk};
+ghost use Rattle.ti_gen.specs.Source.{next, step_text, steps_text, source_text, steps};
+
+use itoa::Buffer;
+use std::alloc::Global;
+use ti_base::Memory;
+
+/// How many steps the program has.
+const STEPS: u32 = 200;
+
+/// What stands before the steps.
+const HEAD: &[u8] = b"class Main {
+  public static single void main(String[] args) {
+    int me = Ti.thisProc();
+    int single n = Ti.numProcs();
+    int [1d] a = new int [0:19];
+    int [1d] [1d] all = new int [0:n - 1] [1d];
+    all.exchange(a);
+    int s = 0;
+";
+
+/// What stands behind them.
+const TAIL: &[u8] = b"    println(s);
+  }
+}
+";
+
+// The number that follows another one.
+fn next_number(x: u32) -> u32
+    ensures { result ≡ next x }
+{
+    ((1664525 * u64::from(x) + 1013904223) % (1 << 32)) as u32
+}
+
+// Adds the lines of a step.
+fn add_step(text: &mut Vec<u8>, factor: u32, index: u32) -> Result<(), Memory>
+    ensures { OnOk result (text.new.items ≡ text.old.items ++ step_text factor index) }
+{
+    let mut buffer = Buffer::new();
+    text.extend_from_slice(b"    foreach (p in a.domain()) a[p] = a[p] + ")?;
+    text.extend_from_slice(buffer.format(factor).as_bytes())?;
+    text.extend_from_slice(b" * (me + p[1]);\n    Ti.barrier();\n")?;
+    text.extend_from_slice(b"    s = s + all[(me + 1) % n][")?;
+    text.extend_from_slice(buffer.format(index).as_bytes())?;
+    text.extend_from_slice(b"];\n    Ti.barrier();\n")?;
+    Ok(())
+}
+
+// Adds the lines of all steps.
+fn add_steps(text: &mut Vec<u8>, seed: u32) -> Result<(), Memory>
+    ensures { OnOk result (text.new.items ≡ text.old.items ++ steps_text seed steps) }
+{
+    let mut x = seed;
+    for step in 0..STEPS {
+        let first = next_number(x);
+        x = next_number(first);
+        add_step(text, first / 65536, x / 65536 % 20)?;
+    }
+    Ok(())
+}
+
+/// The text of the program of a seed: 200 steps, each of which changes a grid of the process and then adds
+/// up an element of its neighbour's, with a factor and an index that the seed decides.
+pub fn gen_source(alloc: Global, seed: u32) -> Result<Vec<u8>, Memory>
+    ensures { IfOk result (λ text. text.items ≡ source_text seed) }
+{
+    let mut text = Vec::new(alloc);
+    text.extend_from_slice(HEAD)?;
+    add_steps(&mut text, seed)?;
+    text.extend_from_slice(TAIL)?;
+    Ok(text)
+}

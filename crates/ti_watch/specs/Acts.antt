@@ -1,0 +1,110 @@
+-- How acts and answers are written in reports.
+use Rattle.std.specs.Prelude.{ℕ, List, [], ◌++◌, Option, Some, None, codes, decimal}
+use Rattle.std.specs.Fmt.{signed_decimal}
+use Rattle.ti_base.specs.declared.action.Action.{Action}
+use Rattle.ti_base.specs.declared.action.Action.TheVariants as act
+use Rattle.ti_base.specs.declared.action.CollKind.{CollKind}
+use Rattle.ti_base.specs.declared.action.CollKind.TheVariants.{Barrier, Broadcast, Exchange, MakeRegion, DeleteRegion}
+use Rattle.ti_base.specs.declared.action.Deposit.{Deposit}
+use Rattle.ti_base.specs.declared.action.Deposit.TheVariants.{Nothing, One, Count}
+use Rattle.ti_base.specs.declared.action.ViewHow.{ViewHow}
+use Rattle.ti_base.specs.declared.action.ViewHow.TheVariants.{Restrict, Translate, Slice}
+use Rattle.ti_base.specs.declared.entry.Answer.{Answer}
+use Rattle.ti_base.specs.declared.entry.Answer.TheVariants.{Done, Val}
+use Rattle.ti_base.specs.declared.point.Point.{Point}
+use Rattle.ti_base.specs.declared.point.Rect.{Rect}
+use Rattle.ti_base.specs.declared.value.Id.{Id}
+use Rattle.ti_base.specs.declared.value.Value.{Value}
+use Rattle.ti_base.specs.declared.value.Zero.{Zero}
+use Rattle.ti_base.specs.FaultNames.{name_of}
+use Rattle.ti_watch.specs.Texts.{point_text, rect_text, object_text, grid_text, value_text, zero_text}
+
+-- the word of an act
+abbrev pub word_of : Action → List ℕ
+word_of (act.GetField obj field) = codes "getField"
+word_of (act.PutField obj field value) = codes "putField"
+word_of (act.NewObj class region) = codes "newObj"
+word_of (act.NewGrid zero domain region) = codes "newGrid"
+word_of (act.GetElem grid at) = codes "getElem"
+word_of (act.PutElem grid at value) = codes "putElem"
+word_of (act.MakeView grid how) = codes "makeView"
+word_of (act.DomainOf grid) = codes "domainOf"
+word_of (act.Print literal value) = codes "print"
+word_of (act.Arrive kind arg deposit) = codes "arrive"
+word_of act.Depart = codes "depart"
+word_of (act.Take who) = codes "take"
+word_of act.End = codes "end"
+word_of (act.Fault kind) = codes "fault"
+
+-- ---- operands, each behind a blank
+
+-- what may be absent is written as `-` then
+abbrev pub optional : {A : Type 0} → (A → List ℕ) → Option A → List ℕ
+optional text None = codes "-"
+optional text (Some x) = text x
+
+abbrev pub literal_text : ℕ → List ℕ
+literal_text number = codes "s" ++ decimal number
+
+abbrev pub collective_text : CollKind → List ℕ
+collective_text Barrier = codes "barrier"
+collective_text Broadcast = codes "broadcast"
+collective_text Exchange = codes "exchange"
+collective_text MakeRegion = codes "makeRegion"
+collective_text DeleteRegion = codes "deleteRegion"
+
+-- what a process gives at its arrival
+abbrev pub deposit_text : Deposit → List ℕ
+deposit_text Nothing = codes "-"
+deposit_text (One value) = value_text value
+deposit_text (Count n) = codes "count:" ++ decimal n
+
+-- how a view is made
+abbrev pub view_text : ViewHow → List ℕ
+view_text (Restrict r) = codes "restrict " ++ rect_text r
+view_text (Translate by) = codes "translate " ++ point_text by
+view_text (Slice k j) = codes "slice " ++ signed_decimal k ++ codes " " ++ signed_decimal j
+
+abbrev pub field_text : Id → ℕ → List ℕ
+field_text obj field = codes " " ++ object_text obj ++ codes " " ++ decimal field
+
+abbrev pub element_text : Id → Point → List ℕ
+element_text grid at = codes " " ++ grid_text grid ++ codes " " ++ point_text at
+
+abbrev pub new_grid_text : Zero → Rect → ℕ → List ℕ
+new_grid_text zero domain region = codes " " ++ zero_text zero ++ codes " " ++ rect_text domain ++ codes " " ++ decimal region
+
+abbrev pub view_of_text : Id → ViewHow → List ℕ
+view_of_text grid how = codes " " ++ grid_text grid ++ codes " " ++ view_text how
+
+abbrev pub print_text : Option ℕ → Option Value → List ℕ
+print_text literal value = codes " " ++ optional literal_text literal ++ codes " " ++ optional value_text value
+
+abbrev pub arrival_text : CollKind → Option ℕ → Deposit → List ℕ
+arrival_text kind arg deposit = codes " " ++ collective_text kind ++ codes " " ++ optional decimal arg ++ codes " " ++ deposit_text deposit
+
+-- all operands of an act
+abbrev pub operands_text : Action → List ℕ
+operands_text (act.GetField obj field) = field_text obj field
+operands_text (act.PutField obj field value) = field_text obj field ++ codes " " ++ value_text value
+operands_text (act.NewObj class region) = codes " " ++ decimal class ++ codes " " ++ decimal region
+operands_text (act.NewGrid zero domain region) = new_grid_text zero domain region
+operands_text (act.GetElem grid at) = element_text grid at
+operands_text (act.PutElem grid at value) = element_text grid at ++ codes " " ++ value_text value
+operands_text (act.MakeView grid how) = view_of_text grid how
+operands_text (act.DomainOf grid) = codes " " ++ grid_text grid
+operands_text (act.Print literal value) = print_text literal value
+operands_text (act.Arrive kind arg deposit) = arrival_text kind arg deposit
+operands_text act.Depart = []
+operands_text (act.Take who) = codes " " ++ decimal who
+operands_text act.End = []
+operands_text (act.Fault kind) = codes " " ++ name_of kind
+
+-- ---- acts and answers
+
+abbrev pub act_text : Action → List ℕ
+act_text a = word_of a ++ operands_text a
+
+abbrev pub answer_text : Answer → List ℕ
+answer_text Done = codes "done"
+answer_text (Val value) = value_text value

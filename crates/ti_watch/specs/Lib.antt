@@ -1,0 +1,4 @@
+pub mod Acts
+pub mod Mirrors
+pub mod Reports
+pub mod Texts

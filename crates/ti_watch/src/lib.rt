@@ -1,0 +1,13 @@
+//! Watchers: they are told the entries of a run one by one, and report on them.
+#![tactic(auto)]
+
+mod acts;
+mod line;
+mod stats;
+mod trace;
+mod values;
+mod watch;
+
+pub use stats::StatsWatch;
+pub use trace::TraceWatch;
+pub use watch::Watch;

@@ -1,0 +1,100 @@
+// Traces: a line for each entry.
+ghost use Rattle.std.specs.Prelude.{◌≡◌, ◌+◌, ◌≤◌, [], ◌++◌, length, take, vec_len, OnOk};
+ghost use Rattle.ti_watch.specs.Mirrors.{line_room};
+ghost use Rattle.ti_watch.specs.Reports.{entry_text, trace_text};
+
+use crate::Watch;
+use crate::line::Line;
+use std::alloc::Global;
+use std::marker::Model;
+use ti_base::{Entry, Memory};
+
+/// Lists the entries, a line for each. Its kind is 0.
+#[derive(Drop)]
+pub struct TraceWatch {
+    told: Vec<Entry>,
+}
+
+impl Model for TraceWatch {
+    ghost use Rattle.std.specs.Prelude.{List};
+    ghost use Rattle.ti_base.specs.declared.entry.Entry.{Entry};
+
+    ghost Value = { List Entry };
+
+    ghost view = { λ watch. watch.told.items };
+}
+
+impl TraceWatch {
+    /// A watcher that was told nothing.
+    pub fn new(alloc: Global) -> Self
+        ensures { result ≡ [] }
+    {
+        TraceWatch {
+            told: Vec::new(alloc),
+        }
+    }
+}
+
+impl Line {
+    // Adds the line of an entry.
+    #[tactic(auto, unfolding(crate::specs::Reports::entry_text))]
+    fn entry(&mut self, number: usize, e: &Entry)
+        requires { length self.old + 345 ≤ line_room }
+        ensures { self.new ≡ self.old ++ entry_text number e.now }
+    {
+        self.number(number);
+        self.text(b" p");
+        self.number(e.proc);
+        self.text(b" ");
+        self.place(e.place);
+        self.text(b" ");
+        self.act(e.act);
+        self.text(b" -> ");
+        self.answer(e.answer);
+        self.text(b"\n");
+    }
+}
+
+// The line of an entry.
+fn entry_line(number: usize, e: &Entry) -> Line
+    ensures { result ≡ entry_text number e.now }
+{
+    let mut line = Line::new();
+    line.entry(number, e);
+    line
+}
+
+// Adds the lines of these entries, or some bytes.
+fn add_lines(entries: &[Entry], out: &mut Vec<u8>) -> Result<(), Memory>
+    ensures text { OnOk result (out.new.items ≡ out.old.items ++ trace_text entries.now) }
+    ensures kept { take (vec_len out.old) out.new.items ≡ out.old.items }
+{
+    for (number, e) in entries.iter().enumerate() {
+        out.extend_from_slice(entry_line(number, e).as_slice())?;
+    }
+    Ok(())
+}
+
+impl Watch for TraceWatch {
+    ghost kind_of = { λ _. 0 };
+
+    ghost told = { λ watch. watch };
+
+    fn kind(&self) -> u8 {
+        0
+    }
+
+    fn see(&mut self, e: &Entry) -> Result<(), Memory> {
+        self.told.push(*e)?;
+        Ok(())
+    }
+
+    fn report(&self, out: &mut Vec<u8>) -> Result<(), Memory> {
+        let len = out.len();
+        if add_lines(&self.told, out).is_err() {
+            out.truncate(len);
+            return Err(Memory);
+        }
+        Ok(())
+    }
+}
