@@ -1,5 +1,5 @@
 -- The last statement of a list.
-use Rattle.std.proofs.Common.{◌≡◌, ℕ, suc, ◌-◌, ◌<◌, List, [], ◌∷◌, map, length, get_or, refl, ap, sym, ◌∙◌, arith}
+use Rattle.std.proofs.Common.{◌≡◌, suc, ◌-◌, ◌<◌, List, [], ◌∷◌, map, length, get_or, refl, ap, sym, ◌∙◌, arith}
 use Rattle.ti_lang.specs.declared.program.stmts.Stmt.{Stmt}
 use Rattle.ti_lang.specs.Program.Views.{statement_of}
 use Rattle.ti_rules.specs.TypeRules.{is_return, ends_with_return}

@@ -5,7 +5,7 @@ use Rattle.ti_lang.specs.Program.Types.{ValueType, Pt, Rc, Dm, Class, Grid}
 use Rattle.ti_lang.specs.Typing.Alike.{one_dim}
 use Rattle.ti_lang.specs.Typing.Kinds.{where_true}
 use Rattle.ti_lang.specs.Typing.Expressions.{both, all_ints, all_points, range_of_points, rect_literal}
-use Rattle.ti_rules.specs.InitialTypes.{is_region, Spread, Over, Ranged, grid_over, spread_type, new_grid_type}
+use Rattle.ti_rules.specs.InitialTypes.{is_region, Spread, Over, Ranged, grid_over, new_grid_type}
 use Rattle.ti_rules.specs.Broken.Refused.{both_judged, mistaken}
 use Rattle.ti_rules.specs.Broken.RightSides.{one_dim_spread}
 use Rattle.ti_types.specs.Judging.{LiteralTypes}

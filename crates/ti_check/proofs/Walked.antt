@@ -14,7 +14,7 @@ use Rattle.ti_lang.specs.Program.Classes.{NumberedProgram}
 use Rattle.ti_lang.specs.Program.Views.{expression_of, statement_of}
 use Rattle.ti_rules.specs.declared.refusal.Refusal.{Refusal}
 use Rattle.ti_rules.specs.First.{sooner, first_of, refused_if}
-use Rattle.ti_rules.specs.Standing.{Around, Standing, stands, inside, inside_maybe, inside_all}
+use Rattle.ti_rules.specs.Standing.{Around, Standing, stands, inside, inside_all}
 use Rattle.ti_rules.specs.declared.rule.Rule.TheVariants.{S1}
 use Rattle.ti_rules.specs.Broken.Statements.{statement_refusals, standing_refusals}
 use Rattle.ti_rules.specs.SingleRules.{has_effects, is_plain_part, single_refusals_at, standing_single_refusals}

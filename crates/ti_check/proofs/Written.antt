@@ -1,5 +1,5 @@
 -- What counts of what is wrong with writing a target, by what counts of what is wrong with the value.
-use Rattle.std.proofs.Common.{◌≡◌, Bool, true, false, List, ◌++◌, if◌then◌else◌, Option, refl, sym, ap, ◌∙◌}
+use Rattle.std.proofs.Common.{◌≡◌, Bool, true, false, List, ◌++◌, if◌then◌else◌, refl, sym}
 use Rattle.ti_base.specs.declared.place.Place.{Place}
 use Rattle.ti_lang.specs.Program.Expressions.{NumberedExp}
 use Rattle.ti_lang.specs.Program.Classes.{NumberedProgram}

@@ -1,4 +1,4 @@
-use Rattle.std.proofs.Common.{length, map, slice_get, ap, sym, ◌∙◌, arith}
+use Rattle.std.proofs.Common.{slice_get, ap, sym, ◌∙◌, arith}
 use Rattle.std.proofs.lemmas.List.{length-map}
 use Rattle.ti_lang.specs.Program.Views.{program_of, numbered_method_of}
 use Rattle.ti_rules.specs.TypeRules.{method_refusals}

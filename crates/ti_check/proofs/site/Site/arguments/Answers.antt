@@ -1,4 +1,4 @@
-use Rattle.std.proofs.Common.{sym, ap, ◌∙◌, arith}
+use Rattle.std.proofs.Common.{ap, ◌∙◌, arith}
 use Rattle.ti_rules.specs.First.{sooner}
 use Rattle.ti_check.specs.Mirrors.Sites.{program_at, around_of}
 use Rattle.ti_types.proofs.Loops.{none_sooner}

@@ -9,7 +9,7 @@ use Rattle.ti_rules.specs.Broken.Words.{type_word_refusals}
 use Rattle.ti_rules.specs.Broken.RightSides.{region_refusals, dims_refusals, one_dim_spread}
 use Rattle.ti_rules.proofs.First.{first_append}
 use Rattle.ti_types.specs.Judging.{LiteralTypes, literal_of}
-use Rattle.ti_check.specs.Mirrors.RightSides.{told_spread, told_grid, told_near}
+use Rattle.ti_check.specs.Mirrors.RightSides.{told_grid, told_near}
 use Rattle.ti_check.specs.Mirrors.Sites.{program_at, scope_at}
 use Rattle.ti_check.proofs.Grids.{grid_told, grid_refused}
 use Rattle.ti_check.proofs.site.Site.new_grid.Goals as goal
