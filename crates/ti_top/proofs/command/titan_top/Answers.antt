@@ -1,4 +1,4 @@
-use Rattle.std.proofs.Common.{ℕ, List, [], refl, sym, subst}
+use Rattle.std.proofs.Common.{ℕ, List, [], map, string_bytes, Global, refl, sym, subst}
 use Rattle.ti_top.specs.declared.ending.Ending.TheVariants.{NoCommand, NoMemory}
 use Rattle.ti_top.specs.Mirrors.Ended.{Ended}
 use Rattle.ti_top.proofs.ClausesMet.{meets_no_command, meets_command, meets_unread}
@@ -13,14 +13,14 @@ returns-in-Err-Usage g c =
 
 pub returns-in-Err-Memory : goal.returns-in-Err-Memory
 returns-in-Err-Memory g c =
-    meets_unread _ (λ job command. (in_ranges _ job command).procs_some)
+    meets_unread _ (λ job command. (in_ranges (map (string_bytes {Z = Global}) c.args.words.now) job command).procs_some)
     (record { source = refl; text = c.nothing-in-Err-Memory.ensures.text; nothing = record { unwritten = refl; no_entry = c.nothing-in-Err-Memory.ensures.history } })
     (subst (λ (s : ℕ). Ended NoMemory [] (g.K.Sink.state c.args.err.now) (g.K.Sink.state c.end_with-in-Err-Memory.new.err) s) (sym c.nothing-in-Err-Memory.ensures.status) c.end_with-in-Err-Memory.ensures)
 
 pub work-worked-requires : goal.work-worked-requires
-work-worked-requires g c = in_ranges _ c.in-Ok.job c.in-Ok.ensures.job
+work-worked-requires g c = in_ranges (map (string_bytes {Z = Global}) c.args.words.now) c.in-Ok.job c.in-Ok.ensures.job
 
 pub returns : goal.returns
 returns g c =
-    meets_command c.work-worked.result.ending c.in-Ok.job _ c.in-Ok.ensures.job (in_ranges _ c.in-Ok.job c.in-Ok.ensures.job).procs_some c.aligned.ensures c.work-worked.ensures
+    meets_command c.work-worked.result.ending c.in-Ok.job _ c.in-Ok.ensures.job (in_ranges (map (string_bytes {Z = Global}) c.args.words.now) c.in-Ok.job c.in-Ok.ensures.job).procs_some c.aligned.ensures c.work-worked.ensures
     (subst (λ (file : List ℕ). Ended c.work-worked.result.ending file (g.K.Sink.state c.args.err.now) (g.K.Sink.state c.end_with-status.new.err) c.end_with-status.result) c.as_str.ensures c.end_with-status.ensures)
