@@ -6,3 +6,5 @@ pub mod Repeated
 pub mod Told
 pub mod ToldNodes
 pub mod Walked
+pub mod Taken
+pub mod WordsAlone
