@@ -13,11 +13,11 @@ use Rattle.ti_base.specs.Rects.{IsRect, HasPoints, IsIn, is_empty, empty_rect, o
 use Rattle.ti_base.specs.Cells.{has_coordinate, view_domain, seen_point}
 use Rattle.ti_rect.proofs.NumberLists.{on_from, on_to}
 use Rattle.ti_rect.proofs.PointLists.{first_step, second_step, third_step}
-use Rattle.ti_rect.proofs.RectLaws.{low_on, none_in, none_on, full, full_of, unused_second, unused_third, point_in}
+use Rattle.ti_rect.proofs.RectLaws.{low_on, none_in, none_on, full, full_of, point_in}
 use Rattle.ti_rect.proofs.TestLaws.{any_of}
 use Rattle.ti_grid.specs.declared.layout.Layout.{Layout}
 use Rattle.ti_grid.specs.MirrorsNumbers.{steps_to, number_of}
-use Rattle.ti_grid.specs.Views.{HasCoordinate, SomeHas, IsLaid, IsSeen}
+use Rattle.ti_grid.specs.Views.{SomeHas, IsLaid, IsSeen}
 use Rattle.ti_rect.proofs.ViewLaws.{view_inside}
 use Rattle.ti_grid.proofs.SeenLaws.{is_laid, is_seen}
 

@@ -1,5 +1,5 @@
 -- The view of a whole block numbers the points in their rising list.
-use Rattle.std.proofs.Common.{◌≡◌, ◌↔◌, ℕ, ◌+◌, ◌*◌, ◌<◌, ◌≤◌, Bool, true, false, if◌then◌else◌, ℤ, pos, ◌+ℤ◌, [], ◌∷◌, List, map, length, slice_index, Option, Some, None, IfSome, refl, sym, ap, subst, ◌∙◌, arith}
+use Rattle.std.proofs.Common.{◌≡◌, ℕ, ◌+◌, ◌*◌, ◌<◌, ◌≤◌, Bool, true, false, if◌then◌else◌, ℤ, List, map, length, slice_index, Option, Some, None, IfSome, refl, sym, ap, subst, ◌∙◌, arith}
 use Rattle.std.specs.Option.{option_map}
 use Rattle.std.specs.List.{slice_get, flat_map}
 use Rattle.std.proofs.lemmas.Int.{ints}
@@ -8,7 +8,7 @@ use Rattle.std.proofs.lemmas.List.{length-map}
 use Rattle.std.proofs.lemmas.Option.{slice_get-map, slice_get_within, same_Some}
 use Rattle.ti_base.specs.declared.point.Point.{Point}
 use Rattle.ti_base.specs.declared.point.Rect.{Rect}
-use Rattle.ti_base.specs.Ranges.{Range, IsOn, IsRange, count_on, numbers_from, numbers_on}
+use Rattle.ti_base.specs.Ranges.{Range, IsOn, IsRange, count_on, numbers_on}
 use Rattle.ti_base.specs.Rects.{IsRect, HasPoints, IsIn, is_in, points_of, first_range, second_range, third_range}
 use Rattle.ti_base.proofs.PointLaws.{length_points}
 use Rattle.ti_rect.proofs.AxisLaws.{count_some}

@@ -1,5 +1,5 @@
 -- Heaps in which one thing is new or another.
-use Rattle.std.proofs.Common.{◌≡◌, ⊎_elim, ℕ, ◌==◌, Bool, true, false, if◌then◌else◌, List, length, Option, Some, None, refl, sym, ap, subst, ◌∙◌}
+use Rattle.std.proofs.Common.{◌≡◌, ⊎_elim, ℕ, Bool, true, false, if◌then◌else◌, List, length, Option, Some, None, refl, sym, ap, subst, ◌∙◌}
 use Rattle.std.specs.List.{slice_get}
 use Rattle.std.specs.Option.{option_map, option_and_then}
 use Rattle.std.proofs.lemmas.Bool.{cases_eq, false_from_ne_true, both_ways}
@@ -9,9 +9,9 @@ use Rattle.ti_base.specs.Cells.{same_id}
 use Rattle.ti_grid.specs.declared.layout.Layout.{Layout}
 use Rattle.ti_grid.specs.Views.{NumbersBelow}
 use Rattle.ti_heap.specs.declared.thing.Thing.{Thing}
-use Rattle.ti_heap.specs.declared.thing.Thing.TheVariants.{Object, Block, Seen, Gone}
-use Rattle.ti_heap.specs.Contents.{Cell, GridMap, Made, Contents}
-use Rattle.ti_heap.specs.Things.{Things, is_named, named, live, values_of, layout_of, held_in, layout_in, grid_in, map_of, IsBacked, IsSound}
+use Rattle.ti_heap.specs.declared.thing.Thing.TheVariants.{Block}
+use Rattle.ti_heap.specs.Contents.{Cell, GridMap, Contents}
+use Rattle.ti_heap.specs.Things.{Things, is_named, named, live, values_of, layout_of, held_in, grid_in, map_of, IsBacked, IsSound}
 use Rattle.ti_heap.proofs.Names.{same_ids, id_self, one_name}
 
 -- the thing with this maker and serial is t, and the others are as before

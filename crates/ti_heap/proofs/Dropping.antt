@@ -1,8 +1,7 @@
 -- Without what lies in a region.
-use Rattle.std.proofs.Common.{◌≡◌, ℕ, ◌<◌, eqb, Bool, true, false, if◌then◌else◌, List, [], ◌∷◌, map, Option, Some, None, refl, sym, ap, subst, ◌∙◌, arith}
+use Rattle.std.proofs.Common.{◌≡◌, ℕ, eqb, Bool, true, false, if◌then◌else◌, List, [], ◌∷◌, map, Option, Some, None, refl, sym, ap, ◌∙◌}
 use Rattle.std.specs.List.{slice_get}
 use Rattle.std.specs.Option.{option_map, option_and_then, option_map_or}
-use Rattle.std.proofs.lemmas.Bool.{both_ways, eqb-true, eq-eqb}
 use Rattle.std.proofs.lemmas.List.{length-map}
 use Rattle.std.proofs.lemmas.Option.{slice_get-map}
 use Rattle.ti_base.specs.declared.value.Id.{Id}
@@ -10,8 +9,8 @@ use Rattle.ti_base.specs.declared.value.Value.{Value}
 use Rattle.ti_grid.specs.declared.layout.Layout.{Layout}
 use Rattle.ti_heap.specs.declared.thing.Thing.{Thing}
 use Rattle.ti_heap.specs.declared.thing.Thing.TheVariants.{Object, Block, Seen, Gone}
-use Rattle.ti_heap.specs.Contents.{Cell, GridMap, Made, Contents, dropped_made, without_region}
-use Rattle.ti_heap.specs.Things.{Things, thing_at, is_named, named, live, values_of, region_of, layout_of, made_of, dropped, map_of, share_of, made_in, contents, IsBacked, IsSound}
+use Rattle.ti_heap.specs.Contents.{Cell, GridMap, dropped_made, without_region}
+use Rattle.ti_heap.specs.Things.{thing_at, is_named, named, live, values_of, region_of, layout_of, made_of, dropped, map_of, made_in, contents, IsBacked, IsSound}
 use Rattle.ti_heap.proofs.Names.{named_region}
 use Rattle.ti_heap.proofs.Changes.{same_contents, through_if}
 

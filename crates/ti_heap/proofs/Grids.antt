@@ -1,21 +1,20 @@
 -- Grids as maps from points to cells.
-use Rattle.std.proofs.Common.{◌≡◌, ℕ, ◌<◌, Bool, false, if◌then◌else◌, List, length, Option, Some, None, IsSome, refl, sym, ap, subst, ◌∙◌}
+use Rattle.std.proofs.Common.{◌≡◌, ℕ, ◌<◌, false, if◌then◌else◌, length, Some, None, IsSome, sym, ap, subst, ◌∙◌}
 use Rattle.std.specs.List.{slice_get}
 use Rattle.std.specs.Option.{option_map, option_and_then, is_some}
 use Rattle.std.proofs.lemmas.Option.{slice_get-get_or}
 use Rattle.ti_base.specs.declared.point.Point.{Point}
 use Rattle.ti_base.specs.declared.point.Rect.{Rect}
 use Rattle.ti_base.specs.declared.value.Id.{Id}
-use Rattle.ti_base.specs.declared.value.Value.{Value}
 use Rattle.ti_base.specs.declared.value.Value.TheVariants as v
 use Rattle.ti_base.specs.declared.action.ViewHow.{ViewHow}
 use Rattle.ti_base.specs.Rects.{is_in, points_of}
 use Rattle.ti_base.specs.Cells.{view_domain, seen_point}
 use Rattle.ti_grid.specs.declared.layout.Layout.{Layout}
-use Rattle.ti_grid.specs.Views.{cell_number, place_in, IsWhole, IsSeen, NumbersBelow}
+use Rattle.ti_grid.specs.Views.{cell_number, place_in, IsWhole, IsSeen}
 use Rattle.ti_heap.specs.declared.thing.Thing.{Thing}
 use Rattle.ti_heap.specs.declared.thing.Thing.TheVariants.{Block}
-use Rattle.ti_heap.specs.Contents.{Cell, cell_at, GridMap, whole_map, seen_map}
+use Rattle.ti_heap.specs.Contents.{cell_at, whole_map, seen_map}
 use Rattle.ti_heap.specs.Things.{Things, live, values_of, held_in, map_of, IsBacked}
 use Rattle.ti_heap.proofs.Changes.{through_if}
 

@@ -1,7 +1,7 @@
 -- The cells of a region in a list.
 use Rattle.std.proofs.Common.{◌≡◌, ◌⊎◌, inl, inr, ⊎_elim, ◌↔◌, ℕ, zero, suc, ◌+◌, eqb, Bool, true, false, if◌then◌else◌, List, [], ◌∷◌, ◌++◌, map, Option, Some, None, IsSome, refl, sym, ap, subst, ◌∙◌, arith}
 use Rattle.std.specs.List.{slice_get, flat_map}
-use Rattle.std.specs.Option.{option_map, option_and_then, is_some}
+use Rattle.std.specs.Option.{option_and_then, is_some}
 use Rattle.std.proofs.lemmas.Bool.{and_from, eqb-true, eq-eqb}
 use Rattle.std.proofs.lemmas.List.{map-append}
 use Rattle.ti_base.specs.declared.value.Id.{Id}
@@ -9,7 +9,7 @@ use Rattle.ti_base.specs.declared.value.Value.{Value}
 use Rattle.ti_heap.specs.declared.thing.Thing.{Thing}
 use Rattle.ti_heap.specs.declared.thing.Thing.TheVariants.{Object, Block, Seen, Gone}
 use Rattle.ti_heap.specs.Contents.{Cell, cell_at, IsAmong, AreApart, ListsCells}
-use Rattle.ti_heap.specs.Things.{Things, thing_at, is_named, named, live, values_of, region_of, values_in, all_values_in, held_in, contents}
+use Rattle.ti_heap.specs.Things.{thing_at, is_named, named, live, values_of, region_of, values_in, all_values_in, held_in, contents}
 use Rattle.ti_heap.proofs.Costs.{has_some}
 use Rattle.ti_heap.proofs.Names.{one_name, named_region, live_then}
 use Rattle.ti_heap.proofs.Puts.{share_then, held_then}

@@ -1,8 +1,10 @@
 -- One more thing.
-use Rattle.std.proofs.Common.{◌≡◌, ⊎_elim, ℕ, ◌+◌, eqb, Bool, true, false, if◌then◌else◌, List, [], ◌∷◌, ◌++◌, map, length, replicate, set, OnOk, OnErr, Result, Ok, Err, Option, Some, None, refl, sym, ap, subst, ◌∙◌, zero, suc}
+use Rattle.std.proofs.Common.{◌≡◌, ⊎_elim, ℕ, ◌+◌, ◌<◌, IsSome, eqb, Bool, true, if◌then◌else◌, List, [], ◌∷◌, ◌++◌, map, length, replicate, set, OnOk, OnErr, Result, Ok, Err, Option, Some, None, refl, sym, ap, subst, ◌∙◌, zero, suc, arith}
 use Rattle.std.specs.List.{slice_get}
-use Rattle.std.specs.Option.{option_map, option_and_then, option_map_or}
-use Rattle.std.proofs.lemmas.Bool.{cases_eq, eq-eqb, ne_eqb}
+use Rattle.std.specs.Option.{option_map, option_and_then, option_map_or, is_some}
+use Rattle.std.proofs.lemmas.Option.{slice_get-get_or}
+use Rattle.ti_base.specs.Cells.{same_id}
+use Rattle.std.proofs.lemmas.Bool.{cases_eq, eq-eqb, ne_eqb, false_from_ne_true}
 use Rattle.std.proofs.lemmas.List.{map-append, length-map, length-replicate}
 use Rattle.ti_base.specs.declared.value.Id.{Id}
 use Rattle.ti_base.specs.declared.value.Value.{Value}
@@ -10,10 +12,10 @@ use Rattle.ti_grid.specs.declared.layout.Layout.{Layout}
 use Rattle.ti_grid.specs.Views.{NumbersBelow}
 use Rattle.ti_heap.specs.declared.thing.Thing.{Thing}
 use Rattle.ti_heap.specs.declared.thing.Thing.TheVariants.{Object, Block, Seen, Gone}
-use Rattle.ti_heap.specs.Contents.{Cell, Contents, Made, with_thing, nothing}
-use Rattle.ti_heap.specs.Things.{Things, thing_at, is_named, named, live, values_of, region_of, layout_of, made_of, map_of, share_of, made_in, contents, changed_at, IsBacked, IsSound, HasBacking}
+use Rattle.ti_heap.specs.Contents.{cell_at, GridMap, Contents, Made, with_thing, nothing}
+use Rattle.ti_heap.specs.Things.{thing_at, is_named, named, live, values_of, layout_of, made_of, map_of, layout_in, share_of, made_in, contents, changed_at, IsBacked, IsSound, HasBacking}
 use Rattle.ti_heap.proofs.Lists.{get_changed, get_unchanged, length_changed, set_changed, set_same, get_last, get_front, no_more}
-use Rattle.ti_heap.proofs.Names.{named_region}
+use Rattle.ti_heap.proofs.Names.{named_region, same_ids, id_self}
 use Rattle.ti_heap.proofs.Changes.{Changed, same_contents, live_there, held_changed, grid_changed, still_backed, still_sound}
 
 pushed : (h : List (List Thing)) (p : ℕ) (things : List Thing) (t : Thing) → slice_get h p ≡ Some things
@@ -138,3 +140,32 @@ new_contents n =
     (λ c. ap (λ (o : Option Thing). option_and_then (λ (u : Thing). slice_get (values_of u) c.number) (option_and_then (named c.thing) o)) (no_things n c.thing.maker c.thing.serial))
     (λ id. ap (λ (o : Option Thing). option_map map_of (option_and_then layout_of (option_and_then (named id) o))) (no_things n id.maker id.serial))
     (λ p. ap (map made_of) (no_share n p))
+
+-- ---- what a maker's equation says of names
+
+module _ (after before : Contents) (id : Id) (values : List Value) (grid : Option GridMap) (is : after ≡ with_thing id values grid before) where
+  pub grid_there : after.grid id ≡ grid
+  grid_there = ap (λ (s : Contents). s.grid id) is ∙ ap (λ (b : Bool). if b then grid else before.grid id) (id_self id)
+
+  pub grid_kept : (other : Id) → (other ≡ id → ⊥) → after.grid other ≡ before.grid other
+  grid_kept other apart =
+      ap (λ (s : Contents). s.grid other) is ∙ ap (λ (b : Bool). if b then grid else before.grid other) (false_from_ne_true (same_id other id) (λ t. apart (same_ids other id t)))
+
+  pub value_there : (n : ℕ) → n < length values → IsSome (after.held (cell_at id n))
+  value_there n h = by values h (ap (λ (s : Contents). s.held (cell_at id n)) is ∙ ap (λ (b : Bool). if b then slice_get values n else before.held (cell_at id n)) (id_self id))
+    where
+      by : (vs : List Value) → n < length vs → after.held (cell_at id n) ≡ slice_get vs n → IsSome (after.held (cell_at id n))
+      by [] l e = absurd (omega arith)
+      by (v ∷ vs) l e = ap is_some (e ∙ slice_get-get_or (v ∷ vs) n v l)
+
+-- no grid has the name of the next thing
+pub not_next : (h : List (List Thing)) (id grid : Id) (l : Layout) → id.serial ≡ length (made_in h id.maker) → layout_in (thing_at h) grid ≡ Some l → grid ≡ id → ⊥
+not_next h id grid l next there same =
+    let none : thing_at h id.maker id.serial ≡ None = ap (thing_at h id.maker) (next ∙ length-map (share_of h id.maker) made_of) ∙ by (slice_get h id.maker) in
+    let gone : layout_in (thing_at h) id ≡ None = ap (λ (o : Option Thing). option_and_then layout_of (option_and_then (named id) o)) none in
+    let f : None ≡ Some l = sym gone ∙ ap (layout_in (thing_at h)) (sym same) ∙ there in
+    cc
+  where
+    by : (o : Option (List Thing)) → option_and_then (λ (ts : List Thing). slice_get ts (length (option_map_or (λ (us : List Thing). us) o []))) o ≡ None
+    by None = refl
+    by (Some ts) = no_more ts

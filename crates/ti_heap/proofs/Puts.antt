@@ -1,5 +1,5 @@
 -- Another value in a cell.
-use Rattle.std.proofs.Common.{◌≡◌, ⊎_elim, ℕ, ◌+◌, ◌<◌, eqb, IsSome, Bool, true, false, ◌&&◌, if◌then◌else◌, List, [], ◌∷◌, map, length, set, Option, Some, None, refl, sym, ap, subst, ◌∙◌, zero, suc, length-set}
+use Rattle.std.proofs.Common.{◌≡◌, ⊎_elim, ℕ, ◌+◌, eqb, IsSome, Bool, true, false, ◌&&◌, if◌then◌else◌, List, [], ◌∷◌, map, length, set, Option, Some, None, refl, sym, ap, subst, ◌∙◌, zero, suc, length-set}
 use Rattle.std.specs.List.{slice_get}
 use Rattle.std.specs.Option.{option_map, option_and_then, option_map_or}
 use Rattle.std.proofs.lemmas.Bool.{cases_eq, eq-eqb, ne_eqb, false_from_ne_true}
@@ -9,8 +9,8 @@ use Rattle.ti_base.specs.Cells.{same_id}
 use Rattle.ti_grid.specs.declared.layout.Layout.{Layout}
 use Rattle.ti_heap.specs.declared.thing.Thing.{Thing}
 use Rattle.ti_heap.specs.declared.thing.Thing.TheVariants.{Object, Block, Seen, Gone}
-use Rattle.ti_heap.specs.Contents.{Cell, cell_at, same_cell, Contents, Made, with_value}
-use Rattle.ti_heap.specs.Things.{Things, thing_at, is_named, named, live, values_of, layout_of, made_of, put_in, held_in, grid_in, map_of, share_of, made_in, contents, changed_at, IsSound}
+use Rattle.ti_heap.specs.Contents.{Cell, cell_at, same_cell, Made, with_value}
+use Rattle.ti_heap.specs.Things.{Things, thing_at, is_named, named, live, values_of, layout_of, made_of, put_in, held_in, grid_in, map_of, made_in, contents, changed_at, IsSound}
 use Rattle.ti_heap.proofs.Lists.{get_changed, get_unchanged, length_changed, map_changed, set_changed}
 use Rattle.ti_heap.proofs.Costs.{has_some}
 use Rattle.ti_heap.proofs.Names.{same_ids, one_name, live_then}

@@ -2,6 +2,7 @@
 
 ghost use Rattle.std.specs.Prelude.{◌≡◌, ◌↔◌, IsErr, Some, IsSome, IsSomeAnd};
 ghost use Rattle.std.specs.Option.{option_map};
+ghost use Rattle.ti_base.specs.declared.value.Id.{Id};
 ghost use Rattle.ti_base.specs.Rects.{IsIn};
 ghost use Rattle.ti_heap.specs.Contents.{grid_cell, Reads, Writes};
 ghost use Rattle.ti_heap.specs.Things.{contents};
@@ -30,6 +31,7 @@ impl Heap {
     pub fn put_elem(&mut self, grid: Id, at: &Point, v: Value) -> Result<(), FaultKind>
         requires { IsSomeAnd ((contents self.old).grid grid) (λ g. at.now.dim ≡ g.domain.dim) }
         ensures value { Writes (contents self.old) (grid_cell grid at.now (contents self.old)) v result (contents self.new) }
+        ensures kept { (id : Id) → (contents self.new).grid id ≡ (contents self.old).grid id }
         ensures bounds { IsSomeAnd ((contents self.old).grid grid) (λ g. IsErr result ↔ (IsIn g.domain at.now → ⊥)) }
     {
         let view = self.view(grid);

@@ -47,7 +47,7 @@ impl Heap {
     }
 
     /// What each process made.
-    pub fn shares(&self) -> &[Share]
+    pub(crate) fn shares(&self) -> &[Share]
         ensures shares { result.now ≡ self.now }
         ensures sound { IsSound (thing_at self.now) }
     {
@@ -64,7 +64,7 @@ impl Heap {
     }
 
     /// What a cell holds.
-    pub fn value(&self, id: Id, i: u64) -> Value
+    pub(crate) fn value(&self, id: Id, i: u64) -> Value
         requires { IsSome (held_in (thing_at self.now) (cell_at id i)) }
         ensures { held_in (thing_at self.now) (cell_at id i) ≡ Some result }
     {
@@ -72,7 +72,7 @@ impl Heap {
     }
 
     /// The grid with this name, as a view of a block.
-    pub fn view(&self, grid: Id) -> &View
+    pub(crate) fn view(&self, grid: Id) -> &View
         requires { IsSome (layout_in (thing_at self.now) grid) }
         ensures layout { layout_in (thing_at self.now) grid ≡ Some result.now }
         ensures backed { IsBacked (thing_at self.now) result.now }
@@ -86,7 +86,7 @@ impl Heap {
     }
 
     /// How many things the process has made.
-    pub fn count(&self, p: u32) -> u64
+    pub(crate) fn count(&self, p: u32) -> u64
         requires { p < length self.now }
         ensures { result ≡ length ((contents self.now).made p) }
     {
@@ -95,7 +95,7 @@ impl Heap {
     }
 
     /// Whether so much more of the process would cost too much.
-    pub fn is_full(&self, p: u32, cells: u64) -> bool
+    pub(crate) fn is_full(&self, p: u32, cells: u64) -> bool
         requires { p < length self.now }
         ensures { result ≡ nat_lt 1048576 (cost_of p (contents self.now) + cells) }
     {
@@ -104,7 +104,7 @@ impl Heap {
     }
 
     /// Another value in a cell.
-    pub fn put(&mut self, id: Id, i: u64, value: Value)
+    pub(crate) fn put(&mut self, id: Id, i: u64, value: Value)
         requires { IsSome (held_in (thing_at self.old) (cell_at id i)) }
         ensures { contents self.new ≡ with_value (cell_at id i) value (contents self.old) }
     {
@@ -113,7 +113,7 @@ impl Heap {
     }
 
     /// One more thing, by its name. On want of memory nothing changes.
-    pub fn push(&mut self, id: Id, thing: Thing) -> Result<(), Memory>
+    pub(crate) fn push(&mut self, id: Id, thing: Thing) -> Result<(), Memory>
         requires here { id.maker < length self.old }
         requires next { id.serial ≡ length (share_of self.old id.maker) }
         requires named { is_named id thing ≡ true }

@@ -1,13 +1,13 @@
 // Calls that make things.
 
-ghost use Rattle.std.specs.Prelude.{◌≡◌, ◌+◌, ◌<◌, nat_lt, true, map, replicate, length, [], IfOk, OnErr, IsSomeAnd, Some, None, if◌then◌else◌};
+ghost use Rattle.std.specs.Prelude.{◌≡◌, ℕ, ◌+◌, ◌<◌, IsSome, nat_lt, true, map, replicate, length, [], IfOk, OnErr, IsSomeAnd, Some, None, if◌then◌else◌};
 ghost use Rattle.std.specs.Option.{option_map};
 ghost use Rattle.std.specs.Result.{result_err};
 ghost use Rattle.ti_base.specs.Rects.{IsRect, points_of};
 ghost use Rattle.ti_base.specs.Cells.{zero_value, suits, view_fault};
 ghost use Rattle.ti_rect.specs.Views.{IsView};
 ghost use Rattle.ti_grid.specs.Views.{IsSeen};
-ghost use Rattle.ti_heap.specs.Contents.{FaultsAs, new_fault, seen_fault, own_id, view_id, with_thing, whole_map, seen_map, cost_of};
+ghost use Rattle.ti_heap.specs.Contents.{FaultsAs, new_fault, seen_fault, own_id, view_id, with_thing, whole_map, seen_map, cost_of, cell_at};
 ghost use Rattle.ti_heap.specs.Things.{contents};
 
 use crate::error::HeapErr;
@@ -82,6 +82,7 @@ impl Heap {
         ensures fault { FaultsAs (new_fault p (length zeros.now) (contents self.old)) result }
         ensures id { IfOk result (λ id. id ≡ own_id p region (contents self.old)) }
         ensures made { IfOk result (λ id. contents self.new ≡ with_thing id (map zero_value zeros.now) None (contents self.old)) }
+        ensures there { IfOk result (λ id. (field : ℕ) → field < length zeros.now → IsSome ((contents self.new).held (cell_at id field))) }
         ensures err { OnErr result (self.new ≡ self.old) }
     {
         if self.is_full(p, 1 + zeros.len() as u64) {
@@ -110,6 +111,7 @@ impl Heap {
         ensures fault { FaultsAs (new_fault p (length (points_of dom.now)) (contents self.old)) result }
         ensures id { IfOk result (λ id. id ≡ own_id p region (contents self.old)) }
         ensures made { IfOk result (λ id. contents self.new ≡ with_thing id (replicate (length (points_of dom.now)) (zero_value zero)) (Some (whole_map id dom.now)) (contents self.old)) }
+        ensures there { IfOk result (λ id. (contents self.new).grid id ≡ Some (whole_map id dom.now)) }
         ensures err { OnErr result (self.new ≡ self.old) }
     {
         let count = match self.room_for(p, dom) {
@@ -135,6 +137,8 @@ impl Heap {
         ensures fault { IsSomeAnd ((contents self.old).grid grid) (λ g. FaultsAs (seen_fault p how g (contents self.old)) result) }
         ensures id { IfOk result (λ id. id ≡ view_id p grid (contents self.old)) }
         ensures made { IfOk result (λ id. contents self.new ≡ with_thing id [] (option_map (seen_map how) ((contents self.old).grid grid)) (contents self.old)) }
+        ensures there { IfOk result (λ id. (contents self.new).grid id ≡ option_map (seen_map how) ((contents self.old).grid grid)) }
+        ensures kept { (contents self.new).grid grid ≡ (contents self.old).grid grid }
         ensures err { OnErr result (self.new ≡ self.old) }
     {
         let view = match seen(self.view(grid), how) {

@@ -1,7 +1,6 @@
 use Rattle.std.proofs.Common.{◌≡◌, ℕ, ◌<◌, true, false, Option, Some, IfSome, sym, ap, subst, ◌∙◌}
 use Rattle.ti_base.specs.Rects.{IsIn}
 use Rattle.ti_grid.specs.declared.layout.Layout.{Layout}
-use Rattle.ti_grid.specs.MirrorsNumbers.{number_of}
 use Rattle.ti_grid.specs.Views.{IsLaid, cell_number}
 use Rattle.ti_grid.proofs.SeenLaws.{cell_at, no_cell, differ}
 use Rattle.ti_grid.proofs.numbers.index_of.Goals as goal

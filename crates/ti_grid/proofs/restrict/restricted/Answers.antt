@@ -1,4 +1,4 @@
-use Rattle.std.proofs.Common.{◌≡◌, ℕ, ◌+◌, ◌*◌, ◌<◌, slice_index, refl, sym, subst, arith}
+use Rattle.std.proofs.Common.{slice_index, refl, sym, subst, arith}
 use Rattle.ti_base.specs.Ranges.{Range, IsOn, IsRange}
 use Rattle.ti_base.specs.Rects.{first_range, second_range, third_range}
 use Rattle.ti_rect.specs.Axes.{range}

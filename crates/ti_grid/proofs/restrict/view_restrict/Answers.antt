@@ -1,4 +1,4 @@
-use Rattle.std.proofs.Common.{◌≡◌, true, false, refl, sym, ap, subst, ◌∙◌}
+use Rattle.std.proofs.Common.{◌≡◌, true, refl, sym, ap, subst, ◌∙◌}
 use Rattle.std.proofs.lemmas.Bool.{eq-eqb}
 use Rattle.ti_base.specs.declared.point.Point.{Point}
 use Rattle.ti_base.specs.declared.point.Rect.{Rect}
@@ -8,7 +8,7 @@ use Rattle.ti_rect.proofs.RectLaws.{none_in}
 use Rattle.ti_rect.proofs.ViewLaws.{view_inside}
 use Rattle.ti_grid.specs.declared.layout.Layout.{Layout}
 use Rattle.ti_grid.specs.MirrorsNumbers.{number_of}
-use Rattle.ti_grid.specs.Views.{IsLaid, IsSeen}
+use Rattle.ti_grid.specs.Views.{IsSeen}
 use Rattle.ti_grid.proofs.SeenLaws.{is_laid, is_seen}
 use Rattle.ti_grid.proofs.restrict.view_restrict.Goals as goal
 use Rattle.ti_grid.proofs.restrict.view_restrict.Goals.{After-is_empty, After-restricted}

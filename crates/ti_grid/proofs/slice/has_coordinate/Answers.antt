@@ -1,7 +1,6 @@
-use Rattle.std.proofs.Common.{◌≡◌, ◌↔◌, inl, inr, refl, ap, sym, subst, arith, rules, true}
+use Rattle.std.proofs.Common.{arith, rules}
 use Rattle.std.specs.Int.{w32}
 use Rattle.std.proofs.lemmas.Int.{ints, to_z-of_z}
-use Rattle.ti_base.specs.Ranges.{Range, IsOn}
 use Rattle.ti_base.specs.Rects.{first_range, second_range, third_range}
 use Rattle.ti_rect.specs.Axes.{range}
 use Rattle.ti_grid.proofs.SliceLaws.{on_iff, first_test, second_test, third_test, no_test, neither, no_third}

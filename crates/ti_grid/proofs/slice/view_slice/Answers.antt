@@ -1,12 +1,11 @@
-use Rattle.std.proofs.Common.{◌≡◌, ◌⊎◌, inl, inr, ⊎_elim, ℤ, pos, Bool, true, false, if◌then◌else◌, Some, None, refl, sym, ap, subst, ◌∙◌, arith, rules}
+use Rattle.std.proofs.Common.{◌≡◌, ℤ, pos, Bool, true, false, if◌then◌else◌, Some, None, refl, sym, ap, subst, ◌∙◌, arith}
 use Rattle.std.specs.Int.{w32}
 use Rattle.std.proofs.lemmas.Int.{ints, to_z-of_z}
 use Rattle.ti_base.specs.declared.action.ViewHow.TheVariants.{Slice}
 use Rattle.ti_base.specs.declared.fault.FaultKind.TheVariants.{Bounds}
-use Rattle.ti_base.specs.Rects.{IsRect}
 use Rattle.ti_base.specs.Cells.{has_coordinate}
 use Rattle.ti_grid.specs.declared.layout.Layout.{Layout}
-use Rattle.ti_grid.specs.Views.{IsLaid, IsSeen, SomeHas}
+use Rattle.ti_grid.specs.Views.{IsSeen, SomeHas}
 use Rattle.ti_grid.proofs.SliceLaws.{coordinate_from, coordinate_to, some_from, some_to, is_third}
 use Rattle.ti_grid.proofs.slice.view_slice.Goals as goal
 use Rattle.ti_grid.proofs.slice.view_slice.Goals.{After-has_coordinate}

@@ -1,8 +1,8 @@
-use Rattle.std.proofs.Common.{◌≡◌, ◌+◌, ◌-◌, pos, slice_index, refl, sym, ap, subst, ◌∙◌, arith, rules}
+use Rattle.std.proofs.Common.{◌+◌, ◌-◌, pos, slice_index, refl, sym, ap, ◌∙◌, arith, rules}
 use Rattle.std.specs.Int.{w32}
 use Rattle.std.proofs.lemmas.Int.{to_z-of_z}
-use Rattle.ti_base.specs.Ranges.{Range, IsOn, unused}
-use Rattle.ti_base.specs.Rects.{of_ranges, first_range, second_range, third_range}
+use Rattle.ti_base.specs.Ranges.{Range, unused}
+use Rattle.ti_base.specs.Rects.{of_ranges, third_range}
 use Rattle.ti_rect.specs.Axes.{range}
 use Rattle.ti_rect.proofs.PointLists.{third_step}
 use Rattle.ti_rect.proofs.RectLaws.{on_same}

@@ -1,7 +1,6 @@
-use Rattle.std.proofs.Common.{◌≡◌, Bool, true, false, if◌then◌else◌, Some, None, refl, sym, ap, subst, ◌∙◌}
+use Rattle.std.proofs.Common.{◌≡◌, Bool, false, if◌then◌else◌, Some, None, refl, sym, ap, subst, ◌∙◌}
 use Rattle.std.proofs.lemmas.Bool.{eq-eqb, false_from_ne_true}
 use Rattle.ti_base.specs.declared.point.Point.{Point}
-use Rattle.ti_base.specs.declared.point.Rect.{Rect}
 use Rattle.ti_base.specs.declared.action.ViewHow.TheVariants.{Translate}
 use Rattle.ti_base.specs.declared.fault.FaultKind.TheVariants.{Range}
 use Rattle.ti_base.specs.Points.{moved_back}

@@ -1,7 +1,7 @@
-use Rattle.std.proofs.Common.{ℕ, length, sym, ap, subst, ◌∙◌}
+use Rattle.std.proofs.Common.{length, sym, subst}
 use Rattle.ti_base.specs.declared.point.Rect.{Rect}
 use Rattle.ti_base.specs.Rects.{points_of}
-use Rattle.ti_grid.specs.Views.{IsWhole, NumbersBelow}
+use Rattle.ti_grid.specs.Views.{NumbersBelow}
 use Rattle.ti_grid.proofs.WholeLaws.{whole_below}
 use Rattle.ti_grid.proofs.whole.view_of.Goals as goal
 

@@ -1,6 +1,6 @@
-use Rattle.std.proofs.Common.{◌≡◌, ◌*◌, ◌≤◌, true, false, [], ◌∷◌, length, refl, sym, ap, ◌∙◌, arith}
+use Rattle.std.proofs.Common.{◌≡◌, ◌*◌, true, false, [], ◌∷◌, refl, sym, ap, ◌∙◌, arith}
 use Rattle.ti_base.specs.Ranges.{count_on}
-use Rattle.ti_base.specs.Rects.{HasPoints, points_of, second_range, third_range}
+use Rattle.ti_base.specs.Rects.{HasPoints, second_range, third_range}
 use Rattle.ti_rect.proofs.RectLaws.{full}
 use Rattle.ti_grid.specs.declared.layout.Layout.{Layout}
 use Rattle.ti_grid.proofs.WholeLaws.{plane_few, whole_place, whole_laid, whole_numbers}

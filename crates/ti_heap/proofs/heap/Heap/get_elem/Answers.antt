@@ -1,4 +1,4 @@
-use Rattle.std.proofs.Common.{◌≡◌, ◌↔◌, length, Some, ap, true, false}
+use Rattle.std.proofs.Common.{◌≡◌, ◌↔◌, length, ap, true, false}
 use Rattle.std.specs.Option.{option_map}
 use Rattle.ti_base.specs.Rects.{IsIn}
 use Rattle.ti_heap.specs.Contents.{GridMap}

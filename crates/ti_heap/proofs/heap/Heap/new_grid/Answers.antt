@@ -1,10 +1,10 @@
-use Rattle.std.proofs.Common.{◌≡◌, ℕ, ◌+◌, Bool, true, false, nat_lt, if◌then◌else◌, List, length, replicate, Option, Some, None, sym, ap, ◌∙◌}
-use Rattle.ti_base.specs.declared.value.Value.{Value}
+use Rattle.std.proofs.Common.{◌≡◌, ℕ, ◌+◌, Bool, true, false, nat_lt, if◌then◌else◌, length, replicate, Some, None, ap, ◌∙◌}
 use Rattle.ti_base.specs.Rects.{points_of}
 use Rattle.ti_base.specs.Cells.{zero_value}
-use Rattle.ti_heap.specs.Contents.{GridMap, with_thing, whole_map, cost_of}
+use Rattle.ti_heap.specs.Contents.{with_thing, whole_map, cost_of}
 use Rattle.ti_heap.specs.Things.{map_of, contents}
 use Rattle.ti_heap.proofs.Grids.{whole_maps}
+use Rattle.ti_heap.proofs.Makings.{grid_there}
 use Rattle.ti_heap.proofs.heap.Heap.new_grid.Goals as goal
 
 -- what a test lets through
@@ -23,3 +23,9 @@ returns-clause-made c =
     let grid : Some (map_of c.view_of-whole.result) ≡ Some (whole_map c.next_id-id.result dom) =
     ap Some (whole_maps c.view_of-whole.result c.next_id-id.result dom c.view_of-whole.ensures.block c.view_of-whole.ensures.domain c.view_of-whole.ensures.cells) in
     c.in_ok-push.ensures.ok ∙ (λ i. with_thing c.next_id-id.result (values i) (grid i) s)
+
+pub returns-clause-there : goal.returns-clause-there
+returns-clause-there c =
+    let dom = c.args.dom.now in
+    grid_there (contents c.push.new.self) (contents c.args.self.now) c.next_id-id.result c.in_ok-elements.elements (Some (map_of c.view_of-whole.result)) c.in_ok-push.ensures.ok
+    ∙ ap Some (whole_maps c.view_of-whole.result c.next_id-id.result dom c.view_of-whole.ensures.block c.view_of-whole.ensures.domain c.view_of-whole.ensures.cells)

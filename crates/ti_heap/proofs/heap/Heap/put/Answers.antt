@@ -1,6 +1,5 @@
-use Rattle.std.proofs.Common.{◌≡◌, IsSome, List, length, set, Some, refl, sym, subst, arith}
+use Rattle.std.proofs.Common.{◌≡◌, IsSome, List, set, Some, sym, subst}
 use Rattle.std.specs.List.{slice_get}
-use Rattle.std.proofs.lemmas.Option.{slice_get_read}
 use Rattle.ti_heap.specs.declared.thing.Thing.{Thing}
 use Rattle.ti_heap.specs.Contents.{cell_at, with_value}
 use Rattle.ti_heap.specs.Things.{thing_at, held_in, contents}

@@ -1,8 +1,8 @@
-use Rattle.std.proofs.Common.{◌≡◌, ℕ, ◌+◌, ◌<◌, List, map, length, get_or, set, refl, sym, ap, ◌∙◌, arith}
+use Rattle.std.proofs.Common.{ℕ, ◌<◌, map, length, set, refl, sym, ap, ◌∙◌, arith}
 use Rattle.std.proofs.Math.Numerals.{add-one}
 use Rattle.std.proofs.lemmas.Option.{slice_get_read}
 use Rattle.ti_heap.specs.declared.thing.Thing.{Thing}
-use Rattle.ti_heap.specs.Things.{dropped, changed_at, cost_of}
+use Rattle.ti_heap.specs.Things.{dropped, changed_at}
 use Rattle.ti_heap.proofs.Lists.{front_mapped, length_front, front_more, front_all, set_changed}
 use Rattle.ti_heap.proofs.Costs.{cost_set, cost_within}
 use Rattle.ti_heap.proofs.share.Share.drop_region.Goals as goal
