@@ -116,12 +116,7 @@ fn do_text<K: Sink>(alloc: Global, job: &Job, text: &[u8], out: &mut K) -> Writt
 
 /// Does what a job asks for: reads its file and checks the text; and where the program is to be run, runs it and writes the lines of
 /// the run.
-pub fn work<S: Source, K: Sink>(
-    alloc: Global,
-    job: &Job,
-    source: &mut S,
-    out: &mut K,
-) -> Worked
+pub fn work<S: Source, K: Sink>(alloc: Global, job: &Job, source: &mut S, out: &mut K) -> Worked
     requires { IsInRange job.now }
     ensures { WorkSays job.now result.ending (record {
       source = S.state source.old;
