@@ -31,11 +31,9 @@ use Rattle.ti_lang.specs.declared.program.numbered.Program.{Program}
 use Rattle.ti_check.specs.Answer.{GivesChecked}
 use Rattle.ti_check.specs.declared.error.CheckErr.{CheckErr}
 use Rattle.ti_check.specs.declared.error.CheckErr.TheVariants as checker
-use Rattle.ti_words.specs.declared.job.Mode.TheVariants.{Run}
 use Rattle.ti_top.specs.declared.compiling.Compiled.{Compiled}
 use Rattle.ti_top.specs.declared.compiling.CompileErr.TheVariants.{Refused}
-use Rattle.ti_top.specs.Modes.{RefusalIn}
-use Rattle.ti_top.specs.Mirrors.Compiling.{IsCompiled, HasNoListing, Compiles, HasListingAlone, Lists, of_lexer, of_parser, of_names, of_check}
+use Rattle.ti_top.specs.Mirrors.Compiling.{IsCompiled, HasNoListing, Compiles, Lists, of_lexer, of_parser, of_names, of_check}
 
 -- that a text has one answer
 pub record OneAnswer : Type 0 where

@@ -1,5 +1,5 @@
 -- The numbers of a job that words ask for are in their ranges.
-use Rattle.std.proofs.Common.{◌≡◌, inl, inr, ℕ, ◌≤◌, ◌*◌, nat_le, Bool, true, false, ◌&&◌, if◌then◌else◌, List, Option, None, Some, option_map, option_and_then, arith, refl, sym, ◌∙◌, ap, subst}
+use Rattle.std.proofs.Common.{◌≡◌, inl, inr, ℕ, ◌≤◌, ◌*◌, nat_le, Bool, true, false, ◌&&◌, if◌then◌else◌, List, Option, None, Some, option_map, option_and_then, arith, refl, sym, ◌∙◌, subst}
 use Rattle.std.proofs.lemmas.Bool.Decides.{leb_tells}
 use Rattle.std.proofs.lemmas.Option.{same_Some}
 use Rattle.ti_words.specs.Uses.{Word}
