@@ -426,7 +426,7 @@ const UNBUILT: &[Refused] = &[
     },
     Refused {
         frame: WITH_METHOD,
-        text: "static void f() { int single x = 1; }",
+        text: "static single void f() { int single x = 1; }",
         err: "1:14",
     },
     Refused {
