@@ -6,6 +6,8 @@ mod answers;
 #[cfg(test)]
 mod commands;
 #[cfg(test)]
+mod evaluation;
+#[cfg(test)]
 mod examples;
 #[cfg(test)]
 mod expressions;
