@@ -1,12 +1,11 @@
 -- Lists that are seen through a view.
-use Rattle.std.proofs.Common.{◌≡◌, ◌∙◌, refl, sym, ap, eq-eqb, drop, drop-cons, add-one, ℕ, suc, ◌+◌, ◌<◌, ◌≤◌, ◌==◌, nat_lt, cond, Bool, true, false, not, List, [], ◌∷◌, map, length, get_or, slice_get, Some, None, Option, option_map, arith, position}
+use Rattle.std.proofs.Common.{◌≡◌, ◌∙◌, refl, sym, ap, eq-eqb, drop, drop-cons, add-one, ℕ, ◌+◌, ◌<◌, ◌≤◌, ◌==◌, nat_lt, cond, Bool, true, false, not, List, [], ◌∷◌, map, length, get_or, Some, None, arith, position}
 use Rattle.std.specs.List.{position_or_len}
 use Rattle.std.proofs.lemmas.Bool.Decides.{nat_tests}
 use Rattle.std.proofs.lemmas.List.{length-map}
 use Rattle.ti_lang.specs.declared.program.classes.Field.{Field}
-use Rattle.ti_lang.specs.declared.program.classes.Class.{Class}
 use Rattle.ti_lang.specs.Program.Classes.{NumberedField}
-use Rattle.ti_lang.specs.Program.Views.{numbered_field_of, numbered_class_of}
+use Rattle.ti_lang.specs.Program.Views.{numbered_field_of}
 use Rattle.ti_lang.proofs.Elements.{class_here, no_class_here}
 
 place_mapped : {A B : Type 0} (view : A → B) (p : B → Bool) (xs : List A) → position_or_len p (map view xs) ≡ position_or_len (λ x. p (view x)) xs

@@ -1,5 +1,5 @@
 -- Members of domains.
-use Rattle.std.proofs.Common.{◌≡◌, ◌∙◌, refl, sym, ap, subst, ⊎_elim, ℕ, ◌<◌, ◌≤◌, ◌==◌, nat_le, ℤ, pos, negsuc, Bool, true, false, not, ◌&&◌, List, [], ◌∷◌, length, take, slice_get, Some, None, Option, IsTrue, ◌↔◌, arith}
+use Rattle.std.proofs.Common.{◌≡◌, ◌∙◌, refl, sym, ap, subst, ⊎_elim, ℕ, ◌<◌, ◌≤◌, nat_le, ℤ, pos, Bool, true, false, List, length, IsTrue, ◌↔◌, arith}
 use Rattle.std.proofs.lemmas.Bool.Decides.{nat_tests}
 use Rattle.ti_base.specs.declared.place.Place.{Place}
 use Rattle.ti_base.specs.declared.point.Point.{Point}
@@ -8,7 +8,7 @@ use Rattle.ti_base.specs.declared.value.Value.TheVariants.{Rc, Int}
 use Rattle.ti_base.specs.declared.fault.FaultKind.TheVariants.{DomainSize}
 use Rattle.ti_base.specs.declared.entry.Answer.{Answer}
 use Rattle.ti_base.specs.Points.{IsPoint}
-use Rattle.ti_base.specs.PointSets.{IsAmong, AllOf, is_among, same_point}
+use Rattle.ti_base.specs.PointSets.{IsAmong, AllOf, is_among}
 use Rattle.ti_base.specs.Rects.{IsRect, HasPoints, IsIn, is_in, empty_rect, points_of, size_of}
 use Rattle.ti_base.proofs.PointLaws.{length_points}
 use Rattle.ti_base.proofs.DomainLaws.{among_from, among_to}

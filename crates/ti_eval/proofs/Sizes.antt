@@ -1,5 +1,5 @@
 -- How many points domains have.
-use Rattle.std.proofs.Common.{◌≡◌, ◌∙◌, refl, ap, ℕ, ◌<◌, ◌≤◌, nat_le, true, false, List, length, arith}
+use Rattle.std.proofs.Common.{◌≡◌, refl, ℕ, ◌<◌, ◌≤◌, nat_le, true, false, List, length, arith}
 use Rattle.std.proofs.lemmas.Bool.Decides.{nat_tests}
 use Rattle.ti_base.specs.declared.place.Place.{Place}
 use Rattle.ti_base.specs.declared.point.Rect.{Rect}
@@ -10,8 +10,8 @@ use Rattle.ti_base.specs.declared.fault.FaultKind.TheVariants.{DomainSize}
 use Rattle.ti_base.specs.declared.entry.Answer.{Answer}
 use Rattle.ti_base.specs.Rects.{points_of, size_of}
 use Rattle.ti_base.proofs.PointLaws.{length_points}
-use Rattle.ti_lang.specs.Meaning.Held.{Held, Plain, Dm}
-use Rattle.ti_lang.specs.Meaning.Asking.{Got, Gives, Fails, guarded}
+use Rattle.ti_lang.specs.Meaning.Held.{Plain, Dm}
+use Rattle.ti_lang.specs.Meaning.Asking.{Gives, Fails, guarded}
 use Rattle.ti_lang.specs.Meaning.Conversions.{to_domain, domain_within}
 use Rattle.ti_domain.specs.Domains.{Domain}
 

@@ -1,5 +1,5 @@
 -- One computation and then the next.
-use Rattle.std.proofs.Common.{◌≡◌, refl, ap, List, Option, Some, None}
+use Rattle.std.proofs.Common.{◌≡◌, ap, Some}
 use Rattle.ti_lang.specs.Meaning.Asking.{Asking, Got, Gives, Asks, Fails, followed}
 use Rattle.ti_eval.specs.declared.stop.Stop.{Stop}
 use Rattle.ti_eval.specs.declared.stop.Stop.TheVariants as stop

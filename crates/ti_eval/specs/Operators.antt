@@ -1,5 +1,5 @@
 -- What clauses see of operands and operators in the code.
-use Rattle.std.specs.Prelude.{◌≡◌, ℕ, ℤ, int_lt, int_le, Bool, not, ◌&&◌, ◌||◌, bit_and, bit_or, bit_xor, List, Option, Some}
+use Rattle.std.specs.Prelude.{◌≡◌, ℕ, ℤ, int_lt, int_le, Bool, not, ◌&&◌, ◌||◌, bit_and, bit_or, bit_xor, List, Some}
 use Rattle.std.specs.Int.{Width, w32, w64}
 use Rattle.ti_base.specs.declared.point.Point.{Point}
 use Rattle.ti_base.specs.Points.{IsPoint}

@@ -1,5 +1,5 @@
 -- Where a call stands in its method: the parts of statements that it has entered.
-use Rattle.std.specs.Prelude.{ℕ, List, [], ◌∷◌, slice_get, unwrap_or}
+use Rattle.std.specs.Prelude.{List, [], ◌∷◌, slice_get, unwrap_or}
 use Rattle.ti_lang.specs.Program.Statements.{NumberedStm, MaybeNumbered, NoStm, SomeStm, NumberedStms, Nil, Cons}
 use Rattle.ti_lang.specs.Program.Statements as s
 use Rattle.ti_eval.specs.declared.frame.Part.{Part}

@@ -8,6 +8,8 @@ mod checking;
 #[cfg(test)]
 mod commands;
 #[cfg(test)]
+mod evaluation;
+#[cfg(test)]
 mod examples;
 #[cfg(test)]
 mod expressions;

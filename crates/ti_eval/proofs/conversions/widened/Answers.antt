@@ -1,5 +1,4 @@
 use Rattle.std.proofs.Common.{◌∙◌, ap, Err}
-use Rattle.ti_domain.specs.declared.error.DomErr.{DomErr}
 use Rattle.ti_eval.proofs.Sizes.{widens, too_wide}
 use Rattle.ti_eval.proofs.conversions.widened.Goals as goal
 
