@@ -14,6 +14,8 @@ mod expressions;
 #[cfg(test)]
 mod grammar;
 #[cfg(test)]
+mod heaps;
+#[cfg(test)]
 mod limits;
 #[cfg(test)]
 mod names;
