@@ -85,7 +85,7 @@ fn a_field_holds_what_was_written(rt: HostRuntime) -> Result<(), Fail> {
 }
 
 /// What calls on the elements of a grid answer.
-#[derive(Drop, PartialEq)]
+#[derive(Drop)]
 struct Elements {
     writes: [Result<(), FaultKind>; 2],
     reads: [Result<Value, FaultKind>; 3],
@@ -114,16 +114,12 @@ fn write_elements(alloc: Global, dom: &Rect) -> Result<Elements, HeapErr>
 #[test]
 fn an_element_holds_what_was_written(rt: HostRuntime) -> Result<(), Fail> {
     let even = line(0, 20, 2)?;
-    let wanted = Elements {
-        writes: [Ok(()), Err(FaultKind::Bounds)],
-        reads: [
-            Ok(Value::Long(7)),
-            Ok(Value::Long(0)),
-            Err(FaultKind::Bounds),
-        ],
-        domain: even,
-    };
-    assert!(rt; write_elements(rt.alloc(), &even)? == wanted);
+    let elements = write_elements(rt.alloc(), &even)?;
+    let seven = Ok(Value::Long(7));
+    let zero = Ok(Value::Long(0));
+    assert!(rt; elements.writes == [Ok(()), Err(FaultKind::Bounds)]);
+    assert!(rt; elements.reads == [seven, zero, Err(FaultKind::Bounds)]);
+    assert_eq!(rt; elements.domain, even);
     Ok(())
 }
 
