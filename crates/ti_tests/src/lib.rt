@@ -16,6 +16,8 @@ mod expressions;
 #[cfg(test)]
 mod grammar;
 #[cfg(test)]
+mod heaps;
+#[cfg(test)]
 mod limits;
 #[cfg(test)]
 mod names;
