@@ -12,7 +12,7 @@ mod sets;
 mod sizes;
 mod walk;
 
-pub use dom::{Dom, dom_copy, dom_of, dom_pieces};
+pub use dom::{Dom, dim_of, dom_copy, dom_of, dom_pieces};
 pub use error::DomErr;
 pub use held::Held;
 pub use members::{dom_contains, dom_same, dom_size};

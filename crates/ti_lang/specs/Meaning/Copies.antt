@@ -1,7 +1,8 @@
 -- Copies of grids, and what an exchange puts into its grid.
-use Rattle.std.specs.Prelude.{ℕ, zero, suc, ◌+◌, pos, List, [], ◌∷◌, slice_index_or}
+use Rattle.std.specs.Prelude.{ℕ, zero, suc, ◌+◌, ◌==◌, if◌then◌else◌, pos, List, [], ◌∷◌, slice_index_or}
 use Rattle.ti_base.specs.declared.place.Place.{Place}
 use Rattle.ti_base.specs.declared.point.Point.{Point}
+use Rattle.ti_base.specs.declared.point.Rect.{Rect}
 use Rattle.ti_base.specs.declared.action.Action.TheVariants as act
 use Rattle.ti_base.specs.Rects.{points_of, meet}
 use Rattle.ti_lang.specs.Program.Types.{ValueType, Void}
@@ -24,6 +25,10 @@ abbrev pub first_type : Env → NumberedExps → ValueType
 first_type env NoExp = Void
 first_type env (MoreExp x xs) = type_of env x
 
+-- the points that are in both of two rectangular domains of one dimension
+abbrev pub common_points : Rect → Rect → List Point
+common_points r s = if r.dim == s.dim then points_of (meet r s) else []
+
 -- `a.copy(b)`: both grids, then the domain of each; the points of both are left to be copied
 abbrev pub copies : Env → Place → NumberedExp → NumberedExps → Asking Move
 copies env at x args = do
@@ -33,7 +38,7 @@ copies env at x args = do
   from ← needed at (first_type env args) (slice_index_or hs 0 nothing)
   d ← domain_asked at to
   e ← domain_asked at from
-  gives (Goes env.variables (CopyAll at to from (points_of (meet (rect_of d) (rect_of e))) ∷ []))
+  gives (Goes env.variables (CopyAll at to from (common_points (rect_of d) (rect_of e)) ∷ []))
 
 -- the element of the first point that is left is read and written, and the others are left
 abbrev pub copied : Env → Place → Reference → Reference → List Point → Asking Move

@@ -1,5 +1,5 @@
 -- What variables hold, and how a value becomes one of a type.
-use Rattle.std.specs.Prelude.{ℕ, ℤ, pos, Bool, false, List, [], Option, None}
+use Rattle.std.specs.Prelude.{ℕ, nat_le, ℤ, pos, Bool, false, ◌&&◌, if◌then◌else◌, List, [], Option, None}
 use Rattle.ti_base.specs.declared.point.Point.{Point}
 use Rattle.ti_base.specs.declared.point.Rect.{Rect}
 use Rattle.ti_base.specs.declared.value.Id.{Id}
@@ -35,6 +35,11 @@ abbrev pub whole_of : Held → ℤ
 whole_of (Plain (v.Int n)) = n
 whole_of (Plain (v.Long n)) = n
 whole_of h = pos 0
+
+-- the number that an int is
+abbrev pub int_of : Held → ℤ
+int_of (Plain (v.Int n)) = n
+int_of h = pos 0
 
 -- whether a boolean is true
 abbrev pub truth_of : Held → Bool
@@ -80,14 +85,22 @@ dim_of h = 1
 
 -- ---- values of types
 
+-- a number of dimensions: 1, 2 or 3
+abbrev pub is_dim : ℕ → Bool
+is_dim dim = nat_le 1 dim && nat_le dim 3
+
+-- the value, where there are so many dimensions; no program has a type of another number of them
+abbrev pub where_dim : ℕ → Held → Held
+where_dim dim h = if is_dim dim then h else nothing
+
 -- the zero of a type
 abbrev pub zero_of : ValueType → Held
 zero_of t.Int = Plain (v.Int (pos 0))
 zero_of t.Long = Plain (v.Long (pos 0))
 zero_of t.Boolean = Plain (v.Bool false)
-zero_of (t.Pt dim) = Plain (v.Pt (zero_point dim))
-zero_of (t.Rc dim) = Plain (v.Rc (empty_rect dim))
-zero_of (t.Dm dim) = Dm dim []
+zero_of (t.Pt dim) = where_dim dim (Plain (v.Pt (zero_point dim)))
+zero_of (t.Rc dim) = where_dim dim (Plain (v.Rc (empty_rect dim)))
+zero_of (t.Dm dim) = where_dim dim (Dm dim [])
 zero_of t.Region = Plain (v.Region 0)
 zero_of (t.Class class is_local) = Plain (v.Obj None)
 zero_of (t.Grid element dim is_local) = Plain (v.Grid None)

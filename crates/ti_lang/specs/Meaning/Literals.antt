@@ -1,12 +1,13 @@
 -- Points and rectangular domains from their numbers.
-use Rattle.std.specs.Prelude.{ℤ, pos, int_le, List, [], ◌∷◌, ◌++◌, take, map, length, slice_index_or}
+use Rattle.std.specs.Prelude.{ℤ, pos, int_le, Bool, ◌==◌, ◌&&◌, if◌then◌else◌, List, [], ◌∷◌, ◌++◌, take, map, length, slice_index_or}
 use Rattle.std.specs.List.{list_all}
 use Rattle.ti_base.specs.declared.place.Place.{Place}
 use Rattle.ti_base.specs.declared.point.Point.{Point}
+use Rattle.ti_base.specs.declared.point.Rect.{Rect}
 use Rattle.ti_base.specs.declared.value.Value.TheVariants as v
 use Rattle.ti_base.specs.declared.fault.FaultKind.TheVariants.{BadStride}
-use Rattle.ti_base.specs.Rects.{made}
-use Rattle.ti_lang.specs.Meaning.Held.{Held, Plain, whole_of}
+use Rattle.ti_base.specs.Rects.{made, empty_rect}
+use Rattle.ti_lang.specs.Meaning.Held.{Held, Plain, int_of, is_dim, zero_point}
 use Rattle.ti_lang.specs.Meaning.Asking.{Asking, guarded}
 
 -- the coordinates of a point that are used
@@ -16,16 +17,14 @@ coordinates_of p = take p.dim (p.x1 ∷ p.x2 ∷ p.x3 ∷ [])
 -- the coordinates of a point, or a number alone
 abbrev pub numbers_in : Held → List ℤ
 numbers_in (Plain (v.Pt p)) = coordinates_of p
-numbers_in h = whole_of h ∷ []
+numbers_in h = int_of h ∷ []
 
--- the point of these coordinates
+-- the point of these coordinates, one to three; of another number of them, which no program without a broken rule has, a zero
 abbrev pub point_of_numbers : List ℤ → Point
-point_of_numbers xs = record {
-  dim = length xs;
-  x1 = slice_index_or xs 0 (pos 0);
-  x2 = slice_index_or xs 1 (pos 0);
-  x3 = slice_index_or xs 2 (pos 0);
-}
+point_of_numbers xs =
+    if is_dim (length xs)
+    then record { dim = length xs; x1 = slice_index_or xs 0 (pos 0); x2 = slice_index_or xs 1 (pos 0); x3 = slice_index_or xs 2 (pos 0) }
+    else zero_point 1
 
 -- from where to where, and by which steps, coordinate by coordinate
 pub record Bounds : Type 0 where
@@ -49,7 +48,15 @@ plain_bounds low high = record { low = numbers_in low; high = numbers_in high; s
 abbrev pub stepped_bounds : Held → Held → Held → Bounds
 stepped_bounds low high step = record { low = numbers_in low; high = numbers_in high; step = numbers_in step }
 
--- the rectangular domain within the bounds, unless a step is below 1
+-- there are as many low ends as high ends and steps, one to three
+abbrev pub is_even : Bounds → Bool
+is_even b = is_dim (length b.low) && length b.high == length b.low && length b.step == length b.low
+
+-- the rectangular domain within the bounds; where these aren't even, which they are in a program without a broken rule, an empty one
+abbrev pub rect_of_bounds : Bounds → Rect
+rect_of_bounds b = if is_even b then made (point_of_numbers b.low) (point_of_numbers b.high) (point_of_numbers b.step) else empty_rect 1
+
+-- the same, unless a step is below 1
 abbrev pub rect_within : Place → Bounds → Asking Held
 rect_within at b =
-    guarded (list_all (int_le (pos 1)) b.step) BadStride at (Plain (v.Rc (made (point_of_numbers b.low) (point_of_numbers b.high) (point_of_numbers b.step))))
+    guarded (list_all (int_le (pos 1)) b.step) BadStride at (Plain (v.Rc (rect_of_bounds b)))

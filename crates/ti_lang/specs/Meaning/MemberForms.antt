@@ -9,7 +9,7 @@ use Rattle.ti_base.specs.PointSets.{is_among}
 use Rattle.ti_base.specs.Rects.{is_in, is_empty, size_of}
 use Rattle.ti_lang.specs.Program.Types.{ValueType}
 use Rattle.ti_lang.specs.Typing.BuiltIn.{BuiltIn, Size, Min, Max, Contains, Domain, Restrict, Translate, Slice}
-use Rattle.ti_lang.specs.Meaning.Held.{Held, Plain, Dm, nothing, truth, whole_of, point_of, rect_of}
+use Rattle.ti_lang.specs.Meaning.Held.{Held, Plain, Dm, nothing, truth, int_of, point_of, rect_of}
 use Rattle.ti_lang.specs.Meaning.Asking.{Asking, gives, guarded}
 use Rattle.ti_lang.specs.Meaning.Parts.{viewed, domain_of}
 
@@ -43,5 +43,5 @@ member at type (Some Domain) through h args = domain_of at through h
 member at type (Some Restrict) through h args = viewed at type (how.Restrict (rect_of (slice_index_or args 0 nothing))) through h
 member at type (Some Translate) through h args = viewed at type (how.Translate (point_of (slice_index_or args 0 nothing))) through h
 member at type (Some Slice) through h args =
-    viewed at type (how.Slice (whole_of (slice_index_or args 0 nothing)) (whole_of (slice_index_or args 1 nothing))) through h
+    viewed at type (how.Slice (int_of (slice_index_or args 0 nothing)) (int_of (slice_index_or args 1 nothing))) through h
 member at type other through h args = gives nothing

@@ -1,5 +1,5 @@
 -- The two operands of an operator, brought to one type, and what is made of them.
-use Rattle.std.specs.Prelude.{ℕ, ◌^◌, nat_lt, ℤ, pos, Bool, true, false, ◌&&◌, ◌||◌, ◌==◌, List, [], ◌∷◌, Option, Some, None}
+use Rattle.std.specs.Prelude.{ℕ, ◌^◌, nat_lt, ℤ, pos, Bool, true, false, ◌&&◌, ◌||◌, ◌==◌, if◌then◌else◌, List, [], ◌∷◌, Option, Some, None}
 use Rattle.std.specs.Int.{Width, w32, w64}
 use mir.Val.{bits}
 use Rattle.ti_base.specs.declared.point.Point.{Point}
@@ -9,7 +9,7 @@ use Rattle.ti_base.specs.declared.value.Value.{Value}
 use Rattle.ti_base.specs.declared.value.Value.TheVariants as v
 use Rattle.ti_base.specs.WholeNumbers.{modulo, wrap}
 use Rattle.ti_base.specs.PointSets.{same_point}
-use Rattle.ti_lang.specs.Meaning.Held.{Held, Plain}
+use Rattle.ti_lang.specs.Meaning.Held.{Held, Plain, Dm}
 
 -- two operands of one type: whole numbers of a width, booleans, points, rectangular domains, domains of which not both are
 -- rectangular, references, regions
@@ -24,15 +24,15 @@ pub data Operands : Type 0 where
   -- of no program without a broken rule
   Others : Operands
 
--- two values; an int beside a long becomes one
+-- two values; an int beside a long becomes one; points, and rectangular domains, are of one dimension
 abbrev pub plain_operands : Value → Value → Operands
 plain_operands (v.Int a) (v.Int b) = Wholes w32 a b
 plain_operands (v.Int a) (v.Long b) = Wholes w64 a b
 plain_operands (v.Long a) (v.Int b) = Wholes w64 a b
 plain_operands (v.Long a) (v.Long b) = Wholes w64 a b
 plain_operands (v.Bool a) (v.Bool b) = Truths a b
-plain_operands (v.Pt p) (v.Pt q) = Points p q
-plain_operands (v.Rc r) (v.Rc s) = Rects r s
+plain_operands (v.Pt p) (v.Pt q) = if p.dim == q.dim then Points p q else Others
+plain_operands (v.Rc r) (v.Rc s) = if r.dim == s.dim then Rects r s else Others
 plain_operands (v.Obj a) (v.Obj b) = Things a b
 plain_operands (v.Obj a) (v.Grid b) = Things a b
 plain_operands (v.Grid a) (v.Obj b) = Things a b
@@ -40,10 +40,21 @@ plain_operands (v.Grid a) (v.Grid b) = Things a b
 plain_operands (v.Region a) (v.Region b) = Regions a b
 plain_operands x y = Others
 
--- two operands
+-- the dimension of a domain, rectangular or not
+abbrev pub held_dim : Held → Option ℕ
+held_dim (Plain (v.Rc r)) = Some r.dim
+held_dim (Dm dim points) = Some dim
+held_dim h = None
+
+-- both are there, and the same
+abbrev pub same_dim : Option ℕ → Option ℕ → Bool
+same_dim (Some n) (Some m) = n == m
+same_dim n m = false
+
+-- two operands; domains are of one dimension
 abbrev pub operands : Held → Held → Operands
 operands (Plain x) (Plain y) = plain_operands x y
-operands x y = Domains
+operands x y = if same_dim (held_dim x) (held_dim y) then Domains else Others
 
 -- ---- results
 

@@ -14,7 +14,7 @@ use Rattle.ti_syntax.specs.declared.tree.exprs.UnaryOperator.TheVariants as un
 use Rattle.ti_syntax.specs.declared.tree.exprs.BinaryOperator.{BinaryOperator}
 use Rattle.ti_syntax.specs.declared.tree.exprs.BinaryOperator.TheVariants as op
 use Rattle.ti_lang.specs.Typing.Kinds.{same_truth}
-use Rattle.ti_lang.specs.Meaning.Held.{Held, Plain, truth, truth_of, whole_of, points_in}
+use Rattle.ti_lang.specs.Meaning.Held.{Held, Plain, nothing, truth, truth_of, whole_of, points_in}
 use Rattle.ti_lang.specs.Meaning.Asking.{Asking, ◌>>=◌, gives, guarded}
 use Rattle.ti_lang.specs.Meaning.Conversions.{to_domain, of_domains}
 use Rattle.ti_lang.specs.Meaning.Operands.{Operands, Wholes, Truths, Points, Rects, Domains, Things, Regions, Others, operands, number, on_bits, same_thing, same_points, in_each}
@@ -25,19 +25,24 @@ use Rattle.ti_lang.specs.Meaning.Operands.{Operands, Wholes, Truths, Points, Rec
 abbrev pub added : Place → Held → Held → Operands → Asking Held
 added at x y (Wholes w a b) = gives (number w (sum w a b))
 added at x y (Points p q) = gives (Plain (v.Pt (pt_sum p q)))
-added at x y _ = of_domains union at x y
+added at x y (Rects r s) = of_domains union at x y
+added at x y Domains = of_domains union at x y
+added at x y _ = gives nothing
 
 -- `x - y`: a difference, of numbers or of sets
 abbrev pub subtracted : Place → Held → Held → Operands → Asking Held
 subtracted at x y (Wholes w a b) = gives (number w (difference w a b))
 subtracted at x y (Points p q) = gives (Plain (v.Pt (pt_difference p q)))
-subtracted at x y _ = of_domains minus at x y
+subtracted at x y (Rects r s) = of_domains minus at x y
+subtracted at x y Domains = of_domains minus at x y
+subtracted at x y _ = gives nothing
 
 -- `x * y`: a product, or a meet, which of rectangular domains is rectangular
 abbrev pub multiplied : Place → Held → Held → Operands → Asking Held
 multiplied at x y (Wholes w a b) = gives (number w (product w a b))
 multiplied at x y (Rects r s) = gives (Plain (v.Rc (rect.meet r s)))
-multiplied at x y _ = of_domains meet at x y
+multiplied at x y Domains = of_domains meet at x y
+multiplied at x y _ = gives nothing
 
 -- `x / y` or `x % y`, which a zero divisor refuses
 abbrev pub divided : (Width → ℤ → ℤ → ℤ) → Place → Operands → Asking Held

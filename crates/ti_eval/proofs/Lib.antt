@@ -1,0 +1,10 @@
+pub mod Bits
+pub mod Evaluating
+pub mod FieldLaws
+pub mod LiteralLaws
+pub mod MemberLaws
+pub mod Points
+pub mod Sizes
+pub mod Slots
+pub mod Steps
+pub mod Turning

@@ -1,0 +1,200 @@
+use Rattle.std.proofs.Common.{◌≡◌, ◌∙◌, refl, sym, ap, subst, ℕ, Bool, ◌+◌, ◌++◌, ℤ, List, [], ◌∷◌, map, drop, get_or, option_map, Option}
+use Rattle.std.specs.declared.vec.Vec.{Vec}
+use Rattle.std.specs.declared.alloc.Global.{Global}
+use Rattle.ti_lang.specs.declared.program.exprs.Expr.{Expr}
+use Rattle.ti_lang.specs.declared.program.exprs.Range.{Range}
+use Rattle.ti_lang.specs.declared.program.types.TypeUse.{TypeUse}
+use Rattle.ti_lang.specs.Program.Expressions.{NumberedExp, numbered_exps, numbered_ranges}
+use Rattle.ti_lang.specs.Program.Expressions as x
+use Rattle.ti_lang.specs.Program.Scope.{this_of}
+use Rattle.ti_lang.specs.Program.Views.{expression_of, bound_of, type_use_of}
+use Rattle.ti_lang.specs.Typing.BuiltIn.{BuiltIn}
+use Rattle.ti_lang.specs.Typing.Called.{member_called}
+use Rattle.ti_lang.specs.Typing.Kinds.{is_point}
+use Rattle.ti_lang.specs.Typing.Seen.{built_in_of}
+use Rattle.ti_lang.specs.Meaning.Held.{Held}
+use Rattle.ti_lang.specs.Meaning.Asking.{Got, Gives, followed, gives}
+use Rattle.ti_lang.specs.Meaning.Literals as literal
+use Rattle.ti_lang.specs.Meaning.Parts.{Field, fetched, indexed}
+use Rattle.ti_lang.specs.Meaning.MemberForms.{member}
+use Rattle.ti_lang.specs.Meaning.Scoping.{type_of, field_selected}
+use Rattle.ti_lang.specs.Meaning.Evaluation.{eval, eval_all, eval_numbers, eval_range, eval_ranges, with_right}
+use Rattle.ti_lang.proofs.ProgramBridges.{seen_numbered_point, seen_numbered_rect, seen_numbered_member, seen_numbered_index}
+use Rattle.ti_eval.specs.Bounds.{bounds_of}
+use Rattle.ti_eval.specs.Comes.{Comes, ComesAs, Stops}
+use Rattle.ti_eval.specs.Envs.{env_of}
+use Rattle.ti_eval.proofs.Steps.{then_stops}
+use Rattle.ti_eval.proofs.Evaluating.{behind, all_stop, all_next, numbers_stopped, numbers_next, bounds_stopped, bounds_next}
+use Rattle.ti_eval.proofs.expressions.+evaluate.Goals as goal
+
+pub evaluate-returns-in-Point : goal.evaluate-returns-in-Point
+evaluate-returns-in-Point t c =
+    let E = env_of c.args.env.now in
+    let b = seen_numbered_point c.args.e.now c.in-Point.field-0 c.in-Point.parts c.in-Point.is in
+    subst (λ (y : NumberedExp). Comes c.point_from.result (eval E y c.args.answers.now))
+    (ap (λ (ys : List Expr). x.Point c.in-Point.field-0 (numbered_exps (map expression_of ys))) c.deref.ensures.value ∙ sym b)
+    (c.point_from.ensures _ c.evaluate_numbers.ensures)
+
+pub evaluate-returns-in-Rect : goal.evaluate-returns-in-Rect
+evaluate-returns-in-Rect t c =
+    let E = env_of c.args.env.now in
+    let b = seen_numbered_rect c.args.e.now c.in-Rect.place c.in-Rect.ranges c.in-Rect.is in
+    subst (λ (y : NumberedExp). Comes c.rect_from.result (eval E y c.args.answers.now))
+    (ap (λ (ys : List Range). x.Rect c.in-Rect.place (numbered_ranges (map bound_of ys))) c.deref-in-Rect.ensures.value ∙ sym b)
+    (c.rect_from.ensures _ c.evaluate_ranges.ensures)
+
+pub evaluate-returns-in-Unary : goal.evaluate-returns-in-Unary
+evaluate-returns-in-Unary t c =
+    let E = env_of c.args.env.now in
+    subst (λ (y : NumberedExp). Comes c.alone_from.result (eval E y c.args.answers.now))
+    (ap (λ (z : Expr). x.Unary c.in-Unary.place c.in-Unary.operator (expression_of z)) c.deref-in-Unary.ensures ∙ sym (ap expression_of c.in-Unary.is))
+    (c.alone_from.ensures _ c.evaluate.ensures)
+
+pub evaluate-returns-in-Cast : goal.evaluate-returns-in-Cast
+evaluate-returns-in-Cast t c =
+    let E = env_of c.args.env.now in
+    subst (λ (y : NumberedExp). Comes c.cast_from.result (eval E y c.args.answers.now))
+    (ap (λ (z : Expr). x.Cast c.in-Cast.place (type_use_of c.deref-in-Cast-2.result.now) (expression_of z)) c.deref-in-Cast.ensures
+    ∙ ap (λ (u : TypeUse). x.Cast c.in-Cast.place (type_use_of u) (expression_of c.in-Cast.operand.value)) c.deref-in-Cast-2.ensures ∙ sym (ap expression_of c.in-Cast.is))
+    (c.cast_from.ensures _ c.evaluate-got.ensures)
+
+pub evaluate-returns-in_ok-field-in-Select : goal.evaluate-returns-in_ok-field-in-Select
+evaluate-returns-in_ok-field-in-Select t c =
+    let E = env_of c.args.env.now in
+    let y = expression_of c.in-Select.receiver.value in
+    let m = eval E y c.args.answers.now in
+    let p : Comes c.evaluate-in-Select.result m = subst (λ (z : Expr). Comes c.evaluate-in-Select.result (eval E (expression_of z) c.args.answers.now)) c.deref-in-Select-2.ensures c.evaluate-in-Select.ensures in
+    let f : c.in_ok-field-in-Select.field ≡ field_selected E y c.in-Select.name = c.in_ok-field-in-Select.ensures ∙ ap (λ (z : Expr). field_selected E (expression_of z) c.in-Select.name) c.deref-in-Select.ensures in
+    let type = type_of E (x.Select c.in-Select.place y c.in-Select.name) in
+    let r = c.field_from.ensures type (type_of E y) m p in
+    subst (λ (w : NumberedExp). Comes c.field_from.result (eval E w c.args.answers.now)) (sym (ap expression_of c.in-Select.is))
+    (subst (λ (n : ℕ). Comes c.field_from.result (followed m (λ h. fetched c.in-Select.place type (Field h (type_of E y) n)))) f r)
+
+pub evaluate-returns-in-Ok : goal.evaluate-returns-in-Ok
+evaluate-returns-in-Ok t c =
+    let E = env_of c.args.env.now in
+    let at = c.in-Binary.place in
+    let op = c.in-Binary.operator in
+    let o = expression_of c.in-Binary.other.value in
+    let e : eval E (expression_of c.in-Binary.left.value) c.args.answers.now ≡ Gives c.in-Ok.h c.in-Ok.answers.now =
+    subst (λ (z : Expr). eval E (expression_of z) c.args.answers.now ≡ Gives c.in-Ok.h c.in-Ok.answers.now) c.deref-in-Binary.ensures c.in-Ok.ensures in
+    let r : Comes c.right.result (with_right at op c.in-Ok.h (eval E o) c.in-Ok.answers.now) =
+    subst (λ (z : Expr). Comes c.right.result (with_right at op c.in-Ok.h (eval E (expression_of z)) c.in-Ok.answers.now)) c.deref-in-Ok.ensures c.right.ensures in
+    subst (λ (y : NumberedExp). Comes c.right.result (eval E y c.args.answers.now)) (sym (ap expression_of c.in-Binary.is))
+    (subst (λ (g : Got Held). Comes c.right.result (followed g (λ h. with_right at op h (eval E o)))) (sym e) r)
+
+pub evaluate-returns-in-Err : goal.evaluate-returns-in-Err
+evaluate-returns-in-Err t c =
+    let E = env_of c.args.env.now in
+    let l = eval E (expression_of c.in-Binary.left.value) c.args.answers.now in
+    let s : Stops c.in-Err.stop l = subst (λ (z : Expr). Stops c.in-Err.stop (eval E (expression_of z) c.args.answers.now)) c.deref-in-Binary.ensures c.in-Err.ensures in
+    subst (λ (y : NumberedExp). Stops c.in-Err.stop (eval E y c.args.answers.now)) (sym (ap expression_of c.in-Binary.is))
+    (then_stops c.in-Err.stop l (λ h. with_right c.in-Binary.place c.in-Binary.operator h (eval E (expression_of c.in-Binary.other.value))) s)
+
+pub evaluate-returns-in-Ok-evaluate : goal.evaluate-returns-in-Ok-evaluate
+evaluate-returns-in-Ok-evaluate t c =
+    let E = env_of c.args.env.now in
+    let at = c.in-Member.place in
+    let name = c.in-Member.name in
+    let y = expression_of c.in-Member.receiver.value in
+    let xs = numbered_exps (map expression_of c.in-Member.args.items) in
+    let h = c.in-Ok-evaluate.h in
+    let rest = c.in-Ok-evaluate.answers.now in
+    let type = type_of E (x.Member at y name xs) in
+    let through = type_of E y in
+    let e : eval E y c.args.answers.now ≡ Gives h rest =
+    subst (λ (z : Expr). eval E (expression_of z) c.args.answers.now ≡ Gives h rest) c.deref-in-Member.ensures c.in-Ok-evaluate.ensures in
+    let k : option_map built_in_of c.called_member-called.result ≡ member_called E.program (this_of E.method) y name =
+    c.called_member-called.ensures ∙ ap (λ (z : Expr). member_called E.program (this_of E.method) (expression_of z) name) c.deref-in-Ok-evaluate.ensures in
+    let q = subst (λ (ys : List Expr). ComesAs (λ (v : Vec Held Global). v.items) c.evaluate_all.result (eval_all E (numbered_exps (map expression_of ys)) rest)) c.deref-in-Ok-evaluate-2.ensures.value c.evaluate_all.ensures in
+    let r = c.member_from.ensures type through (eval_all E xs rest) q in
+    let b = seen_numbered_member c.args.e.now at c.in-Member.receiver name c.in-Member.args c.in-Member.is in
+    subst (λ (w : NumberedExp). Comes c.member_from.result (eval E w c.args.answers.now)) (sym b)
+    (subst (λ (g : Got Held). Comes c.member_from.result (followed g (λ h r. followed (eval_all E xs r) (λ hs. member at type (member_called E.program (this_of E.method) y name) through h hs)))) (sym e)
+    (subst (λ (o : Option BuiltIn). Comes c.member_from.result (followed (eval_all E xs rest) (λ hs. member at type o through h hs))) k r))
+
+pub evaluate-returns-in-Ok-evaluate-2 : goal.evaluate-returns-in-Ok-evaluate-2
+evaluate-returns-in-Ok-evaluate-2 t c =
+    let E = env_of c.args.env.now in
+    let at = c.in-Index.place in
+    let y = expression_of c.in-Index.receiver.value in
+    let xs = numbered_exps (map expression_of c.in-Index.indices.items) in
+    let h = c.in-Ok-evaluate-2.h in
+    let rest = c.in-Ok-evaluate-2.answers.now in
+    let type = type_of E (x.Index at y xs) in
+    let through = type_of E y in
+    let e : eval E y c.args.answers.now ≡ Gives h rest =
+    subst (λ (z : Expr). eval E (expression_of z) c.args.answers.now ≡ Gives h rest) c.deref-in-Index.ensures c.in-Ok-evaluate-2.ensures in
+    let k : c.is_point-is_point.result ≡ is_point (type_of E y) = c.is_point-is_point.ensures ∙ ap (λ (z : Expr). is_point (type_of E (expression_of z))) c.deref-in-Ok-evaluate-2-2.ensures in
+    let q = subst (λ (ys : List Expr). ComesAs (λ (v : Vec ℤ Global). v.items) c.evaluate_numbers-got.result (eval_numbers E (numbered_exps (map expression_of ys)) rest)) c.deref-in-Ok-evaluate-2-3.ensures.value c.evaluate_numbers-got.ensures in
+    let r = c.index_from.ensures type through (eval_numbers E xs rest) q in
+    let b = seen_numbered_index c.args.e.now at c.in-Index.receiver c.in-Index.indices c.in-Index.is in
+    subst (λ (w : NumberedExp). Comes c.index_from.result (eval E w c.args.answers.now)) (sym b)
+    (subst (λ (g : Got Held). Comes c.index_from.result (followed g (λ h r. followed (eval_numbers E xs r) (λ ns. indexed (is_point (type_of E y)) at type through h ns)))) (sym e)
+    (subst (λ (o : Bool). Comes c.index_from.result (followed (eval_numbers E xs rest) (λ ns. indexed o at type through h ns))) k r))
+
+pub evaluate_all-returns-in-Err : goal.evaluate_all-returns-in-Err
+evaluate_all-returns-in-Err t c =
+    let E = env_of c.args.env.now in
+    all_stop c.in-Err.stop E c.args.xs.now c.loop-x.x-index c.x-item.result c.loop-x.found.items c.loop-x.left.now c.args.answers.now c.loop-x-test.true c.loop-x.invariant
+    (subst (λ (z : Expr). Stops c.in-Err.stop (eval E (expression_of z) c.loop-x.left.now)) c.x-item.is c.in-Err.ensures)
+
+pub evaluate_all-loop-x-preserved : goal.evaluate_all-loop-x-preserved
+evaluate_all-loop-x-preserved t c =
+    let E = env_of c.args.env.now in
+    let xs = c.args.xs.now in
+    let i = c.loop-x.x-index in
+    let n = all_next E xs i c.x-item.result c.loop-x.found.items c.in-Ok.h c.loop-x.left.now c.in-Ok.rest.now c.args.answers.now c.loop-x-test.true c.loop-x.invariant
+    (subst (λ (z : Expr). eval E (expression_of z) c.loop-x.left.now ≡ Gives c.in-Ok.h c.in-Ok.rest.now) c.x-item.is c.in-Ok.ensures) in
+    subst (λ (fs : List Held). behind ◌++◌ fs (eval_all E (numbered_exps (map expression_of (drop (i + 1) xs))) c.in-Ok.rest.now) ≡ eval_all E (numbered_exps (map expression_of xs)) c.args.answers.now)
+    (sym c.in_ok-push-in-Ok.ensures.items) n
+
+pub evaluate_numbers-returns-in-Err : goal.evaluate_numbers-returns-in-Err
+evaluate_numbers-returns-in-Err t c =
+    let E = env_of c.args.env.now in
+    numbers_stopped c.in-Err.stop E c.args.xs.now c.loop-x.x-index c.x-item.result c.loop-x.found.items c.loop-x.left.now c.args.answers.now c.loop-x-test.true c.loop-x.invariant
+    (subst (λ (z : Expr). Stops c.in-Err.stop (eval E (expression_of z) c.loop-x.left.now)) c.x-item.is c.in-Err.ensures)
+
+pub evaluate_numbers-loop-x-preserved : goal.evaluate_numbers-loop-x-preserved
+evaluate_numbers-loop-x-preserved t c =
+    let E = env_of c.args.env.now in
+    let xs = c.args.xs.now in
+    let i = c.loop-x.x-index in
+    let n = numbers_next E xs i c.x-item.result c.loop-x.found.items c.in-Ok.h c.loop-x.left.now c.in-Ok.rest.now c.args.answers.now c.loop-x-test.true c.loop-x.invariant
+    (subst (λ (z : Expr). eval E (expression_of z) c.loop-x.left.now ≡ Gives c.in-Ok.h c.in-Ok.rest.now) c.x-item.is c.in-Ok.ensures) in
+    subst (λ (fs : List ℤ). behind ◌++◌ fs (eval_numbers E (numbered_exps (map expression_of (drop (i + 1) xs))) c.in-Ok.rest.now) ≡ eval_numbers E (numbered_exps (map expression_of xs)) c.args.answers.now)
+    (sym c.in_ok-add_numbers-in-Ok.ensures) n
+
+pub evaluate_ranges-returns-in-Err : goal.evaluate_ranges-returns-in-Err
+evaluate_ranges-returns-in-Err t c =
+    let E = env_of c.args.env.now in
+    bounds_stopped c.in-Err.stop E c.args.ranges.now c.loop-r.r-index c.r-item.result (bounds_of c.loop-r.found) c.loop-r.left.now c.args.answers.now c.loop-r-test.true c.loop-r.invariant
+    (subst (λ (z : Range). Stops c.in-Err.stop (eval_range E (bound_of z) c.loop-r.left.now)) c.r-item.is c.in-Err.ensures)
+
+pub evaluate_ranges-loop-r-preserved : goal.evaluate_ranges-loop-r-preserved
+evaluate_ranges-loop-r-preserved t c =
+    let E = env_of c.args.env.now in
+    let rs = c.args.ranges.now in
+    let i = c.loop-r.r-index in
+    let n = bounds_next E rs i c.r-item.result (bounds_of c.loop-r.found) (bounds_of c.in-Ok.b) c.loop-r.left.now c.in-Ok.rest.now c.args.answers.now c.loop-r-test.true c.loop-r.invariant
+    (subst (λ (z : Range). eval_range E (bound_of z) c.loop-r.left.now ≡ Gives (bounds_of c.in-Ok.b) c.in-Ok.rest.now) c.r-item.is c.in-Ok.ensures) in
+    subst (λ (fs : literal.Bounds). behind literal.joined fs (eval_ranges E (numbered_ranges (map bound_of (drop (i + 1) rs))) c.in-Ok.rest.now) ≡ eval_ranges E (numbered_ranges (map bound_of rs)) c.args.answers.now)
+    (sym c.in_ok-found-in-Ok.ensures) n
+
+pub range-returns-in-Ok : goal.range-returns-in-Ok
+range-returns-in-Ok t c =
+    let E = env_of c.args.env.now in
+    let high = expression_of c.in-Plain.high in
+    subst (λ (q : Range). ComesAs bounds_of c.plain_from.result (eval_range E (bound_of q) c.args.answers.now)) (sym c.in-Plain.is)
+    (subst (λ (g : Got Held). ComesAs bounds_of c.plain_from.result (followed g (λ a r. followed (eval E high r) (λ b. gives (literal.plain_bounds a b))))) (sym c.in-Ok.ensures)
+    (c.plain_from.ensures _ c.evaluate-in-Ok.ensures))
+
+pub range-returns-in-Ok-evaluate-2 : goal.range-returns-in-Ok-evaluate-2
+range-returns-in-Ok-evaluate-2 t c =
+    let E = env_of c.args.env.now in
+    let high = expression_of c.in-Stepped.high in
+    let step = expression_of c.in-Stepped.step in
+    subst (λ (q : Range). ComesAs bounds_of c.stepped_from.result (eval_range E (bound_of q) c.args.answers.now)) (sym c.in-Stepped.is)
+    (subst (λ (g : Got Held). ComesAs bounds_of c.stepped_from.result (followed g (λ a r. followed (eval E high r) (λ b u. followed (eval E step u) (λ k. gives (literal.stepped_bounds a b k)))))) (sym c.in-Ok-evaluate.ensures)
+    (subst (λ (g : Got Held). ComesAs bounds_of c.stepped_from.result (followed g (λ b u. followed (eval E step u) (λ k. gives (literal.stepped_bounds c.in-Ok-evaluate.a b k))))) (sym c.in-Ok-evaluate-2.ensures)
+    (c.stepped_from.ensures _ c.evaluate-in-Ok-evaluate-2.ensures)))

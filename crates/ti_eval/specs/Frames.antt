@@ -1,0 +1,162 @@
+-- What is left in a call in progress, and where it stands.
+use Rattle.std.specs.Prelude.{ℕ, ◌-◌, ◌==◌, Bool, false, if◌then◌else◌, List, [], ◌∷◌, ◌++◌, drop, map, filter, reverse, Option, Some, None}
+use Rattle.std.specs.Borrow.{Bor}
+use Rattle.ti_base.specs.declared.place.Place.{Place}
+use Rattle.ti_base.specs.declared.point.Point.{Point}
+use Rattle.ti_base.specs.declared.value.Id.{Id}
+use Rattle.ti_base.specs.PointSets.{is_lex_lt}
+use Rattle.ti_lang.specs.declared.program.classes.Method.{Method}
+use Rattle.ti_lang.specs.Program.Types as t
+use Rattle.ti_lang.specs.Program.Expressions.{NumberedExp, NumberedExps}
+use Rattle.ti_lang.specs.Program.Expressions as e
+use Rattle.ti_lang.specs.Program.Statements.{NumberedStm, MaybeNumbered, NoStm, NumberedStms}
+use Rattle.ti_lang.specs.Program.Statements as s
+use Rattle.ti_lang.specs.Program.Classes.{NumberedMethod, NumberedProgram, Void, Words}
+use Rattle.ti_lang.specs.Program.Views.{numbered_method_of, variable_of}
+use Rattle.ti_lang.specs.Typing.TextTypes.{type_in_text}
+use Rattle.ti_lang.specs.Meaning.Held.{Held, points_in, point_of, dim_of}
+use Rattle.ti_lang.specs.Meaning.Asking.{Reference}
+use Rattle.ti_lang.specs.Meaning.Copies.{counted}
+use Rattle.ti_lang.specs.Meaning.Processes.{Variable, Loop, While, Foreach, Work, Do, End, Before, Behind, CopyAll, TakeAll}
+use Rattle.ti_eval.specs.declared.frame.Slot.{Slot}
+use Rattle.ti_eval.specs.declared.frame.Todo.{Todo}
+use Rattle.ti_eval.specs.declared.frame.Todo.TheVariants as todo
+use Rattle.ti_eval.specs.declared.frame.Level.{Level}
+use Rattle.ti_eval.specs.declared.frame.Part.TheVariants as part
+use Rattle.ti_eval.specs.Places.{list_of, part_of, inside}
+
+-- ---- variables
+
+abbrev pub slot_of : Slot → Variable
+slot_of s = record { named = variable_of s.variable; held = s.held }
+
+-- the variables in scope, the newest first
+abbrev pub slots_of : List Slot → List Variable
+slots_of slots = map slot_of (reverse slots)
+
+-- ---- methods
+
+abbrev pub nowhere : Place
+nowhere = record { line = 0; col = 0 }
+
+-- what stands for a method that isn't there
+abbrev pub no_method : NumberedMethod
+no_method = record {
+  class = 0;
+  modifiers = [];
+  is_single = false;
+  result = Void;
+  place = nowhere;
+  name = 0;
+  params = Words;
+  body = [];
+  end = nowhere;
+}
+
+abbrev pub method_seen : Option (Bor Method) → NumberedMethod
+method_seen None = no_method
+method_seen (Some m) = numbered_method_of m.now
+
+-- ---- the parts of statements
+
+-- the place of a loop
+abbrev pub place_of : NumberedStm → Place
+place_of (s.While at c body) = at
+place_of (s.For at first c update body) = at
+place_of (s.Foreach at variable domain body) = at
+place_of x = nowhere
+
+-- the condition of a loop
+abbrev pub condition_in : NumberedStm → Option NumberedExp
+condition_in (s.While at c body) = Some c
+condition_in (s.For at first c update body) = c
+condition_in x = None
+
+-- what each turn of a loop ends with
+abbrev pub update_in : NumberedStm → MaybeNumbered
+update_in (s.For at first c update body) = update
+update_in x = NoStm
+
+-- the domain of a `foreach`
+abbrev pub domain_in : NumberedStm → NumberedExp
+domain_in (s.Foreach at variable domain body) = domain
+domain_in x = e.Null nowhere
+
+-- the statements of a block
+abbrev pub list_in : NumberedStm → List NumberedStm
+list_in (s.Block body) = list_of body
+list_in x = []
+
+abbrev pub member_place : NumberedStm → Place
+member_place (s.Call (e.Member at x name args)) = at
+member_place x = nowhere
+
+abbrev pub member_receiver : NumberedStm → NumberedExp
+member_receiver (s.Call (e.Member at x name args)) = x
+member_receiver x = e.Null nowhere
+
+abbrev pub member_args : NumberedStm → NumberedExps
+member_args (s.Call (e.Member at x name args)) = args
+member_args x = e.NoExp
+
+-- ---- work
+
+-- the program, the class of `this`, and how many processes there are
+pub record Site : Type 0 where
+  pub program : NumberedProgram
+  pub this : Option ℕ
+  pub procs : ℕ
+
+-- a while or a for, whichever statement it is
+abbrev pub loop_of : NumberedStm → Loop
+loop_of x = While (place_of x) (condition_in x) (update_in x) (part_of x part.Body)
+
+abbrev pub foreach_of : NumberedStm → ℕ → List Point → Loop
+foreach_of x variable points = Foreach (place_of x) variable (domain_in x) points (part_of x part.Body)
+
+-- the end of a `for`
+abbrev pub end_of_for : NumberedStm → List Work
+end_of_for (s.For at first c update body) = End (s.For at first c update body) ∷ []
+end_of_for x = []
+
+-- the points of a domain above another one, which is of its dimension
+abbrev pub points_above : Held → Option Point → List Point
+points_above h None = points_in h
+points_above h (Some p) = if p.dim == dim_of h then filter (is_lex_lt p) (points_in h) else []
+
+-- a thing with the type of the expression that named it
+abbrev pub reference : Site → NumberedExp → Id → Reference
+reference site x id = record { thing = id; type = type_in_text site.program site.this x }
+
+abbrev pub first_reference : Site → NumberedExps → Id → Reference
+first_reference site e.NoExp id = record { thing = id; type = t.Void }
+first_reference site (e.MoreExp x xs) id = reference site x id
+
+-- the work that is left of a statement
+abbrev pub work_of : Site → NumberedStm → Todo → List Work
+work_of site x todo.Here = Do x ∷ []
+work_of site x todo.Inside = []
+work_of site x (todo.From n) = map Do (drop n (list_in x)) ++ End x ∷ []
+work_of site x todo.Ending = End x ∷ []
+work_of site x todo.Before = Before (loop_of x) ∷ end_of_for x
+work_of site x todo.Behind = Behind (loop_of x) ∷ end_of_for x
+work_of site x (todo.Each variable domain last) = Before (foreach_of x variable (points_above domain last)) ∷ []
+work_of site x (todo.Turn variable domain point) = Behind (foreach_of x variable (point_of point ∷ points_above domain (Some (point_of point)))) ∷ []
+work_of site x (todo.Copying to from domain last) =
+    CopyAll (member_place x) (reference site (member_receiver x) to) (first_reference site (member_args x) from) (points_above domain last) ∷ []
+work_of site x (todo.Taking grid next) = TakeAll (member_place x) (reference site (member_receiver x) grid) (counted next (site.procs - next)) ∷ []
+
+-- that is left of the body of a method
+abbrev pub work_of_body : NumberedStms → Todo → List Work
+work_of_body body (todo.From n) = map Do (drop n (list_of body))
+work_of_body body t = []
+
+-- that is left in a frame, from what is left of the innermost statement on
+abbrev pub left_of : Site → NumberedStms → List Level → Todo → List Work
+left_of site body [] t = work_of_body body t
+left_of site body (l ∷ ls) t = work_of site (inside body (l ∷ ls)) t ++ left_of site body ls l.todo
+
+-- behind the innermost statement
+abbrev pub rest_of : Site → NumberedStms → List Level → List Work
+rest_of site body [] = []
+rest_of site body (l ∷ ls) = left_of site body ls l.todo

@@ -1,0 +1,33 @@
+-- Where a call stands in its method: the parts of statements that it has entered.
+use Rattle.std.specs.Prelude.{ℕ, List, [], ◌∷◌, slice_get, unwrap_or}
+use Rattle.ti_lang.specs.Program.Statements.{NumberedStm, MaybeNumbered, NoStm, SomeStm, NumberedStms, Nil, Cons}
+use Rattle.ti_lang.specs.Program.Statements as s
+use Rattle.ti_eval.specs.declared.frame.Part.{Part}
+use Rattle.ti_eval.specs.declared.frame.Part.TheVariants as part
+use Rattle.ti_eval.specs.declared.frame.Level.{Level}
+
+abbrev pub list_of : NumberedStms → List NumberedStm
+list_of Nil = []
+list_of (Cons x rest) = x ∷ list_of rest
+
+abbrev pub maybe : MaybeNumbered → NumberedStm
+maybe NoStm = s.Empty
+maybe (SomeStm x) = x
+
+-- the part of a statement; one that it hasn't is empty
+abbrev pub part_of : NumberedStm → Part → NumberedStm
+part_of (s.Block body) (part.Item n) = unwrap_or (slice_get (list_of body) n) s.Empty
+part_of (s.If at c x) part.Then = x
+part_of (s.IfElse at c x y) part.Then = x
+part_of (s.IfElse at c x y) part.Else = y
+part_of (s.While at c body) part.Body = body
+part_of (s.Foreach at variable domain body) part.Body = body
+part_of (s.For at first c update body) part.Body = body
+part_of (s.For at first c update body) part.First = maybe first
+part_of (s.For at first c update body) part.Update = maybe update
+part_of x p = s.Empty
+
+-- the innermost statement, from those entered, the innermost first; the outermost is the body of the method
+abbrev pub inside : NumberedStms → List Level → NumberedStm
+inside body [] = s.Block body
+inside body (l ∷ ls) = part_of (inside body ls) l.inner

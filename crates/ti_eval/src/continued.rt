@@ -1,0 +1,184 @@
+// What comes behind the value of an operand.
+
+ghost use Rattle.std.specs.Prelude.{◌≡◌, ℤ, List, option_map};
+ghost use Rattle.std.specs.declared.vec.Vec.{Vec as Row};
+ghost use Rattle.std.specs.declared.alloc.Global.{Global as Heap};
+ghost use Rattle.ti_base.specs.declared.value.Value.TheVariants.{Pt};
+ghost use Rattle.ti_lang.specs.Program.Types.{ValueType};
+ghost use Rattle.ti_lang.specs.Program.Views.{value_type_of};
+ghost use Rattle.ti_lang.specs.Typing.Seen.{built_in_of};
+ghost use Rattle.ti_lang.specs.Meaning.Held.{Held as Seen, Plain};
+ghost use Rattle.ti_lang.specs.Meaning.Asking.{Got, followed, gives};
+ghost use Rattle.ti_lang.specs.Meaning.Literals as literal;
+ghost use Rattle.ti_lang.specs.Meaning.Conversions as conversions;
+ghost use Rattle.ti_lang.specs.Meaning.Operators as ops;
+ghost use Rattle.ti_lang.specs.Meaning.Parts.{Field, fetched, indexed as indexed_spec};
+ghost use Rattle.ti_lang.specs.Meaning.MemberForms as forms;
+ghost use Rattle.ti_lang.specs.Meaning.Evaluation.{kept_local as kept_local_spec};
+ghost use Rattle.ti_eval.specs.Bounds.{bounds_of};
+ghost use Rattle.ti_eval.specs.Comes.{Comes, ComesAs};
+
+use crate::bounds::Bounds;
+use crate::conversions::{converted, kept_local};
+use crate::held::Held;
+use crate::literals::{plain_bounds, point_of_numbers, rect_within, stepped_bounds};
+use crate::members::{indexed, member};
+use crate::operators::operated_alone;
+use crate::parts::fetch_field;
+use crate::stop::Stop;
+use crate::told::Told;
+use std::alloc::Global;
+use ti_base::{Place, Value};
+use ti_lang::program::Ty;
+use ti_lang::tree::UnaryOperator;
+use ti_lang::typing::BuiltIn;
+
+/// The point of the numbers.
+#[tactic(auto, using(crate::proofs::Steps::steps))]
+pub fn point_from<'a>(got: Result<(Vec<i32>, &'a [Told]), Stop>) -> Result<(Held, &'a [Told]), Stop>
+    ensures { (m : Got (List ℤ)) → ComesAs (λ (v : Row ℤ Heap). v.items) got.entry m → Comes result (followed m (λ xs. gives (Plain (Pt (literal.point_of_numbers xs))))) }
+{
+    match got {
+        Ok((numbers, answers)) => Ok((Held::plain(Value::Pt(point_of_numbers(&numbers))), answers)),
+        Err(stop) => Err(stop),
+    }
+}
+
+/// The rectangular domain within the bounds.
+#[tactic(auto, using(crate::proofs::Steps::steps))]
+pub fn rect_from<'a>(
+    at: Place,
+    got: Result<(Bounds, &'a [Told]), Stop>,
+) -> Result<(Held, &'a [Told]), Stop>
+    ensures { (m : Got literal.Bounds) → ComesAs bounds_of got.entry m → Comes result (followed m (λ b. literal.rect_within at b)) }
+{
+    match got {
+        Ok((bounds, answers)) => rect_within(at, &bounds, answers),
+        Err(stop) => Err(stop),
+    }
+}
+
+/// An operator of one operand.
+#[tactic(auto, using(crate::proofs::Steps::steps))]
+pub fn alone_from<'a>(
+    op: UnaryOperator,
+    got: Result<(Held, &'a [Told]), Stop>,
+) -> Result<(Held, &'a [Told]), Stop>
+    ensures { (m : Got Seen) → Comes got.entry m → Comes result (followed m (λ h. gives (ops.operated_alone op h))) }
+{
+    match got {
+        Ok((h, answers)) => Ok((operated_alone(op, h), answers)),
+        Err(stop) => Err(stop),
+    }
+}
+
+// A value of a type, if it is local where the type is.
+#[tactic(auto, using(crate::proofs::Steps::steps))]
+fn local_from<'a>(
+    number: u32,
+    at: Place,
+    ty: &Ty,
+    got: Result<(Held, &'a [Told]), Stop>,
+) -> Result<(Held, &'a [Told]), Stop>
+    ensures { (m : Got Seen) → Comes got.entry m → Comes result (followed m (λ k. kept_local_spec number at (value_type_of ty.now) k)) }
+{
+    match got {
+        Ok((h, answers)) => kept_local(number, at, ty, h, answers),
+        Err(stop) => Err(stop),
+    }
+}
+
+/// A cast.
+#[tactic(auto, using(crate::proofs::Steps::steps))]
+pub fn cast_from<'a>(
+    alloc: Global,
+    number: u32,
+    at: Place,
+    ty: &Ty,
+    got: Result<(Held, &'a [Told]), Stop>,
+) -> Result<(Held, &'a [Told]), Stop>
+    ensures { (m : Got Seen) → Comes got.entry m → Comes result (followed m (λ h rest. followed (conversions.converted at (value_type_of ty.now) h rest) (λ k. kept_local_spec number at (value_type_of ty.now) k))) }
+{
+    match got {
+        Ok((h, answers)) => local_from(number, at, ty, converted(alloc, at, ty, h, answers)),
+        Err(stop) => Err(stop),
+    }
+}
+
+/// A field of an object.
+#[tactic(auto, using(crate::proofs::Steps::steps))]
+pub fn field_from<'a>(
+    at: Place,
+    field: u32,
+    got: Result<(Held, &'a [Told]), Stop>,
+) -> Result<(Held, &'a [Told]), Stop>
+    ensures { (type through : ValueType) (m : Got Seen) → Comes got.entry m → Comes result (followed m (λ h. fetched at type (Field h through field))) }
+{
+    match got {
+        Ok((h, answers)) => fetch_field(at, &h, field, answers),
+        Err(stop) => Err(stop),
+    }
+}
+
+/// A member of the language, behind its receiver.
+#[tactic(auto, using(crate::proofs::Steps::steps))]
+pub fn member_from<'a>(
+    at: Place,
+    called: Option<BuiltIn>,
+    h: &Held,
+    got: Result<(Vec<Held>, &'a [Told]), Stop>,
+) -> Result<(Held, &'a [Told]), Stop>
+    ensures { (type through : ValueType) (m : Got (List Seen)) → ComesAs (λ (v : Row Seen Heap). v.items) got.entry m → Comes result (followed m (λ hs. forms.member at type (option_map built_in_of called) through h.now hs)) }
+{
+    match got {
+        Ok((hs, answers)) => member(at, called, h, &hs, answers),
+        Err(stop) => Err(stop),
+    }
+}
+
+/// A coordinate or an element, behind the point or the grid.
+#[tactic(auto, using(crate::proofs::Steps::steps))]
+pub fn index_from<'a>(
+    is_point: bool,
+    at: Place,
+    h: &Held,
+    got: Result<(Vec<i32>, &'a [Told]), Stop>,
+) -> Result<(Held, &'a [Told]), Stop>
+    ensures { (type through : ValueType) (m : Got (List ℤ)) → ComesAs (λ (v : Row ℤ Heap). v.items) got.entry m → Comes result (followed m (λ xs. indexed_spec is_point at type through h.now xs)) }
+{
+    match got {
+        Ok((numbers, answers)) => indexed(is_point, at, h, &numbers, answers),
+        Err(stop) => Err(stop),
+    }
+}
+
+/// From one value to another by steps of 1.
+#[tactic(auto, using(crate::proofs::Steps::steps))]
+pub fn plain_from<'a>(
+    alloc: Global,
+    a: &Held,
+    got: Result<(Held, &'a [Told]), Stop>,
+) -> Result<(Bounds, &'a [Told]), Stop>
+    ensures { (m : Got Seen) → Comes got.entry m → ComesAs bounds_of result (followed m (λ b. gives (literal.plain_bounds a.now b))) }
+{
+    match got {
+        Ok((b, answers)) => Ok((plain_bounds(alloc, a, &b)?, answers)),
+        Err(stop) => Err(stop),
+    }
+}
+
+/// From one value to another by steps.
+#[tactic(auto, using(crate::proofs::Steps::steps))]
+pub fn stepped_from<'a>(
+    alloc: Global,
+    a: &Held,
+    b: &Held,
+    got: Result<(Held, &'a [Told]), Stop>,
+) -> Result<(Bounds, &'a [Told]), Stop>
+    ensures { (m : Got Seen) → Comes got.entry m → ComesAs bounds_of result (followed m (λ c. gives (literal.stepped_bounds a.now b.now c))) }
+{
+    match got {
+        Ok((c, answers)) => Ok((stepped_bounds(alloc, a, b, &c)?, answers)),
+        Err(stop) => Err(stop),
+    }
+}

@@ -1,0 +1,104 @@
+// Where an expression is evaluated.
+
+ghost use Rattle.std.specs.Prelude.{◌≡◌, IfOk, IfSome, Some, None, reverse, option_map};
+ghost use Rattle.std.specs.Option.{option_map_or};
+ghost use Rattle.ti_base.specs.declared.point.Point.{Point as At};
+ghost use Rattle.ti_base.specs.declared.value.Value.TheVariants.{Pt};
+ghost use Rattle.ti_base.specs.Points.{IsPoint};
+ghost use Rattle.ti_lang.specs.Program.Scope.{this_of};
+ghost use Rattle.ti_lang.specs.Program.Views.{program_of, expression_of, variable_of};
+ghost use Rattle.ti_lang.specs.Program.Statements.{NumberedStms};
+ghost use Rattle.ti_lang.specs.Meaning.Held.{nothing, Plain};
+ghost use Rattle.ti_lang.specs.Meaning.Scoping.{value_by, type_of as type_of_spec};
+ghost use Rattle.ti_lang.specs.Typing.Seen.{seen, built_in_of};
+ghost use Rattle.ti_lang.specs.Typing.Called.{member_called as member_called_spec};
+ghost use Rattle.ti_lang.specs.Meaning.Turns.{turns_at, point_at};
+ghost use Rattle.ti_eval.specs.Envs.{env_of};
+ghost use Rattle.ti_eval.specs.Frames.{Site, method_seen, rest_of};
+
+use crate::frame::{Level, Slot, Todo};
+use crate::held::Held;
+use crate::team::Team;
+use crate::variables::find;
+use std::alloc::Global;
+use ti_base::{Id, Memory, Point, Value};
+use ti_lang::program::{Declared, Expr, Method, Parts, Variable, has_static};
+use ti_lang::typing::{BuiltIn, Seen, member_called, type_in_text};
+
+/// Where an expression is evaluated: in which process, in which call of which method, and where that stands.
+#[derive(Clone, Copy)]
+pub struct Env<'a> {
+    pub team: Team,
+    pub program: &'a Parts,
+    /// None stands for a method without a word.
+    pub method: Option<&'a Method>,
+    pub this: Option<Id>,
+    /// The variables in scope, the oldest first.
+    pub variables: &'a [Slot],
+    /// The statements entered, the outermost first.
+    pub levels: &'a [Level],
+}
+
+/// The class of `this` in a method, where there is one.
+pub fn class_of_this(method: Option<&Method>) -> Option<u32>
+    ensures { result ≡ this_of (method_seen method.entry) }
+{
+    match method {
+        Some(m) => if has_static(&m.modifiers) {
+            None
+        } else {
+            Some(m.class)
+        },
+        None => Some(0),
+    }
+}
+
+/// The type that an expression has in the text.
+pub fn type_of<'a>(env: &Env<'a>, e: &'a Expr) -> Seen<'a>
+    ensures { seen result ≡ type_of_spec (env_of env.now) (expression_of e.now) }
+{
+    type_in_text(env.program, class_of_this(env.method), e)
+}
+
+/// The member of the language that a name means behind an expression.
+pub fn called_member(env: &Env, receiver: &Expr, name: u32) -> Option<BuiltIn>
+    ensures { option_map built_in_of result ≡ member_called_spec (program_of env.now.program.now) (this_of (method_seen env.now.method)) (expression_of receiver.now) name }
+{
+    member_called(env.program, class_of_this(env.method), receiver, name)
+}
+
+/// The point of the innermost foreach with this variable.
+pub fn point_of_turn(levels: &[Level], number: u32) -> Option<Point>
+    ensures value { (site : Site) (body : NumberedStms) → option_map_or (λ (p : At). Plain (Pt p)) result nothing ≡ point_at number (turns_at (rest_of site body (reverse levels.now))) }
+    ensures form { IfSome result IsPoint }
+{
+    let mut n = levels.len();
+    while n > 1 {
+        n -= 1;
+        let level = &levels[n];
+        if let Todo::Turn {
+            variable,
+            point,
+            ..
+        } = &level.todo
+        {
+            if *variable == number {
+                return Some(point.point());
+            }
+        }
+    }
+    None
+}
+
+/// What a variable holds.
+pub fn variable(alloc: Global, env: &Env, v: &Variable) -> Result<Held, Memory>
+    ensures { IfOk result (λ h. h ≡ value_by (variable_of v.now).declared (env_of env.now) (variable_of v.now)) }
+{
+    match &v.declared {
+        Declared::Typed { single: _, ty: _ } => Ok(find(alloc, v, env.variables)?),
+        Declared::Foreach => match point_of_turn(env.levels, v.number) {
+            Some(p) => Ok(Held::plain(Value::Pt(p))),
+            None => Ok(Held::plain(Value::Bool(false))),
+        },
+    }
+}

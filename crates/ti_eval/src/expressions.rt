@@ -1,0 +1,276 @@
+// The values of expressions.
+
+ghost use Rattle.std.specs.Prelude.{◌≡◌, map, ℤ, pos};
+ghost use Rattle.ti_base.specs.declared.value.Value.TheVariants.{Int};
+ghost use Rattle.ti_lang.specs.Typing.Kinds.{is_point as is_point_spec};
+ghost use Rattle.ti_lang.specs.Meaning.Scoping.{type_of as type_of_spec};
+ghost use Rattle.ti_lang.specs.Typing.Seen.{seen};
+ghost use Rattle.std.specs.declared.vec.Vec.{Vec as Row};
+ghost use Rattle.std.specs.declared.alloc.Global.{Global as Heap};
+ghost use Rattle.ti_lang.specs.Program.Expressions.{numbered_exps, numbered_ranges};
+ghost use Rattle.ti_lang.specs.Program.Views.{expression_of, bound_of};
+ghost use Rattle.ti_lang.specs.Meaning.Held.{Held as Seen, Plain};
+ghost use Rattle.ti_lang.specs.Meaning.Evaluation as evaluation;
+ghost use Rattle.ti_eval.specs.Bounds.{bounds_of};
+ghost use Rattle.ti_eval.specs.Comes.{Comes, ComesAs};
+ghost use Rattle.ti_eval.specs.Envs.{env_of};
+
+use crate::bounds::Bounds;
+use crate::continued::{
+    alone_from, cast_from, field_from, index_from, member_from, plain_from, point_from, rect_from,
+    stepped_from,
+};
+use crate::env::{Env, called_member, type_of, variable};
+use crate::fields::field_selected;
+use crate::held::Held;
+use crate::literals::{add_numbers, joined, no_bounds};
+use crate::operators::{operated, settled};
+use crate::parts::fetch_field;
+use crate::stop::Stop;
+use crate::told::Told;
+use std::alloc::Global;
+use ti_base::{Place, Value};
+use ti_lang::program::{Expr, Range};
+use ti_lang::tree::BinaryOperator;
+use ti_lang::typing::Seen as Kind;
+
+fn is_point_type<'a>(t: Kind<'a>) -> bool
+    ensures { result ≡ is_point_spec (seen t.entry) }
+{
+    match t {
+        Kind::Pt(_) => true,
+        _ => false,
+    }
+}
+
+// Whether an expression is a point in the text.
+fn is_point(env: &Env, e: &Expr) -> bool
+    ensures { result ≡ is_point_spec (type_of_spec (env_of env.now) (expression_of e.now)) }
+{
+    is_point_type(type_of(env, e))
+}
+
+// What an operator comes to behind its left operand.
+#[cycle(evaluate)]
+#[tactic(auto, using(crate::proofs::Steps::steps))]
+fn right<'a>(
+    alloc: Global,
+    env: &Env,
+    at: Place,
+    op: BinaryOperator,
+    h: &Held,
+    e: &Expr,
+    answers: &'a [Told],
+) -> Result<(Held, &'a [Told]), Stop>
+    ensures { Comes result (evaluation.with_right at op h.now (evaluation.eval (env_of env.now) (expression_of e.now)) answers.now) }
+{
+    match settled(op, h) {
+        Some(k) => Ok((k, answers)),
+        None => {
+            let (k, answers) = evaluate(alloc, env, e, answers)?;
+            operated(alloc, at, op, h, k, answers)
+        }
+    }
+}
+
+/// The values of expressions, in order.
+#[cycle(evaluate)]
+pub fn evaluate_all<'a>(
+    alloc: Global,
+    env: &Env,
+    xs: &[Expr],
+    answers: &'a [Told],
+) -> Result<(Vec<Held>, &'a [Told]), Stop>
+    ensures { ComesAs (λ (v : Row Seen Heap). v.items) result (evaluation.eval_all (env_of env.now) (numbered_exps (map expression_of xs.now)) answers.now) }
+{
+    let mut found = Vec::new(alloc);
+    let mut left = answers;
+    for x in xs {
+        match evaluate(alloc, env, x, left) {
+            Ok((h, rest)) => {
+                found.push(h)?;
+                left = rest;
+            }
+            Err(stop) => return Err(stop),
+        }
+    }
+    Ok((found, left))
+}
+
+/// The numbers that expressions come to, or the coordinates of points.
+#[cycle(evaluate)]
+pub fn evaluate_numbers<'a>(
+    alloc: Global,
+    env: &Env,
+    xs: &[Expr],
+    answers: &'a [Told],
+) -> Result<(Vec<i32>, &'a [Told]), Stop>
+    ensures { ComesAs (λ (v : Row ℤ Heap). v.items) result (evaluation.eval_numbers (env_of env.now) (numbered_exps (map expression_of xs.now)) answers.now) }
+{
+    let mut found = Vec::new(alloc);
+    let mut left = answers;
+    for x in xs {
+        match evaluate(alloc, env, x, left) {
+            Ok((h, rest)) => {
+                add_numbers(&mut found, &h)?;
+                left = rest;
+            }
+            Err(stop) => return Err(stop),
+        }
+    }
+    Ok((found, left))
+}
+
+// The bounds of a range, of numbers or of points.
+#[cycle(evaluate)]
+#[tactic(auto, using(crate::proofs::Steps::steps))]
+fn range<'a>(
+    alloc: Global,
+    env: &Env,
+    r: &Range,
+    answers: &'a [Told],
+) -> Result<(Bounds, &'a [Told]), Stop>
+    ensures { ComesAs bounds_of result (evaluation.eval_range (env_of env.now) (bound_of r.now) answers.now) }
+{
+    match r {
+        Range::Plain { low, high } => match evaluate(alloc, env, low, answers) {
+            Ok((a, answers)) => plain_from(alloc, &a, evaluate(alloc, env, high, answers)),
+            Err(stop) => Err(stop),
+        },
+        Range::Stepped { low, high, step } => match evaluate(alloc, env, low, answers) {
+            Ok((a, answers)) => match evaluate(alloc, env, high, answers) {
+                Ok((b, answers)) => {
+                    stepped_from(alloc, &a, &b, evaluate(alloc, env, step, answers))
+                }
+                Err(stop) => Err(stop),
+            },
+            Err(stop) => Err(stop),
+        },
+    }
+}
+
+/// The bounds of ranges, coordinate by coordinate.
+#[cycle(evaluate)]
+pub fn evaluate_ranges<'a>(
+    alloc: Global,
+    env: &Env,
+    ranges: &[Range],
+    answers: &'a [Told],
+) -> Result<(Bounds, &'a [Told]), Stop>
+    ensures { ComesAs bounds_of result (evaluation.eval_ranges (env_of env.now) (numbered_ranges (map bound_of ranges.now)) answers.now) }
+{
+    let mut found = no_bounds(alloc);
+    let mut left = answers;
+    for r in ranges {
+        match range(alloc, env, r, left) {
+            Ok((b, rest)) => {
+                found = joined(found, &b)?;
+                left = rest;
+            }
+            Err(stop) => return Err(stop),
+        }
+    }
+    Ok((found, left))
+}
+
+/// The value of an expression, from these answers, and those that are left. It asks for an action where
+/// the answers are used up, and fails with a fault where the language says so; a call of a declared
+/// method has no value here.
+#[cycle(evaluate)]
+#[tactic(auto, using(crate::proofs::Evaluating::evaluating))]
+pub fn evaluate<'a>(
+    alloc: Global,
+    env: &Env,
+    e: &Expr,
+    answers: &'a [Told],
+) -> Result<(Held, &'a [Told]), Stop>
+    ensures { Comes result (evaluation.eval (env_of env.now) (expression_of e.now) answers.now) }
+{
+    match e {
+        Expr::Int(_, n) => Ok((Held::plain(Value::Int(*n)), answers)),
+        Expr::Long(_, n) => Ok((Held::plain(Value::Long(*n)), answers)),
+        Expr::Truth(_, b) => Ok((Held::truth(*b), answers)),
+        Expr::Null(_) => Ok((Held::plain(Value::Obj(None)), answers)),
+        Expr::This(_) => Ok((Held::plain(Value::Obj(env.this)), answers)),
+        Expr::Variable(_, v) => Ok((variable(alloc, env, v)?, answers)),
+        Expr::OwnField(place, field) => {
+            let this = Held::plain(Value::Obj(env.this));
+            fetch_field(*place, &this, *field, answers)
+        }
+        Expr::ThisProc(_) => Ok((this_proc(env), answers)),
+        Expr::NumProcs(_) => Ok((num_procs(env), answers)),
+        Expr::Point(_, parts) => point_from(evaluate_numbers(alloc, env, parts, answers)),
+        Expr::Rect(place, ranges) => {
+            rect_from(*place, evaluate_ranges(alloc, env, ranges, answers))
+        }
+        Expr::Unary {
+            place: _,
+            operator,
+            operand,
+        } => alone_from(*operator, evaluate(alloc, env, operand, answers)),
+        Expr::Binary {
+            place,
+            operator,
+            left,
+            right: other,
+        } => match evaluate(alloc, env, left, answers) {
+            Ok((h, answers)) => right(alloc, env, *place, *operator, &h, other, answers),
+            Err(stop) => Err(stop),
+        },
+        Expr::Cast { place, to, operand } => {
+            let number = env.team.number;
+            let got = evaluate(alloc, env, operand, answers);
+            cast_from(alloc, number, *place, &to.ty, got)
+        }
+        Expr::Select {
+            place,
+            receiver,
+            name,
+        } => {
+            let field = field_selected(env, receiver, *name)?;
+            field_from(*place, field, evaluate(alloc, env, receiver, answers))
+        }
+        Expr::Member {
+            place,
+            receiver,
+            name,
+            args,
+        } => match evaluate(alloc, env, receiver, answers) {
+            Ok((h, answers)) => {
+                let called = called_member(env, receiver, *name);
+                member_from(*place, called, &h, evaluate_all(alloc, env, args, answers))
+            }
+            Err(stop) => Err(stop),
+        },
+        Expr::Index {
+            place,
+            receiver,
+            indices,
+        } => match evaluate(alloc, env, receiver, answers) {
+            Ok((h, answers)) => {
+                let is_point = is_point(env, receiver);
+                let got = evaluate_numbers(alloc, env, indices, answers);
+                index_from(is_point, *place, &h, got)
+            }
+            Err(stop) => Err(stop),
+        },
+        Expr::Call { .. } => Ok((Held::truth(false), answers)),
+        Expr::OwnCall { .. } => Ok((Held::truth(false), answers)),
+    }
+}
+
+// The number of the process.
+fn this_proc(env: &Env) -> Held
+    ensures { result ≡ Plain (Int (pos env.now.team.number)) }
+{
+    let team = env.team;
+    Held::plain(Value::Int(team.number as i32))
+}
+
+// How many processes there are.
+fn num_procs(env: &Env) -> Held
+    ensures { result ≡ Plain (Int (pos env.now.team.procs)) }
+{
+    let team = env.team;
+    Held::plain(Value::Int(team.procs as i32))
+}

@@ -1,0 +1,174 @@
+// What variables hold.
+
+ghost use Rattle.std.specs.Prelude.{◌≡◌, ◌≤◌, length, IfOk};
+ghost use Rattle.ti_base.specs.Points.{IsPoint};
+ghost use Rattle.ti_base.specs.Rects.{IsRect};
+ghost use Rattle.ti_lang.specs.Meaning.Held as held;
+ghost use Rattle.ti_eval.specs.Forms.{IsFormedValue};
+
+use crate::variables::empty_rect;
+use std::alloc::Global;
+use std::marker::Model;
+use ti_base::{Id, Memory, Point, Rect, Value};
+use ti_domain::{Dom, Held as Kept, dim_of, dom_copy, dom_pieces};
+
+/// What a variable holds: a value, in which a point or a rectangular domain is in its one form, or a domain.
+/// Contracts see it as the meaning of programs does.
+#[derive(Drop)]
+pub struct Held {
+    pub(crate) kept: Kept,
+}
+
+impl Model for Held {
+    ghost use Rattle.ti_lang.specs.Meaning.Held.{Held};
+
+    ghost Value = { Held };
+
+    ghost use Rattle.ti_eval.specs.Forms.{held_of, IsFormedHeld};
+
+    ghost view = { λ h. held_of h.kept };
+
+    ghost invariant = { λ h. IsFormedHeld (held_of h.kept) };
+}
+
+impl Held {
+    /// A value.
+    pub fn plain(value: Value) -> Held
+        requires { IsFormedValue value }
+        ensures { result ≡ held.Plain value }
+    {
+        Held {
+            kept: Kept::Plain(value),
+        }
+    }
+
+    /// A domain.
+    pub fn domain(d: Dom) -> Held
+        ensures value { result ≡ held.Dm d.dim d.points }
+        ensures small { length d.points ≤ 1048576 }
+    {
+        let _ = dom_pieces(&d);
+        Held { kept: Kept::Dm(d) }
+    }
+
+    /// A boolean.
+    pub fn truth(b: bool) -> Held
+        ensures { result ≡ held.truth b }
+    {
+        Held::plain(Value::Bool(b))
+    }
+
+    /// The same.
+    pub fn copy(&self, alloc: Global) -> Result<Held, Memory>
+        ensures { IfOk result (λ h. h ≡ self.now) }
+    {
+        match &self.kept {
+            Kept::Plain(value) => Ok(Held {
+                kept: Kept::Plain(*value),
+            }),
+            Kept::Dm(d) => Ok(Held {
+                kept: Kept::Dm(dom_copy(alloc, d)?),
+            }),
+        }
+    }
+
+    /// Whether it is `true`.
+    pub fn is_true(&self) -> bool
+        ensures { result ≡ held.truth_of self.now }
+    {
+        match &self.kept {
+            Kept::Plain(Value::Bool(b)) => *b,
+            _ => false,
+        }
+    }
+
+    /// The number that an int or a long is.
+    pub fn whole(&self) -> i64
+        ensures { result ≡ held.whole_of self.now }
+    {
+        match &self.kept {
+            Kept::Plain(Value::Int(n)) => i64::from(*n),
+            Kept::Plain(Value::Long(n)) => *n,
+            _ => 0,
+        }
+    }
+
+    /// The number that an int is.
+    pub fn int(&self) -> i32
+        ensures { result ≡ held.int_of self.now }
+    {
+        match &self.kept {
+            Kept::Plain(Value::Int(n)) => *n,
+            _ => 0,
+        }
+    }
+
+    /// The point that it is.
+    pub fn point(&self) -> Point
+        ensures value { result ≡ held.point_of self.now }
+        ensures form { IsPoint result }
+    {
+        match &self.kept {
+            Kept::Plain(Value::Pt(p)) => *p,
+            _ => Point {
+                dim: 1,
+                x1: 0,
+                x2: 0,
+                x3: 0,
+            },
+        }
+    }
+
+    /// The object or the grid that it names, if it names one.
+    pub fn thing(&self) -> Option<Id>
+        ensures { result ≡ held.thing_of self.now }
+    {
+        match &self.kept {
+            Kept::Plain(Value::Obj(id)) => *id,
+            Kept::Plain(Value::Grid(id)) => *id,
+            _ => None,
+        }
+    }
+
+    /// The number of the region that it is.
+    pub fn region(&self) -> u32
+        ensures { result ≡ held.region_of self.now }
+    {
+        match &self.kept {
+            Kept::Plain(Value::Region(n)) => *n,
+            _ => 0,
+        }
+    }
+
+    /// The value that goes into a cell or an action.
+    pub fn value(&self) -> Value
+        ensures { result ≡ held.plain_of self.now }
+    {
+        match &self.kept {
+            Kept::Plain(value) => *value,
+            Kept::Dm(_) => Value::Bool(false),
+        }
+    }
+
+    /// The rectangular domain that it is.
+    pub fn rect(&self) -> Rect
+        ensures value { result ≡ held.rect_of self.now }
+        ensures form { IsRect result }
+    {
+        match &self.kept {
+            Kept::Plain(Value::Rc(r)) => *r,
+            _ => empty_rect(1),
+        }
+    }
+
+    /// The dimension of a domain, rectangular or not.
+    pub fn dim(&self) -> u8
+        ensures { result ≡ held.dim_of self.now }
+    {
+        match &self.kept {
+            Kept::Plain(Value::Rc(r)) => r.dim,
+            Kept::Plain(_) => 1,
+            Kept::Dm(d) => dim_of(d),
+        }
+    }
+}

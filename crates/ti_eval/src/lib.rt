@@ -1,0 +1,41 @@
+//! The values of expressions, from the answers that their actions have got so far.
+#![tactic(auto)]
+
+mod bounds;
+mod comparisons;
+mod continued;
+mod conversions;
+mod env;
+mod expressions;
+mod fields;
+mod frame;
+mod held;
+mod kinds;
+mod literals;
+mod members;
+mod numbers;
+mod operators;
+mod pairing;
+mod pairs;
+mod parts;
+mod sets;
+mod stop;
+mod team;
+mod told;
+mod variables;
+
+pub use bounds::Bounds;
+pub use conversions::{as_domain, as_type, converted, kept_local, to_domain};
+pub use env::{Env, called_member, class_of_this, point_of_turn, type_of, variable};
+pub use expressions::{evaluate, evaluate_all, evaluate_numbers, evaluate_ranges};
+pub use fields::field_selected;
+pub use frame::{Level, Part, Slot, Todo};
+pub use held::Held;
+pub use literals::{point_of_numbers, rect_within};
+pub use members::{indexed, member};
+pub use operators::{operated, operated_alone, settled};
+pub use parts::{asked, fetch_domain, fetch_element, fetch_field, fetch_view};
+pub use stop::Stop;
+pub use team::Team;
+pub use told::{Told, value_told};
+pub use variables::{change, empty_rect, find, same};

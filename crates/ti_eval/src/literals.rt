@@ -1,0 +1,182 @@
+// Points and rectangular domains from their numbers.
+
+ghost use Rattle.std.specs.Prelude.{◌≡◌, ◌++◌, ℤ, pos, int_le, map, true, IfOk, OnOk};
+ghost use Rattle.std.specs.List.{list_all};
+ghost use Rattle.ti_base.specs.Points.{IsPoint};
+ghost use Rattle.ti_base.specs.Rects.{IsRect};
+ghost use Rattle.ti_lang.specs.Meaning.Literals as literal;
+ghost use Rattle.ti_eval.specs.Comes.{Comes};
+ghost use Rattle.ti_eval.specs.Bounds.{bounds_of};
+
+use crate::bounds::Bounds;
+use crate::held::Held;
+use crate::stop::Stop;
+use crate::told::Told;
+use crate::variables::empty_rect;
+use std::alloc::Global;
+use ti_base::{FaultKind, Memory, Place, Point, Rect, Value};
+use ti_domain::Held as Kept;
+use ti_rect::rect_make;
+
+/// Adds the coordinates of a point, or a number alone.
+pub fn add_numbers(found: &mut Vec<i32>, h: &Held) -> Result<(), Memory>
+    ensures { OnOk result (found.new.items ≡ found.old.items ++ literal.numbers_in h.now) }
+{
+    match &h.kept {
+        Kept::Plain(Value::Pt(p)) => {
+            let all = [p.x1, p.x2, p.x3];
+            found.extend_from_slice(&all[..usize::from(p.dim)])?;
+            Ok(())
+        }
+        _ => {
+            found.push(h.int())?;
+            Ok(())
+        }
+    }
+}
+
+// The coordinates of a point, or a number alone.
+fn numbers_of(alloc: Global, h: &Held) -> Result<Vec<i32>, Memory>
+    ensures { IfOk result (λ v. v.items ≡ literal.numbers_in h.now) }
+{
+    let mut found = Vec::new(alloc);
+    add_numbers(&mut found, h)?;
+    Ok(found)
+}
+
+// As many ones.
+fn ones(alloc: Global, numbers: &[i32]) -> Result<Vec<i32>, Memory>
+    ensures { IfOk result (λ v. v.items ≡ map (λ x. pos 1) numbers.now) }
+{
+    Ok(numbers.iter().map(|_x| 1).collect(alloc)?)
+}
+
+/// From one to another by steps of 1.
+pub fn plain_bounds(alloc: Global, low: &Held, high: &Held) -> Result<Bounds, Memory>
+    ensures { IfOk result (λ b. bounds_of b ≡ literal.plain_bounds low.now high.now) }
+{
+    let low = numbers_of(alloc, low)?;
+    let high = numbers_of(alloc, high)?;
+    let step = ones(alloc, &low)?;
+    Ok(Bounds { low, high, step })
+}
+
+/// From one to another by steps.
+pub fn stepped_bounds(alloc: Global, low: &Held, high: &Held, step: &Held) -> Result<Bounds, Memory>
+    ensures { IfOk result (λ b. bounds_of b ≡ literal.stepped_bounds low.now high.now step.now) }
+{
+    let low = numbers_of(alloc, low)?;
+    let high = numbers_of(alloc, high)?;
+    let step = numbers_of(alloc, step)?;
+    Ok(Bounds { low, high, step })
+}
+
+/// The coordinates of the first, and then those of the second.
+pub fn joined(a: Bounds, b: &Bounds) -> Result<Bounds, Memory>
+    ensures { IfOk result (λ c. bounds_of c ≡ literal.joined (bounds_of a) (bounds_of b.now)) }
+{
+    let Bounds {
+        mut low,
+        mut high,
+        mut step,
+    } = a;
+    low.extend_from_slice(&b.low)?;
+    high.extend_from_slice(&b.high)?;
+    step.extend_from_slice(&b.step)?;
+    Ok(Bounds { low, high, step })
+}
+
+/// No coordinate.
+pub fn no_bounds(alloc: Global) -> Bounds
+    ensures { bounds_of result ≡ literal.no_bounds }
+{
+    Bounds {
+        low: Vec::new(alloc),
+        high: Vec::new(alloc),
+        step: Vec::new(alloc),
+    }
+}
+
+/// The point of these coordinates.
+pub fn point_of_numbers(numbers: &[i32]) -> Point
+    ensures value { result ≡ literal.point_of_numbers numbers.now }
+    ensures form { IsPoint result }
+{
+    let n = numbers.len();
+    if n == 1 {
+        return Point {
+            dim: 1,
+            x1: numbers[0],
+            x2: 0,
+            x3: 0,
+        };
+    }
+    if n == 2 {
+        return Point {
+            dim: 2,
+            x1: numbers[0],
+            x2: numbers[1],
+            x3: 0,
+        };
+    }
+    if n == 3 {
+        return Point {
+            dim: 3,
+            x1: numbers[0],
+            x2: numbers[1],
+            x3: numbers[2],
+        };
+    }
+    Point {
+        dim: 1,
+        x1: 0,
+        x2: 0,
+        x3: 0,
+    }
+}
+
+fn is_even(b: &Bounds) -> bool
+    ensures { result ≡ literal.is_even (bounds_of b.now) }
+{
+    let n = b.low.len();
+    1 <= n && n <= 3 && b.high.len() == n && b.step.len() == n
+}
+
+// Whether all steps are at least 1.
+fn all_forward(steps: &[i32]) -> bool
+    ensures { result ≡ list_all (int_le (pos 1)) steps.now }
+{
+    steps.iter().all(|x| 1 <= *x)
+}
+
+// The rectangular domain within the bounds, whose steps are all at least 1.
+fn rect_of(b: &Bounds) -> Rect
+    requires { list_all (int_le (pos 1)) b.now.step.items ≡ true }
+    ensures value { result ≡ literal.rect_of_bounds (bounds_of b.now) }
+    ensures form { IsRect result }
+{
+    if !is_even(b) {
+        return empty_rect(1);
+    }
+    let low = point_of_numbers(&b.low);
+    let high = point_of_numbers(&b.high);
+    let step = point_of_numbers(&b.step);
+    match rect_make(&low, &high, &step) {
+        Ok(r) => r,
+        Err(_) => unreachable!(),
+    }
+}
+
+/// The rectangular domain within the bounds, unless a step is below 1.
+pub fn rect_within<'a>(
+    at: Place,
+    b: &Bounds,
+    answers: &'a [Told],
+) -> Result<(Held, &'a [Told]), Stop>
+    ensures { Comes result (literal.rect_within at (bounds_of b.now) answers.now) }
+{
+    if !all_forward(&b.step) {
+        return Err(Stop::Fails(FaultKind::BadStride, at));
+    }
+    Ok((Held::plain(Value::Rc(rect_of(b))), answers))
+}

@@ -1,0 +1,19 @@
+// The two operands of an operator, brought to one type.
+
+use ti_base::{Id, Point, Rect};
+
+/// Two operands of one type.
+#[derive(Clone, Copy)]
+pub enum Operands {
+    Ints(i32, i32),
+    Longs(i64, i64),
+    Truths(bool, bool),
+    Points(Point, Point),
+    Rects(Rect, Rect),
+    /// Domains of which not both are rectangular.
+    Domains,
+    Things(Option<Id>, Option<Id>),
+    Regions(u32, u32),
+    /// Of no program without a broken rule.
+    Others,
+}

@@ -1,0 +1,82 @@
+// Cells of things, and views.
+
+ghost use Rattle.std.specs.Prelude.{◌≡◌};
+ghost use Rattle.ti_base.specs.declared.action.ViewHow.{ViewHow as How};
+ghost use Rattle.ti_lang.specs.Program.Types.{ValueType};
+ghost use Rattle.ti_lang.specs.Meaning.Asking.{Wanted, asked as asked_spec};
+ghost use Rattle.ti_lang.specs.Meaning.Parts.{Field, Element, fetched, domain_of, viewed};
+ghost use Rattle.ti_eval.specs.Comes.{Comes};
+
+use crate::held::Held;
+use crate::stop::Stop;
+use crate::told::{Told, value_told};
+use ti_base::{Action, FaultKind, Place, Point, ViewHow};
+
+/// An action: its answer, if it is there.
+pub fn asked<'a>(at: Place, action: Action, answers: &'a [Told]) -> Result<(Held, &'a [Told]), Stop>
+    ensures { (through : ValueType) (wanted : Wanted) → Comes result (asked_spec (record { place = at; action = action; through = through; wanted = wanted }) answers.now) }
+{
+    match answers.split_first() {
+        Some((first, rest)) => Ok((value_told(*first), rest)),
+        None => Err(Stop::Asks(at, action)),
+    }
+}
+
+/// What a field of an object holds.
+pub fn fetch_field<'a>(
+    at: Place,
+    object: &Held,
+    field: u32,
+    answers: &'a [Told],
+) -> Result<(Held, &'a [Told]), Stop>
+    ensures { (type through : ValueType) → Comes result (fetched at type (Field object.now through field) answers.now) }
+{
+    match object.thing() {
+        Some(obj) => asked(at, Action::GetField { obj, field }, answers),
+        None => Err(Stop::Fails(FaultKind::NullRef, at)),
+    }
+}
+
+/// What an element of a grid holds.
+pub fn fetch_element<'a>(
+    at: Place,
+    grid: &Held,
+    index: Point,
+    answers: &'a [Told],
+) -> Result<(Held, &'a [Told]), Stop>
+    ensures { (type through : ValueType) → Comes result (fetched at type (Element grid.now through index) answers.now) }
+{
+    match grid.thing() {
+        Some(grid) => asked(at, Action::GetElem { grid, at: index }, answers),
+        None => Err(Stop::Fails(FaultKind::NullRef, at)),
+    }
+}
+
+/// The domain of a grid.
+pub fn fetch_domain<'a>(
+    at: Place,
+    grid: &Held,
+    answers: &'a [Told],
+) -> Result<(Held, &'a [Told]), Stop>
+    ensures { (through : ValueType) → Comes result (domain_of at through grid.now answers.now) }
+{
+    match grid.thing() {
+        Some(grid) => asked(at, Action::DomainOf { grid }, answers),
+        None => Err(Stop::Fails(FaultKind::NullRef, at)),
+    }
+}
+
+/// A view of a grid.
+pub fn fetch_view<'a>(
+    at: Place,
+    how: ViewHow,
+    grid: &Held,
+    answers: &'a [Told],
+) -> Result<(Held, &'a [Told]), Stop>
+    ensures { (type through : ValueType) → Comes result (viewed at type how through grid.now answers.now) }
+{
+    match grid.thing() {
+        Some(grid) => asked(at, Action::MakeView { grid, how }, answers),
+        None => Err(Stop::Fails(FaultKind::NullRef, at)),
+    }
+}

@@ -1,0 +1,188 @@
+// The variables in scope.
+
+ghost use Rattle.std.specs.Prelude.{◌≡◌, [], IfOk};
+ghost use Rattle.ti_base.specs.Points.{IsDim};
+ghost use Rattle.ti_base.specs.Rects.{IsRect, empty_rect as empty_spec};
+ghost use Rattle.ti_lang.specs.Program.Views.{value_type_of, declared_of, variable_of};
+ghost use Rattle.ti_lang.specs.Typing.Kinds.{same_truth};
+ghost use Rattle.ti_lang.specs.Meaning.Held.{zero_of, is_dim};
+ghost use Rattle.ti_lang.specs.Meaning.Scoping.{same_declaration, same_variable, find_variable, with_changed, zero_declared};
+ghost use Rattle.ti_eval.specs.Frames.{slots_of};
+
+use crate::frame::Slot;
+use crate::held::Held;
+use std::alloc::Global;
+use ti_base::{Memory, Point, Rect, Value};
+use ti_domain::{Dom, DomErr, dom_of};
+use ti_lang::program::{Declared, Ty, Variable};
+use ti_lang::typing::same_elements;
+
+fn same_bool(a: bool, b: bool) -> bool
+    ensures { result ≡ same_truth a b }
+{
+    if a { b } else { !b }
+}
+
+fn same_declared(a: &Declared, b: &Declared) -> bool
+    ensures { result ≡ same_declaration (declared_of a.now) (declared_of b.now) }
+{
+    match (a, b) {
+        (
+            Declared::Typed { single, ty },
+            Declared::Typed {
+                single: other,
+                ty: u,
+            },
+        ) => same_bool(*single, *other) && same_elements(ty, false, u, false),
+        (Declared::Foreach, Declared::Foreach) => true,
+        _ => false,
+    }
+}
+
+/// Whether two variables are the same.
+pub fn same(a: &Variable, b: &Variable) -> bool
+    ensures { result ≡ same_variable (variable_of a.now) (variable_of b.now) }
+{
+    a.number == b.number && same_declared(&a.declared, &b.declared)
+}
+
+// ---- zeros
+
+fn has_dim(dim: u8) -> bool
+    ensures { result ≡ is_dim dim }
+{
+    1 <= dim && dim <= 3
+}
+
+/// The rectangular domain without points.
+pub fn empty_rect(dim: u8) -> Rect
+    requires { IsDim dim }
+    ensures value { result ≡ empty_spec dim }
+    ensures form { IsRect result }
+{
+    Rect {
+        dim,
+        lo: Point {
+            dim,
+            x1: 1,
+            x2: if dim >= 2 { 1 } else { 0 },
+            x3: if dim >= 3 { 1 } else { 0 },
+        },
+        hi: Point {
+            dim,
+            x1: 0,
+            x2: 0,
+            x3: 0,
+        },
+        step: [1, 1, 1],
+    }
+}
+
+// The domain without points.
+fn no_points(alloc: Global, dim: u8) -> Result<Dom, Memory>
+    requires { IsDim dim }
+    ensures dim { IfOk result (λ d. d.dim ≡ dim) }
+    ensures points { IfOk result (λ d. d.points ≡ []) }
+{
+    match dom_of(alloc, &empty_rect(dim)) {
+        Ok(d) => Ok(d),
+        Err(DomErr::TooLarge) => unreachable!(),
+        Err(DomErr::Memory) => Err(Memory),
+    }
+}
+
+// The zero of a type of so many dimensions.
+fn zero_point(dim: u8) -> Held
+    ensures { result ≡ zero_of (value_type_of (Ty.Pt dim)) }
+{
+    if !has_dim(dim) {
+        return Held::truth(false);
+    }
+    Held::plain(Value::Pt(Point {
+        dim,
+        x1: 0,
+        x2: 0,
+        x3: 0,
+    }))
+}
+
+fn zero_rect(dim: u8) -> Held
+    ensures { result ≡ zero_of (value_type_of (Ty.Rc dim)) }
+{
+    if !has_dim(dim) {
+        return Held::truth(false);
+    }
+    Held::plain(Value::Rc(empty_rect(dim)))
+}
+
+fn zero_domain(alloc: Global, dim: u8) -> Result<Held, Memory>
+    ensures { IfOk result (λ h. h ≡ zero_of (value_type_of (Ty.Dm dim))) }
+{
+    if !has_dim(dim) {
+        return Ok(Held::truth(false));
+    }
+    Ok(Held::domain(no_points(alloc, dim)?))
+}
+
+// The zero of a type.
+fn zero(alloc: Global, ty: &Ty) -> Result<Held, Memory>
+    ensures { IfOk result (λ h. h ≡ zero_of (value_type_of ty.now)) }
+{
+    match ty {
+        Ty::Int => Ok(Held::plain(Value::Int(0))),
+        Ty::Long => Ok(Held::plain(Value::Long(0))),
+        Ty::Bool => Ok(Held::truth(false)),
+        Ty::Pt(dim) => Ok(zero_point(*dim)),
+        Ty::Rc(dim) => Ok(zero_rect(*dim)),
+        Ty::Dm(dim) => Ok(zero_domain(alloc, *dim)?),
+        Ty::Region => Ok(Held::plain(Value::Region(0))),
+        Ty::Class { class: _, local: _ } => Ok(Held::plain(Value::Obj(None))),
+        Ty::Grid {
+            elem: _,
+            dim: _,
+            local: _,
+        } => Ok(Held::plain(Value::Grid(None))),
+        Ty::Null => Ok(Held::plain(Value::Obj(None))),
+        Ty::Void => Ok(Held::truth(false)),
+    }
+}
+
+// The zero of what is written where a variable is declared.
+fn zero_declared(alloc: Global, declared: &Declared) -> Result<Held, Memory>
+    ensures { IfOk result (λ h. h ≡ zero_declared (declared_of declared.now)) }
+{
+    match declared {
+        Declared::Typed { single: _, ty } => Ok(zero(alloc, ty)?),
+        Declared::Foreach => Ok(Held::truth(false)),
+    }
+}
+
+// ---- values
+
+/// What a variable holds; one that isn't in scope, the zero of its type.
+pub fn find(alloc: Global, variable: &Variable, slots: &[Slot]) -> Result<Held, Memory>
+    ensures { IfOk result (λ h. h ≡ find_variable (variable_of variable.now) (slots_of slots.now)) }
+{
+    let mut n = slots.len();
+    while n > 0 {
+        n -= 1;
+        if same(variable, &slots[n].variable) {
+            return Ok(slots[n].held.copy(alloc)?);
+        }
+    }
+    Ok(zero_declared(alloc, &variable.declared)?)
+}
+
+/// The newest of these variables holds something else, where it is in scope.
+pub fn change(slots: &mut Vec<Slot>, variable: &Variable, held: Held)
+    ensures { slots_of slots.new.items ≡ with_changed (variable_of variable.now) held (slots_of slots.old.items) }
+{
+    let mut n = slots.len();
+    while n > 0 {
+        n -= 1;
+        if same(variable, &slots[n].variable) {
+            slots[n].held = held;
+            return;
+        }
+    }
+}
