@@ -1,0 +1,2 @@
+pub mod SinglePart
+pub mod Alignment
