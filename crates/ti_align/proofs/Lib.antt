@@ -1,2 +1,5 @@
 pub mod Vars
 pub mod Single
+pub mod Slice
+pub mod Fine
+pub mod Jumping
