@@ -3,3 +3,4 @@ pub mod Single
 pub mod Slice
 pub mod Fine
 pub mod Jumping
+pub mod Fitting
