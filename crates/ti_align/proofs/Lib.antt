@@ -4,3 +4,4 @@ pub mod Slice
 pub mod Fine
 pub mod Jumping
 pub mod Fitting
+pub mod Liking
