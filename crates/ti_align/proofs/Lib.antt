@@ -5,3 +5,4 @@ pub mod Fine
 pub mod Jumping
 pub mod Fitting
 pub mod Liking
+pub mod Moving
