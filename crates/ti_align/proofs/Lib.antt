@@ -6,3 +6,4 @@ pub mod Jumping
 pub mod Fitting
 pub mod Liking
 pub mod Moving
+pub mod Stepping
