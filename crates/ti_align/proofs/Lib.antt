@@ -7,3 +7,4 @@ pub mod Fitting
 pub mod Liking
 pub mod Moving
 pub mod Stepping
+pub mod Asks
