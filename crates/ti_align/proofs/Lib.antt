@@ -8,3 +8,5 @@ pub mod Liking
 pub mod Moving
 pub mod Stepping
 pub mod Asks
+pub mod Ways
+pub mod Passing
