@@ -10,3 +10,5 @@ pub mod Stepping
 pub mod Asks
 pub mod Ways
 pub mod Passing
+pub mod Balance
+pub mod Running
