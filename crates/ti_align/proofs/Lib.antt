@@ -12,3 +12,4 @@ pub mod Ways
 pub mod Passing
 pub mod Balance
 pub mod Running
+pub mod Aligning

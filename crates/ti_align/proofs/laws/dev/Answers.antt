@@ -1,5 +1,5 @@
-use Rattle.ti_align.proofs.Running as dev
+use Rattle.ti_align.proofs.Aligning as dev
 use Rattle.ti_align.proofs.laws.dev.Goals as goal
 
 pub returns : goal.returns
-returns c p h = let x = dev.on_way in h
+returns c p h = let x = dev.none_after_end in h
