@@ -146,7 +146,7 @@ act_of : (d e : Entry) → Some d ≡ Some e → d.act ≡ e.act
 act_of d e h = let k : d ≡ e = cc in ap (λ (x : Entry). x.act) k
 
 -- the process of an entry, with its way to what it has next
-way_next : (s : Setting) (es : List Entry) (i : ℕ) (p q : Process) → IsRun s es → World s es i p → Reaches p q → (ms : List Meeting) × Way (begin s i) ms q × (comings ms ≡ arrivals i es) × (answers_left ms ≡ answers_at_departures i es)
+pub way_next : (s : Setting) (es : List Entry) (i : ℕ) (p q : Process) → IsRun s es → World s es i p → Reaches p q → (ms : List Meeting) × Way (begin s i) ms q × (comings ms ≡ arrivals i es) × (answers_left ms ≡ answers_at_departures i es)
 way_next s es i p q w x y =
     let o = on_way s es w i in
     let same : o.process ≡ p = after_same _ _ _ _ o.world x in

@@ -13,3 +13,5 @@ pub mod Passing
 pub mod Balance
 pub mod Running
 pub mod Aligning
+pub mod Arrived
+pub mod Rounds

@@ -67,7 +67,7 @@ departures_both j es ds =
     ∙ ap (map (λ (e : Entry). e.answer)) (filter-append (λ (e : Entry). is_departure e.act) (entries_of j es) (entries_of j ds))
     ∙ map-append (λ (e : Entry). e.answer) (filter (λ (e : Entry). is_departure e.act) (entries_of j es)) (filter (λ (e : Entry). is_departure e.act) (entries_of j ds))
 
-arrivals_both : (j : ℕ) (es ds : List Entry) → arrivals j (es ++ ds) ≡ arrivals j es + arrivals j ds
+pub arrivals_both : (j : ℕ) (es ds : List Entry) → arrivals j (es ++ ds) ≡ arrivals j es + arrivals j ds
 arrivals_both j es ds =
     ap (count_by (λ (e : Entry). is_arrival e.act)) (filter-append (λ (e : Entry). e.proc == j) es ds)
     ∙ sum_by-append (λ (e : Entry). cond (is_arrival e.act) 1 0) (entries_of j es) (entries_of j ds)
