@@ -15,3 +15,5 @@ pub mod Running
 pub mod Aligning
 pub mod Arrived
 pub mod Rounds
+pub mod Checked
+pub mod EveryRun

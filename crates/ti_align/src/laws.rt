@@ -1,8 +1,18 @@
 // Laws of the alignment: functions that do nothing, whose contracts are the laws.
-ghost use Rattle.ti_lang.specs.Program.Classes.{NumberedProgram};
-ghost use Rattle.ti_align.specs.Alignment.{IsAligned};
+ghost use Rattle.ti_lang.specs.Program.Views.{program_of};
+ghost use Rattle.ti_align.specs.Alignment.{ArrivalsAgree, NoneAfterEnd, OfEveryRun};
 
-/// Of development.
-pub fn dev()
-    ensures { (p : NumberedProgram) → IsAligned p → IsAligned p }
+use ti_rules::Checked;
+
+/// In every run of a checked program, for every n, the nth arrivals of any two processes are at the
+/// same place, of the same kind and argument, and with the same single part. The first part of
+/// alignment.
+pub fn arrivals_agree(c: &Checked)
+    ensures { OfEveryRun ArrivalsAgree (program_of c.now.program.parts) }
+{}
+
+/// In every run of a checked program no process arrives more often than one that has its end. The
+/// second part of alignment.
+pub fn none_after_end(c: &Checked)
+    ensures { OfEveryRun NoneAfterEnd (program_of c.now.program.parts) }
 {}

@@ -3,4 +3,4 @@
 
 mod laws;
 
-pub use laws::dev;
+pub use laws::{arrivals_agree, none_after_end};
