@@ -17,3 +17,4 @@ pub mod Arrived
 pub mod Rounds
 pub mod Checked
 pub mod EveryRun
+pub mod Stopping

@@ -156,7 +156,7 @@ depart_is _ k = absurd (true_false (sym k))
 said : (program : NumberedProgram) (h : History) (e : Entry) → IsAnswered program (e ∷ h) → heap_answer program h e.proc e.act ≡ Answers e.answer
 said program h e (heap.more w k) = k
 
-left_one : (i : ℕ) (p : Process) (wanted : Asked) (go : _) (c l : ℕ) (at : _) → step p ≡ At (asking at act.Depart wanted) go → c ≡ l + waiting p.wait → c ≡ suc l
+pub left_one : (i : ℕ) (p : Process) (wanted : Asked) (go : _) (c l : ℕ) (at : _) → step p ≡ At (asking at act.Depart wanted) go → c ≡ l + waiting p.wait → c ≡ suc l
 left_one i p wanted go c l at z k = let w = step_waits p (At (asking at act.Depart wanted) go) z in waits_one (waiting p.wait) (ap waiting w.1) k
   where
     waits_one : (n : ℕ) → n ≡ 1 → c ≡ l + n → c ≡ suc l

@@ -1,2 +1,3 @@
 pub mod SinglePart
 pub mod Alignment
+pub mod Stopping

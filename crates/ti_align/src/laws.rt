@@ -1,6 +1,7 @@
 // Laws of the alignment: functions that do nothing, whose contracts are the laws.
 ghost use Rattle.ti_lang.specs.Program.Views.{program_of};
 ghost use Rattle.ti_align.specs.Alignment.{ArrivalsAgree, NoneAfterEnd, OfEveryRun};
+ghost use Rattle.ti_align.specs.Stopping.{NoneWaits};
 
 use ti_rules::Checked;
 
@@ -15,4 +16,11 @@ pub fn arrivals_agree(c: &Checked)
 /// second part of alignment.
 pub fn none_after_end(c: &Checked)
     ensures { OfEveryRun NoneAfterEnd (program_of c.now.program.parts) }
+{}
+
+/// In every run of a checked program no process waits for ever at a collective: where there is no
+/// fault and no process can take an entry, all have their end, or some process has come to an action
+/// that is impossible. The third part of alignment, but for such actions.
+pub fn none_waits(c: &Checked)
+    ensures { OfEveryRun NoneWaits (program_of c.now.program.parts) }
 {}
