@@ -25,13 +25,15 @@ use Rattle.ti_lang.proofs.MeaningLaws.Steps.{after_same, settled_same}
 use Rattle.ti_lang.proofs.MeaningLaws.Running.{fronts, taker}
 use Rattle.ti_align.specs.SinglePart.{SingleFrame}
 use Rattle.ti_align.specs.Alignment.{Arrival, ArrivesAt, ArrivalsAgree, NoneAfterEnd}
-use Rattle.ti_align.proofs.Ways.{Asked, asking, Meeting, Way, comings, answers_left, answers_at_departures, SameDepartures}
+use Rattle.ti_align.proofs.Ways.{Asked, asking, Meeting, Way, comings, answers_left, answers_at_departures, SameDepartures, last_from}
 use Rattle.ti_align.proofs.Ways as way
 use Rattle.ti_align.proofs.Vars.{true_false}
 use Rattle.ti_align.proofs.Fitting.{FineMethods}
 use Rattle.ti_align.proofs.Passing.{same_arrival, no_end}
 use Rattle.ti_align.proofs.Passing as passing
-use Rattle.ti_align.proofs.Running.{OnWay, on_way, way_then, reach_way, departures_both, at_action, Grows, still, acted, grows, own, other}
+use Rattle.ti_align.proofs.Running.{OnWay, on_way, way_then, reach_way, at_action, Grows, still, acted, grows}
+use Rattle.ti_align.proofs.Arrived.{last_kind}
+use Rattle.ti_align.proofs.Entries.{departures_both, own, other}
 
 -- what stands before an entry of a run is a run
 pub run_before : (s : Setting) (es before rest : List Entry) (e : Entry) → IsRun s es → es ≡ before ++ e ∷ rest → IsRun s before
@@ -111,7 +113,7 @@ end_shown (Faults kind place) at h = absurd (not_end kind place at h)
 -- one that stands at its end makes no more entries
 pub still_ends : (s : Setting) (es all : List Entry) (i : ℕ) → EndsAt s es i → Grows s es all i → EndsAt s all i
 still_ends s es all i o (still u) = record { process = o.process; world = subst (λ rs. After (begin s i) rs o.process) (sym u.0) o.world; settled = o.settled; reaches = o.reaches; place = o.place; stands = o.stands }
-still_ends s es all i o (acted p q at a w go r x y e k l m) =
+still_ends s es all i o (acted p q at a w go r x y e k l m n) =
     let same : o.process ≡ p = after_same _ _ _ _ o.world x in
     let z : Settles p o.settled (next.End o.place) = record { reaches = subst (λ u. Reaches u o.settled) same o.reaches; stands = ap shown o.stands } in
     let t : Settles p q (next.Act at a) = record { reaches = y; stands = ap shown e } in
@@ -146,13 +148,13 @@ act_of : (d e : Entry) → Some d ≡ Some e → d.act ≡ e.act
 act_of d e h = let k : d ≡ e = cc in ap (λ (x : Entry). x.act) k
 
 -- the process of an entry, with its way to what it has next
-pub way_next : (s : Setting) (es : List Entry) (i : ℕ) (p q : Process) → IsRun s es → World s es i p → Reaches p q → (ms : List Meeting) × Way (begin s i) ms q × (comings ms ≡ arrivals i es) × (answers_left ms ≡ answers_at_departures i es)
+pub way_next : (s : Setting) (es : List Entry) (i : ℕ) (p q : Process) → IsRun s es → World s es i p → Reaches p q → (ms : List Meeting) × Way (begin s i) ms q × (comings ms ≡ arrivals i es) × (answers_left ms ≡ answers_at_departures i es) × (last_from None ms ≡ last_kind i (history_of es))
 way_next s es i p q w x y =
     let o = on_way s es w i in
     let same : o.process ≡ p = after_same _ _ _ _ o.world x in
     let goes : Way (begin s i) o.meetings p = subst (λ u. Way (begin s i) o.meetings u) same o.goes in
     let on : Way (begin s i) (o.meetings ++ []) q = way_then (begin s i) p q o.meetings [] goes (reach_way p q q [] y way.stop) in
-    (o.meetings, subst (λ ms. Way (begin s i) ms q) (append-nil o.meetings) on, o.count, o.told)
+    (o.meetings, subst (λ ms. Way (begin s i) ms q) (append-nil o.meetings) on, o.count, o.told, o.last)
 
 ends_next : (s : Setting) → FineMethods s.program s.program.methods → (es : List Entry) (i : ℕ) (e : Entry) (p q : Process) (n : Next) → IsRun s es → World s es i p → Reaches p q → shown (step q) ≡ Some n → entry_of s es i n ≡ Some e → is_end e.act ≡ true → EndsAt s es i
 ends_next s fine es i e p q (next.End at) w x y z h k = record { process = p; world = x; settled = q; reaches = y; place = at; stands = end_shown (step q) at z }

@@ -1,5 +1,5 @@
 -- Arrivals in the history of a run: which there are, and that they stay as the history goes on.
-use Rattle.std.proofs.Common.{◌≡◌, ℕ, zero, suc, ◌+◌, ◌<◌, ◌≤◌, ◌==◌, Bool, true, false, ◌&&◌, cond, if◌then◌else◌, filter, count_by, Option, Some, None, List, [], ◌∷◌, ◌++◌, reverse, refl, ap, ap₂, sym, ◌∙◌, subst, arith, eq-eqb, eqb-true}
+use Rattle.std.proofs.Common.{◌≡◌, ℕ, zero, suc, ◌+◌, ◌<◌, ◌≤◌, ◌==◌, Bool, true, false, ◌&&◌, cond, if◌then◌else◌, filter, count_by, option_map, Option, Some, None, List, [], ◌∷◌, ◌++◌, reverse, refl, ap, ap₂, sym, ◌∙◌, subst, arith, eq-eqb, eqb-true}
 use Rattle.std.proofs.lemmas.List.{reverse-append}
 use Rattle.std.proofs.lemmas.List.Elements.{filter-append}
 use Rattle.std.proofs.lemmas.List.Sums.{sum_by-append}
@@ -9,9 +9,9 @@ use Rattle.ti_base.specs.declared.action.CollKind.{CollKind}
 use Rattle.ti_base.specs.declared.action.CollKind.TheVariants as coll
 use Rattle.ti_base.specs.declared.entry.Entry.{Entry}
 use Rattle.ti_lang.specs.Meaning.Histories.{History, history_of, is_arrival, entries_of, arrivals}
-use Rattle.ti_lang.specs.Meaning.RoundsOf.{Arrival, arrival_in, arrival_at, makes_region, rounds_making}
+use Rattle.ti_lang.specs.Meaning.RoundsOf.{Arrival, arrival_in, arrival_at, last_arrival, makes_region, rounds_making}
 use Rattle.ti_align.proofs.Vars.{true_false, not_true, and_left, and_right, if_true, if_false}
-use Rattle.ti_align.proofs.Running.{arrivals_both, own, other}
+use Rattle.ti_align.proofs.Entries.{arrivals_both, own, other}
 
 -- an arrival of the process
 abbrev pub is_own : ℕ → Entry → Bool
@@ -143,6 +143,36 @@ there i m (e ∷ h) l = go (is_own i e) refl (arrivals i (e ∷ h) == suc m) ref
     go true k false z ih =
         let x = ih (less_now _ _ m l (more_own i e h k) (λ q. true_false (sym (eq-eqb _ _ q) ∙ z))) in
         (x.0, at_older i (suc m) e h k z ∙ x.1)
+
+-- ---- the kind of the last one
+
+-- of which kind the last arrival of a process is
+abbrev pub last_kind : ℕ → History → Option CollKind
+last_kind i h = option_map (λ (a : Arrival). a.kind) (last_arrival i h)
+
+-- the same, behind an action of the process
+abbrev pub kind_after : Action → Option CollKind → Option CollKind
+kind_after (act.Arrive kind arg given) last = Some kind
+kind_after a last = last
+
+pub last_other : (i : ℕ) (e : Entry) (h : History) → is_own i e ≡ false → last_kind i (e ∷ h) ≡ last_kind i h
+last_other i e h k = ap (option_map (λ (a : Arrival). a.kind)) (at_other i (arrivals i (e ∷ h)) e h k ∙ ap (λ n. arrival_at i n h) (more_other i e h k))
+
+kept_kind : (a : Action) (b : Option CollKind) → is_arrival a ≡ false → b ≡ kind_after a b
+kept_kind (act.Arrive kind arg given) b h = absurd (true_false h)
+kept_kind _ b h = refl
+
+new_kind : (a : Action) (b : Option CollKind) → is_arrival a ≡ true → option_map (λ (a : Arrival). a.kind) (arrival_in a) ≡ kind_after a b
+new_kind (act.Arrive kind arg given) b h = refl
+new_kind _ b h = absurd (true_false (sym h))
+
+pub last_own : (i : ℕ) (e : Entry) (h : History) → (e.proc == i) ≡ true → last_kind i (e ∷ h) ≡ kind_after e.act (last_kind i h)
+last_own i e h k = go (is_arrival e.act) refl
+  where
+    go : (b : Bool) → is_arrival e.act ≡ b → last_kind i (e ∷ h) ≡ kind_after e.act (last_kind i h)
+    go false l = last_other i e h (ap₂ (λ a b. a && b) k l) ∙ kept_kind e.act (last_kind i h) l
+    go true l =
+        ap (option_map (λ (a : Arrival). a.kind)) (at_last i (arrivals i (e ∷ h)) e h (ap₂ (λ a b. a && b) k l) (eq-eqb _ _ refl)) ∙ new_kind e.act (last_kind i h) l
 
 -- ---- regions made in rounds
 

@@ -11,9 +11,10 @@ pub mod Asks
 pub mod Ways
 pub mod Passing
 pub mod Balance
+pub mod Entries
+pub mod Arrived
 pub mod Running
 pub mod Aligning
-pub mod Arrived
 pub mod Rounds
 pub mod Checked
 pub mod EveryRun

@@ -34,7 +34,8 @@ use Rattle.ti_align.proofs.Ways.{Asked, asking, Way, comings, answers_left, answ
 use Rattle.ti_align.proofs.Vars.{true_false, and_left, and_right}
 use Rattle.ti_align.proofs.Fitting.{FineMethods}
 use Rattle.ti_align.proofs.Balance.{step_waits, balanced}
-use Rattle.ti_align.proofs.Running.{departures_both, at_action, own, other}
+use Rattle.ti_align.proofs.Running.{at_action}
+use Rattle.ti_align.proofs.Entries.{departures_both, own, other}
 use Rattle.ti_align.proofs.Aligning.{arrivals_agree, way_next}
 use Rattle.ti_align.proofs.Arrived.{is_own, more_own, back, Comes, before, now, comes, reached, stays, made, made_stays, made_all, made_same}
 

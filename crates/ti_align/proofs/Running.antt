@@ -1,12 +1,10 @@
 -- The processes of a run, and their ways.
-use Rattle.std.proofs.Common.{◌≡◌, ℕ, ◌+◌, ◌==◌, Bool, true, false, cond, map, filter, count_by, Option, Some, None, List, [], ◌∷◌, ◌++◌, refl, ap, ap₂, sym, ◌∙◌, subst, arith, eq-eqb, eqb-true, append-nil}
-use Rattle.std.proofs.lemmas.List.Elements.{filter-append}
-use Rattle.std.proofs.lemmas.List.{map-append}
-use Rattle.std.proofs.lemmas.List.Sums.{sum_by-append}
+use Rattle.std.proofs.Common.{◌≡◌, ℕ, ◌+◌, ◌==◌, Bool, true, false, ◌&&◌, cond, map, filter, count_by, Option, Some, None, List, [], ◌∷◌, ◌++◌, refl, ap, ap₂, sym, ◌∙◌, subst, arith, eq-eqb, eqb-true, append-nil}
 use Rattle.ti_base.specs.declared.place.Place.{Place}
 use Rattle.ti_base.specs.declared.fault.FaultKind.{FaultKind}
 use Rattle.ti_base.specs.declared.action.Action.{Action}
 use Rattle.ti_base.specs.declared.action.Action.TheVariants as act
+use Rattle.ti_base.specs.declared.action.CollKind.{CollKind}
 use Rattle.ti_base.specs.declared.entry.Answer.{Answer}
 use Rattle.ti_base.specs.declared.entry.Entry.{Entry}
 use Rattle.ti_base.specs.declared.entry.Next.{Next}
@@ -21,10 +19,12 @@ use Rattle.ti_lang.specs.Meaning.HeapAnswers as heap
 use Rattle.ti_lang.specs.Meaning.Runs.{World, entry_with, entry_of, CanTake, IsRun}
 use Rattle.ti_lang.specs.Meaning.Runs as run
 use Rattle.ti_lang.proofs.MeaningLaws.Steps.{after_same}
-use Rattle.ti_lang.proofs.MeaningLaws.Running.{taker}
-use Rattle.ti_align.proofs.Ways.{Asked, asking, Meeting, Came, Left, Way, comings, answers_left, answers_at_departures}
+use Rattle.ti_lang.proofs.MeaningLaws.Running.{taker, history_grows}
+use Rattle.ti_align.proofs.Ways.{Asked, asking, Meeting, Came, Left, Way, comings, answers_left, answers_at_departures, last_from}
 use Rattle.ti_align.proofs.Ways as way
 use Rattle.ti_align.proofs.Vars.{true_false}
+use Rattle.ti_align.proofs.Entries.{got_both, departures_both, arrivals_both, own, other}
+use Rattle.ti_align.proofs.Arrived.{is_own, last_kind, kind_after, last_other, last_own}
 
 -- ---- ways
 
@@ -53,44 +53,29 @@ left_both [] ns = refl
 left_both (Came at kind arg ∷ ms) ns = left_both ms ns
 left_both (Left r ∷ ms) ns = ap (λ x. r ∷ x) (left_both ms ns)
 
+last_both : (b : Option CollKind) (ms ns : List Meeting) → last_from b (ms ++ ns) ≡ last_from (last_from b ms) ns
+last_both b [] ns = refl
+last_both b (Came at kind arg ∷ ms) ns = last_both (Some kind) ms ns
+last_both b (Left r ∷ ms) ns = last_both b ms ns
+
 -- ---- one entry more
-
-got_both : (j : ℕ) (es ds : List Entry) → answers_of j (es ++ ds) ≡ answers_of j es ++ answers_of j ds
-got_both j es ds =
-    ap (λ x. map (λ (e : Entry). e.answer) (filter is_answered x)) (filter-append (λ (e : Entry). e.proc == j) es ds)
-    ∙ ap (map (λ (e : Entry). e.answer)) (filter-append is_answered (entries_of j es) (entries_of j ds))
-    ∙ map-append (λ (e : Entry). e.answer) (filter is_answered (entries_of j es)) (filter is_answered (entries_of j ds))
-
-pub departures_both : (j : ℕ) (es ds : List Entry) → answers_at_departures j (es ++ ds) ≡ answers_at_departures j es ++ answers_at_departures j ds
-departures_both j es ds =
-    ap (λ x. map (λ (e : Entry). e.answer) (filter (λ (e : Entry). is_departure e.act) x)) (filter-append (λ (e : Entry). e.proc == j) es ds)
-    ∙ ap (map (λ (e : Entry). e.answer)) (filter-append (λ (e : Entry). is_departure e.act) (entries_of j es) (entries_of j ds))
-    ∙ map-append (λ (e : Entry). e.answer) (filter (λ (e : Entry). is_departure e.act) (entries_of j es)) (filter (λ (e : Entry). is_departure e.act) (entries_of j ds))
-
-pub arrivals_both : (j : ℕ) (es ds : List Entry) → arrivals j (es ++ ds) ≡ arrivals j es + arrivals j ds
-arrivals_both j es ds =
-    ap (count_by (λ (e : Entry). is_arrival e.act)) (filter-append (λ (e : Entry). e.proc == j) es ds)
-    ∙ sum_by-append (λ (e : Entry). cond (is_arrival e.act) 1 0) (entries_of j es) (entries_of j ds)
-
--- what an entry of a process adds
-pub own : (j : ℕ) (e : Entry) → (e.proc == j) ≡ true → entries_of j (e ∷ []) ≡ e ∷ []
-own j e h = rw h refl
-
-pub other : (j : ℕ) (e : Entry) → (e.proc == j) ≡ false → entries_of j (e ∷ []) ≡ []
-other j e h = rw h refl
 
 plus_zero : (k : ℕ) → k + 0 ≡ k
 plus_zero k = omega arith
 
 -- nothing of it is seen
 abbrev Unseen : ℕ → List Entry → List Entry → Type 0
-Unseen j es all = (answers_of j all ≡ answers_of j es) × (arrivals j all ≡ arrivals j es) × (answers_at_departures j all ≡ answers_at_departures j es)
+Unseen j es all =
+    (answers_of j all ≡ answers_of j es) × (arrivals j all ≡ arrivals j es) × (answers_at_departures j all ≡ answers_at_departures j es)
+    × (last_kind j (history_of all) ≡ last_kind j (history_of es))
 
-unseen : (j : ℕ) (es ds : List Entry) → filter is_answered (entries_of j ds) ≡ [] → count_by (λ (e : Entry). is_arrival e.act) (entries_of j ds) ≡ 0 → filter (λ (e : Entry). is_departure e.act) (entries_of j ds) ≡ [] → Unseen j es (es ++ ds)
-unseen j es ds a b c = (
-  got_both j es ds ∙ ap (λ x. answers_of j es ++ map (λ (e : Entry). e.answer) x) a ∙ append-nil (answers_of j es),
-  arrivals_both j es ds ∙ ap (λ x. arrivals j es + x) b ∙ plus_zero (arrivals j es),
-  departures_both j es ds ∙ ap (λ x. answers_at_departures j es ++ map (λ (e : Entry). e.answer) x) c ∙ append-nil (answers_at_departures j es),
+unseen : (j : ℕ) (es : List Entry) (e : Entry) → filter is_answered (entries_of j (e ∷ [])) ≡ [] → count_by (λ (e : Entry). is_arrival e.act) (entries_of j (e ∷ [])) ≡ 0
+    → filter (λ (e : Entry). is_departure e.act) (entries_of j (e ∷ [])) ≡ [] → is_own j e ≡ false → Unseen j es (es ++ e ∷ [])
+unseen j es e a b c d = (
+  got_both j es (e ∷ []) ∙ ap (λ x. answers_of j es ++ map (λ (e : Entry). e.answer) x) a ∙ append-nil (answers_of j es),
+  arrivals_both j es (e ∷ []) ∙ ap (λ x. arrivals j es + x) b ∙ plus_zero (arrivals j es),
+  departures_both j es (e ∷ []) ∙ ap (λ x. answers_at_departures j es ++ map (λ (e : Entry). e.answer) x) c ∙ append-nil (answers_at_departures j es),
+  ap (last_kind j) (history_grows es e) ∙ last_other j e (history_of es) d,
 )
 
 -- what an action with its answer is on a way
@@ -114,11 +99,17 @@ left_one at (act.Arrive kind arg given) r = refl
 left_one at act.Depart r = refl
 left_one at _ r = refl
 
+last_one : (at : Place) (a : Action) (r : Answer) (b : Option CollKind) → last_from b (meeting at a r) ≡ kind_after a b
+last_one at (act.Arrive kind arg given) r b = refl
+last_one at act.Depart r b = refl
+last_one at _ r b = refl
+
 -- what a process has done after an entry more
 pub data Grows (s : Setting) (es all : List Entry) (j : ℕ) : Type 0 where
   still : Unseen j es all → Grows s es all j
   acted : (p q : Process) (at : Place) (a : Action) (w : Asked) (go : Answer → Process) (r : Answer) → World s es j p → Reaches p q → step q ≡ At (asking at a w) go → answers_of j all ≡ answers_of j es ++ r ∷ []
-      → arrivals j all ≡ arrivals j es + comings (meeting at a r) → answers_at_departures j all ≡ answers_at_departures j es ++ answers_left (meeting at a r) → Grows s es all j
+      → arrivals j all ≡ arrivals j es + comings (meeting at a r) → answers_at_departures j all ≡ answers_at_departures j es ++ answers_left (meeting at a r)
+      → last_kind j (history_of all) ≡ kind_after a (last_kind j (history_of es)) → Grows s es all j
 
 -- where the process of a run is, with its way
 pub record OnWay (s : Setting) (es : List Entry) (j : ℕ) : Type 0 where
@@ -128,6 +119,7 @@ pub record OnWay (s : Setting) (es : List Entry) (j : ℕ) : Type 0 where
   pub goes : Way (begin s j) meetings process
   pub count : comings meetings ≡ arrivals j es
   pub told : answers_left meetings ≡ answers_at_departures j es
+  pub last : last_from None meetings ≡ last_kind j (history_of es)
 
 pub step_on : (s : Setting) (es all : List Entry) (j : ℕ) → Grows s es all j → OnWay s es j → OnWay s all j
 step_on s es all j (still u) o = record {
@@ -137,8 +129,9 @@ step_on s es all j (still u) o = record {
   goes = o.goes;
   count = o.count ∙ sym u.1;
   told = o.told ∙ sym u.2;
+  last = o.last ∙ sym u.3;
 }
-step_on s es all j (acted p q at a w go r x y e k l m) o =
+step_on s es all j (acted p q at a w go r x y e k l m n) o =
     let same : o.process ≡ p = after_same _ _ _ _ o.world x in
     let goes : Way (begin s j) o.meetings p = subst (λ z. Way (begin s j) o.meetings z) same o.goes in record {
       process = go r;
@@ -147,6 +140,7 @@ step_on s es all j (acted p q at a w go r x y e k l m) o =
       goes = way_then (begin s j) p (go r) o.meetings (meeting at a r) goes (reach_way p q (go r) (meeting at a r) y (one_way q at a w go r e));
       count = comings_both o.meetings (meeting at a r) ∙ ap (λ n. n + comings (meeting at a r)) o.count ∙ sym l;
       told = left_both o.meetings (meeting at a r) ∙ ap (λ n. n ++ answers_left (meeting at a r)) o.told ∙ sym m;
+      last = last_both None o.meetings (meeting at a r) ∙ last_one at a r (last_from None o.meetings) ∙ ap (kind_after a) o.last ∙ sym n;
     }
 
 -- ---- runs
@@ -181,11 +175,12 @@ at_action (Faults kind place) at a h = absurd (fault_act _ _ _ _ (some_next _ _ 
 
 -- an entry of another process
 grows_other : (s : Setting) (es : List Entry) (j : ℕ) (e : Entry) → (e.proc == j) ≡ false → Grows s es (es ++ e ∷ []) j
-grows_other s es j e h = still (unseen j es (e ∷ []) (ap (filter is_answered) (other j e h)) (ap (count_by (λ (e : Entry). is_arrival e.act)) (other j e h)) (ap (filter (λ (e : Entry). is_departure e.act)) (other j e h)))
+grows_other s es j e h =
+    still (unseen j es e (ap (filter is_answered) (other j e h)) (ap (count_by (λ (e : Entry). is_arrival e.act)) (other j e h)) (ap (filter (λ (e : Entry). is_departure e.act)) (other j e h)) (ap (λ b. b && is_arrival e.act) h))
 
 -- one that is no answer: an end or a fault
 grows_last : (s : Setting) (es : List Entry) (j : ℕ) (e : Entry) → (e.proc == j) ≡ true → is_answered e ≡ false → is_arrival e.act ≡ false → is_departure e.act ≡ false → Grows s es (es ++ e ∷ []) j
-grows_last s es j e h x y z = still (unseen j es (e ∷ []) (ap (filter is_answered) (own j e h) ∙ out) (ap (count_by (λ (e : Entry). is_arrival e.act)) (own j e h) ∙ uncounted) (ap (filter (λ (e : Entry). is_departure e.act)) (own j e h) ∙ left_out))
+grows_last s es j e h x y z = still (unseen j es e (ap (filter is_answered) (own j e h) ∙ out) (ap (count_by (λ (e : Entry). is_arrival e.act)) (own j e h) ∙ uncounted) (ap (filter (λ (e : Entry). is_departure e.act)) (own j e h) ∙ left_out) (ap₂ (λ a b. a && b) h y))
   where
     out : filter is_answered (e ∷ []) ≡ []
     out = rw x refl
@@ -206,6 +201,7 @@ grows_act s es j p q at a w go r x y z h =
     (got_both j es (e ∷ []) ∙ ap (λ k. answers_of j es ++ map (λ (e : Entry). e.answer) k) (ap (filter is_answered) o ∙ kept))
     (arrivals_both j es (e ∷ []) ∙ ap (λ k. arrivals j es + k) (ap (count_by (λ (e : Entry). is_arrival e.act)) o ∙ one (is_arrival a) refl ∙ sym (count_one at a r)))
     (departures_both j es (e ∷ []) ∙ ap (λ k. answers_at_departures j es ++ k) (ap (λ k. map (λ (e : Entry). e.answer) (filter (λ (e : Entry). is_departure e.act) k)) o ∙ by (is_departure a) refl ∙ sym (left_one at a r)))
+    (ap (last_kind j) (history_grows es e) ∙ last_own j e (history_of es) (eq-eqb j j refl))
   where
     kept : filter is_answered (record { proc = j; place = at; act = a; answer = r } ∷ []) ≡ record { proc = j; place = at; act = a; answer = r } ∷ []
     kept = rw h refl
@@ -246,5 +242,5 @@ grows s es all i j e t z = subst (λ x. Grows s es x j) (sym z) (go (i == j) ref
 
 -- in every run each process has its way
 pub on_way : (s : Setting) (es : List Entry) → IsRun s es → (j : ℕ) → OnWay s es j
-on_way s es run.none j = record { process = begin s j; world = none; meetings = []; goes = way.stop; count = refl; told = refl }
+on_way s es run.none j = record { process = begin s j; world = none; meetings = []; goes = way.stop; count = refl; told = refl; last = refl }
 on_way s all (run.more {es = es} {i = i} {e = e} w t z) j = step_on s es all j (grows s es all i j e t z) (on_way s es w j)

@@ -43,6 +43,12 @@ comings [] = 0
 comings (Came at kind arg ∷ ms) = suc (comings ms)
 comings (Left answer ∷ ms) = comings ms
 
+-- of which kind the last arrival is, where it was this one before
+abbrev pub last_from : Option CollKind → List Meeting → Option CollKind
+last_from before [] = before
+last_from before (Came at kind arg ∷ ms) = last_from (Some kind) ms
+last_from before (Left answer ∷ ms) = last_from before ms
+
 -- what the departures were answered
 abbrev pub answers_left : List Meeting → List Answer
 answers_left [] = []
