@@ -55,7 +55,7 @@ use Rattle.ti_lang.specs.Meaning.Histories.{is_arrival, is_departure, is_end}
 use Rattle.ti_align.proofs.Stepping.{Alone}
 
 -- the fact holds of each kind of request
-pub record Each (Q : Request → Type 0) : Type 0 where
+pub record Each (T : ℕ → Type 0) (Q : Request → Type 0) : Type 0 where
   pub get_field : (r : Reference) (at : Place) (field : ℕ) (type : ValueType) → Q (request_through r at (act.GetField r.thing field) (ValueOf type))
   pub put_field : (r : Reference) (at : Place) (field : ℕ) (value : Value) → Q (request_through r at (act.PutField r.thing field value) ToBeDone)
   pub get_elem : (r : Reference) (at : Place) (index : Point) (type : ValueType) → Q (request_through r at (act.GetElem r.thing index) (ValueOf type))
@@ -65,7 +65,7 @@ pub record Each (Q : Request → Type 0) : Type 0 where
   pub new_object : (at : Place) (class region : ℕ) (type : ValueType) → Q (request at (act.NewObj class region) (NewThing type))
   pub new_grid : (at : Place) (element : Zero) (domain : Rect) (region : ℕ) (type : ValueType) → Q (request at (act.NewGrid element domain region) (NewThing type))
   pub print : (at : Place) (literal : Option ℕ) (value : Option Value) → Q (request at (act.Print literal value) ToBeDone)
-  pub take : (at : Place) (who : ℕ) (type : ValueType) → Q (request at (act.Take who) (ValueOf type))
+  pub take : (at : Place) (who : ℕ) (type : ValueType) → T who → Q (request at (act.Take who) (ValueOf type))
 
 -- the fact of what a computation asks
 abbrev pub Of : {A : Type 0} → (Request → Type 0) → Got A → Type 0
@@ -73,7 +73,13 @@ Of Q (Gives a rest) = Unit {0}
 Of Q (Asks request) = Q request
 Of Q (Fails kind at) = Unit {0}
 
-module _ (Q : Request → Type 0) (each : Each Q) where
+-- the process whose value is taken first is one of these
+abbrev pub FirstTaken : (ℕ → Type 0) → Work → Type 0
+FirstTaken T (TakeAll at grid []) = Unit {0}
+FirstTaken T (TakeAll at grid (i ∷ is)) = T i
+FirstTaken T w = Unit {0}
+
+module _ (T : ℕ → Type 0) (Q : Request → Type 0) (each : Each T Q) where
   then_asks : {A B : Type 0} (m : Got A) (go : A → Asking B) → Of Q m → ((a : A) (rest : List Answer) → Of Q (go a rest)) → Of Q (followed m go)
   then_asks (Gives a rest) go h k = k a rest
   then_asks (Asks request) go h k = h
@@ -332,10 +338,10 @@ module _ (Q : Request → Type 0) (each : Each Q) where
   copied_asks env at to from (p ∷ ps) rest =
       then_asks (asked _ rest) _ (asked_asks _ rest (each.get_elem from at p _)) (λ h u. then_asks (asked _ u) _ (asked_asks _ u (each.put_elem to at p _)) (λ d w. tt))
 
-  taken_asks : (env : Env) (at : Place) (grid : Reference) (procs : List ℕ) (rest : List Answer) → Of Q (taken env at grid procs rest)
-  taken_asks env at grid [] rest = tt
-  taken_asks env at grid (i ∷ is) rest =
-      then_asks (asked _ rest) _ (asked_asks _ rest (each.take at i _)) (λ h u. then_asks (asked _ u) _ (asked_asks _ u (each.put_elem grid at _ _)) (λ d w. tt))
+  taken_asks : (env : Env) (at : Place) (grid : Reference) (procs : List ℕ) (rest : List Answer) → FirstTaken T (TakeAll at grid procs) → Of Q (taken env at grid procs rest)
+  taken_asks env at grid [] rest k = tt
+  taken_asks env at grid (i ∷ is) rest k =
+      then_asks (asked _ rest) _ (asked_asks _ rest (each.take at i _ k)) (λ h u. then_asks (asked _ u) _ (asked_asks _ u (each.put_elem grid at _ _)) (λ d w. tt))
 
   deletes_asks : (env : Env) (at : Place) (x : NumberedExp) (rest : List Answer) → Of Q (deletes env at x rest)
   deletes_asks env at x rest = then_asks (eval env x rest) _ (eval_asks env x rest) (λ h u. tt)
@@ -418,16 +424,16 @@ module _ (Q : Request → Type 0) (each : Each Q) where
   condition_asks env None rest = tt
   condition_asks env (Some c) rest = eval_asks env c rest
 
-  pub performed_asks : (env : Env) (w : Work) (rest : List Answer) → Of Q (performed env w rest)
-  performed_asks env (Do x) rest = statement_asks env x rest
-  performed_asks env (End x) rest = tt
-  performed_asks env (Before (While at c update body)) rest = then_asks (condition env c rest) _ (condition_asks env c rest) (λ h u. tt)
-  performed_asks env (Before (Foreach at variable domain [] body)) rest = tt
-  performed_asks env (Before (Foreach at variable domain (p ∷ ps) body)) rest = tt
-  performed_asks env (Behind loop) rest = tt
-  performed_asks env (Receive receiver h) rest = receives_asks env receiver (gives h) rest (λ u. tt)
-  performed_asks env (CopyAll at to from points) rest = copied_asks env at to from points rest
-  performed_asks env (TakeAll at grid procs) rest = taken_asks env at grid procs rest
+  pub performed_asks : (env : Env) (w : Work) (rest : List Answer) → FirstTaken T w → Of Q (performed env w rest)
+  performed_asks env (Do x) rest first = statement_asks env x rest
+  performed_asks env (End x) rest first = tt
+  performed_asks env (Before (While at c update body)) rest first = then_asks (condition env c rest) _ (condition_asks env c rest) (λ h u. tt)
+  performed_asks env (Before (Foreach at variable domain [] body)) rest first = tt
+  performed_asks env (Before (Foreach at variable domain (p ∷ ps) body)) rest first = tt
+  performed_asks env (Behind loop) rest first = tt
+  performed_asks env (Receive receiver h) rest first = receives_asks env receiver (gives h) rest (λ u. tt)
+  performed_asks env (CopyAll at to from points) rest first = copied_asks env at to from points rest
+  performed_asks env (TakeAll at grid procs) rest first = taken_asks env at grid procs rest first
 
 
 -- ---- no collective
@@ -435,7 +441,7 @@ module _ (Q : Request → Type 0) (each : Each Q) where
 abbrev IsAlone : Request → Type 0
 IsAlone q = (is_arrival q.action ≡ false) × (is_departure q.action ≡ false) × (is_end q.action ≡ false)
 
-own : Each IsAlone
+own : Each (λ who. Unit {0}) IsAlone
 own = record {
   get_field = λ r at f type. (refl, refl, refl);
   put_field = λ r at f value. (refl, refl, refl);
@@ -446,9 +452,14 @@ own = record {
   new_object = λ at c r type. (refl, refl, refl);
   new_grid = λ at z d r type. (refl, refl, refl);
   print = λ at l value. (refl, refl, refl);
-  take = λ at who type. (refl, refl, refl);
+  take = λ at who type k. (refl, refl, refl);
 }
+
+any_first : (w : Work) → FirstTaken (λ who. Unit {0}) w
+any_first (TakeAll at grid []) = tt
+any_first (TakeAll at grid (i ∷ is)) = tt
+any_first _ = tt
 
 -- what work asks for by itself is no collective
 pub work_alone : (env : Env) (w : Work) (rest : List Answer) → Alone (performed env w rest)
-work_alone env w rest = performed_asks IsAlone own env w rest
+work_alone env w rest = performed_asks (λ who. Unit {0}) IsAlone own env w rest (any_first w)

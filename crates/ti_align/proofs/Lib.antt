@@ -13,6 +13,7 @@ pub mod Passing
 pub mod Balance
 pub mod Entries
 pub mod Arrived
+pub mod Given
 pub mod Running
 pub mod Aligning
 pub mod Rounds
