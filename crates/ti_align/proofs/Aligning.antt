@@ -12,7 +12,6 @@ use Rattle.ti_base.specs.declared.entry.Answer.{Answer}
 use Rattle.ti_base.specs.declared.entry.Entry.{Entry}
 use Rattle.ti_base.specs.declared.entry.Next.{Next}
 use Rattle.ti_base.specs.declared.entry.Next.TheVariants as next
-use Rattle.ti_lang.specs.Meaning.Asking.{Request}
 use Rattle.ti_lang.specs.Meaning.Processes.{Setting, Process, begin}
 use Rattle.ti_lang.specs.Meaning.Steps.{Step, To, At, Ends, Faults, step}
 use Rattle.ti_lang.specs.Meaning.NextStep.{Reaches, After, shown, Settles}
@@ -31,7 +30,7 @@ use Rattle.ti_align.proofs.Vars.{true_false}
 use Rattle.ti_align.proofs.Fitting.{FineMethods}
 use Rattle.ti_align.proofs.Passing.{same_arrival, no_end}
 use Rattle.ti_align.proofs.Passing as passing
-use Rattle.ti_align.proofs.Running.{OnWay, on_way, way_then, reach_way, at_action, Grows, still, acted, grows}
+use Rattle.ti_align.proofs.Running.{on_way, way_then, reach_way, at_action, Grows, still, acted, grows}
 use Rattle.ti_align.proofs.Arrived.{last_kind}
 use Rattle.ti_align.proofs.Entries.{departures_both, own, other}
 
@@ -60,8 +59,8 @@ way_to s es i k a w x =
       subst (λ ms. Way (begin s i) ms x.settled) (append-nil o.meetings) on,
       o.count ∙ x.count,
       λ n r h.
-      subst (λ z. slice_get (answers_at_departures i z) n ≡ Some r) (sym x.split)
-      (subst (λ z. slice_get z n ≡ Some r) (sym (departures_both i x.before _)) (get_more (answers_at_departures i x.before) _ n r (subst (λ z. slice_get z n ≡ Some r) o.told h))),
+          subst (λ z. slice_get (answers_at_departures i z) n ≡ Some r) (sym x.split)
+          (subst (λ z. slice_get z n ≡ Some r) (sym (departures_both i x.before _)) (get_more (answers_at_departures i x.before) _ n r (subst (λ z. slice_get z n ≡ Some r) o.told h))),
     )
 
 arrival_same : (a b : Arrival) → a.place ≡ b.place → a.kind ≡ b.kind → a.arg ≡ b.arg → a.single ≡ b.single → a ≡ b
@@ -76,7 +75,7 @@ arrivals_agree s fine es w left i j k a b x y =
     let c = at_action (step x.settled) a.place (act.Arrive a.kind a.arg x.deposit) x.settles.stands in
     let d = at_action (step y.settled) b.place (act.Arrive b.kind b.arg y.deposit) y.settles.stands in
     let z = same_arrival s fine i j x.settled y.settled l.0 r.0 a.place b.place a.kind b.kind a.arg b.arg x.deposit y.deposit c.0 d.0 c.1 d.1 l.1 r.1
-      (λ n q t g h. left i j n q t (l.3 n q g) (r.3 n t h)) (l.2 ∙ sym r.2) c.2 d.2 in
+    (λ n q t g h. left i j n q t (l.3 n q g) (r.3 n t h)) (l.2 ∙ sym r.2) c.2 d.2 in
     arrival_same a b z.0 z.1 z.2 (x.single ∙ z.3 ∙ sym y.single)
 
 -- ---- ends
@@ -188,5 +187,5 @@ none_after_end s fine es w left i j x y h =
     let a = way_next s es i e.process e.settled w e.world e.reaches in
     let b = on_way s es w j in
     let z = passing.none_after_end s fine i j e.settled b.process a.0 b.meetings e.place a.1 b.goes
-      (λ n r t g k. left i j n r t (subst (λ q. slice_get q n ≡ Some r) a.3 g) (subst (λ q. slice_get q n ≡ Some t) b.told k)) e.stands in
+    (λ n r t g k. left i j n r t (subst (λ q. slice_get q n ≡ Some r) a.3 g) (subst (λ q. slice_get q n ≡ Some t) b.told k)) e.stands in
     subst (λ q. q ≤ arrivals i es) b.count (subst (λ q. comings b.meetings ≤ q) a.2 z)

@@ -1,5 +1,5 @@
 -- A fact of every request that work makes by itself, from the fact of each kind of request. Work asks for nothing collective.
-use Rattle.std.proofs.Common.{◌≡◌, ℕ, ℤ, Bool, true, false, if◌then◌else◌, Option, Some, None, List, [], ◌∷◌, slice_index_or, slice_get, length, nat_lt, ◌==◌, int_le, pred, pos, refl, subst}
+use Rattle.std.proofs.Common.{◌≡◌, ℕ, ℤ, Bool, true, false, if◌then◌else◌, Option, Some, None, List, [], ◌∷◌, slice_index_or, slice_get, ◌==◌, int_le, pred, pos, refl}
 use Rattle.std.specs.Int.{Width}
 use Rattle.ti_base.specs.WholeNumbers.{wrap, quotient, remainder}
 use Rattle.ti_base.specs.PointSets.{union, minus, meet}
@@ -13,8 +13,6 @@ use Rattle.ti_base.specs.declared.value.Zero.{Zero}
 use Rattle.ti_base.specs.declared.fault.FaultKind.{FaultKind}
 use Rattle.ti_base.specs.declared.fault.FaultKind.TheVariants.{NullRef, Bounds}
 use Rattle.ti_base.specs.declared.action.Action.TheVariants as act
-use Rattle.ti_base.specs.declared.action.CollKind.{CollKind}
-use Rattle.ti_base.specs.declared.action.Deposit.{Deposit}
 use Rattle.ti_base.specs.declared.action.Deposit.TheVariants as deposit
 use Rattle.ti_base.specs.declared.action.ViewHow.{ViewHow}
 use Rattle.ti_base.specs.declared.action.ViewHow.TheVariants as how
@@ -33,18 +31,18 @@ use Rattle.ti_lang.specs.Typing.BuiltIn.{BuiltIn, Size, Min, Max, Contains, Doma
 use Rattle.ti_lang.specs.Typing.Declared.{result_type}
 use Rattle.ti_lang.specs.Typing.Called.{member_called}
 use Rattle.ti_lang.specs.Meaning.Held.{Held, Plain, Dm, nothing, whole_of, point_of, rect_of, thing_of, plain_of}
-use Rattle.ti_lang.specs.Meaning.Asking.{Wanted, Request, Reference, request, request_through, ToBeDone, ValueOf, NewThing, Asking, ◌>>=◌, Got, Gives, Asks, Fails, followed, gives, guarded, found_or, asked, needed}
+use Rattle.ti_lang.specs.Meaning.Asking.{Request, Reference, request, request_through, ToBeDone, ValueOf, NewThing, Asking, ◌>>=◌, Got, Gives, Asks, Fails, followed, gives, guarded, found_or, asked, needed}
 use Rattle.ti_lang.specs.Meaning.Conversions.{to_domain, converted, of_domains}
 use Rattle.ti_lang.specs.Meaning.Operands.{Operands, Wholes, Points, Rects, Domains, operands}
 use Rattle.ti_lang.specs.Meaning.Operators.{added, subtracted, multiplied, divided, equal, operated, settled}
 use Rattle.ti_lang.specs.Meaning.Literals as literal
-use Rattle.ti_lang.specs.Meaning.Processes.{Variable, Receiver, Nowhere, Declared, Assigned, Updated, While, Foreach, Work, Do, End, Before, Behind, Receive, CopyAll, TakeAll, Frame, Wait, Process}
-use Rattle.ti_lang.specs.Meaning.Scoping.{Env, env_of, type_of, declared_type, field_selected}
+use Rattle.ti_lang.specs.Meaning.Processes.{Variable, Receiver, Nowhere, Declared, Assigned, Updated, While, Foreach, Work, Do, End, Before, Behind, Receive, CopyAll, TakeAll}
+use Rattle.ti_lang.specs.Meaning.Scoping.{Env, type_of, declared_type, field_selected}
 use Rattle.ti_lang.specs.Meaning.Parts.{Part, Field, Element, fetched, domain_asked, domain_of, viewed, coordinate, indexed}
 use Rattle.ti_lang.specs.Meaning.MemberForms.{sized, member}
 use Rattle.ti_lang.specs.Meaning.Evaluation.{unless_settled, eval, eval_all, eval_numbers, eval_range, eval_ranges}
 use Rattle.ti_lang.specs.Meaning.Targets.{Target, InVariable, InPart, located, held_in, stored, into}
-use Rattle.ti_lang.specs.Meaning.Moves.{Move, Goes, Turns, Breaks, Continues, Calls, Returns, Meets, Deletes, receives}
+use Rattle.ti_lang.specs.Meaning.Moves.{Move, receives}
 use Rattle.ti_lang.specs.Meaning.Calls.{Call, called, bound, maybe_eval, maybe_needed, parameters_of, calling}
 use Rattle.ti_lang.specs.Meaning.Makers.{region_for, spread, new_object, new_grid}
 use Rattle.ti_lang.specs.Meaning.Copies.{first_type, copies, copied, taken}
@@ -434,7 +432,6 @@ module _ (T : ℕ → Type 0) (Q : Request → Type 0) (each : Each T Q) where
   performed_asks env (Receive receiver h) rest first = receives_asks env receiver (gives h) rest (λ u. tt)
   performed_asks env (CopyAll at to from points) rest first = copied_asks env at to from points rest
   performed_asks env (TakeAll at grid procs) rest first = taken_asks env at grid procs rest first
-
 
 -- ---- no collective
 

@@ -22,4 +22,4 @@ none_after_end p c procs fuel es a b d e w =
     aligning.none_after_end s fine es w (same_departures s fine es w)
 
 pub none_waits : (p : NumberedProgram) → IsChecked p → OfEveryRun NoneWaits p
-none_waits p c procs fuel es a b d e w = stopping.none_waits (record { program = p; procs = procs; fuel = fuel }) es w (none_after_end p c procs fuel es a b d e w)
+none_waits p c procs fuel es a b d e w = stopping.none_waits (record { program = p; procs = procs; fuel = fuel }) es w (arrivals_agree p c procs fuel es a b d e w) (none_after_end p c procs fuel es a b d e w)

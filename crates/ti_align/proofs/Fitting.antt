@@ -1,5 +1,5 @@
 -- What a piece of work comes to breaks no rule, and without effects it changes nothing of the slice.
-use Rattle.std.proofs.Common.{◌≡◌, ℕ, zero, suc, Bool, true, false, not, ◌&&◌, ◌||◌, ◌==◌, cond, if◌then◌else◌, unwrap_or, pos, find, slice_get, option_map, Option, Some, None, List, [], ◌∷◌, ◌++◌, flat_map, refl, sym, ◌∙◌}
+use Rattle.std.proofs.Common.{◌≡◌, ℕ, zero, suc, Bool, true, false, not, ◌&&◌, ◌||◌, ◌==◌, cond, if◌then◌else◌, unwrap_or, pos, find, slice_get, option_map, Option, Some, None, List, [], ◌∷◌, ◌++◌, refl, sym, ◌∙◌}
 use Rattle.std.specs.Option.{option_map_or}
 use Rattle.ti_base.specs.declared.place.Place.{Place}
 use Rattle.ti_base.specs.declared.point.Point.{Point}
@@ -17,8 +17,8 @@ use Rattle.ti_lang.specs.Program.Classes as c
 use Rattle.ti_lang.specs.Program.Scope.{this_of}
 use Rattle.ti_lang.specs.Typing.BuiltIn.{BuiltIn, Copy, Exchange, Delete}
 use Rattle.ti_lang.specs.Typing.Declared.{instance_method}
-use Rattle.ti_lang.specs.Typing.Called.{called_method, method_behind, member_called}
-use Rattle.ti_lang.specs.Typing.Singleness.{declared_single, has_single_result, is_single, is_single_part, is_single_initial}
+use Rattle.ti_lang.specs.Typing.Called.{method_behind, member_called}
+use Rattle.ti_lang.specs.Typing.Singleness.{declared_single, has_single_result, is_single, is_single_initial}
 use Rattle.ti_lang.specs.Typing.Effects.{acts, initial_acts, is_collective, is_single_target, doings, doings_of_maybe, together, kept_in_loop, return_acts, has_global_effects}
 use Rattle.ti_lang.specs.Meaning.Held.{Held, truth_of}
 use Rattle.ti_lang.specs.Meaning.Asking.{Reference, Asking, Got, Gives, Asks, Fails, followed, gives}
@@ -455,7 +455,7 @@ work_fits q f left (Behind (While at c update body)) rest o g =
     let r = return_acts p f.method in
     let j = unwrap_or (jump_at p f.method left) false in
     let k : (has_global_effects r j (doings_of_maybe p (this_of f.method) update) ≡ true → l ≡ true) =
-      λ h. update_effect r j (doings_of_maybe p (this_of f.method) update) (doings p (this_of f.method) body) o.0.1 h in
+    λ h. update_effect r j (doings_of_maybe p (this_of f.method) update) (doings p (this_of f.method) body) o.0.1 h in
     let ends : OkWorks p f.method (Before (While at c update body) ∷ left) = (o.0, o.1, o.2) in
     first_fits p f.method left update (Before (While at c update body) ∷ []) f.variables l o.0.2 (λ h. o.1 (k h)) ends
     (λ h. (not_true _ (λ z. true_false (sym (k z) ∙ h)), (h, tt)))

@@ -1,9 +1,8 @@
 -- What processes give at their arrivals, and from whom they take: an exchange that a process has left is taken in at once.
-use Rattle.std.proofs.Common.{◌≡◌, ℕ, zero, suc, ◌+◌, ◌<◌, nat_lt, ◌==◌, ℤ, pos, negsuc, int_le, int_lt, length, Bool, true, false, ◌&&◌, ◌⊎◌, inl, inr, if◌then◌else◌, Option, Some, None, List, [], ◌∷◌, ◌++◌, refl, ap, sym, ◌∙◌, subst, arith, ltb-true, eq-eqb, slice_get}
+use Rattle.std.proofs.Common.{◌≡◌, ℕ, zero, suc, ◌+◌, ◌<◌, nat_lt, ◌==◌, ℤ, pos, negsuc, int_le, int_lt, length, Bool, true, false, ◌&&◌, ◌⊎◌, inl, inr, if◌then◌else◌, Option, Some, None, List, [], ◌∷◌, ◌++◌, refl, sym, ◌∙◌, subst, arith, ltb-true, eq-eqb, slice_get}
 use Rattle.std.specs.Option.{option_map_or}
 use Rattle.ti_base.specs.declared.place.Place.{Place}
 use Rattle.ti_base.specs.declared.value.Value.{Value}
-use Rattle.ti_base.specs.declared.fault.FaultKind.{FaultKind}
 use Rattle.ti_base.specs.declared.fault.FaultKind.TheVariants.{Fuel, Depth, BadRoot}
 use Rattle.ti_base.specs.declared.action.Action.{Action}
 use Rattle.ti_base.specs.declared.action.Action.TheVariants as act
@@ -12,7 +11,6 @@ use Rattle.ti_base.specs.declared.action.CollKind.TheVariants as coll
 use Rattle.ti_base.specs.declared.action.Deposit.{Deposit}
 use Rattle.ti_base.specs.declared.action.Deposit.TheVariants as deposit
 use Rattle.ti_base.specs.declared.entry.Answer.{Answer}
-use Rattle.ti_base.specs.declared.entry.Answer.TheVariants.{Done}
 use Rattle.ti_base.specs.Ranges.{natural}
 use Rattle.ti_lang.specs.Program.Expressions.{NumberedExp, NumberedExps}
 use Rattle.ti_lang.specs.Program.Expressions as e
@@ -23,25 +21,25 @@ use Rattle.ti_lang.specs.Program.Scope.{this_of}
 use Rattle.ti_lang.specs.Typing.BuiltIn.{BuiltIn, Copy, Exchange, Delete}
 use Rattle.ti_lang.specs.Typing.Called.{member_called}
 use Rattle.ti_lang.specs.Meaning.Held.{Held, truth_of, whole_of, plain_of}
-use Rattle.ti_lang.specs.Meaning.Asking.{ToBeDone, Reference, Request, Asking, ◌>>=◌, Got, Gives, Asks, Fails, followed, gives, guarded}
-use Rattle.ti_lang.specs.Meaning.Processes.{Setting, Variable, Receiver, Nowhere, Declared, Assigned, Updated, Loop, While, Foreach, Work, Do, End, Before, Behind, Receive, CopyAll, TakeAll, Frame, frame_of, Wait, Process, all_before, begin}
+use Rattle.ti_lang.specs.Meaning.Asking.{ToBeDone, Reference, Request, Asking, ◌>>=◌, Got, Gives, Asks, Fails, gives, guarded}
+use Rattle.ti_lang.specs.Meaning.Processes.{Setting, Variable, Receiver, Nowhere, Declared, Assigned, Updated, While, Foreach, Work, Do, End, Before, Behind, Receive, CopyAll, TakeAll, Frame, frame_of, Wait, Process, all_before, begin}
 use Rattle.ti_lang.specs.Meaning.Scoping.{Env, env_of}
 use Rattle.ti_lang.specs.Meaning.Evaluation.{eval}
 use Rattle.ti_lang.specs.Meaning.Makers.{new_object, new_grid}
 use Rattle.ti_lang.specs.Meaning.Copies.{copies, copied, counted, taken}
-use Rattle.ti_lang.specs.Meaning.Collectives.{root_among, root_deposit, broadcasts, exchanges, deletes}
+use Rattle.ti_lang.specs.Meaning.Collectives.{root_among, root_deposit, broadcasts, exchanges}
 use Rattle.ti_lang.specs.Meaning.Calls.{Call, called, calling}
 use Rattle.ti_lang.specs.Meaning.Moves.{Move, Goes, Turns, Breaks, Continues, Calls, Returns, Meets, Deletes, receives}
 use Rattle.ti_lang.specs.Meaning.Statements.{made_first, valued_or_called, initialized, member_alone, alone, printed, one_more, declared_as, maybe_do, returns, statement}
 use Rattle.ti_lang.specs.Meaning.Performing.{condition, performed}
-use Rattle.ti_lang.specs.Meaning.Jumps.{has_mark, from_mark, past_mark, variables_at_mark}
-use Rattle.ti_lang.specs.Meaning.Steps.{Step, To, At, Ends, Faults, ticks, valued, going, handed, most_frames, arrives, value_asked, moves, works, runs, steps, step}
+use Rattle.ti_lang.specs.Meaning.Jumps.{has_mark, from_mark, past_mark}
+use Rattle.ti_lang.specs.Meaning.Steps.{Step, To, At, Ends, Faults, ticks, valued, handed, most_frames, value_asked, moves, works, runs, steps, step}
 use Rattle.ti_lang.specs.Meaning.RoundsOf.{value_in}
-use Rattle.ti_lang.specs.Meaning.Histories.{is_arrival, is_departure}
+use Rattle.ti_lang.specs.Meaning.Histories.{is_arrival}
 use Rattle.ti_lang.proofs.MeaningLaws.Falling.{Giving, then_giving, guarded_giving}
 use Rattle.ti_align.proofs.Ways.{Asked, asking, Meeting, Came, Left, Way, last_from}
 use Rattle.ti_align.proofs.Ways as way
-use Rattle.ti_align.proofs.Vars.{true_false, and_left, and_right}
+use Rattle.ti_align.proofs.Vars.{true_false, and_right}
 use Rattle.ti_align.proofs.Fitting.{giving_followed}
 use Rattle.ti_align.proofs.Asks.{Each, Of, FirstTaken, performed_asks}
 

@@ -12,7 +12,7 @@ use Rattle.ti_lang.specs.Program.Expressions as e
 use Rattle.ti_lang.specs.Program.Classes.{NumberedMethod, NumberedProgram, NumberedParam, NumberedParams, NumberedResult}
 use Rattle.ti_lang.specs.Program.Classes as c
 use Rattle.ti_lang.specs.Program.Scope.{this_of}
-use Rattle.ti_lang.specs.Typing.Called.{called_method, method_behind, member_called}
+use Rattle.ti_lang.specs.Typing.Called.{called_method, method_behind}
 use Rattle.ti_lang.specs.Typing.Kinds.{is_object}
 use Rattle.ti_lang.specs.Typing.BuiltIn.{BuiltIn, built_in}
 use Rattle.ti_lang.specs.Typing.Singleness.{has_single_result, single_result, is_single_part}
@@ -28,7 +28,6 @@ use Rattle.ti_lang.specs.Meaning.Targets.{into}
 use Rattle.ti_lang.specs.Meaning.Calls.{Call, call_of, called, calling, bound, maybe_eval, maybe_needed, parameters_of, parameters_from}
 use Rattle.ti_lang.specs.Meaning.Moves.{Move, Goes, Turns, Breaks, Continues, Calls, Returns, Meets, Deletes, receives, goes_on}
 use Rattle.ti_lang.proofs.MeaningLaws.Falling.{Giving}
-use Rattle.ti_rules.specs.declared.refusal.Refusal.{Refusal}
 use Rattle.ti_rules.specs.declared.rule.Rule.TheVariants.{S5, S9}
 use Rattle.ti_rules.specs.First.{refused_if}
 use Rattle.ti_rules.specs.Standing.{Around}

@@ -1,5 +1,5 @@
 -- Statements and work with effects: what they come to in a process, they come to in the slice.
-use Rattle.std.proofs.Common.{◌≡◌, ℕ, Bool, true, false, not, ◌&&◌, ◌||◌, inl, inr, if◌then◌else◌, unwrap_or, pos, option_map, Option, Some, None, List, [], ◌∷◌, ◌++◌, refl, ap, sym, ◌∙◌, subst}
+use Rattle.std.proofs.Common.{◌≡◌, ℕ, Bool, true, false, not, ◌||◌, inl, inr, if◌then◌else◌, unwrap_or, pos, option_map, Option, Some, None, List, [], ◌∷◌, ◌++◌, refl, ap, sym, ◌∙◌, subst}
 use Rattle.std.specs.Option.{option_map_or}
 use Rattle.ti_base.specs.declared.place.Place.{Place}
 use Rattle.ti_base.specs.declared.fault.FaultKind.{FaultKind}
@@ -32,8 +32,8 @@ use Rattle.ti_lang.specs.Meaning.Calls.{Call, call_of, called, calling}
 use Rattle.ti_lang.specs.Meaning.Moves.{Move, Goes, Turns, Returns, Meets, receives, goes_on}
 use Rattle.ti_lang.specs.Meaning.Statements.{valued_or_called, initialized, member_alone, alone, one_more, declared_as, returns, statement}
 use Rattle.ti_lang.specs.Meaning.Performing.{condition, declared_in, performed}
-use Rattle.ti_rules.specs.declared.rule.Rule.TheVariants.{S1, S2, S3, S4, S7, S8}
-use Rattle.ti_rules.specs.Standing.{Around, in_loop, in_foreach, inside}
+use Rattle.ti_rules.specs.declared.rule.Rule.TheVariants.{S1, S3, S4, S7, S8}
+use Rattle.ti_rules.specs.Standing.{Around, in_foreach, inside}
 use Rattle.ti_rules.specs.SingleRules.{has_effects, is_plain_condition, call_refusals, whole_refusals, is_delete, initial_refusals, return_refusals}
 use Rattle.ti_align.specs.SinglePart.{singles}
 use Rattle.ti_align.proofs.Slice.{is_single_receiver, jump_at, around_at, work_acts, exchanging, single_calling, single_value, single_initial, single_member, single_alone, single_return, single_statement, single_performed}
@@ -42,7 +42,7 @@ use Rattle.ti_align.proofs.Single.{env_part, Rel, Same, rel_then, guarded_same, 
 use Rattle.ti_align.proofs.Fine.{none_both, not_refused, kept_rule, Fine, OkWorks}
 use Rattle.ti_align.proofs.Fitting.{FineMethod, FineMethods, OneFine, at_fine, behind_fine, singles_at, target_same, value_rule, rules_of}
 use Rattle.ti_align.proofs.Jumping.{acting_true}
-use Rattle.ti_align.proofs.Liking.{rel_bind, rel_skip, Like, receives_single, receives_dropped, CalledAs, called_as, result_single, calling_single}
+use Rattle.ti_align.proofs.Liking.{rel_skip, Like, receives_single, receives_dropped, called_as, result_single, calling_single}
 
 -- the method that is called is one of the program
 method_fine : (p : NumberedProgram) (t : Option ℕ) (x : NumberedExp) → FineMethods p p.methods → OneFine p (called_method p t x)

@@ -1,5 +1,5 @@
 -- What a departure is answered hangs on the round alone: departures of one number are answered the same.
-use Rattle.std.proofs.Common.{◌≡◌, ℕ, zero, suc, ◌+◌, ◌==◌, Bool, true, false, not, ◌&&◌, ◌||◌, ◌⊎◌, inl, inr, cond, if◌then◌else◌, map, filter, length, slice_get, Option, Some, None, List, [], ◌∷◌, ◌++◌, reverse, refl, ap, ap₂, sym, ◌∙◌, subst, arith, append-nil, append_assoc, eqb-true}
+use Rattle.std.proofs.Common.{◌≡◌, ℕ, zero, suc, ◌+◌, ◌==◌, Bool, true, false, not, ◌&&◌, ◌||◌, ◌⊎◌, inl, inr, if◌then◌else◌, map, filter, length, slice_get, Option, Some, None, List, [], ◌∷◌, ◌++◌, refl, ap, ap₂, sym, ◌∙◌, subst, arith, append-nil, append_assoc, eqb-true}
 use Rattle.std.specs.Option.{option_and_then}
 use Rattle.ti_base.specs.declared.value.Value.{Value}
 use Rattle.ti_base.specs.declared.value.Value.TheVariants as v
@@ -9,18 +9,17 @@ use Rattle.ti_base.specs.declared.action.Action.{Action}
 use Rattle.ti_base.specs.declared.action.Action.TheVariants as act
 use Rattle.ti_base.specs.declared.action.CollKind.{CollKind}
 use Rattle.ti_base.specs.declared.action.CollKind.TheVariants as coll
-use Rattle.ti_base.specs.declared.action.Deposit.{Deposit}
 use Rattle.ti_base.specs.declared.entry.Answer.{Answer}
 use Rattle.ti_base.specs.declared.entry.Answer.TheVariants.{Done, Val}
 use Rattle.ti_base.specs.declared.entry.Entry.{Entry}
 use Rattle.ti_base.specs.declared.entry.Next.{Next}
 use Rattle.ti_base.specs.declared.entry.Next.TheVariants as next
 use Rattle.ti_lang.specs.Program.Classes.{NumberedProgram}
-use Rattle.ti_lang.specs.Meaning.Processes.{Setting, Process, begin}
+use Rattle.ti_lang.specs.Meaning.Processes.{Setting, Process}
 use Rattle.ti_lang.specs.Meaning.Steps.{At, step}
-use Rattle.ti_lang.specs.Meaning.NextStep.{shown, Settles}
-use Rattle.ti_lang.specs.Meaning.Histories.{History, history_of, is_end, is_fault, is_arrival, is_departure, is_answered, entries_of, arrivals}
-use Rattle.ti_lang.specs.Meaning.RoundsOf.{Arrival, arrival_in, arrival_at, last_arrival, value_in, given, was_left, rounds_making}
+use Rattle.ti_lang.specs.Meaning.NextStep.{Settles}
+use Rattle.ti_lang.specs.Meaning.Histories.{History, history_of, is_end, is_fault, is_arrival, is_departure, is_answered, arrivals}
+use Rattle.ti_lang.specs.Meaning.RoundsOf.{Arrival, arrival_in, arrival_at, last_arrival, value_in, given, was_left}
 use Rattle.ti_lang.specs.Meaning.RegionUse.{is_in_use}
 use Rattle.ti_lang.specs.Meaning.HeapAnswers.{Outcome, Answers, Faults, Impossible, where_some, answers_value, leaves_delete, departs, heap_answer, IsAnswered}
 use Rattle.ti_lang.specs.Meaning.HeapAnswers as heap
@@ -30,14 +29,14 @@ use Rattle.ti_lang.proofs.MeaningLaws.Running.{taker, history_grows, run_answere
 use Rattle.ti_align.specs.SinglePart.{single_part}
 use Rattle.ti_align.specs.Alignment.{ArrivesAt, ArrivalsAgree}
 use Rattle.ti_align.specs.Alignment as aligned
-use Rattle.ti_align.proofs.Ways.{Asked, asking, Way, comings, answers_left, answers_at_departures, waiting, SameDepartures}
+use Rattle.ti_align.proofs.Ways.{Asked, asking, answers_at_departures, waiting, SameDepartures}
 use Rattle.ti_align.proofs.Vars.{true_false, and_left, and_right}
 use Rattle.ti_align.proofs.Fitting.{FineMethods}
 use Rattle.ti_align.proofs.Balance.{step_waits, balanced}
 use Rattle.ti_align.proofs.Running.{at_action}
 use Rattle.ti_align.proofs.Entries.{departures_both, own, other}
 use Rattle.ti_align.proofs.Aligning.{arrivals_agree, way_next}
-use Rattle.ti_align.proofs.Arrived.{is_own, more_own, back, Comes, before, now, comes, reached, stays, made, made_stays, made_all, made_same}
+use Rattle.ti_align.proofs.Arrived.{more_own, back, Comes, before, now, comes, reached, stays, made, made_stays, made_all, made_same}
 
 -- ---- what a round gives
 
@@ -124,7 +123,7 @@ unanswered : (d e : Entry) → d ≡ e → is_answered d ≡ false → is_answer
 unanswered d e q x y = true_false (sym y ∙ sym (ap is_answered q) ∙ x)
 
 -- what the process had next is the action of the entry
-acts_as : (s : Setting) (es : List Entry) (i : ℕ) (n : Next) (e : Entry) → entry_of s es i n ≡ Some e → is_answered e ≡ true → n ≡ next.Act e.place e.act
+pub acts_as : (s : Setting) (es : List Entry) (i : ℕ) (n : Next) (e : Entry) → entry_of s es i n ≡ Some e → is_answered e ≡ true → n ≡ next.Act e.place e.act
 acts_as s es i (next.Act at a) e h k = by (heap_answer s.program (history_of es) i a) h
   where
     by : (o : Outcome) → entry_with i at a o ≡ Some e → next.Act at a ≡ next.Act e.place e.act
@@ -141,7 +140,7 @@ depart_answered e k = by e.act k
     by act.Depart k = refl
     by _ k = absurd (true_false (sym k))
 
-arrive_answered : (e : Entry) → is_arrival e.act ≡ true → is_answered e ≡ true
+pub arrive_answered : (e : Entry) → is_arrival e.act ≡ true → is_answered e ≡ true
 arrive_answered e k = by e.act k
   where
     by : (a : Action) → is_arrival a ≡ true → not (is_end a || is_fault a) ≡ true
@@ -178,7 +177,7 @@ new_told s es i e w t k =
     let h = history_of es in
     let all : IsAnswered s.program (e ∷ h) = subst (IsAnswered s.program) (history_grows es e) (run_answered s (es ++ e ∷ []) (run.more w t refl)) in
     let z : heap_answer s.program h i act.Depart ≡ Answers e.answer =
-      ap₂ (λ (p : ℕ) (a : Action). heap_answer s.program h p a) (sym (taker s es i e t)) (sym (depart_is e.act k)) ∙ said s.program h e all in
+    ap₂ (λ (p : ℕ) (a : Action). heap_answer s.program h p a) (sym (taker s es i e t)) (sym (depart_is e.act k)) ∙ said s.program h e all in
     subst (λ n. Told h i n e.answer) (back i es ∙ has_come s es i e w t k) (told_now s.program h i e.answer z)
 
 none_answer : (r : Answer) → ◌≡◌ {A = Option Answer} None (Some r) → ⊥
@@ -251,7 +250,7 @@ told s all (run.more {es = es} {i = p} {e = e} w t y) i k r z =
 
 -- ---- arrivals of the history are those of the run
 
-arrival_is : (a : Action) (x : Arrival) → arrival_in a ≡ Some x → a ≡ act.Arrive x.kind x.arg x.deposit
+pub arrival_is : (a : Action) (x : Arrival) → arrival_in a ≡ Some x → a ≡ act.Arrive x.kind x.arg x.deposit
 arrival_is (act.Arrive kind arg given) x h = ap (λ (y : Arrival). act.Arrive y.kind y.arg y.deposit) (some_arrival _ x h)
   where
     some_arrival : (a b : Arrival) → Some a ≡ Some b → a ≡ b
@@ -347,7 +346,7 @@ round_same h i j n coll.Exchange arg r t m x y = x ∙ sym y
 round_same h i j n coll.DeleteRegion arg r t m x y = x ∙ sym y
 
 -- arrivals of one number are of one kind and argument
-alike : (s : Setting) (es : List Entry) → IsRun s es → ArrivalsAgree s es → (i j k : ℕ) (a b : Arrival) → arrival_at i (suc k) (history_of es) ≡ Some a → arrival_at j (suc k) (history_of es) ≡ Some b
+pub alike : (s : Setting) (es : List Entry) → IsRun s es → ArrivalsAgree s es → (i j k : ℕ) (a b : Arrival) → arrival_at i (suc k) (history_of es) ≡ Some a → arrival_at j (suc k) (history_of es) ≡ Some b
     → (a.kind ≡ b.kind) × (a.arg ≡ b.arg)
 alike s es w f i j k a b x y =
     let l = seen s es w i k a x in

@@ -1,5 +1,5 @@
 -- A single expression has one value in all processes: what it comes to in a process, it comes to in the slice.
-use Rattle.std.proofs.Common.{◌≡◌, ℕ, ℤ, Bool, true, false, not, ◌&&◌, if◌then◌else◌, int_le, pos, pred, slice_get, slice_index_or, Option, Some, None, List, [], ◌∷◌, refl, ap, sym, ◌∙◌, subst}
+use Rattle.std.proofs.Common.{◌≡◌, ℕ, ℤ, Bool, true, false, not, ◌&&◌, if◌then◌else◌, int_le, pos, pred, slice_get, slice_index_or, Option, Some, None, List, [], refl, ap, sym, subst}
 use Rattle.ti_base.specs.declared.place.Place.{Place}
 use Rattle.ti_base.specs.declared.point.Point.{Point}
 use Rattle.ti_base.specs.declared.value.Value.TheVariants as v
@@ -20,13 +20,13 @@ use Rattle.ti_lang.specs.Typing.Kinds.{is_local, is_point}
 use Rattle.ti_lang.specs.Typing.Called.{member_called}
 use Rattle.ti_lang.specs.Typing.Singleness.{declared_single, tells_of_domain, is_single_part, are_single, is_single_range, are_single_ranges}
 use Rattle.ti_lang.specs.Meaning.Held.{Held, Plain, Dm, point_of}
-use Rattle.ti_lang.specs.Meaning.Asking.{Asking, ◌>>=◌, gives, fails, found_or, guarded, Got, Gives, Asks, Fails, followed}
+use Rattle.ti_lang.specs.Meaning.Asking.{Asking, ◌>>=◌, gives, found_or, guarded, Got, Gives, Asks, Fails, followed}
 use Rattle.ti_lang.specs.Meaning.Literals as literal
-use Rattle.ti_lang.specs.Meaning.Operands.{Operands, Wholes, Truths, Points, Rects, Domains, Things, Regions, Others, operands}
-use Rattle.ti_lang.specs.Meaning.Conversions.{to_domain, converted, domain_within, of_domains}
+use Rattle.ti_lang.specs.Meaning.Operands.{Operands, Wholes, Points, Rects, Domains, operands}
+use Rattle.ti_lang.specs.Meaning.Conversions.{to_domain, converted, of_domains}
 use Rattle.ti_lang.specs.Meaning.Operators.{added, subtracted, multiplied, divided, equal, operated, settled}
-use Rattle.ti_lang.specs.Meaning.Parts.{coordinate, indexed}
-use Rattle.ti_lang.specs.Meaning.MemberForms.{sized, extreme, member}
+use Rattle.ti_lang.specs.Meaning.Parts.{indexed}
+use Rattle.ti_lang.specs.Meaning.MemberForms.{sized, member}
 use Rattle.ti_lang.specs.Meaning.Scoping.{Env, value_by, type_of}
 use Rattle.ti_lang.specs.Meaning.Evaluation.{kept_local, unless_settled, with_right, eval, eval_all, eval_numbers, eval_range, eval_ranges}
 use Rattle.ti_lang.proofs.MeaningLaws.Falling.{Giving}

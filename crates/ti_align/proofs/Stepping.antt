@@ -254,8 +254,7 @@ plain_move q f fs above m left (Calls at c this ps r) hm e o w k t =
     let z = t.2 refl in
     let ok = callee_ok p c this ps r (record f { left = left } ∷ fs) t.0 t.1 (λ y. absurd (true_false (sym y ∙ z.0))) in
     kinds_ticks q.setting m (slice q) above q at _
-    (kinds_if q.setting m (slice q) above (nat_lt (length (f ∷ fs)) most_frames) (To (spends (record q { frames = frame_of c this ps r ∷ record f { left = left } ∷ fs; wait = None; answers = [] }))) _
-    (
+    (kinds_if q.setting m (slice q) above (nat_lt (length (f ∷ fs)) most_frames) (To (spends (record q { frames = frame_of c this ps r ∷ record f { left = left } ∷ fs; wait = None; answers = [] }))) _ (
       inl (ap still (if_false (c.is_single) _ _ z.0) ∙ going_same q f fs f.variables left refl k ∙ sym e),
       (refl, (ok.0, ok.1, (w, (o.0.0, (λ b. k ∙ o.0.1 b), o.0.2, o.0.3), o.1)), tt, o.2),
     )
@@ -277,7 +276,7 @@ arrives_kind q f fs above s wait given left behind l b c d o k a w =
       refl,
       (λ r. (
         ap (λ x. Arrival wait (record { frames = x; wait = Some wait }))
-        (ap (λ x. record (frame_part q.setting.program f) { left = x } ∷ frame_parts q.setting.program fs) (sym k) ∙ sym (if_true (f.method.is_single) _ _ b)),
+            (ap (λ x. record (frame_part q.setting.program f) { left = x } ∷ frame_parts q.setting.program fs) (sym k) ∙ sym (if_true (f.method.is_single) _ _ b)),
         (refl, (w, (o.0.0, (λ z. absurd (true_false (sym c ∙ z))), o.0.2, o.0.3), o.1), (b, c, subst Deep (sym a) d), o.2),
       )),
       l,
@@ -315,8 +314,7 @@ single_move q f fs above left (Calls at k this ps r) n l b c d o w a t i =
     let ok = callee_ok p k this ps r (record f { left = left } ∷ fs) t.0 t.1 (λ _. (b, c, d)) in
     subst (λ x. Kinds q.setting (moves_to q.setting (frame_part p f) (frame_parts p fs) (kept p f.method left) x) (slice q) above (moves q f fs left (Calls at k this ps r))) (sym i.0)
     (kinds_ticks q.setting _ (slice q) above q at _
-    (kinds_if q.setting _ (slice q) above (nat_lt (length (f ∷ fs)) most_frames) (To (spends (record q { frames = frame_of k this ps r ∷ record f { left = left } ∷ fs; wait = None; answers = [] }))) _
-    (
+    (kinds_if q.setting _ (slice q) above (nat_lt (length (f ∷ fs)) most_frames) (To (spends (record q { frames = frame_of k this ps r ∷ record f { left = left } ∷ fs; wait = None; answers = [] }))) _ (
       inr (ap (λ y. Silent (still (callee_part p k (singles ps) r ∷ y))) (sym (if_true (f.method.is_single) _ _ b)) ∙ ap (λ x. Silent (still x)) (sym (if_true (k.is_single) _ _ i.1))),
       (refl, (ok.0, ok.1, (w, (o.0.0, (λ z. absurd (true_false (sym c ∙ z))), o.0.2, o.0.3), o.1)), tt, o.2),
     )

@@ -1,8 +1,8 @@
 -- Variables and the single ones among them.
-use Rattle.std.proofs.Common.{◌≡◌, ℕ, ◌==◌, Bool, true, false, not, ◌&&◌, ◌||◌, List, [], ◌∷◌, ◌++◌, filter, if◌then◌else◌, refl, ap, ap₂, sym, ◌∙◌}
+use Rattle.std.proofs.Common.{◌≡◌, ◌==◌, Bool, true, false, ◌&&◌, ◌||◌, List, [], ◌∷◌, ◌++◌, if◌then◌else◌, refl, ap, ap₂, sym, ◌∙◌}
 use Rattle.std.specs.List.{list_any}
-use Rattle.ti_lang.specs.Program.Types.{ValueType, Declaration, Typed, Foreach, VariableUse}
-use Rattle.ti_lang.specs.Typing.Kinds.{same_truth, same_type}
+use Rattle.ti_lang.specs.Program.Types.{Declaration, Typed, Foreach, VariableUse}
+use Rattle.ti_lang.specs.Typing.Kinds.{same_truth}
 use Rattle.ti_lang.specs.Meaning.Held.{Held}
 use Rattle.ti_lang.specs.Meaning.Processes.{Variable}
 use Rattle.ti_lang.specs.Meaning.Scoping.{same_declaration, same_variable, find_variable, with_changed, without}

@@ -18,14 +18,9 @@ pub fn none_after_end(c: &Checked)
     ensures { OfEveryRun NoneAfterEnd (program_of c.now.program.parts) }
 {}
 
-/// In every run of a checked program no process waits for ever at a collective: where there is no
-/// fault and no process can take an entry, all have their end, or some process has come to an action
-/// that is impossible. The third part of alignment, but for such actions.
+/// In every run of a checked program no process waits for ever: where there is no fault and no
+/// process can take an entry, all have their end, or some process has come to an action that names a
+/// thing, a class or a region which isn't there. The third part of alignment, but for such actions.
 pub fn none_waits(c: &Checked)
     ensures { OfEveryRun NoneWaits (program_of c.now.program.parts) }
-{}
-
-/// Of development.
-pub fn dev(c: &Checked)
-    ensures { OfEveryRun NoneWaits (program_of c.now.program.parts) → OfEveryRun NoneWaits (program_of c.now.program.parts) }
 {}
