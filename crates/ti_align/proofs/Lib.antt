@@ -21,3 +21,4 @@ pub mod Possible
 pub mod Checked
 pub mod EveryRun
 pub mod Stopping
+pub mod Computing

@@ -1,3 +1,5 @@
 pub mod SinglePart
 pub mod Alignment
 pub mod Stopping
+pub mod Things
+pub mod Sound

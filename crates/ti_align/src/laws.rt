@@ -24,3 +24,8 @@ pub fn none_after_end(c: &Checked)
 pub fn none_waits(c: &Checked)
     ensures { OfEveryRun NoneWaits (program_of c.now.program.parts) }
 {}
+
+/// Of development.
+pub fn dev(c: &Checked)
+    ensures { OfEveryRun NoneWaits (program_of c.now.program.parts) → OfEveryRun NoneWaits (program_of c.now.program.parts) }
+{}
