@@ -22,3 +22,4 @@ pub mod Checked
 pub mod EveryRun
 pub mod Stopping
 pub mod Computing
+pub mod Operating
