@@ -23,3 +23,4 @@ pub mod EveryRun
 pub mod Stopping
 pub mod Computing
 pub mod Operating
+pub mod Evaluating

@@ -3,3 +3,4 @@ pub mod Alignment
 pub mod Stopping
 pub mod Things
 pub mod Sound
+pub mod Fitting

@@ -1,7 +1,17 @@
 // Laws of the alignment: functions that do nothing, whose contracts are the laws.
+ghost use Rattle.std.specs.Prelude.{◌≡◌, Bool, Some};
+ghost use Rattle.ti_lang.specs.Program.Types.{ValueType, VariableUse};
+ghost use Rattle.ti_lang.specs.Program.Expressions.{NumberedExp};
+ghost use Rattle.ti_lang.specs.Program.Scope.{ScopeContents};
 ghost use Rattle.ti_lang.specs.Program.Views.{program_of};
+ghost use Rattle.ti_lang.specs.Typing.Expressions.{operand_type};
+ghost use Rattle.ti_lang.specs.Meaning.Scoping.{Env};
+ghost use Rattle.ti_lang.specs.Meaning.Evaluation.{eval};
 ghost use Rattle.ti_align.specs.Alignment.{ArrivalsAgree, NoneAfterEnd, OfEveryRun};
 ghost use Rattle.ti_align.specs.Stopping.{NoneWaits};
+ghost use Rattle.ti_align.specs.Things.{Things, IsOf};
+ghost use Rattle.ti_align.specs.Sound.{Sound};
+ghost use Rattle.ti_align.specs.Fitting.{EnvFits, FieldsFit, IsWritten};
 
 use ti_rules::Checked;
 
@@ -25,7 +35,12 @@ pub fn none_waits(c: &Checked)
     ensures { OfEveryRun NoneWaits (program_of c.now.program.parts) }
 {}
 
-/// Of development.
-pub fn dev(c: &Checked)
-    ensures { OfEveryRun NoneWaits (program_of c.now.program.parts) → OfEveryRun NoneWaits (program_of c.now.program.parts) }
+/// What an expression comes to inside another is a value of the type that the rules give it, and all
+/// that it asks for is there, whatever fitting answers it gets: where the variables that are used
+/// hold values of their types.
+pub fn expressions_fit()
+    ensures {
+        (uses : VariableUse → Bool) (s : ScopeContents) (w : Things) (env : Env) (x : NumberedExp) (type : ValueType) → EnvFits uses s w env → FieldsFit env.program
+        → IsWritten uses x → operand_type env.program s x ≡ Some type → Sound env.program (λ u h. IsOf u type h) w (eval env x)
+    }
 {}
