@@ -1,5 +1,5 @@
 -- How sound computations are put together.
-use Rattle.std.proofs.Common.{◌≡◌, ℕ, Bool, true, false, ◌⊎◌, inl, inr, ⊎_elim, Option, Some, None, List, [], ◌∷◌, refl, ap, sym, ◌∙◌}
+use Rattle.std.proofs.Common.{◌≡◌, ℕ, Bool, true, false, inl, inr, Option, Some, None, List, [], ◌∷◌, refl, ap, sym, ◌∙◌}
 use Rattle.ti_base.specs.declared.place.Place.{Place}
 use Rattle.ti_base.specs.declared.value.Id.{Id}
 use Rattle.ti_base.specs.declared.fault.FaultKind.{FaultKind}
@@ -8,7 +8,7 @@ use Rattle.ti_lang.specs.Program.Types.{ValueType}
 use Rattle.ti_lang.specs.Program.Types as t
 use Rattle.ti_lang.specs.Program.Classes.{NumberedProgram}
 use Rattle.ti_lang.specs.Meaning.Held.{Held}
-use Rattle.ti_lang.specs.Meaning.Asking.{Request, Asking, ◌>>=◌, Got, Gives, Asks, Fails, followed, gives, fails, guarded, found_or, asked, told}
+use Rattle.ti_lang.specs.Meaning.Asking.{Request, Asking, ◌>>=◌, followed, gives, guarded, found_or, asked, told}
 use Rattle.ti_align.specs.Things.{Things, Grows, IsGridOf, IsPlaced, IsOf}
 use Rattle.ti_align.specs.Sound.{IsThere, FitsAsked, Sound, value, fault, asks}
 

@@ -1,5 +1,5 @@
 -- What a typed expression comes to is a value of its type, and all that it asks for is there.
-use Rattle.std.proofs.Common.{◌≡◌, ℕ, ℤ, pos, zero, suc, pred, ◌+◌, ◌-◌, ◌<◌, ◌≤◌, nat_lt, ◌==◌, int_le, ◌⊎◌, inl, inr, Bool, true, false, not, ◌&&◌, ◌||◌, cond, if◌then◌else◌, min, length, take, find, position, slice_get, slice_index_or, unwrap_or, option_map, option_and_then, is_some, Option, Some, None, List, [], ◌∷◌, ◌++◌, refl, ap, ap₂, sym, ◌∙◌, subst, arith, eqb-true}
+use Rattle.std.proofs.Common.{◌≡◌, ℕ, ℤ, pos, suc, pred, ◌+◌, ◌-◌, ◌<◌, ◌≤◌, nat_lt, ◌==◌, int_le, ◌⊎◌, inl, inr, Bool, true, false, not, ◌&&◌, cond, if◌then◌else◌, length, find, position, slice_get, slice_index_or, unwrap_or, option_map, option_and_then, Option, Some, None, List, [], ◌∷◌, ◌++◌, refl, ap, ap₂, sym, ◌∙◌, subst, arith, eqb-true}
 use Rattle.std.specs.List.{list_all, position_or_len}
 use Rattle.std.specs.Option.{option_map_or}
 use Rattle.std.proofs.lemmas.Bool.{lt-ltb, ltb-true}
@@ -8,7 +8,6 @@ use Rattle.std.proofs.lemmas.List.Folds.{find_at}
 use Rattle.std.proofs.lemmas.Option.{slice_get_within}
 use Rattle.ti_base.specs.declared.place.Place.{Place}
 use Rattle.ti_base.specs.declared.point.Point.{Point}
-use Rattle.ti_base.specs.declared.point.Rect.{Rect}
 use Rattle.ti_base.specs.declared.value.Id.{Id}
 use Rattle.ti_base.specs.declared.value.Value.TheVariants as v
 use Rattle.ti_base.specs.declared.fault.FaultKind.TheVariants.{NullRef}
@@ -16,7 +15,6 @@ use Rattle.ti_base.specs.declared.fault.FaultKind.TheVariants as fault
 use Rattle.ti_base.specs.declared.action.Action.TheVariants as act
 use Rattle.ti_base.specs.declared.action.ViewHow.{ViewHow}
 use Rattle.ti_base.specs.declared.action.ViewHow.TheVariants as how
-use Rattle.ti_base.specs.declared.entry.Answer.{Answer}
 use Rattle.ti_base.specs.Ranges.{natural, tidy}
 use Rattle.ti_syntax.specs.declared.tree.exprs.UnaryOperator.{UnaryOperator}
 use Rattle.ti_syntax.specs.declared.tree.exprs.UnaryOperator.TheVariants as un
@@ -39,24 +37,23 @@ use Rattle.ti_lang.specs.Typing.BuiltIn.{BuiltIn, Size, Min, Max, Contains, Doma
 use Rattle.ti_lang.specs.Typing.Declared.{variable_type, fields_of_class, field_type, named_field_type, field_numbered, instance_method}
 use Rattle.ti_lang.specs.Typing.Expressions.{Typed, plain, operand, both, joined, one, is_int, all_ints, point_literal, all_points, range_of_points, rect_literal, index_type, select_type, called, member_given, range_count, known, operands, bound, bounds, operand_type}
 use Rattle.ti_lang.specs.Typing.Expressions as typing
-use Rattle.ti_lang.specs.Typing.TextTypes.{operator_type, used_type, how_many, field_seen, element_seen, sliced, built_in_type, member_seen, type_at, type_in_text}
+use Rattle.ti_lang.specs.Typing.TextTypes.{operator_type, used_type, how_many, field_seen, element_seen, sliced, built_in_type, member_seen}
 use Rattle.ti_lang.specs.Typing.Called.{member_called}
-use Rattle.ti_lang.specs.Meaning.Held.{Held, Plain, Dm, zero_of, nothing, truth, thing_of, point_of, rect_of, whole_of}
-use Rattle.ti_lang.specs.Meaning.Asking.{ValueOf, NewThing, Reference, request_through, Asking, ◌>>=◌, gives, guarded, found_or, asked, needed, told}
+use Rattle.ti_lang.specs.Meaning.Held.{Held, Plain, zero_of, nothing, thing_of, point_of, rect_of, whole_of}
+use Rattle.ti_lang.specs.Meaning.Asking.{ValueOf, NewThing, Reference, request_through, Asking, found_or, needed}
 use Rattle.ti_lang.specs.Meaning.Literals.{coordinates_of, numbers_in, point_of_numbers, rect_within}
 use Rattle.ti_lang.specs.Meaning.Literals as literal
 use Rattle.ti_lang.specs.Meaning.Conversions.{converted}
-use Rattle.ti_lang.specs.Meaning.Operators.{operated, settled, operated_alone}
-use Rattle.ti_lang.specs.Meaning.Parts.{Part, Field, Element, fetched, domain_asked, domain_of, viewed, coordinate, indexed}
+use Rattle.ti_lang.specs.Meaning.Parts.{Field, Element, fetched, domain_asked, domain_of, viewed, indexed}
 use Rattle.ti_lang.specs.Meaning.MemberForms.{sized, extreme, member}
-use Rattle.ti_lang.specs.Meaning.Scoping.{Env, value_by, type_of, field_selected}
-use Rattle.ti_lang.specs.Meaning.Evaluation.{kept_local, with_right, eval, eval_all, eval_numbers, eval_range, eval_ranges}
+use Rattle.ti_lang.specs.Meaning.Scoping.{Env, type_of, field_selected}
+use Rattle.ti_lang.specs.Meaning.Evaluation.{eval, eval_all, eval_numbers, eval_range, eval_ranges}
 use Rattle.ti_align.specs.Things.{Things, Grows, HasDims, IsGridOf, IsOf, DimsFine}
-use Rattle.ti_align.specs.Sound.{Sound, SuitsView, dims_viewed, IsFieldOf}
+use Rattle.ti_align.specs.Sound.{Sound, SuitsView, dims_viewed}
 use Rattle.ti_align.specs.Fitting.{EnvFits, FieldsFit, IsWritten, AreWritten, IsRangeWritten, AreRangesWritten}
 use Rattle.ti_align.proofs.Vars.{true_false, and_left, and_right}
 use Rattle.ti_align.proofs.Computing.{grid_stays, of_stays, sound_then, weaker, sound_value, sound_guarded, sound_found, sound_asked}
-use Rattle.ti_align.proofs.Operating.{none_some, some_same, where_some, type_same, Seen, seen_same, ranges_dims, operated_fine, right_fine, alone_fine, cast_fine}
+use Rattle.ti_align.proofs.Operating.{none_some, some_same, where_some, Seen, seen_same, ranges_dims, operated_fine, right_fine, alone_fine, cast_fine}
 
 -- ---- what there is
 
@@ -405,8 +402,8 @@ indexed_fine : (p : NumberedProgram) (w : Things) (at : Place) (wanted u type r 
 indexed_fine p w at wanted u (t.Pt n) r (t.Int ∷ []) h zs e i d k l =
     subst (λ q. Sound p (λ x k. IsOf x q k) w (indexed (is_point u) at wanted u h zs) × DimsFine q × Seen q (element_seen u)) (some_same t.Int r e) (
       subst (λ b. Sound p (λ x k. IsOf x t.Int k) w (indexed b at wanted u h zs)) (sym (ap is_point i.1))
-      (sound_then p (λ x (y : ℤ). Unit {0}) _ w (found_or fault.Bounds at (if int_le (pos 1) (slice_index_or zs 0 (pos 0)) then slice_get (coordinates_of (point_of h)) (pred (natural (slice_index_or zs 0 (pos 0)))) else None)) _
-      (sound_found p _ w fault.Bounds at _ (λ y z. tt)) (λ x g y z. sound_value p _ x _ (y, refl))),
+          (sound_then p (λ x (y : ℤ). Unit {0}) _ w (found_or fault.Bounds at (if int_le (pos 1) (slice_index_or zs 0 (pos 0)) then slice_get (coordinates_of (point_of h)) (pred (natural (slice_index_or zs 0 (pos 0)))) else None)) _
+          (sound_found p _ w fault.Bounds at _ (λ y z. tt)) (λ x g y z. sound_value p _ x _ (y, refl))),
       tt,
       ap element_seen i.1,
     )
@@ -423,7 +420,7 @@ indexed_fine p w at wanted u (t.Grid element n l) r ts h zs e i d k c = by (dims
     by q =
         subst (λ z. Sound p (λ x k. IsOf x z k) w (indexed (is_point u) at wanted u h zs) × DimsFine z × Seen z (element_seen u)) q.1 (
           subst (λ b. Sound p (λ x k. IsOf x (read_through l element) k) w (indexed b at wanted u h zs)) (sym (ap is_point i))
-          (weaker p _ _ w _ (element_fine p w at wanted u h (point_of_numbers zs) element n (grid_in w element n l h k) (c ∙ q.0)) (λ x g y o. read_of x l element y o)),
+              (weaker p _ _ w _ (element_fine p w at wanted u h (point_of_numbers zs) element n (grid_in w element n l h k) (c ∙ q.0)) (λ x g y o. read_of x l element y o)),
           read_dims l element d.1,
           subst (λ z. Seen (read_through l element) (element_seen z)) (sym i) (seen_same (read_through l element)),
         )
@@ -671,8 +668,8 @@ selected w env g at a name (t.Class c l) r h k =
     let number : field_selected env a name ≡ f.0 = ap (λ u. unwrap_or (option_and_then (field_numbered p name) (class_of_type u)) 0) k.seen ∙ ap (λ o. unwrap_or o 0) f.1 in
     to_type w env (e.Select at a name) (read_through l q.0) r q.2 (record {
       sound = sound_then p (λ u h. IsOf u (t.Class c l) h) _ w (eval env a) _ k.sound (λ u i h y.
-        subst (λ m. Sound p (λ u h. IsOf u (read_through l q.0) h) u (fetched at (type_of env (e.Select at a name)) (Field h (type_of env a) m))) (sym number)
-        (weaker p _ _ u _ (field_fine p u at _ (type_of env a) h f.0 c q.0 (object_of u c l h y) f.2) (λ x j z o. read_of x l q.0 z o)));
+          subst (λ m. Sound p (λ u h. IsOf u (read_through l q.0) h) u (fetched at (type_of env (e.Select at a name)) (Field h (type_of env a) m))) (sym number)
+          (weaker p _ _ u _ (field_fine p u at _ (type_of env a) h f.0 c q.0 (object_of u c l h y) f.2) (λ x j z o. read_of x l q.0 z o)));
       dims = read_dims l q.0 (g c f.0 q.0 f.2);
       seen = subst (λ y. Seen (read_through l q.0) y) (sym (ap (field_seen p name) k.seen ∙ ap (λ o. option_map_or (read_through l) o t.Void) q.1)) (seen_same (read_through l q.0));
     })
@@ -735,7 +732,7 @@ module _ (uses : VariableUse → Bool) (s : ScopeContents) where
         let i = literal_dims p s ranges q.0 type q.1 q.2 in
         to_type w env (e.Rect at ranges) (t.Rc (lows p s ranges)) type (sym i.0) (record {
           sound = sound_then p (λ u (b : literal.Bounds). length b.low ≡ lows p s ranges) _ w (eval_ranges env ranges) _ (ranges_fine w env f g ranges k.1 q.0 q.1)
-            (λ u h b y. sound_guarded p _ u _ _ at _ (_, refl, subst (λ n. HasDims n (made (point_of_numbers b.low) (point_of_numbers b.high) (point_of_numbers b.step))) y (made_dims (point_of_numbers b.low) (point_of_numbers b.high) (point_of_numbers b.step))));
+              (λ u h b y. sound_guarded p _ u _ _ at _ (_, refl, subst (λ n. HasDims n (made (point_of_numbers b.low) (point_of_numbers b.high) (point_of_numbers b.step))) y (made_dims (point_of_numbers b.low) (point_of_numbers b.high) (point_of_numbers b.step))));
           dims = rect_dims w env f g ranges i.1 k.0 k.1;
           seen = (_, refl);
         })
@@ -755,8 +752,8 @@ module _ (uses : VariableUse → Bool) (s : ScopeContents) where
         let r = eval_fine w env f g b k.1 q.1 q.3 in
         record {
           sound = sound_then p (λ u h. IsOf u q.0 h) _ w (eval env a) _ l.sound (λ u i h y.
-            right_fine p u at op q.0 q.1 type h (eval env b) q.4 (eval_fine u env (env_stays uses s w u env i f) g b k.1 q.1 q.3).sound
-            (λ x j m o. (operated_fine p x at q.0 q.1 type (type_of env a) (type_of env b) h m l.seen r.seen (of_stays u x q.0 h j y) o op q.4).0));
+              right_fine p u at op q.0 q.1 type h (eval env b) q.4 (eval_fine u env (env_stays uses s w u env i f) g b k.1 q.1 q.3).sound
+              (λ x j m o. (operated_fine p x at q.0 q.1 type (type_of env a) (type_of env b) h m l.seen r.seen (of_stays u x q.0 h j y) o op q.4).0));
           dims = binary_dims op q.0 q.1 type q.4 l.dims;
           seen = binary_seen p w op q.0 q.1 type (type_of env a) (type_of env b) q.4 l.seen r.seen;
         }
@@ -766,7 +763,7 @@ module _ (uses : VariableUse → Bool) (s : ScopeContents) where
         let c = where_some (casts to.type q.0) to.type type q.2 in
         to_type w env (e.Cast at to a) to.type type c.1 (record {
           sound = sound_then p (λ u h. IsOf u q.0 h) _ w (eval env a) _ (eval_fine w env f g a k.1 q.0 q.1).sound (λ u i h y.
-            sound_then p (λ u h. IsOf u to.type h) _ u (converted at to.type h) _ (cast_fine p u at to.type q.0 h c.0 y) (λ x j m o. sound_guarded p _ x _ _ at m o));
+              sound_then p (λ u h. IsOf u to.type h) _ u (converted at to.type h) _ (cast_fine p u at to.type q.0 h c.0 y) (λ x j m o. sound_guarded p _ x _ _ at m o));
           dims = k.0;
           seen = seen_same to.type;
         })
@@ -782,9 +779,9 @@ module _ (uses : VariableUse → Bool) (s : ScopeContents) where
         let is : member_called p (this_of env.method) a name ≡ Some q.4 = ap (λ b. if b then None else built_in p name) (not_object q.0 (type_of env a) q.7 r.seen) ∙ q.5 in
         record {
           sound = sound_then p (λ u h. IsOf u q.0 h) _ w (eval env a) _ r.sound (λ u i h y.
-            sound_then p (λ u hs. AllOfTypes u q.1 hs) _ u (eval_all env args) _ (all_fine u env (env_stays uses s w u env i f) g args k.1 q.1 q.3) (λ x j hs o.
-            subst (λ b. Sound p (λ u h. IsOf u type h) x (member at (type_of env (e.Member at a name args)) b (type_of env a) h hs)) (sym is)
-            (member_fine p x at (type_of env (e.Member at a name args)) (type_of env a) q.4 q.0 type q.1 h hs q.6 q.8 (of_stays u x q.0 h j y) o)));
+              sound_then p (λ u hs. AllOfTypes u q.1 hs) _ u (eval_all env args) _ (all_fine u env (env_stays uses s w u env i f) g args k.1 q.1 q.3) (λ x j hs o.
+              subst (λ b. Sound p (λ u h. IsOf u type h) x (member at (type_of env (e.Member at a name args)) b (type_of env a) h hs)) (sym is)
+              (member_fine p x at (type_of env (e.Member at a name args)) (type_of env a) q.4 q.0 type q.1 h hs q.6 q.8 (of_stays u x q.0 h j y) o)));
           dims = (member_static q.4 q.0 (type_of env a) type q.1 q.6 q.8 r.dims r.seen).0;
           seen = subst (λ y. Seen type y) (sym (built_in_seen p name (type_of env a) (not_object q.0 (type_of env a) q.7 r.seen) ∙ ap (λ b. built_in_type b (type_of env a)) q.5)) (member_static q.4 q.0 (type_of env a) type q.1 q.6 q.8 r.dims r.seen).1;
         }
@@ -795,8 +792,8 @@ module _ (uses : VariableUse → Bool) (s : ScopeContents) where
         let i = index_static q.0 (type_of env a) type q.1 q.4 r.seen r.dims in
         record {
           sound = sound_then p (λ u h. IsOf u q.0 h) _ w (eval env a) _ r.sound (λ u l h y.
-            sound_then p (λ u zs. length zs ≡ counts q.1) _ u (eval_numbers env parts) _ (numbers_fine u env (env_stays uses s w u env l f) g parts k.1 q.1 q.3) (λ x j zs o.
-            (indexed_fine p x at (type_of env (e.Index at a parts)) (type_of env a) q.0 type q.1 h zs q.4 r.seen r.dims (of_stays u x q.0 h j y) o).0));
+              sound_then p (λ u zs. length zs ≡ counts q.1) _ u (eval_numbers env parts) _ (numbers_fine u env (env_stays uses s w u env l f) g parts k.1 q.1 q.3) (λ x j zs o.
+              (indexed_fine p x at (type_of env (e.Index at a parts)) (type_of env a) q.0 type q.1 h zs q.4 r.seen r.dims (of_stays u x q.0 h j y) o).0));
           dims = i.0;
           seen = i.1;
         }

@@ -1,5 +1,5 @@
 -- Conversions and operators keep to the types that the rules give them.
-use Rattle.std.proofs.Common.{◌≡◌, ℕ, ℤ, pos, ◌==◌, Bool, true, false, not, ◌&&◌, ◌||◌, if◌then◌else◌, ◌⊎◌, inl, inr, option_map, Option, Some, None, List, [], ◌∷◌, ◌++◌, map, filter, flat_map, refl, ap, ap₂, sym, ◌∙◌, subst, eqb-true}
+use Rattle.std.proofs.Common.{◌≡◌, ℕ, ℤ, ◌==◌, Bool, true, false, not, ◌&&◌, ◌||◌, if◌then◌else◌, ◌⊎◌, inl, inr, option_map, Option, Some, None, List, [], ◌∷◌, ◌++◌, map, filter, flat_map, refl, ap, ap₂, sym, ◌∙◌, subst, eqb-true}
 use Rattle.std.specs.Int.{Width, w32, w64}
 use Rattle.std.specs.Prelude.{bit_and, bit_or, bit_xor}
 use Rattle.ti_base.specs.WholeNumbers.{shift_left, shift_right, shift_right_unsigned}
@@ -7,7 +7,6 @@ use Rattle.std.specs.Option.{option_or}
 use Rattle.ti_base.specs.declared.place.Place.{Place}
 use Rattle.ti_base.specs.declared.point.Point.{Point}
 use Rattle.ti_base.specs.declared.point.Rect.{Rect}
-use Rattle.ti_base.specs.declared.value.Id.{Id}
 use Rattle.ti_base.specs.declared.value.Value.TheVariants as v
 use Rattle.ti_base.specs.Ranges.{Range, is_empty_range, numbers_on, both}
 use Rattle.ti_base.specs.PointSets.{AllOf, is_among, union, minus, meet}
@@ -22,9 +21,9 @@ use Rattle.ti_syntax.specs.declared.tree.exprs.BinaryOperator.TheVariants as op
 use Rattle.ti_lang.specs.Program.Types.{ValueType}
 use Rattle.ti_lang.specs.Program.Types as t
 use Rattle.ti_lang.specs.Program.Classes.{NumberedProgram}
-use Rattle.ti_lang.specs.Typing.Kinds.{where_true, same_truth, same_type, is_whole, is_null, is_reference, as_global, domain_dim}
-use Rattle.ti_lang.specs.Typing.Fits.{becomes, fits, casts}
-use Rattle.ti_lang.specs.Typing.Operators.{wider, whole_type, truth_type, point_type, rect_type, same_dim, domain_type, Sum, row_type, binary_type, unary_type}
+use Rattle.ti_lang.specs.Typing.Kinds.{where_true, same_truth, same_type, is_whole, is_null, is_reference, as_global}
+use Rattle.ti_lang.specs.Typing.Fits.{fits, casts}
+use Rattle.ti_lang.specs.Typing.Operators.{whole_type, truth_type, point_type, rect_type, domain_type, Sum, row_type, binary_type, unary_type}
 use Rattle.ti_lang.specs.Typing.TextTypes.{joined_type, product_type, operator_type}
 use Rattle.ti_lang.specs.Meaning.Held.{Held, Plain, Dm, truth, truth_of, points_in, dim_of, as_type}
 use Rattle.ti_lang.specs.Meaning.Asking.{Asking, ◌>>=◌, gives}
@@ -34,7 +33,7 @@ use Rattle.ti_lang.specs.Meaning.Operators.{added, subtracted, multiplied, divid
 use Rattle.ti_lang.specs.Meaning.Evaluation.{unless_settled, with_right}
 use Rattle.ti_align.specs.Things.{HasDims, IsOf}
 use Rattle.ti_align.specs.Things as there
-use Rattle.ti_align.specs.Sound.{Sound, value, fault}
+use Rattle.ti_align.specs.Sound.{Sound}
 use Rattle.ti_align.proofs.Vars.{true_false, and_left, and_right}
 use Rattle.ti_align.proofs.Computing.{sound_then, weaker, sound_value, sound_guarded}
 
@@ -430,7 +429,7 @@ module _ (p : NumberedProgram) (w : there.Things) where
             let q = where_some (n == m) (t.Rc n) r z in
             subst (λ z. Operates z (product_type t' u') (multiplied at x y (operands x y))) q.1 (
               subst (λ o. Sound p (λ u h. IsOf u (t.Rc n) h) w (multiplied at x y o)) (sym (ap₂ operands k.1 l.1))
-              (sound_value p _ w _ (rect.meet k.0 l.0, refl, meet_dims n k.0 l.0 k.2)),
+                  (sound_value p _ w _ (rect.meet k.0 l.0, refl, meet_dims n k.0 l.0 k.2)),
               (i.0, ap₂ product_type i.1 j.1),
             )
         rects (t.Rc n) _ z i j k l = absurd (none_some r z)

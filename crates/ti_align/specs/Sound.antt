@@ -1,5 +1,5 @@
 -- Computations that ask only for what is there, and come to what they should, whatever fitting answers they get.
-use Rattle.std.specs.Prelude.{◌≡◌, ℕ, ◌<◌, ◌-◌, true, List, [], ◌∷◌, Option, Some}
+use Rattle.std.specs.Prelude.{◌≡◌, ℕ, ◌<◌, ◌-◌, true, List, [], ◌∷◌, Some}
 use Rattle.ti_base.specs.declared.place.Place.{Place}
 use Rattle.ti_base.specs.declared.value.Id.{Id}
 use Rattle.ti_base.specs.declared.fault.FaultKind.{FaultKind}
@@ -14,9 +14,9 @@ use Rattle.ti_lang.specs.Program.Types.{ValueType}
 use Rattle.ti_lang.specs.Program.Types as t
 use Rattle.ti_lang.specs.Program.Classes.{NumberedProgram}
 use Rattle.ti_lang.specs.Typing.Declared.{field_type}
-use Rattle.ti_lang.specs.Meaning.Held.{Held, Plain}
+use Rattle.ti_lang.specs.Meaning.Held.{Plain}
 use Rattle.ti_lang.specs.Meaning.Zeros.{zeros_of_class, zero_of_type}
-use Rattle.ti_lang.specs.Meaning.Asking.{Wanted, ValueOf, NewThing, Request, Asking, Got, Gives, Asks, Fails, told}
+use Rattle.ti_lang.specs.Meaning.Asking.{Wanted, ValueOf, NewThing, Request, Asking, Gives, Asks, Fails, told}
 use Rattle.ti_align.specs.Things.{Things, Grows, HasDims, IsGridOf, IsPlaced, IsOf}
 
 -- ---- what is asked for

@@ -39,8 +39,6 @@ pub fn none_waits(c: &Checked)
 /// that it asks for is there, whatever fitting answers it gets: where the variables that are used
 /// hold values of their types.
 pub fn expressions_fit()
-    ensures {
-        (uses : VariableUse → Bool) (s : ScopeContents) (w : Things) (env : Env) (x : NumberedExp) (type : ValueType) → EnvFits uses s w env → FieldsFit env.program
-        → IsWritten uses x → operand_type env.program s x ≡ Some type → Sound env.program (λ u h. IsOf u type h) w (eval env x)
-    }
+    ensures { (uses : VariableUse → Bool) (s : ScopeContents) (w : Things) (env : Env) (x : NumberedExp) (type : ValueType) → EnvFits uses s w env → FieldsFit env.program
+        → IsWritten uses x → operand_type env.program s x ≡ Some type → Sound env.program (λ u h. IsOf u type h) w (eval env x) }
 {}

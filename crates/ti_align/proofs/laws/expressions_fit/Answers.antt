@@ -1,4 +1,4 @@
-use Rattle.ti_align.proofs.Evaluating.{Evaluates, eval_fine}
+use Rattle.ti_align.proofs.Evaluating.{eval_fine}
 use Rattle.ti_align.proofs.laws.expressions_fit.Goals as goal
 
 pub returns : goal.returns
