@@ -24,3 +24,4 @@ pub mod Stopping
 pub mod Computing
 pub mod Operating
 pub mod Evaluating
+pub mod Heaping

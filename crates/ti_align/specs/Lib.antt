@@ -4,3 +4,4 @@ pub mod Stopping
 pub mod Things
 pub mod Sound
 pub mod Fitting
+pub mod Heap

@@ -1,17 +1,23 @@
 // Laws of the alignment: functions that do nothing, whose contracts are the laws.
-ghost use Rattle.std.specs.Prelude.{◌≡◌, Bool, Some};
+ghost use Rattle.std.specs.Prelude.{◌≡◌, ℕ, Bool, Some};
+ghost use Rattle.ti_base.specs.declared.action.Action.{Action};
 ghost use Rattle.ti_lang.specs.Program.Types.{ValueType, VariableUse};
 ghost use Rattle.ti_lang.specs.Program.Expressions.{NumberedExp};
+ghost use Rattle.ti_lang.specs.Program.Classes.{NumberedProgram};
 ghost use Rattle.ti_lang.specs.Program.Scope.{ScopeContents};
 ghost use Rattle.ti_lang.specs.Program.Views.{program_of};
 ghost use Rattle.ti_lang.specs.Typing.Expressions.{operand_type};
 ghost use Rattle.ti_lang.specs.Meaning.Scoping.{Env};
 ghost use Rattle.ti_lang.specs.Meaning.Evaluation.{eval};
+ghost use Rattle.ti_lang.specs.Meaning.Asking.{Wanted};
+ghost use Rattle.ti_lang.specs.Meaning.Histories.{History};
+ghost use Rattle.ti_lang.specs.Meaning.HeapAnswers.{IsAnswered};
 ghost use Rattle.ti_align.specs.Alignment.{ArrivalsAgree, NoneAfterEnd, OfEveryRun};
 ghost use Rattle.ti_align.specs.Stopping.{NoneWaits};
 ghost use Rattle.ti_align.specs.Things.{Things, IsOf};
-ghost use Rattle.ti_align.specs.Sound.{Sound};
+ghost use Rattle.ti_align.specs.Sound.{IsThere, Sound};
 ghost use Rattle.ti_align.specs.Fitting.{EnvFits, FieldsFit, IsWritten};
+ghost use Rattle.ti_align.specs.Heap.{Elements, things_of, FieldsStorable, HeapFits, IsWantable, KeepsTypes};
 
 use ti_rules::Checked;
 
@@ -41,4 +47,11 @@ pub fn none_waits(c: &Checked)
 pub fn expressions_fit()
     ensures { (uses : VariableUse → Bool) (s : ScopeContents) (w : Things) (env : Env) (x : NumberedExp) (type : ValueType) → EnvFits uses s w env → FieldsFit env.program
         → IsWritten uses x → operand_type env.program s x ≡ Some type → Sound env.program (λ u h. IsOf u type h) w (eval env x) }
+{}
+
+/// What an action of the heap names is there: then it is possible, behind it what was written to
+/// fields and elements is of their types, and its answer fits.
+pub fn heap_fits()
+    ensures { (p : NumberedProgram) (elements : Elements) (h : History) (i : ℕ) (a : Action) (wanted : Wanted) → FieldsStorable p → IsAnswered p h → HeapFits p elements h
+        → IsThere p (things_of elements h) a wanted → IsWantable wanted → KeepsTypes p elements h i a wanted }
 {}
