@@ -30,7 +30,7 @@ use Rattle.ti_lang.specs.Typing.Kinds.{is_point}
 use Rattle.ti_lang.specs.Typing.BuiltIn.{BuiltIn, Size, Min, Max, Contains, Domain, Restrict, Translate, Slice, Copy, Exchange, Delete}
 use Rattle.ti_lang.specs.Typing.Declared.{result_type}
 use Rattle.ti_lang.specs.Typing.Called.{member_called}
-use Rattle.ti_lang.specs.Meaning.Held.{Held, Plain, Dm, nothing, whole_of, point_of, rect_of, thing_of, plain_of}
+use Rattle.ti_lang.specs.Meaning.Held.{Held, Plain, Dm, nothing, int_of, point_of, rect_of, thing_of, plain_of}
 use Rattle.ti_lang.specs.Meaning.Asking.{Request, Reference, request, request_through, ToBeDone, ValueOf, NewThing, Asking, ◌>>=◌, Got, Gives, Asks, Fails, followed, gives, guarded, found_or, asked, needed}
 use Rattle.ti_lang.specs.Meaning.Conversions.{to_domain, converted, of_domains}
 use Rattle.ti_lang.specs.Meaning.Operands.{Operands, Wholes, Points, Rects, Domains, operands}
@@ -115,17 +115,22 @@ module _ (T : ℕ → Type 0) (Q : Request → Type 0) (each : Each T Q) where
   added_asks : (at : Place) (x y : Held) (o : Operands) (rest : List Answer) → Of Q (added at x y o rest)
   added_asks at x y (Wholes w a b) rest = tt
   added_asks at x y (Points p q) rest = tt
-  added_asks at x y _ rest = of_domains_asks union at x y rest
+  added_asks at x y (Rects r s) rest = of_domains_asks union at x y rest
+  added_asks at x y Domains rest = of_domains_asks union at x y rest
+  added_asks at x y _ rest = tt
 
   subtracted_asks : (at : Place) (x y : Held) (o : Operands) (rest : List Answer) → Of Q (subtracted at x y o rest)
   subtracted_asks at x y (Wholes w a b) rest = tt
   subtracted_asks at x y (Points p q) rest = tt
-  subtracted_asks at x y _ rest = of_domains_asks minus at x y rest
+  subtracted_asks at x y (Rects r s) rest = of_domains_asks minus at x y rest
+  subtracted_asks at x y Domains rest = of_domains_asks minus at x y rest
+  subtracted_asks at x y _ rest = tt
 
   multiplied_asks : (at : Place) (x y : Held) (o : Operands) (rest : List Answer) → Of Q (multiplied at x y o rest)
   multiplied_asks at x y (Wholes w a b) rest = tt
   multiplied_asks at x y (Rects p q) rest = tt
-  multiplied_asks at x y _ rest = of_domains_asks meet at x y rest
+  multiplied_asks at x y Domains rest = of_domains_asks meet at x y rest
+  multiplied_asks at x y _ rest = tt
 
   equal_asks : (at : Place) (x y : Held) (o : Operands) (rest : List Answer) → Of Q (equal at x y o rest)
   equal_asks at x y Domains rest =
@@ -187,7 +192,7 @@ module _ (T : ℕ → Type 0) (Q : Request → Type 0) (each : Each T Q) where
   member_asks at type (Some Restrict) through h args rest = viewed_asks at type (how.Restrict (rect_of (slice_index_or args 0 nothing))) through h rest
   member_asks at type (Some Translate) through h args rest = viewed_asks at type (how.Translate (point_of (slice_index_or args 0 nothing))) through h rest
   member_asks at type (Some Slice) through h args rest =
-      viewed_asks at type (how.Slice (whole_of (slice_index_or args 0 nothing)) (whole_of (slice_index_or args 1 nothing))) through h rest
+      viewed_asks at type (how.Slice (int_of (slice_index_or args 0 nothing)) (int_of (slice_index_or args 1 nothing))) through h rest
   member_asks at type _ through h args rest = tt
 
   -- ---- expressions

@@ -89,17 +89,22 @@ domains_same both at x y rest =
 added_same : (at : Place) (x y : Held) (o : Operands) (rest : List Answer) → Same (added at x y o) (added at x y o) rest
 added_same at x y (Wholes w a b) rest = refl
 added_same at x y (Points p q) rest = refl
-added_same at x y _ rest = domains_same union at x y rest
+added_same at x y (Rects r s) rest = domains_same union at x y rest
+added_same at x y Domains rest = domains_same union at x y rest
+added_same at x y _ rest = refl
 
 subtracted_same : (at : Place) (x y : Held) (o : Operands) (rest : List Answer) → Same (subtracted at x y o) (subtracted at x y o) rest
 subtracted_same at x y (Wholes w a b) rest = refl
 subtracted_same at x y (Points p q) rest = refl
-subtracted_same at x y _ rest = domains_same minus at x y rest
+subtracted_same at x y (Rects r s) rest = domains_same minus at x y rest
+subtracted_same at x y Domains rest = domains_same minus at x y rest
+subtracted_same at x y _ rest = refl
 
 multiplied_same : (at : Place) (x y : Held) (o : Operands) (rest : List Answer) → Same (multiplied at x y o) (multiplied at x y o) rest
 multiplied_same at x y (Wholes w a b) rest = refl
 multiplied_same at x y (Rects p q) rest = refl
-multiplied_same at x y _ rest = domains_same meet at x y rest
+multiplied_same at x y Domains rest = domains_same meet at x y rest
+multiplied_same at x y _ rest = refl
 
 divided_same : (f : _) (at : Place) (o : Operands) (rest : List Answer) → Same (divided f at o) (divided f at o) rest
 divided_same f at (Wholes w a b) rest = guarded_same _ _ at _ rest
