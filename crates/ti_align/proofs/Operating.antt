@@ -1,5 +1,5 @@
 -- Conversions and operators keep to the types that the rules give them.
-use Rattle.std.proofs.Common.{◌≡◌, ℕ, ℤ, ◌==◌, Bool, true, false, not, ◌&&◌, ◌||◌, if◌then◌else◌, ◌⊎◌, inl, inr, option_map, Option, Some, None, List, [], ◌∷◌, ◌++◌, map, filter, flat_map, refl, ap, ap₂, sym, ◌∙◌, subst, eqb-true}
+use Rattle.std.proofs.Common.{◌≡◌, ℕ, ℤ, ◌==◌, Bool, true, false, not, ◌&&◌, ◌||◌, if◌then◌else◌, ◌⊎◌, inl, inr, option_map, Option, Some, None, List, [], ◌∷◌, ◌++◌, map, filter, flat_map, refl, ap, ap₂, sym, ◌∙◌, subst, eqb-true, eq-eqb}
 use Rattle.std.specs.Int.{Width, w32, w64}
 use Rattle.std.specs.Prelude.{bit_and, bit_or, bit_xor}
 use Rattle.ti_base.specs.WholeNumbers.{shift_left, shift_right, shift_right_unsigned}
@@ -48,6 +48,10 @@ some_same a b e = cc
 pub where_some : {A : Type 0} (b : Bool) (x y : A) → where_true b x ≡ Some y → (b ≡ true) × (x ≡ y)
 where_some true x y e = (refl, some_same x y e)
 where_some false x y e = absurd (none_some y e)
+
+dims_same : (b : Bool) (n : ℕ) (r : ValueType) → option_map t.Dm (if b then Some n else None) ≡ Some r → b ≡ true
+dims_same true n r e = refl
+dims_same false n r e = absurd (none_some r e)
 
 or_one : (b : Bool) → (b || false) ≡ true → b ≡ true
 or_one true h = refl
@@ -233,6 +237,15 @@ module _ (p : NumberedProgram) (w : there.Things) where
 
   -- ---- pairs of operands
 
+  points_both : (a b : Point) → a.dim ≡ b.dim → operands (Plain (v.Pt a)) (Plain (v.Pt b)) ≡ Points a b
+  points_both a b h = ap (λ z. if z then Points a b else Others) (eq-eqb a.dim b.dim h)
+
+  rects_both : (a b : Rect) → a.dim ≡ b.dim → operands (Plain (v.Rc a)) (Plain (v.Rc b)) ≡ Rects a b
+  rects_both a b h = ap (λ z. if z then Rects a b else Others) (eq-eqb a.dim b.dim h)
+
+  domains_both : (n m : ℕ) → n ≡ m → (if n == m then Domains else Others) ≡ Domains
+  domains_both n m h = ap (λ z. if z then Domains else Others) (eq-eqb n m h)
+
   -- two whole numbers
   pub record Wholly (r t' u' : ValueType) (x y : Held) : Type 0 where
     pub width : Width
@@ -267,7 +280,7 @@ module _ (p : NumberedProgram) (w : there.Things) where
   pointly (t.Pt n) (t.Pt m) r t' u' x y e i j k l =
       let z = where_some (n == m) (t.Pt n) r e in
       subst (λ (z : ValueType). Pointly z t' u' x y) z.1
-      (record { left = k.0; right = l.0; is = ap₂ operands k.1 l.1; gives = λ q d. (q, refl, d ∙ k.2); seen = (i.0, ap₂ joined_type i.1 j.1) })
+      (record { left = k.0; right = l.0; is = ap₂ operands k.1 l.1 ∙ points_both k.0 l.0 (k.2 ∙ eqb-true n m z.0 ∙ sym l.2); gives = λ q d. (q, refl, d ∙ k.2); seen = (i.0, ap₂ joined_type i.1 j.1) })
   pointly (t.Pt n) _ r t' u' x y e i j k l = absurd (none_some r e)
   pointly _ _ r t' u' x y e i j k l = absurd (none_some r e)
 
@@ -289,7 +302,7 @@ module _ (p : NumberedProgram) (w : there.Things) where
         is_domain = sym (some_same _ r e);
         left = inl k;
         right = inl (subst (λ d. IsOf w (t.Rc d) y) (sym (eqb-true n m q)) l);
-        is = inl (k.0, l.0, ap₂ operands k.1 l.1);
+        is = inl (k.0, l.0, ap₂ operands k.1 l.1 ∙ rects_both k.0 l.0 (k.2.0 ∙ eqb-true n m q ∙ sym l.2.0));
         seen = subst (λ z. Seen z (joined_type t' u')) (some_same _ r e) (i.0, ap₂ joined_type i.1 j.1);
       }
       by false q e = absurd (none_some r e)
@@ -301,7 +314,7 @@ module _ (p : NumberedProgram) (w : there.Things) where
         is_domain = sym (some_same _ r e);
         left = inl k;
         right = inr (subst (λ d. IsOf w (t.Dm d) y) (sym (eqb-true n m q)) l);
-        is = inr (ap₂ operands k.1 l.1);
+        is = inr (ap₂ operands k.1 l.1 ∙ domains_both k.0.dim m (k.2.0 ∙ eqb-true n m q));
         seen = subst (λ z. Seen z (joined_type t' u')) (some_same _ r e) (i.0, ap₂ joined_type i.1 j.1);
       }
       by false q e = absurd (none_some r e)
@@ -313,7 +326,7 @@ module _ (p : NumberedProgram) (w : there.Things) where
         is_domain = sym (some_same _ r e);
         left = inr k;
         right = inl (subst (λ d. IsOf w (t.Rc d) y) (sym (eqb-true n m q)) l);
-        is = inr (ap₂ operands k.1 l.1);
+        is = inr (ap₂ operands k.1 l.1 ∙ domains_both n l.0.dim (eqb-true n m q ∙ sym l.2.0));
         seen = subst (λ z. Seen z (joined_type t' u')) (some_same _ r e) (i.0, ap₂ joined_type i.1 j.1);
       }
       by false q e = absurd (none_some r e)
@@ -325,7 +338,7 @@ module _ (p : NumberedProgram) (w : there.Things) where
         is_domain = sym (some_same _ r e);
         left = inr k;
         right = inr (subst (λ d. IsOf w (t.Dm d) y) (sym (eqb-true n m q)) l);
-        is = inr (ap₂ operands k.1 l.1);
+        is = inr (ap₂ operands k.1 l.1 ∙ domains_both n m (eqb-true n m q));
         seen = subst (λ z. Seen z (joined_type t' u')) (some_same _ r e) (i.0, ap₂ joined_type i.1 j.1);
       }
       by false q e = absurd (none_some r e)
@@ -428,7 +441,7 @@ module _ (p : NumberedProgram) (w : there.Things) where
         rects (t.Rc n) (t.Rc m) z i j k l =
             let q = where_some (n == m) (t.Rc n) r z in
             subst (λ z. Operates z (product_type t' u') (multiplied at x y (operands x y))) q.1 (
-              subst (λ o. Sound p (λ u h. IsOf u (t.Rc n) h) w (multiplied at x y o)) (sym (ap₂ operands k.1 l.1))
+              subst (λ o. Sound p (λ u h. IsOf u (t.Rc n) h) w (multiplied at x y o)) (sym (ap₂ operands k.1 l.1 ∙ rects_both k.0 l.0 (k.2.0 ∙ eqb-true n m q.0 ∙ sym l.2.0)))
                   (sound_value p _ w _ (rect.meet k.0 l.0, refl, meet_dims n k.0 l.0 k.2)),
               (i.0, ap₂ product_type i.1 j.1),
             )
@@ -470,9 +483,9 @@ module _ (p : NumberedProgram) (w : there.Things) where
 
             no_rects : (a u : ValueType) → domain_type a u ≡ Some r → IsOf w a x → IsOf w u y → (operands x y ≡ Domains) ⊎ ((n : ℕ) × (m : ℕ) × (a ≡ t.Rc n) × (u ≡ t.Rc m))
             no_rects (t.Rc n) (t.Rc m) z k l = inr (n, m, refl, refl)
-            no_rects (t.Rc n) (t.Dm m) z k l = inl (ap₂ operands k.1 l.1)
-            no_rects (t.Dm n) (t.Rc m) z k l = inl (ap₂ operands k.1 l.1)
-            no_rects (t.Dm n) (t.Dm m) z k l = inl (ap₂ operands k.1 l.1)
+            no_rects (t.Rc n) (t.Dm m) z k l = inl (ap₂ operands k.1 l.1 ∙ domains_both k.0.dim m (k.2.0 ∙ eqb-true n m (dims_same (n == m) n r z)))
+            no_rects (t.Dm n) (t.Rc m) z k l = inl (ap₂ operands k.1 l.1 ∙ domains_both n l.0.dim (eqb-true n m (dims_same (n == m) n r z) ∙ sym l.2.0))
+            no_rects (t.Dm n) (t.Dm m) z k l = inl (ap₂ operands k.1 l.1 ∙ domains_both n m (eqb-true n m (dims_same (n == m) n r z)))
             no_rects (t.Rc n) _ z k l = absurd (none_some r z)
             no_rects (t.Dm n) _ z k l = absurd (none_some r z)
             no_rects _ _ z k l = absurd (none_some r z)
