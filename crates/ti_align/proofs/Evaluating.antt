@@ -1,9 +1,9 @@
 -- What a typed expression comes to is a value of its type, and all that it asks for is there.
-use Rattle.std.proofs.Common.{◌≡◌, ℕ, ℤ, pos, suc, pred, ◌+◌, ◌-◌, ◌<◌, ◌≤◌, nat_lt, ◌==◌, int_le, ◌⊎◌, inl, inr, Bool, true, false, not, ◌&&◌, cond, if◌then◌else◌, length, find, position, slice_get, slice_index_or, unwrap_or, option_map, option_and_then, Option, Some, None, List, [], ◌∷◌, ◌++◌, refl, ap, ap₂, sym, ◌∙◌, subst, arith, eqb-true}
+use Rattle.std.proofs.Common.{◌≡◌, ℕ, ℤ, pos, suc, pred, ◌+◌, ◌-◌, ◌<◌, ◌≤◌, nat_lt, ◌==◌, int_le, ◌⊎◌, inl, inr, Bool, true, false, not, ◌&&◌, cond, if◌then◌else◌, length, find, position, slice_get, slice_index_or, unwrap_or, option_map, option_and_then, Option, Some, None, List, [], ◌∷◌, ◌++◌, refl, ap, ap₂, sym, ◌∙◌, subst, arith, eqb-true, eq-eqb}
 use Rattle.std.specs.List.{list_all, position_or_len}
 use Rattle.std.specs.Option.{option_map_or}
-use Rattle.std.proofs.lemmas.Bool.{lt-ltb, ltb-true}
-use Rattle.std.proofs.lemmas.List.{length-append, length-take-le}
+use Rattle.std.proofs.lemmas.Bool.{lt-ltb, ltb-true, le-leb}
+use Rattle.std.proofs.lemmas.List.{length-append, length-map, length-take-le}
 use Rattle.std.proofs.lemmas.List.Folds.{find_at}
 use Rattle.std.proofs.lemmas.Option.{slice_get_within}
 use Rattle.ti_base.specs.declared.place.Place.{Place}
@@ -22,7 +22,7 @@ use Rattle.ti_syntax.specs.declared.tree.exprs.BinaryOperator.{BinaryOperator}
 use Rattle.ti_syntax.specs.declared.tree.exprs.BinaryOperator.TheVariants as op
 use Rattle.std.specs.Option.{option_or}
 use Rattle.ti_base.specs.Points.{IsDim}
-use Rattle.ti_base.specs.Rects.{made, used}
+use Rattle.ti_base.specs.Rects.{made, used, empty_rect}
 use Rattle.ti_lang.specs.Members.{only_if}
 use Rattle.ti_lang.specs.Program.Types.{ValueType, Declaration, VariableUse}
 use Rattle.ti_lang.specs.Program.Types as t
@@ -30,7 +30,7 @@ use Rattle.ti_lang.specs.Program.Expressions.{NumberedExp, NumberedExps, Numbere
 use Rattle.ti_lang.specs.Program.Expressions as e
 use Rattle.ti_lang.specs.Program.Classes.{NumberedField, NumberedProgram}
 use Rattle.ti_lang.specs.Program.Scope.{ScopeContents, this_of}
-use Rattle.ti_lang.specs.Typing.Kinds.{domain_dim, is_whole, is_void, is_point, is_object, as_global, read_through, dim_of_type, class_of_type, where_true}
+use Rattle.ti_lang.specs.Typing.Kinds.{domain_dim, same_type, is_whole, is_void, is_point, is_object, as_global, read_through, dim_of_type, class_of_type, where_true}
 use Rattle.ti_lang.specs.Typing.Fits.{casts}
 use Rattle.ti_lang.specs.Typing.Operators.{wider, whole_type, truth_type, point_type, rect_type, same_dim, domain_type, unary_type, binary_type}
 use Rattle.ti_lang.specs.Typing.BuiltIn.{BuiltIn, Size, Min, Max, Contains, Domain, Restrict, Translate, Slice, Copy, Exchange, Delete, built_in, member_type}
@@ -39,9 +39,9 @@ use Rattle.ti_lang.specs.Typing.Expressions.{Typed, plain, operand, both, joined
 use Rattle.ti_lang.specs.Typing.Expressions as typing
 use Rattle.ti_lang.specs.Typing.TextTypes.{operator_type, used_type, how_many, field_seen, element_seen, sliced, built_in_type, member_seen}
 use Rattle.ti_lang.specs.Typing.Called.{member_called}
-use Rattle.ti_lang.specs.Meaning.Held.{Held, Plain, zero_of, nothing, thing_of, point_of, rect_of, whole_of}
+use Rattle.ti_lang.specs.Meaning.Held.{Held, Plain, zero_of, nothing, thing_of, point_of, rect_of, int_of, is_dim, where_dim}
 use Rattle.ti_lang.specs.Meaning.Asking.{ValueOf, NewThing, Reference, request_through, Asking, found_or, needed}
-use Rattle.ti_lang.specs.Meaning.Literals.{coordinates_of, numbers_in, point_of_numbers, rect_within}
+use Rattle.ti_lang.specs.Meaning.Literals.{coordinates_of, numbers_in, point_of_numbers, is_even, rect_of_bounds, rect_within}
 use Rattle.ti_lang.specs.Meaning.Literals as literal
 use Rattle.ti_lang.specs.Meaning.Conversions.{converted}
 use Rattle.ti_lang.specs.Meaning.Parts.{Field, Element, fetched, domain_asked, domain_of, viewed, indexed}
@@ -53,7 +53,7 @@ use Rattle.ti_align.specs.Sound.{Sound, SuitsView, dims_viewed}
 use Rattle.ti_align.specs.Fitting.{EnvFits, FieldsFit, IsWritten, AreWritten, IsRangeWritten, AreRangesWritten}
 use Rattle.ti_align.proofs.Vars.{true_false, and_left, and_right}
 use Rattle.ti_align.proofs.Computing.{grid_stays, of_stays, sound_then, weaker, sound_value, sound_guarded, sound_found, sound_asked}
-use Rattle.ti_align.proofs.Operating.{none_some, some_same, where_some, Seen, seen_same, ranges_dims, operated_fine, right_fine, alone_fine, cast_fine}
+use Rattle.ti_align.proofs.Operating.{none_some, some_same, where_some, Seen, seen_same, type_same, ranges_dims, operated_fine, right_fine, alone_fine, cast_fine}
 
 -- ---- what there is
 
@@ -186,6 +186,13 @@ abbrev pub count_of : ValueType → ℕ
 count_of (t.Pt n) = n
 count_of type = 1
 
+-- one to three dimensions, as a test
+dim_is : (n : ℕ) → IsDim n → is_dim n ≡ true
+dim_is n d = ap₂ (λ a b. a && b) (le-leb 1 n d.0) (le-leb n 3 d.1)
+
+pub point_dim : (zs : List ℤ) (n : ℕ) → length zs ≡ n → IsDim n → (point_of_numbers zs).dim ≡ n
+point_dim zs n h d = (rw (dim_is (length zs) (subst IsDim (sym h) d)) refl) ∙ h
+
 abbrev pub counts : List ValueType → ℕ
 counts [] = 0
 counts (x ∷ xs) = count_of x + counts xs
@@ -210,6 +217,45 @@ pub ints_count : (ts : List ValueType) → all_ints ts ≡ true → counts ts �
 ints_count [] h = refl
 ints_count (t.Int ∷ ts) h = omega (arith, ints_count ts h)
 ints_count (_ ∷ ts) h = absurd (true_false (sym h))
+
+-- values of all these types have so many numbers
+abbrev AllCount : ℕ → List ValueType → Type 0
+AllCount c [] = Unit {0}
+AllCount c (x ∷ xs) = (count_of x ≡ c) × AllCount c xs
+
+counts_both : (c : ℕ) (xs ys : List ValueType) → AllCount c (xs ++ ys) → AllCount c xs × AllCount c ys
+counts_both c [] ys h = (tt, h)
+counts_both c (x ∷ xs) ys h = let q = counts_both c xs ys h.1 in ((h.0, q.0), q.1)
+
+ints_each : (ts : List ValueType) → all_ints ts ≡ true → AllCount 1 ts
+ints_each [] h = tt
+ints_each (t.Int ∷ ts) h = (refl, ints_each ts h)
+ints_each (_ ∷ ts) h = absurd (true_false (sym h))
+
+points_each : (n : ℕ) (ts : List ValueType) → all_points n ts ≡ true → AllCount n ts
+points_each n [] h = tt
+points_each n (x ∷ xs) h = (ap count_of (sym (type_same (t.Pt n) x (and_left (same_type (t.Pt n) x) (all_points n xs) h))), points_each n xs (and_right (same_type (t.Pt n) x) (all_points n xs) h))
+
+-- the bounds and steps of a literal have the same number of numbers: one each, or those of the points
+literal_counts : (ranges : ℕ) (ts : List ValueType) (r : ValueType) → rect_literal ranges ts ≡ Some r → (c : ℕ) × AllCount c ts
+literal_counts ranges ts r h = by (all_ints ts) refl h
+  where
+    points : (ts : List ValueType) → range_of_points ts ≡ Some r → (c : ℕ) × AllCount c ts
+    points (t.Pt n ∷ ts) h = (n, (refl, points_each n ts (where_some (all_points n ts) (t.Rc n) r h).0))
+    points [] h = absurd (none_some r h)
+    points (_ ∷ ts) h = absurd (none_some r h)
+
+    one_range : (b : Bool) → (if b then range_of_points ts else None) ≡ Some r → (c : ℕ) × AllCount c ts
+    one_range true h = points ts h
+    one_range false h = absurd (none_some r h)
+
+    by : (b : Bool) → all_ints ts ≡ b → (if b then Some (t.Rc ranges) else if ranges == 1 then range_of_points ts else None) ≡ Some r → (c : ℕ) × AllCount c ts
+    by true a h = (1, ints_each ts a)
+    by false a h = one_range (ranges == 1) h
+
+-- bounds and steps of so many coordinates
+abbrev AreOf : ℕ → literal.Bounds → Type 0
+AreOf n b = (length b.low ≡ n) × (length b.high ≡ n) × (length b.step ≡ n)
 
 all_both : (test : ValueType → Bool) (xs ys : List ValueType) → list_all test (xs ++ ys) ≡ true → (list_all test xs ≡ true) × (list_all test ys ≡ true)
 all_both test [] ys h = (refl, h)
@@ -363,7 +409,7 @@ module _ (p : NumberedProgram) (w : Things) where
   member_fine at wanted through Slice (t.Grid x n l) r (t.Int ∷ t.Int ∷ []) h hs e z k a =
       let q = where_some (nat_lt 1 n) (t.Grid x (n - 1) l) r e in
       subst (λ o. Sound p (λ u k. IsOf u o k) w (member at wanted (Some Slice) through h hs)) q.1
-      (as_local x (n - 1) l _ (viewed_fine p w at wanted (how.Slice (whole_of (slice_index_or hs 0 nothing)) (whole_of (slice_index_or hs 1 nothing))) through h x n (grid_in w x n l h k) (ltb-true 1 n q.0)))
+      (as_local x (n - 1) l _ (viewed_fine p w at wanted (how.Slice (int_of (slice_index_or hs 0 nothing)) (int_of (slice_index_or hs 1 nothing))) through h x n (grid_in w x n l h k) (ltb-true 1 n q.0)))
   member_fine at wanted through Restrict (t.Grid x n l) r (t.Rc m ∷ []) h [] e z k a = absurd a
   member_fine at wanted through Restrict (t.Grid x n l) r (t.Rc m ∷ []) h (c ∷ d ∷ hs) e z k a = absurd a.1
   member_fine at wanted through Translate (t.Grid x n l) r (t.Pt m ∷ []) h [] e z k a = absurd a
@@ -420,7 +466,7 @@ indexed_fine p w at wanted u (t.Grid element n l) r ts h zs e i d k c = by (dims
     by q =
         subst (λ z. Sound p (λ x k. IsOf x z k) w (indexed (is_point u) at wanted u h zs) × DimsFine z × Seen z (element_seen u)) q.1 (
           subst (λ b. Sound p (λ x k. IsOf x (read_through l element) k) w (indexed b at wanted u h zs)) (sym (ap is_point i))
-              (weaker p _ _ w _ (element_fine p w at wanted u h (point_of_numbers zs) element n (grid_in w element n l h k) (c ∙ q.0)) (λ x g y o. read_of x l element y o)),
+              (weaker p _ _ w _ (element_fine p w at wanted u h (point_of_numbers zs) element n (grid_in w element n l h k) (point_dim zs n (c ∙ q.0) d.0)) (λ x g y o. read_of x l element y o)),
           read_dims l element d.1,
           subst (λ z. Seen (read_through l element) (element_seen z)) (sym i) (seen_same (read_through l element)),
         )
@@ -456,24 +502,27 @@ never_called None (Some ts) type h = none_some type h
 never_called (Some m) (Some ts) type h = none_some type h
 
 -- a zero of each type
-pub zero_fine : (w : Things) (type : ValueType) → IsOf w type (zero_of type)
-zero_fine w t.Int = (_, refl)
-zero_fine w t.Long = (_, refl)
-zero_fine w t.Boolean = (_, refl)
-zero_fine w (t.Pt n) = (_, refl, refl)
-zero_fine w (t.Rc n) = (_, refl, (refl, refl, refl))
-zero_fine w (t.Dm n) = ([], refl, tt)
-zero_fine w t.Region = (0, refl, inl refl)
-zero_fine w (t.Class c l) = (None, refl, λ id z. absurd (none_some id z))
-zero_fine w (t.Grid x n l) = (None, refl, λ id z. absurd (none_some id z))
-zero_fine w t.Null = refl
-zero_fine w t.Void = tt
+zero_there : (n : ℕ) (h : Held) → IsDim n → where_dim n h ≡ h
+zero_there n h d = ap (λ b. if b then h else nothing) (dim_is n d)
 
-binary_seen : (p : NumberedProgram) (w : Things) (o : BinaryOperator) (a u r t' u' : ValueType) → binary_type o a u ≡ Some r → Seen a t' → Seen u u' → Seen r (operator_type o t' u')
-binary_seen p w o a u r t' u' e i j = (operated_fine p w (record { line = 0; col = 0 }) a u r t' u' (zero_of a) (zero_of u) i j (zero_fine w a) (zero_fine w u) o e).1
+pub zero_fine : (w : Things) (type : ValueType) → DimsFine type → IsOf w type (zero_of type)
+zero_fine w t.Int d = (_, refl)
+zero_fine w t.Long d = (_, refl)
+zero_fine w t.Boolean d = (_, refl)
+zero_fine w (t.Pt n) d = (_, zero_there n _ d, refl)
+zero_fine w (t.Rc n) d = (_, zero_there n _ d, (refl, refl, refl))
+zero_fine w (t.Dm n) d = ([], zero_there n _ d, tt)
+zero_fine w t.Region d = (0, refl, inl refl)
+zero_fine w (t.Class c l) d = (None, refl, λ id z. absurd (none_some id z))
+zero_fine w (t.Grid x n l) d = (None, refl, λ id z. absurd (none_some id z))
+zero_fine w t.Null d = refl
+zero_fine w t.Void d = tt
 
-unary_seen : (p : NumberedProgram) (w : Things) (o : UnaryOperator) (a r t' : ValueType) → unary_type o a ≡ Some r → Seen a t' → Seen r t'
-unary_seen p w o a r t' e i = (alone_fine p w o a r t' (zero_of a) e i (zero_fine w a)).1
+binary_seen : (p : NumberedProgram) (w : Things) (o : BinaryOperator) (a u r t' u' : ValueType) → binary_type o a u ≡ Some r → DimsFine a → DimsFine u → Seen a t' → Seen u u' → Seen r (operator_type o t' u')
+binary_seen p w o a u r t' u' e d f i j = (operated_fine p w (record { line = 0; col = 0 }) a u r t' u' (zero_of a) (zero_of u) i j (zero_fine w a d) (zero_fine w u f) o e).1
+
+unary_seen : (p : NumberedProgram) (w : Things) (o : UnaryOperator) (a r t' : ValueType) → unary_type o a ≡ Some r → DimsFine a → Seen a t' → Seen r t'
+unary_seen p w o a r t' e d i = (alone_fine p w o a r t' (zero_of a) e i (zero_fine w a d)).1
 
 from_or : (a b : Option ValueType) (r : ValueType) → option_or a b ≡ Some r → (a ≡ Some r) ⊎ (b ≡ Some r)
 from_or None b r e = inr e
@@ -679,6 +728,12 @@ made_dims : (lo hi step : Point) → HasDims lo.dim (made lo hi step)
 made_dims lo hi step =
     ranges_dims lo.dim (tidy (record { low = lo.x1; high = hi.x1; step = natural step.x1 })) (used lo.dim 2 (record { low = lo.x2; high = hi.x2; step = natural step.x2 })) (used lo.dim 3 (record { low = lo.x3; high = hi.x3; step = natural step.x3 }))
 
+bounds_dims : (n : ℕ) (b : literal.Bounds) → AreOf n b → IsDim n → HasDims n (rect_of_bounds b)
+bounds_dims n b h d =
+    let even : is_even b ≡ true = ap₂ (λ x y. x && y) (ap₂ (λ x y. x && y) (dim_is (length b.low) (subst IsDim (sym h.0) d)) (eq-eqb (length b.high) (length b.low) (h.1 ∙ sym h.0))) (eq-eqb (length b.step) (length b.low) (h.2 ∙ sym h.0)) in
+    subst (λ z. HasDims n (if z then made (point_of_numbers b.low) (point_of_numbers b.high) (point_of_numbers b.step) else empty_rect 1)) (sym even)
+    (subst (λ m. HasDims m (made (point_of_numbers b.low) (point_of_numbers b.high) (point_of_numbers b.step))) (point_dim b.low n h.0 d) (made_dims (point_of_numbers b.low) (point_of_numbers b.high) (point_of_numbers b.step)))
+
 counted : (p : NumberedProgram) (s : ScopeContents) (type : ValueType) (low high : NumberedExp) → operand_type p s low ≡ Some type → count_of type ≡ lows p s (e.MoreRange (e.Plain low high) e.NoRange)
 counted p s type low high h = sym (ap (λ o. maybe_count p s o + 0) h ∙ plus_zero (count_of type))
   where
@@ -688,6 +743,10 @@ counted p s type low high h = sym (ap (λ o. maybe_count p s o + 0) h ∙ plus_z
 lows_more : (p : NumberedProgram) (s : ScopeContents) (r : NumberedRange) (rest : NumberedRanges) → lows p s (e.MoreRange r e.NoRange) + lows p s rest ≡ lows p s (e.MoreRange r rest)
 lows_more p s (e.Plain low high) rest = omega arith
 lows_more p s (e.Stepped low high step) rest = omega arith
+
+-- how many numbers an operand has
+number_fine : (w : Things) (env : Env) (s : ScopeContents) (x : NumberedExp) (type : ValueType) → operand_type env.program s x ≡ Some type → (n : ℕ) → count_of type ≡ n → Evaluates w env x type → Sound env.program (λ u h. length (numbers_in h) ≡ n) w (eval env x)
+number_fine w env s x type z n c r = weaker env.program _ _ w _ r.sound (λ u i h y. numbers_count u type h (no_call (known env.program s x) type z).2 r.dims y ∙ c)
 
 module _ (uses : VariableUse → Bool) (s : ScopeContents) where
   mutual
@@ -722,7 +781,7 @@ module _ (uses : VariableUse → Bool) (s : ScopeContents) where
         let i = where_some (all_ints q.0) (t.Pt (length q.0)) type q.2 in
         let n = parts_many p s parts q.0 q.1 in
         to_type w env (e.Point at parts) (t.Pt (length q.0)) type i.1 (record {
-          sound = sound_then p (λ u zs. length zs ≡ counts q.0) _ w (eval_numbers env parts) _ (numbers_fine w env f g parts k.1 q.0 q.1) (λ u h zs y. sound_value p _ u _ (point_of_numbers zs, refl, y ∙ ints_count q.0 i.0));
+          sound = sound_then p (λ u zs. length zs ≡ counts q.0) _ w (eval_numbers env parts) _ (numbers_fine w env f g parts k.1 q.0 q.1) (λ u h zs y. sound_value p _ u _ (point_of_numbers zs, refl, point_dim zs (length q.0) (y ∙ ints_count q.0 i.0) (subst IsDim (sym n) k.0)));
           dims = subst IsDim (sym n) k.0;
           seen = (how_many parts, refl);
         })
@@ -730,10 +789,12 @@ module _ (uses : VariableUse → Bool) (s : ScopeContents) where
         let p = env.program in
         let q = and_then (rect_literal (range_count ranges)) (bounds p s ranges) type (no_call (plain (option_and_then (rect_literal (range_count ranges)) (bounds p s ranges))) type z).1 in
         let i = literal_dims p s ranges q.0 type q.1 q.2 in
+        let c = literal_counts (range_count ranges) q.0 type q.2 in
+        let d = rect_dims w env f g ranges i.1 k.0 k.1 in
         to_type w env (e.Rect at ranges) (t.Rc (lows p s ranges)) type (sym i.0) (record {
-          sound = sound_then p (λ u (b : literal.Bounds). length b.low ≡ lows p s ranges) _ w (eval_ranges env ranges) _ (ranges_fine w env f g ranges k.1 q.0 q.1)
-              (λ u h b y. sound_guarded p _ u _ _ at _ (_, refl, subst (λ n. HasDims n (made (point_of_numbers b.low) (point_of_numbers b.high) (point_of_numbers b.step))) y (made_dims (point_of_numbers b.low) (point_of_numbers b.high) (point_of_numbers b.step))));
-          dims = rect_dims w env f g ranges i.1 k.0 k.1;
+          sound = sound_then p (λ u b. AreOf (lows p s ranges) b) _ w (eval_ranges env ranges) _ (ranges_fine w env f g ranges k.1 q.0 q.1 c.0 c.1)
+              (λ u h b y. sound_guarded p _ u _ _ at _ (_, refl, bounds_dims (lows p s ranges) b y d));
+          dims = d;
           seen = (_, refl);
         })
     eval_fine w env f g (e.Unary at op a) k type z =
@@ -743,7 +804,7 @@ module _ (uses : VariableUse → Bool) (s : ScopeContents) where
         record {
           sound = sound_then p (λ u h. IsOf u q.0 h) _ w (eval env a) _ r.sound (λ u i h y. sound_value p _ u _ (alone_fine p u op q.0 type (type_of env a) h q.2 r.seen y).0);
           dims = unary_dims op q.0 type q.2 r.dims;
-          seen = unary_seen p w op q.0 type (type_of env a) q.2 r.seen;
+          seen = unary_seen p w op q.0 type (type_of env a) q.2 r.dims r.seen;
         }
     eval_fine w env f g (e.Binary at op a b) k type z =
         let p = env.program in
@@ -755,7 +816,7 @@ module _ (uses : VariableUse → Bool) (s : ScopeContents) where
               right_fine p u at op q.0 q.1 type h (eval env b) q.4 (eval_fine u env (env_stays uses s w u env i f) g b k.1 q.1 q.3).sound
               (λ x j m o. (operated_fine p x at q.0 q.1 type (type_of env a) (type_of env b) h m l.seen r.seen (of_stays u x q.0 h j y) o op q.4).0));
           dims = binary_dims op q.0 q.1 type q.4 l.dims;
-          seen = binary_seen p w op q.0 q.1 type (type_of env a) (type_of env b) q.4 l.seen r.seen;
+          seen = binary_seen p w op q.0 q.1 type (type_of env a) (type_of env b) q.4 l.dims r.dims l.seen r.seen;
         }
     eval_fine w env f g (e.Cast at to a) k type z =
         let p = env.program in
@@ -820,38 +881,47 @@ module _ (uses : VariableUse → Bool) (s : ScopeContents) where
         sound_then p (λ u zs. length zs ≡ counts j.1) _ u (eval_numbers env xs) _ (numbers_fine u env (env_stays uses s w u env i f) g xs k.1 j.1 j.3) (λ l m zs n.
         sound_value p _ l _ (length-append (numbers_in h) zs ∙ ap₂ (λ a b. a + b) (numbers_count u o.0 h (no_call (known p s x) o.0 o.1).2 r.dims y) n ∙ ap counts (sym (ap (λ q. q ++ j.1) o.2) ∙ j.4))))
 
-    -- the lower bounds of a range
-    low_fine : (w : Things) (env : Env) → EnvFits uses s w env → FieldsFit env.program → (r : NumberedRange) → IsRangeWritten uses r → (ts : List ValueType) → bound env.program s r ≡ Some ts → Sound env.program (λ u (b : literal.Bounds). length b.low ≡ lows env.program s (e.MoreRange r e.NoRange)) w (eval_range env r)
-    low_fine w env f g (e.Plain low high) k ts z =
+    -- the bounds and steps of a range, each of so many numbers
+    range_fine : (w : Things) (env : Env) → EnvFits uses s w env → FieldsFit env.program → (r : NumberedRange) → IsRangeWritten uses r → (ts : List ValueType) → bound env.program s r ≡ Some ts → (c : ℕ) → AllCount c ts
+        → Sound env.program (λ u b. AreOf (lows env.program s (e.MoreRange r e.NoRange)) b) w (eval_range env r)
+    range_fine w env f g (e.Plain low high) k ts z c each =
         let p = env.program in
         let j = joined_there (one (operand_type p s low)) (one (operand_type p s high)) ts z in
         let o = one_there (operand_type p s low) j.0 j.2 in
         let h = one_there (operand_type p s high) j.1 j.3 in
-        let r = eval_fine w env f g low k.0 o.0 o.1 in
-        sound_then p (λ u h. IsOf u o.0 h) _ w (eval env low) _ r.sound (λ u i a y.
-        sound_then p (λ u b. IsOf u h.0 b) _ u (eval env high) _ (eval_fine u env (env_stays uses s w u env i f) g high k.1 h.0 h.1).sound (λ l m b n.
-        sound_value p _ l _ (numbers_count u o.0 a (no_call (known p s low) o.0 o.1).2 r.dims y ∙ counted p s o.0 low high o.1)))
-    low_fine w env f g (e.Stepped low high step) k ts z =
+        let all : AllCount c (o.0 ∷ h.0 ∷ []) = subst (AllCount c) (sym j.4 ∙ ap₂ (λ a b. a ++ b) o.2 h.2) each in
+        let n : c ≡ lows p s (e.MoreRange (e.Plain low high) e.NoRange) = sym all.0 ∙ counted p s o.0 low high o.1 in
+        sound_then p (λ u a. length (numbers_in a) ≡ lows p s (e.MoreRange (e.Plain low high) e.NoRange)) _ w (eval env low) _ (number_fine w env s low o.0 o.1 _ (all.0 ∙ n) (eval_fine w env f g low k.0 o.0 o.1)) (λ u i a y.
+        sound_then p (λ u b. length (numbers_in b) ≡ lows p s (e.MoreRange (e.Plain low high) e.NoRange)) _ u (eval env high) _ (number_fine u env s high h.0 h.1 _ (all.1.0 ∙ n) (eval_fine u env (env_stays uses s w u env i f) g high k.1 h.0 h.1)) (λ l m b q.
+        sound_value p _ l _ (y, q, length-map (numbers_in a) _ ∙ y)))
+    range_fine w env f g (e.Stepped low high step) k ts z c each =
         let p = env.program in
         let j = joined_there (joined (one (operand_type p s low)) (one (operand_type p s high))) (one (operand_type p s step)) ts z in
         let l = joined_there (one (operand_type p s low)) (one (operand_type p s high)) j.0 j.2 in
         let o = one_there (operand_type p s low) l.0 l.2 in
         let h = one_there (operand_type p s high) l.1 l.3 in
-        let c = one_there (operand_type p s step) j.1 j.3 in
-        let r = eval_fine w env f g low k.0 o.0 o.1 in
-        sound_then p (λ u h. IsOf u o.0 h) _ w (eval env low) _ r.sound (λ u i a y.
-        sound_then p (λ u b. IsOf u h.0 b) _ u (eval env high) _ (eval_fine u env (env_stays uses s w u env i f) g high k.1 h.0 h.1).sound (λ x m b n.
-        sound_then p (λ u b. IsOf u c.0 b) _ x (eval env step) _ (eval_fine x env (env_stays uses s u x env m (env_stays uses s w u env i f)) g step k.2 c.0 c.1).sound (λ q v d t.
-        sound_value p _ q _ (numbers_count u o.0 a (no_call (known p s low) o.0 o.1).2 r.dims y ∙ counted p s o.0 low high o.1))))
+        let d = one_there (operand_type p s step) j.1 j.3 in
+        let all : AllCount c (o.0 ∷ h.0 ∷ d.0 ∷ []) = subst (AllCount c) (sym j.4 ∙ ap₂ (λ a b. a ++ b) (sym l.4 ∙ ap₂ (λ a b. a ++ b) o.2 h.2) d.2) each in
+        let n : c ≡ lows p s (e.MoreRange (e.Stepped low high step) e.NoRange) = sym all.0 ∙ counted p s o.0 low high o.1 in
+        sound_then p (λ u a. length (numbers_in a) ≡ lows p s (e.MoreRange (e.Stepped low high step) e.NoRange)) _ w (eval env low) _ (number_fine w env s low o.0 o.1 _ (all.0 ∙ n) (eval_fine w env f g low k.0 o.0 o.1)) (λ u i a y.
+        sound_then p (λ u b. length (numbers_in b) ≡ lows p s (e.MoreRange (e.Stepped low high step) e.NoRange)) _ u (eval env high) _ (number_fine u env s high h.0 h.1 _ (all.1.0 ∙ n) (eval_fine u env (env_stays uses s w u env i f) g high k.1 h.0 h.1)) (λ x m b q.
+        sound_then p (λ u b. length (numbers_in b) ≡ lows p s (e.MoreRange (e.Stepped low high step) e.NoRange)) _ x (eval env step) _ (number_fine x env s step d.0 d.1 _ (all.1.1.0 ∙ n) (eval_fine x env (env_stays uses s u x env m (env_stays uses s w u env i f)) g step k.2 d.0 d.1)) (λ v r e t.
+        sound_value p _ v _ (y, q, t))))
 
-    ranges_fine : (w : Things) (env : Env) → EnvFits uses s w env → FieldsFit env.program → (rs : NumberedRanges) → AreRangesWritten uses rs → (ts : List ValueType) → bounds env.program s rs ≡ Some ts → Sound env.program (λ u (b : literal.Bounds). length b.low ≡ lows env.program s rs) w (eval_ranges env rs)
-    ranges_fine w env f g e.NoRange k ts z = sound_value env.program _ w _ refl
-    ranges_fine w env f g (e.MoreRange r rest) k ts z =
+    ranges_fine : (w : Things) (env : Env) → EnvFits uses s w env → FieldsFit env.program → (rs : NumberedRanges) → AreRangesWritten uses rs → (ts : List ValueType) → bounds env.program s rs ≡ Some ts → (c : ℕ) → AllCount c ts
+        → Sound env.program (λ u b. AreOf (lows env.program s rs) b) w (eval_ranges env rs)
+    ranges_fine w env f g e.NoRange k ts z c each = sound_value env.program _ w _ (refl, refl, refl)
+    ranges_fine w env f g (e.MoreRange r rest) k ts z c each =
         let p = env.program in
         let j = joined_there (bound p s r) (bounds p s rest) ts z in
-        sound_then p (λ u (b : literal.Bounds). length b.low ≡ lows p s (e.MoreRange r e.NoRange)) _ w (eval_range env r) _ (low_fine w env f g r k.0 j.0 j.2) (λ u i a y.
-        sound_then p (λ u (b : literal.Bounds). length b.low ≡ lows p s rest) _ u (eval_ranges env rest) _ (ranges_fine u env (env_stays uses s w u env i f) g rest k.1 j.1 j.3) (λ l m b n.
-        sound_value p _ l _ (length-append a.low b.low ∙ ap₂ (λ c d. c + d) y n ∙ lows_more p s r rest)))
+        let all = counts_both c j.0 j.1 (subst (AllCount c) (sym j.4) each) in
+        sound_then p (λ u b. AreOf (lows p s (e.MoreRange r e.NoRange)) b) _ w (eval_range env r) _ (range_fine w env f g r k.0 j.0 j.2 c all.0) (λ u i a y.
+        sound_then p (λ u b. AreOf (lows p s rest) b) _ u (eval_ranges env rest) _ (ranges_fine u env (env_stays uses s w u env i f) g rest k.1 j.1 j.3 c all.1) (λ l m b n.
+        sound_value p _ l _ (
+          length-append a.low b.low ∙ ap₂ (λ c d. c + d) y.0 n.0 ∙ lows_more p s r rest,
+          length-append a.high b.high ∙ ap₂ (λ c d. c + d) y.1 n.1 ∙ lows_more p s r rest,
+          length-append a.step b.step ∙ ap₂ (λ c d. c + d) y.2 n.2 ∙ lows_more p s r rest,
+        )))
 
     -- the dimensions of a literal
     rect_dims : (w : Things) (env : Env) → EnvFits uses s w env → FieldsFit env.program → (rs : NumberedRanges) → (lows env.program s rs ≡ range_count rs) ⊎ ((n : ℕ) × (first_low env.program s rs ≡ Some (t.Pt n)) × (lows env.program s rs ≡ n))
