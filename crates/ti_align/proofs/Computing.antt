@@ -26,7 +26,7 @@ grows_then u w x a b = record {
 }
 
 pub grid_stays : (u w : Things) (e : ValueType) (n : ℕ) (id : Id) → Grows u w → IsGridOf u e n id → IsGridOf w e n id
-grid_stays u w e n id g k = (k.0, g.grids id k.0 k.1, k.2, g.elements k.0.block e k.3)
+grid_stays u w e n id g k = (k.0, g.grids id k.0 k.1, k.2, g.elements k.0.block e k.3, k.4)
 
 pub place_stays : (u w : Things) (r : ℕ) → Grows u w → IsPlaced u r → IsPlaced w r
 place_stays u w r g (inl h) = inl h

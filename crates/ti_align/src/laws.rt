@@ -17,7 +17,7 @@ ghost use Rattle.ti_align.specs.Stopping.{NoneWaits};
 ghost use Rattle.ti_align.specs.Things.{Things, IsOf};
 ghost use Rattle.ti_align.specs.Sound.{IsThere, Sound};
 ghost use Rattle.ti_align.specs.Fitting.{EnvFits, FieldsFit, IsWritten};
-ghost use Rattle.ti_align.specs.Heap.{Elements, things_of, FieldsStorable, HeapFits, IsWantable, KeepsTypes};
+ghost use Rattle.ti_align.specs.Heap.{Elements, things_of, FieldsStorable, HeapFits, KeepsTypes};
 
 use ti_rules::Checked;
 
@@ -53,5 +53,5 @@ pub fn expressions_fit()
 /// fields and elements is of their types, and its answer fits.
 pub fn heap_fits()
     ensures { (p : NumberedProgram) (elements : Elements) (h : History) (i : ℕ) (a : Action) (wanted : Wanted) → FieldsStorable p → IsAnswered p h → HeapFits p elements h
-        → IsThere p (things_of elements h) a wanted → IsWantable wanted → KeepsTypes p elements h i a wanted }
+        → IsThere p (things_of elements h) a wanted → KeepsTypes p elements h i a wanted }
 {}
