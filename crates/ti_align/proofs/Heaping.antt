@@ -467,7 +467,7 @@ module _ (p : NumberedProgram) (elements : Elements) (h : History) (answered : I
             (whole_grid id first domain, if_true (same_id id new) _ _ x, d, if_true (same_id id new) _ _ x, s),
       )
 
-  pub behind : (a : Action) (wanted : Wanted) (r : Answer) → IsThere p (things_of elements h) a wanted →  heap_answer p h i a ≡ Answers r → Behind a wanted r
+  pub behind : (a : Action) (wanted : Wanted) (r : Answer) → IsThere p (things_of elements h) a wanted → heap_answer p h i a ≡ Answers r → Behind a wanted r
   behind (act.GetField obj field) wanted r k said = (
     kept_same (act.GetField obj field) wanted r k said,
     grown_same (act.GetField obj field) r said,

@@ -10,6 +10,8 @@ ghost use Rattle.ti_lang.specs.Typing.Expressions.{operand_type};
 ghost use Rattle.ti_lang.specs.Meaning.Scoping.{Env};
 ghost use Rattle.ti_lang.specs.Meaning.Evaluation.{eval};
 ghost use Rattle.ti_lang.specs.Meaning.Asking.{Wanted};
+ghost use Rattle.ti_lang.specs.Meaning.Processes.{Work};
+ghost use Rattle.ti_lang.specs.Meaning.Performing.{performed};
 ghost use Rattle.ti_lang.specs.Meaning.Histories.{History};
 ghost use Rattle.ti_lang.specs.Meaning.HeapAnswers.{IsAnswered};
 ghost use Rattle.ti_align.specs.Alignment.{ArrivalsAgree, NoneAfterEnd, OfEveryRun};
@@ -17,6 +19,7 @@ ghost use Rattle.ti_align.specs.Stopping.{NoneWaits};
 ghost use Rattle.ti_align.specs.Things.{Things, IsOf};
 ghost use Rattle.ti_align.specs.Sound.{IsThere, Sound};
 ghost use Rattle.ti_align.specs.Fitting.{EnvFits, FieldsFit, IsWritten};
+ghost use Rattle.ti_align.specs.Work.{VariablesFit, uses_of, MethodsFit, WorkFits, MoveFits};
 ghost use Rattle.ti_align.specs.Heap.{Elements, things_of, FieldsStorable, HeapFits, KeepsTypes};
 
 use ti_rules::Checked;
@@ -54,4 +57,12 @@ pub fn expressions_fit()
 pub fn heap_fits()
     ensures { (p : NumberedProgram) (elements : Elements) (h : History) (i : ℕ) (a : Action) (wanted : Wanted) → FieldsStorable p → IsAnswered p h → HeapFits p elements h
         → IsThere p (things_of elements h) a wanted → KeepsTypes p elements h i a wanted }
+{}
+
+/// What a piece of work comes to where it fits the types is a move that fits them, whatever fitting
+/// answers it gets: variables keep to their types, and so do parameters, results and deposits.
+pub fn work_fits()
+    ensures { (s : ScopeContents) (w : Things) (env : Env) (x : Work) → EnvFits (uses_of env.method) s w env → VariablesFit w env.variables → FieldsFit env.program
+        → FieldsStorable env.program → MethodsFit env.program env.program.methods → WorkFits env.program env.method s w x
+        → Sound env.program (λ u move. MoveFits env.program env.method s u move) w (performed env x) }
 {}
