@@ -29,3 +29,4 @@ pub mod Storing
 pub mod Performed
 pub mod Working
 pub mod Stated
+pub mod Framed

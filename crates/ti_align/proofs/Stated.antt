@@ -277,7 +277,7 @@ module _ (s : ScopeContents) (env : Env) where
   work_fine w r (Do x) k = statement_fine w r x k
   work_fine w r (End x) k = sound_value p _ w _ (without_fits w (declared_in x) env.variables r.variables, tt)
   work_fine w r (Before loop) k = before_fine s env w r loop k
-  work_fine w r (Behind loop) k = behind_fine s env w r loop k
+  work_fine w r (Behind loop) k = behind_fine s env w r loop k.0
   work_fine w r (Receive receiver h) k = receives_fine s env w r receiver k.0 (gives h) k.2 (λ u g. sound_value p _ u _ (of_stays w u k.0 h g k.1))
   work_fine w r (CopyAll at to from points) k = copied_fine s env w r at to from points k
   work_fine w r (TakeAll at grid procs) k = taken_fine s env w r at grid procs k

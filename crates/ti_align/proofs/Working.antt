@@ -142,10 +142,10 @@ module _ (s : ScopeContents) (env : Env) where
       sound_then p (λ u h. IsOf u t.Boolean h) _ w (condition env c) _ (condition_fine w r c k.0) (λ u g h y. by u g (truth_of h))
     where
       by : (u : Things) → Grows w u → (b : Bool) → Fine s env u (gives (if b then Turns at env.variables (Do body ∷ Behind (While at c update body) ∷ []) else Goes env.variables []))
-      by u g true = sound_value p _ u _ (variables_stay w u env.variables g r.variables, (k.2, (k, tt)))
+      by u g true = sound_value p _ u _ (variables_stay w u env.variables g r.variables, (k.2, ((k, tt), tt)))
       by u g false = sound_value p _ u _ (variables_stay w u env.variables g r.variables, tt)
   before_fine w r (Foreach at number domain [] body) k = sound_value p _ w _ (r.variables, tt)
-  before_fine w r (Foreach at number domain (q ∷ qs) body) k = sound_value p _ w _ (r.variables, (k.1, (k, tt)))
+  before_fine w r (Foreach at number domain (q ∷ qs) body) k = sound_value p _ w _ (r.variables, (k.1, ((k, tt), tt)))
 
   pub behind_fine : (w : Things) → Ready s w env → (loop : Loop) → LoopFits p env.method s loop → Fine s env w (gives (Goes env.variables (update_of loop ++ Before (turned loop) ∷ [])))
   behind_fine w r (While at c st.NoStm body) k = sound_value p _ w _ (r.variables, (k, tt))

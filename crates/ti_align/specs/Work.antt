@@ -7,6 +7,7 @@ use Rattle.ti_base.specs.declared.action.CollKind.{CollKind}
 use Rattle.ti_base.specs.declared.action.CollKind.TheVariants as coll
 use Rattle.ti_base.specs.declared.action.Deposit.{Deposit}
 use Rattle.ti_base.specs.declared.action.Deposit.TheVariants as deposit
+use Rattle.ti_base.specs.Points.{IsDim}
 use Rattle.ti_base.specs.PointSets.{AllOf}
 use Rattle.ti_lang.specs.Program.Types.{ValueType, Declaration, VariableUse}
 use Rattle.ti_lang.specs.Program.Types as t
@@ -141,7 +142,7 @@ module _ (p : NumberedProgram) (m : NumberedMethod) where
 
   -- a foreach over such a domain, whose variable is of its own
   abbrev pub DomainFits : ScopeContents → ℕ → NumberedExp → ℕ → Type 0
-  DomainFits s number domain n = ((type : ValueType) × IsInner s domain type × (domain_dim type ≡ Some n)) × (is_none (in_scope s number) ≡ true)
+  DomainFits s number domain n = ((type : ValueType) × IsInner s domain type × (domain_dim type ≡ Some n)) × (is_none (in_scope s number) ≡ true) × IsDim n
 
   abbrev mutual
     pub StmFits : ScopeContents → NumberedStm → Type 0
@@ -174,6 +175,11 @@ module _ (p : NumberedProgram) (m : NumberedMethod) where
   LoopFits s (Foreach at number domain points body) =
       ((n : ℕ) × DomainFits s number domain n × AllOf n points) × StmFits (record s { variables = variables_inside p s number domain }) body
 
+-- a foreach in a turn stands at a point
+abbrev pub IsTurning : Loop → Type 0
+IsTurning (Foreach at number domain [] body) = ⊥
+IsTurning loop = Unit {0}
+
 -- the statements of a method
 abbrev pub MethodFits : NumberedProgram → NumberedMethod → Type 0
 MethodFits p m = StmsFit p m (method_scope m) (numbered_stms m.body)
@@ -200,7 +206,7 @@ module _ (p : NumberedProgram) (m : NumberedMethod) where
   WorkFits s w (Do x) = StmFits p m s x
   WorkFits s w (End x) = Unit {0}
   WorkFits s w (Before loop) = LoopFits p m s loop
-  WorkFits s w (Behind loop) = LoopFits p m s loop
+  WorkFits s w (Behind loop) = LoopFits p m s loop × IsTurning loop
   WorkFits s w (Receive receiver h) = (type : ValueType) × IsOf w type h × ReceiverFits p m s receiver type
   WorkFits s w (CopyAll at to from points) = (element : ValueType) × (n : ℕ) × IsGridOf w element n to.thing × IsGridOf w element n from.thing × AllOf n points
   WorkFits s w (TakeAll at grid procs) = IsGridOf w (element_of grid.type) 1 grid.thing

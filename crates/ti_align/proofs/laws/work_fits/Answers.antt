@@ -1,5 +1,5 @@
-use Rattle.ti_align.proofs.Stated.{work_fine}
+use Rattle.ti_align.proofs.Framed.{frame_fine}
 use Rattle.ti_align.proofs.laws.work_fits.Goals as goal
 
 pub returns : goal.returns
-returns c s w env x f v g d m k = work_fine s env w (record { fits = f; variables = v; fields = g; store = d; methods = m }) x k
+returns c p f left w x v this g d m k = frame_fine p f left w x v this g d m k
