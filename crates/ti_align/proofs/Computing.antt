@@ -3,12 +3,13 @@ use Rattle.std.proofs.Common.{◌≡◌, ℕ, Bool, true, false, inl, inr, Optio
 use Rattle.ti_base.specs.declared.place.Place.{Place}
 use Rattle.ti_base.specs.declared.value.Id.{Id}
 use Rattle.ti_base.specs.declared.fault.FaultKind.{FaultKind}
+use Rattle.ti_base.specs.declared.fault.FaultKind.TheVariants.{NullRef}
 use Rattle.ti_base.specs.declared.entry.Answer.{Answer}
 use Rattle.ti_lang.specs.Program.Types.{ValueType}
 use Rattle.ti_lang.specs.Program.Types as t
 use Rattle.ti_lang.specs.Program.Classes.{NumberedProgram}
-use Rattle.ti_lang.specs.Meaning.Held.{Held}
-use Rattle.ti_lang.specs.Meaning.Asking.{Request, Asking, ◌>>=◌, followed, gives, guarded, found_or, asked, told}
+use Rattle.ti_lang.specs.Meaning.Held.{Held, thing_of}
+use Rattle.ti_lang.specs.Meaning.Asking.{Request, Reference, needed, Asking, ◌>>=◌, followed, gives, guarded, found_or, asked, told}
 use Rattle.ti_align.specs.Things.{Things, Grows, IsGridOf, IsPlaced, IsOf}
 use Rattle.ti_align.specs.Sound.{IsThere, FitsAsked, Sound, value, fault, asks}
 
@@ -26,7 +27,7 @@ grows_then u w x a b = record {
 }
 
 pub grid_stays : (u w : Things) (e : ValueType) (n : ℕ) (id : Id) → Grows u w → IsGridOf u e n id → IsGridOf w e n id
-grid_stays u w e n id g k = (k.0, g.grids id k.0 k.1, k.2, g.elements k.0.block e k.3)
+grid_stays u w e n id g k = (k.0, g.grids id k.0 k.1, k.2, g.elements k.0.block e k.3, k.4)
 
 pub place_stays : (u w : Things) (r : ℕ) → Grows u w → IsPlaced u r → IsPlaced w r
 place_stays u w r g (inl h) = inl h
@@ -79,3 +80,8 @@ module _ (p : NumberedProgram) where
 
   pub sound_asked : (P : Things → Held → Type 0) (w : Things) (q : Request) → IsThere p w q.action q.wanted → ((u : Things) → Grows w u → (r : Answer) → FitsAsked p u q.action q.wanted r → P u (told r)) → Sound p P w (asked q)
   sound_asked P w q i f = asks q refl i (λ u g r t. value (told r) (f u g r t) (λ rest. refl))
+
+-- what is needed, with its type
+pub needed_as : (p : NumberedProgram) (w : Things) (at : Place) (through : ValueType) (h : Held) (P : Things → Id → Type 0) → ((id : Id) → thing_of h ≡ Some id → P w id) → Sound p (λ u (r : Reference). (r.type ≡ through) × P u r.thing) w (needed at through h)
+needed_as p w at through h P k =
+    sound_then p (λ u id. P u id) (λ u r. (r.type ≡ through) × P u r.thing) w (found_or NullRef at (thing_of h)) _ (sound_found p _ w NullRef at (thing_of h) k) (λ u g id z. sound_value p _ u _ (refl, z))

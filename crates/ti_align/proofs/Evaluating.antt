@@ -61,26 +61,26 @@ pub and_then : {A B : Type 0} (f : A → Option B) (o : Option A) (b : B) → op
 and_then f None b h = absurd (none_some b h)
 and_then f (Some a) b h = (a, refl, h)
 
-mapped : {A B : Type 0} (f : A → B) (o : Option A) (b : B) → option_map f o ≡ Some b → (a : A) × (o ≡ Some a) × (f a ≡ b)
+pub mapped : {A B : Type 0} (f : A → B) (o : Option A) (b : B) → option_map f o ≡ Some b → (a : A) × (o ≡ Some a) × (f a ≡ b)
 mapped f None b h = absurd (none_some b h)
 mapped f (Some a) b h = (a, refl, some_same (f a) b h)
 
-both_there : {A B C : Type 0} (f : A → B → Option C) (o : Option A) (q : Option B) (c : C) → both o q f ≡ Some c → (a : A) × (b : B) × (o ≡ Some a) × (q ≡ Some b) × (f a b ≡ Some c)
+pub both_there : {A B C : Type 0} (f : A → B → Option C) (o : Option A) (q : Option B) (c : C) → both o q f ≡ Some c → (a : A) × (b : B) × (o ≡ Some a) × (q ≡ Some b) × (f a b ≡ Some c)
 both_there f None q c h = absurd (none_some c h)
 both_there f (Some a) None c h = absurd (none_some c h)
 both_there f (Some a) (Some b) c h = (a, b, refl, refl, h)
 
-joined_there : {A : Type 0} (o q : Option (List A)) (zs : List A) → joined o q ≡ Some zs → (xs : List A) × (ys : List A) × (o ≡ Some xs) × (q ≡ Some ys) × (xs ++ ys ≡ zs)
+pub joined_there : {A : Type 0} (o q : Option (List A)) (zs : List A) → joined o q ≡ Some zs → (xs : List A) × (ys : List A) × (o ≡ Some xs) × (q ≡ Some ys) × (xs ++ ys ≡ zs)
 joined_there None q zs h = absurd (none_some zs h)
 joined_there (Some xs) None zs h = absurd (none_some zs h)
 joined_there (Some xs) (Some ys) zs h = (xs, ys, refl, refl, some_same (xs ++ ys) zs h)
 
-one_there : {A : Type 0} (o : Option A) (xs : List A) → one o ≡ Some xs → (a : A) × (o ≡ Some a) × (xs ≡ a ∷ [])
+pub one_there : {A : Type 0} (o : Option A) (xs : List A) → one o ≡ Some xs → (a : A) × (o ≡ Some a) × (xs ≡ a ∷ [])
 one_there None xs h = absurd (none_some xs h)
 one_there (Some a) xs h = (a, refl, sym (some_same (a ∷ []) xs h))
 
 -- an operand's type
-not_void : (o : Option ValueType) (u : ValueType) → only_if (λ x. not (is_void x)) o ≡ Some u → (o ≡ Some u) × (is_void u ≡ false)
+pub not_void : (o : Option ValueType) (u : ValueType) → only_if (λ x. not (is_void x)) o ≡ Some u → (o ≡ Some u) × (is_void u ≡ false)
 not_void None u h = absurd (none_some u h)
 not_void (Some x) u h = by (is_void x) refl h
   where
@@ -88,7 +88,7 @@ not_void (Some x) u h = by (is_void x) refl h
     by true z h = absurd (none_some u h)
     by false z h = (h, subst (λ y. is_void y ≡ false) (some_same x u h) z)
 
-no_call : (k : Typed) (u : ValueType) → operand k ≡ Some u → (k.is_call ≡ false) × (k.type ≡ Some u) × (is_void u ≡ false)
+pub no_call : (k : Typed) (u : ValueType) → operand k ≡ Some u → (k.is_call ≡ false) × (k.type ≡ Some u) × (is_void u ≡ false)
 no_call k u h = by k.is_call refl h
   where
     by : (b : Bool) → k.is_call ≡ b → (if b then None else only_if (λ x. not (is_void x)) k.type) ≡ Some u → (k.is_call ≡ false) × (k.type ≡ Some u) × (is_void u ≡ false)
@@ -102,7 +102,7 @@ found_at test xs f h =
     let at : slice_get xs (position_or_len test xs) ≡ Some f = sym (find_at test xs) ∙ h in
     (position_or_len test xs, ap (λ b. cond b (Some (position_or_len test xs)) None) (lt-ltb _ _ (slice_get_within xs (position_or_len test xs) f at)), at)
 
-named_field : (p : NumberedProgram) (class name : ℕ) (type : ValueType) → named_field_type p class name ≡ Some type → (k : ℕ) × (field_numbered p name class ≡ Some k) × (field_type p class k ≡ Some type)
+pub named_field : (p : NumberedProgram) (class name : ℕ) (type : ValueType) → named_field_type p class name ≡ Some type → (k : ℕ) × (field_numbered p name class ≡ Some k) × (field_type p class k ≡ Some type)
 unfolding named_field_type
 named_field p class name type h =
     let f = mapped (λ (f : NumberedField). f.ty.type) (find (λ (f : NumberedField). f.name == name) (fields_of_class p class)) type h in
@@ -111,7 +111,7 @@ named_field p class name type h =
 
 -- ---- reads
 
-read_of : (w : Things) (l : Bool) (type : ValueType) (h : Held) → IsOf w type h → IsOf w (read_through l type) h
+pub read_of : (w : Things) (l : Bool) (type : ValueType) (h : Held) → IsOf w type h → IsOf w (read_through l type) h
 read_of w true type h k = k
 read_of w false (t.Class c l) h k = k
 read_of w false (t.Grid e n l) h k = k
@@ -140,7 +140,7 @@ read_dims false t.Null k = k
 read_dims false t.Void k = k
 
 module _ (p : NumberedProgram) where
-  needed_fine : (w : Things) (at : Place) (through : ValueType) (h : Held) (P : Things → Id → Type 0) → ((id : Id) → thing_of h ≡ Some id → P w id) → Sound p (λ u r. P u r.thing) w (needed at through h)
+  pub needed_fine : (w : Things) (at : Place) (through : ValueType) (h : Held) (P : Things → Id → Type 0) → ((id : Id) → thing_of h ≡ Some id → P w id) → Sound p (λ u r. P u r.thing) w (needed at through h)
   needed_fine w at through h P k =
       sound_then p (λ u id. (thing_of h ≡ Some id) × P u id) (λ u r. P u r.thing) w (found_or NullRef at (thing_of h)) _
       (sound_found p _ w NullRef at (thing_of h) (λ id z. (z, k id z))) (λ u g id z. sound_value p _ u _ z.1)
@@ -173,10 +173,10 @@ module _ (p : NumberedProgram) where
       (λ u g r z. sound_asked p _ u (request_through r at (act.MakeView r.thing view) (NewThing type)) (element, n, z, s) (λ x i answer q. q element n (grid_stays u x element n r.thing i z)))
 
 -- what a reference names
-object_of : (w : Things) (c : ℕ) (l : Bool) (h : Held) → IsOf w (t.Class c l) h → (id : Id) → thing_of h ≡ Some id → w.class_at id ≡ Some c
+pub object_of : (w : Things) (c : ℕ) (l : Bool) (h : Held) → IsOf w (t.Class c l) h → (id : Id) → thing_of h ≡ Some id → w.class_at id ≡ Some c
 object_of w c l h k id z = k.2 id (sym (ap thing_of k.1) ∙ z)
 
-grid_in : (w : Things) (element : ValueType) (n : ℕ) (l : Bool) (h : Held) → IsOf w (t.Grid element n l) h → (id : Id) → thing_of h ≡ Some id → IsGridOf w element n id
+pub grid_in : (w : Things) (element : ValueType) (n : ℕ) (l : Bool) (h : Held) → IsOf w (t.Grid element n l) h → (id : Id) → thing_of h ≡ Some id → IsGridOf w element n id
 grid_in w element n l h k id z = k.2 id (sym (ap thing_of k.1) ∙ z)
 
 -- ---- numbers
@@ -436,7 +436,7 @@ env_stays uses s u w env g f = record {
   points = f.points;
 }
 
-types_stay : (u w : Things) (ts : List ValueType) (hs : List Held) → Grows u w → AllOfTypes u ts hs → AllOfTypes w ts hs
+pub types_stay : (u w : Things) (ts : List ValueType) (hs : List Held) → Grows u w → AllOfTypes u ts hs → AllOfTypes w ts hs
 types_stay u w [] [] g a = tt
 types_stay u w (x ∷ xs) (h ∷ hs) g a = (of_stays u w x h g a.0, types_stay u w xs hs g a.1)
 types_stay u w [] (h ∷ hs) g a = absurd a
@@ -493,7 +493,7 @@ parts_many p s (e.MoreExp x xs) ts h =
     plus : (a b : ℕ) → a ≡ b → suc a ≡ b + 1
     plus a b h = omega arith
 
-seen_object : (type u : ValueType) (c : ℕ) (l : Bool) → type ≡ t.Class c l → Seen type u → u ≡ t.Class c l
+pub seen_object : (type u : ValueType) (c : ℕ) (l : Bool) → type ≡ t.Class c l → Seen type u → u ≡ t.Class c l
 seen_object type u c l z i = subst (λ q. Seen q u) z i
 
 never_called : (m : Option _) (o : Option (List ValueType)) (type : ValueType) → operand (called m o) ≡ Some type → ⊥
@@ -546,7 +546,7 @@ rects_dims (t.Rc n) (t.Rc m) r e d = subst DimsFine (where_some (n == m) (t.Rc n
 rects_dims (t.Rc n) _ r e d = absurd (none_some r e)
 rects_dims _ _ r e d = absurd (none_some r e)
 
-dims_in : (a : ValueType) (n : ℕ) → domain_dim a ≡ Some n → DimsFine a → IsDim n
+pub dims_in : (a : ValueType) (n : ℕ) → domain_dim a ≡ Some n → DimsFine a → IsDim n
 dims_in (t.Rc m) n e d = subst IsDim (some_same m n e) d
 dims_in (t.Dm m) n e d = subst IsDim (some_same m n e) d
 dims_in _ n e d = absurd (none_some n e)
@@ -641,11 +641,11 @@ index_static _ u r ts e i d = absurd (none_some r e)
 
 -- ---- members of the language
 
-abbrev MemberThere : NumberedProgram → Option ValueType → Option (List ValueType) → ℕ → ValueType → Type 0
+abbrev pub MemberThere : NumberedProgram → Option ValueType → Option (List ValueType) → ℕ → ValueType → Type 0
 MemberThere p o q name r =
     (type : ValueType) × (ts : List ValueType) × (o ≡ Some type) × (q ≡ Some ts) × (b : BuiltIn) × (built_in p name ≡ Some b) × (member_type b type ts ≡ Some r) × (is_object type ≡ false) × (is_void r ≡ false)
 
-member_there : (p : NumberedProgram) (o : Option ValueType) (q : Option (List ValueType)) (name : ℕ) (r : ValueType) → operand (typing.member p o name q) ≡ Some r → MemberThere p o q name r
+pub member_there : (p : NumberedProgram) (o : Option ValueType) (q : Option (List ValueType)) (name : ℕ) (r : ValueType) → operand (typing.member p o name q) ≡ Some r → MemberThere p o q name r
 member_there p None q name r h = absurd (none_some r h)
 member_there p (Some type) None name r h = absurd (none_some r h)
 member_there p (Some type) (Some ts) name r h = by type h
@@ -669,7 +669,7 @@ member_there p (Some type) (Some ts) name r h = by type h
     by t.Null h = given t.Null refl h
     by t.Void h = given t.Void refl h
 
-not_object : (type u : ValueType) → is_object type ≡ false → Seen type u → is_object u ≡ false
+pub not_object : (type u : ValueType) → is_object type ≡ false → Seen type u → is_object u ≡ false
 not_object (t.Pt n) u z i = ap is_object i.1
 not_object (t.Rc n) u z i = ap is_object i.1
 not_object (t.Dm n) u z i = ap is_object i.1

@@ -36,9 +36,9 @@ use Rattle.ti_lang.specs.Meaning.Asking.{Wanted, NewThing, told}
 use Rattle.ti_lang.specs.Meaning.RegionsOf.{is_region, is_made, is_place}
 use Rattle.ti_lang.specs.Meaning.HeapAnswers.{Outcome, Answers, Impossible, where_some, possible_if, faults_if, makes, places, is_dim, at_point, views, heap_answer, IsAnswered, more}
 use Rattle.ti_lang.proofs.MeaningLaws.Things.{made_once}
-use Rattle.ti_align.specs.Things.{Things, Grows, HasDims, IsGridOf, IsPlaced, IsOf}
+use Rattle.ti_align.specs.Things.{Things, Grows, HasDims, IsStorable, IsGridOf, IsPlaced, IsOf}
 use Rattle.ti_align.specs.Sound.{SuitsView, dims_viewed, IsFieldOf, IsThere, FitsAsked}
-use Rattle.ti_align.specs.Heap.{Elements, things_of, IsStorable, IsBlock, FieldsStorable, HeapFits, IsWantable, is_of_heap, elements_behind, MayHold, KeepsTypes}
+use Rattle.ti_align.specs.Heap.{Elements, things_of, IsBlock, FieldsStorable, HeapFits, is_of_heap, elements_behind, MayHold, KeepsTypes}
 use Rattle.ti_align.proofs.Vars.{true_false, and_left, and_right, if_true, if_false}
 use Rattle.ti_align.proofs.Operating.{none_some, some_same, ranges_dims, meet_dims}
 
@@ -416,7 +416,7 @@ module _ (p : NumberedProgram) (elements : Elements) (h : History) (answered : I
     Some new,
     refl,
     λ id z.
-        (view how k.0, if_true (same_id id new) _ _ (subst (λ x. same_id id x ≡ true) (sym (some_same new id z)) (same_self id)) ∙ ap (option_map (view how)) k.1, view_dims how n k.0.domain k.2, k.3),
+        (view how k.0, if_true (same_id id new) _ _ (subst (λ x. same_id id x ≡ true) (sym (some_same new id z)) (same_self id)) ∙ ap (option_map (view how)) k.1, view_dims how n k.0.domain k.2, k.3, k.4),
   )
 
   grid_behind : (element : ValueType) (n : ℕ) (first : Zero) (domain : Rect) (region : ℕ) (new : Id) → first ≡ zero_of_type element → HasDims n domain → IsStorable element
@@ -464,11 +464,11 @@ module _ (p : NumberedProgram) (elements : Elements) (h : History) (answered : I
         refl,
         λ id q.
             let x : same_id id new ≡ true = subst (λ x. same_id id x ≡ true) (sym (some_same new id q)) (same_self id) in
-            (whole_grid id first domain, if_true (same_id id new) _ _ x, d, if_true (same_id id new) _ _ x),
+            (whole_grid id first domain, if_true (same_id id new) _ _ x, d, if_true (same_id id new) _ _ x, s),
       )
 
-  pub behind : (a : Action) (wanted : Wanted) (r : Answer) → IsThere p (things_of elements h) a wanted → IsWantable wanted → heap_answer p h i a ≡ Answers r → Behind a wanted r
-  behind (act.GetField obj field) wanted r k w said = (
+  pub behind : (a : Action) (wanted : Wanted) (r : Answer) → IsThere p (things_of elements h) a wanted → heap_answer p h i a ≡ Answers r → Behind a wanted r
+  behind (act.GetField obj field) wanted r k said = (
     kept_same (act.GetField obj field) wanted r k said,
     grown_same (act.GetField obj field) r said,
     λ q type x.
@@ -476,16 +476,16 @@ module _ (p : NumberedProgram) (elements : Elements) (h : History) (answered : I
         let is : r ≡ Val v.0 = answer_same _ _ (sym (some_answer (cell_value p (Field obj field) h) v.0 _ _ v.1 said)) in
         of_stays _ _ type _ (grown_same (act.GetField obj field) r said) (subst (λ r. IsOf (things_of elements h) type (told r)) (sym is) v.2),
   )
-  behind (act.PutField obj field value) wanted r k w said = (kept_same (act.PutField obj field value) wanted r k said, grown_same (act.PutField obj field value) r said, λ q. _)
-  behind (act.NewObj class region) wanted r k w said =
+  behind (act.PutField obj field value) wanted r k said = (kept_same (act.PutField obj field value) wanted r k said, grown_same (act.PutField obj field value) r said, λ q. _)
+  behind (act.NewObj class region) wanted r k said =
       let is : r ≡ Val (v.Obj (Some (new_id i region h))) = makes_answer p h i (act.NewObj class region) (v.Obj (Some (new_id i region h))) r (places_answer region h _ r (some_answer (zeros_of_class p class) k.0 _ r k.1 said)) in
       (kept_same (act.NewObj class region) wanted r k said, grown_same (act.NewObj class region) r said, λ q. subst (λ r. IsOf (things_of elements (entry (act.NewObj class region) r ∷ h)) (t.Class class true) (told r)) (sym is) (object_fits class region (new_id i region h)))
-  behind (act.NewGrid first domain region) wanted r k w said =
+  behind (act.NewGrid first domain region) wanted r k said =
       let is : r ≡ Val (v.Grid (Some (new_id i region h))) = makes_answer p h i (act.NewGrid first domain region) (v.Grid (Some (new_id i region h))) r (places_answer region h _ r (possible_answer _ _ r said)) in
       subst (λ wanted. Behind (act.NewGrid first domain region) wanted r) (sym k.2)
       (subst (λ r. Behind (act.NewGrid first domain region) (NewThing (t.Grid k.0 k.1 true)) r) (sym is)
-      (grid_behind k.0 k.1 first domain region (new_id i region h) k.3 k.4 (subst IsWantable k.2 w) (said ∙ ap Answers is)))
-  behind (act.GetElem grid at) wanted r k w said = (
+      (grid_behind k.0 k.1 first domain region (new_id i region h) k.3 k.4 k.7 (said ∙ ap Answers is)))
+  behind (act.GetElem grid at) wanted r k said = (
     kept_same (act.GetElem grid at) wanted r k said,
     grown_same (act.GetElem grid at) r said,
     λ q element n x.
@@ -493,8 +493,8 @@ module _ (p : NumberedProgram) (elements : Elements) (h : History) (answered : I
         let is : r ≡ Val v.0 = answer_same _ _ (sym (some_answer (cell_value p (cell_of x.0 at) h) v.0 _ _ v.1 (faults_answer _ fault.Bounds _ _ (possible_answer _ _ r (some_answer (grid_of grid h) x.0 _ r x.1 said))))) in
         of_stays _ _ element _ (grown_same (act.GetElem grid at) r said) (subst (λ r. IsOf (things_of elements h) element (told r)) (sym is) v.2),
   )
-  behind (act.PutElem grid at value) wanted r k w said = (kept_same (act.PutElem grid at value) wanted r k said, grown_same (act.PutElem grid at value) r said, λ q. _)
-  behind (act.MakeView grid how) wanted r k w said =
+  behind (act.PutElem grid at value) wanted r k said = (kept_same (act.PutElem grid at value) wanted r k said, grown_same (act.PutElem grid at value) r said, λ q. _)
+  behind (act.MakeView grid how) wanted r k said =
       let is : r ≡ Val (v.Grid (Some (view_id i grid h))) = makes_answer p h i (act.MakeView grid how) (v.Grid (Some (view_id i grid h))) r (views_answer _ _ r (possible_answer _ _ r (some_answer (grid_of grid h) k.2.0 _ r k.2.1 said))) in (
         kept_same (act.MakeView grid how) wanted r k said,
         grown_same (act.MakeView grid how) r said,
@@ -504,26 +504,26 @@ module _ (p : NumberedProgram) (elements : Elements) (h : History) (answered : I
             (subst (λ m. IsOf (things_of elements (entry (act.MakeView grid how) r ∷ h)) (t.Grid k.0 (dims_viewed how m) true) (told r)) g.1
             (subst (λ r. IsOf (things_of elements (entry (act.MakeView grid how) r ∷ h)) (t.Grid k.0 (dims_viewed how k.1) true) (told r)) (sym is) (view_fits grid how (view_id i grid h) k.0 k.1 k.2))),
       )
-  behind (act.DomainOf grid) wanted r k w said = (
+  behind (act.DomainOf grid) wanted r k said = (
     kept_same (act.DomainOf grid) wanted r k said,
     grown_same (act.DomainOf grid) r said,
     λ q element n x.
         let is : r ≡ Val (v.Rc x.0.domain) = answer_same _ _ (sym (some_answer (grid_of grid h) x.0 _ r x.1 said)) in
         (x.0.domain, ap told is, x.2),
   )
-  behind (act.Print literal value) wanted r k w said = (kept_same (act.Print literal value) wanted r k said, grown_same (act.Print literal value) r said, λ q. absurd (true_false (sym q)))
-  behind (act.Arrive kind arg given) wanted r k w said = (kept_same (act.Arrive kind arg given) wanted r k said, grown_same (act.Arrive kind arg given) r said, λ q. absurd (true_false (sym q)))
-  behind act.Depart wanted r k w said = (kept_same act.Depart wanted r k said, grown_same act.Depart r said, λ q. absurd (true_false (sym q)))
-  behind (act.Take who) wanted r k w said = (kept_same (act.Take who) wanted r k said, grown_same (act.Take who) r said, λ q. absurd (true_false (sym q)))
-  behind act.End wanted r k w said = (kept_same act.End wanted r k said, grown_same act.End r said, λ q. absurd (true_false (sym q)))
-  behind (act.Fault kind) wanted r k w said = (kept_same (act.Fault kind) wanted r k said, grown_same (act.Fault kind) r said, λ q. absurd (true_false (sym q)))
+  behind (act.Print literal value) wanted r k said = (kept_same (act.Print literal value) wanted r k said, grown_same (act.Print literal value) r said, λ q. absurd (true_false (sym q)))
+  behind (act.Arrive kind arg given) wanted r k said = (kept_same (act.Arrive kind arg given) wanted r k said, grown_same (act.Arrive kind arg given) r said, λ q. absurd (true_false (sym q)))
+  behind act.Depart wanted r k said = (kept_same act.Depart wanted r k said, grown_same act.Depart r said, λ q. absurd (true_false (sym q)))
+  behind (act.Take who) wanted r k said = (kept_same (act.Take who) wanted r k said, grown_same (act.Take who) r said, λ q. absurd (true_false (sym q)))
+  behind act.End wanted r k said = (kept_same act.End wanted r k said, grown_same act.End r said, λ q. absurd (true_false (sym q)))
+  behind (act.Fault kind) wanted r k said = (kept_same (act.Fault kind) wanted r k said, grown_same (act.Fault kind) r said, λ q. absurd (true_false (sym q)))
 
 -- the heap keeps to the types
-pub keeps_types : (p : NumberedProgram) (elements : Elements) (h : History) (i : ℕ) (a : Action) (wanted : Wanted) → FieldsStorable p → IsAnswered p h → HeapFits p elements h → IsThere p (things_of elements h) a wanted → IsWantable wanted
+pub keeps_types : (p : NumberedProgram) (elements : Elements) (h : History) (i : ℕ) (a : Action) (wanted : Wanted) → FieldsStorable p → IsAnswered p h → HeapFits p elements h → IsThere p (things_of elements h) a wanted
     → KeepsTypes p elements h i a wanted
-keeps_types p elements h i a wanted s q f k w = record {
+keeps_types p elements h i a wanted s q f k = record {
   possible = λ t z. is_possible p elements h f s i a wanted t k z;
-  kept = λ place r said. (behind p elements h q f s i place a wanted r k w said).0;
-  grown = λ place r said. (behind p elements h q f s i place a wanted r k w said).1;
-  answered = λ place r t said. (behind p elements h q f s i place a wanted r k w said).2 t;
+  kept = λ place r said. (behind p elements h q f s i place a wanted r k said).0;
+  grown = λ place r said. (behind p elements h q f s i place a wanted r k said).1;
+  answered = λ place r t said. (behind p elements h q f s i place a wanted r k said).2 t;
 }

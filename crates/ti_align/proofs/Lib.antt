@@ -25,3 +25,8 @@ pub mod Computing
 pub mod Operating
 pub mod Evaluating
 pub mod Heaping
+pub mod Storing
+pub mod Performed
+pub mod Working
+pub mod Stated
+pub mod Framed

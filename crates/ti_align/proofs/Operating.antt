@@ -57,7 +57,7 @@ or_one : (b : Bool) → (b || false) ≡ true → b ≡ true
 or_one true h = refl
 or_one false h = absurd (true_false (sym h))
 
-or_either : (a b : Bool) → (a || b) ≡ true → (a ≡ true) ⊎ (b ≡ true)
+pub or_either : (a b : Bool) → (a || b) ≡ true → (a ≡ true) ⊎ (b ≡ true)
 or_either true b h = inl refl
 or_either false b h = inr h
 

@@ -20,7 +20,7 @@ use Rattle.ti_lang.specs.Meaning.Histories.{History}
 use Rattle.ti_lang.specs.Meaning.RegionsOf.{is_made}
 use Rattle.ti_lang.specs.Meaning.HeapOf.{class_of, grid_of, last_written}
 use Rattle.ti_lang.specs.Meaning.HeapAnswers.{Answers, Impossible, heap_answer}
-use Rattle.ti_align.specs.Things.{Things, Grows, IsOf}
+use Rattle.ti_align.specs.Things.{Things, Grows, IsStorable, IsOf}
 use Rattle.ti_align.specs.Sound.{IsFieldOf, FitsAsked}
 
 -- the types of the elements of blocks
@@ -30,14 +30,6 @@ Elements = Id → Option ValueType
 -- what is there after a history, where the elements of blocks have these types
 abbrev pub things_of : Elements → History → Things
 things_of elements h = record { class_at = λ id. class_of id h; grid_at = λ id. grid_of id h; element_at = elements; is_made = λ r. is_made r h }
-
--- a type that a field or an element may have
-abbrev pub IsStorable : ValueType → Type 0
-IsStorable (t.Dm n) = ⊥
-IsStorable t.Region = ⊥
-IsStorable t.Null = ⊥
-IsStorable t.Void = ⊥
-IsStorable type = Unit {0}
 
 -- the block is a grid of zeros of the type of its elements, which may have it
 abbrev pub IsBlock : History → Id → ValueType → Type 0
@@ -58,11 +50,6 @@ pub record HeapFits (p : NumberedProgram) (elements : Elements) (h : History) : 
   pub blocks : (block : Id) (type : ValueType) → elements block ≡ Some type → IsBlock h block type
 
 -- ---- an action
-
--- a type of whose elements a grid may be made
-abbrev pub IsWantable : Wanted → Type 0
-IsWantable (NewThing (t.Grid element n is_local)) = IsStorable element
-IsWantable wanted = Unit {0}
 
 -- the types of the elements behind an entry: a new grid is a block of its own
 abbrev pub elements_behind : Elements → Action → Wanted → Answer → Elements

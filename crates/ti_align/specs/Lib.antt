@@ -5,3 +5,4 @@ pub mod Things
 pub mod Sound
 pub mod Fitting
 pub mod Heap
+pub mod Work

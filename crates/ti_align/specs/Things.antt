@@ -33,9 +33,17 @@ pub record Grows (u w : Things) : Type 0 where
 abbrev pub HasDims : ℕ → Rect → Type 0
 HasDims n r = (r.dim ≡ n) × (r.lo.dim ≡ n) × (r.hi.dim ≡ n)
 
+-- a type that a field or an element may have
+abbrev pub IsStorable : ValueType → Type 0
+IsStorable (t.Dm n) = ⊥
+IsStorable t.Region = ⊥
+IsStorable t.Null = ⊥
+IsStorable t.Void = ⊥
+IsStorable type = Unit {0}
+
 -- the thing is a grid of so many dimensions, whose elements have this type
 abbrev pub IsGridOf : Things → ValueType → ℕ → Id → Type 0
-IsGridOf w element n id = (g : Grid) × (w.grid_at id ≡ Some g) × HasDims n g.domain × (w.element_at g.block ≡ Some element)
+IsGridOf w element n id = (g : Grid) × (w.grid_at id ≡ Some g) × HasDims n g.domain × (w.element_at g.block ≡ Some element) × IsStorable element
 
 -- things are placed there: in none, or in a region that was made
 abbrev pub IsPlaced : Things → ℕ → Type 0
