@@ -145,7 +145,7 @@ frame_env pr f left w vs this k = record {
     value_fits d x type u z = by x.declared refl u z
       where
         by : (d : Declaration) → x.declared ≡ d → may_use m x.number d ≡ true → declared_type s x.number d ≡ Some type → IsOf w type (value_by d (env_of pr f left) x)
-        by (t.Typed l a) e u z = subst (λ b. IsOf w b (find_variable x f.variables)) (some_same a type z) (subst (λ d. IsOf w (scoping.declared_type d) (find_variable x f.variables)) e (found_fits w x f.variables vs))
+        by (t.Typed l a) e u z = subst (λ b. IsOf w b (find_variable x f.variables)) (some_same a type z) (subst (λ d. IsOf w (scoping.declared_type d) (find_variable x f.variables)) e (found_fits w x f.variables (subst (λ d. DimsFine (scoping.declared_type d)) (sym e) (dims_fine a u)) vs))
         by t.Foreach e u z = let k = stands x.number type u z in subst (λ b. IsOf w b (point_at x.number (turns_at left))) (sym k.1) k.3
 
     dims_fit : (d : Declaration) (number : ℕ) (type : ValueType) → may_use m number d ≡ true → declared_type s number d ≡ Some type → DimsFine type

@@ -2,6 +2,7 @@
 use Rattle.std.proofs.Common.{◌≡◌, ℕ, ◌==◌, slice_index_or, Bool, true, false, ◌&&◌, inl, inr, if◌then◌else◌, option_map, option_and_then, Option, Some, None, List, [], ◌∷◌, refl, ap, sym, ◌∙◌, subst, eqb-true}
 use Rattle.ti_base.specs.declared.place.Place.{Place}
 use Rattle.ti_base.specs.declared.fault.FaultKind.TheVariants as faults
+use Rattle.ti_base.specs.declared.point.Point.{Point}
 use Rattle.ti_base.specs.Rects.{points_of, meet}
 use Rattle.ti_base.specs.PointSets.{AllOf}
 use Rattle.ti_lang.specs.Program.Types.{ValueType}
@@ -102,6 +103,10 @@ read_value Exchange a u ts k z = absurd (true_false (sym k))
 read_value Delete a u ts k z = absurd (true_false (sym k))
 read_value _ a u ts k z = absurd (none_some u z)
 
+common_dims : (b : Bool) (n : ℕ) (ps : List Point) → AllOf n ps → AllOf n (if b then ps else [])
+common_dims true n ps k = k
+common_dims false n ps k = tt
+
 module _ (s : ScopeContents) (env : Env) where
   abbrev p : NumberedProgram
   p = env.program
@@ -131,7 +136,7 @@ module _ (s : ScopeContents) (env : Env) where
       let dims = meet_dims n (rect_of h3) (rect_of h4) (subst (λ x. Things.HasDims n x) (sym (ap rect_of y3.1)) y3.2) in
       sound_value p _ f4 _ (
         variables_stay w f4 env.variables from_w r.variables,
-        ((d, n, grid_stays f f4 d n to.thing all z, grid_stays f2 f4 d n from.thing (grows_then f2 f3 f4 v3 v4) z2, subst (λ k. AllOf k (points_of (meet (rect_of h3) (rect_of h4)))) dims.0 (points_dim (meet (rect_of h3) (rect_of h4)))), tt),
+        ((d, n, grid_stays f f4 d n to.thing all z, grid_stays f2 f4 d n from.thing (grows_then f2 f3 f4 v3 v4) z2, common_dims ((rect_of h3).dim == (rect_of h4).dim) n _ (subst (λ k. AllOf k (points_of (meet (rect_of h3) (rect_of h4)))) dims.0 (points_dim (meet (rect_of h3) (rect_of h4))))), tt),
       )))))))
   copies_fine w r at x args _ u (y ∷ []) z k j q = absurd (true_false (sym (where_some _ t.Void u z).0))
   copies_fine w r at x args _ u [] z k j q = absurd (none_some u z)

@@ -26,7 +26,7 @@ use Rattle.ti_lang.specs.Meaning.Evaluation.{eval, eval_numbers}
 use Rattle.ti_lang.specs.Meaning.Targets.{Target, InVariable, InPart, located, held_in, stored, into}
 use Rattle.ti_rules.specs.Broken.Targets.{is_foreach_use}
 use Rattle.ti_rules.specs.Broken.Statements.{narrows}
-use Rattle.ti_align.specs.Things.{Things, Grows, IsStorable, IsGridOf, IsOf}
+use Rattle.ti_align.specs.Things.{Things, Grows, IsStorable, IsGridOf, IsOf, DimsFine}
 use Rattle.ti_align.specs.Sound.{IsFieldOf, Sound}
 use Rattle.ti_align.specs.Fitting.{EnvFits, FieldsFit}
 use Rattle.ti_align.specs.Heap.{FieldsStorable}
@@ -34,7 +34,7 @@ use Rattle.ti_align.specs.Work.{VariablesFit, uses_of, IsTarget, ReceiverFits}
 use Rattle.ti_align.proofs.Vars.{true_false, and_left, and_right}
 use Rattle.ti_align.proofs.Computing.{grows_not, grows_then, grid_stays, of_stays, sound_then, sound_value, sound_asked}
 use Rattle.ti_align.proofs.Operating.{none_some, some_same, where_some, or_either, type_same, Seen, seen_same, converted_fine, cast_fine, operated_fine}
-use Rattle.ti_align.proofs.Evaluating.{and_then, mapped, both_there, no_call, named_field, needed_fine, object_of, grid_in, ints_count, counts, Evaluates, env_stays, zero_fine, eval_fine, numbers_fine}
+use Rattle.ti_align.proofs.Evaluating.{and_then, mapped, both_there, no_call, named_field, needed_fine, object_of, grid_in, ints_count, counts, Evaluates, env_stays, point_dim, zero_fine, eval_fine, numbers_fine}
 
 -- ---- types that are alike
 
@@ -110,13 +110,13 @@ same_declared t.Foreach t.Foreach h = refl
 same_declared (t.Typed l a) t.Foreach h = absurd (true_false (sym h))
 same_declared t.Foreach (t.Typed l a) h = absurd (true_false (sym h))
 
-pub found_fits : (w : Things) (x : VariableUse) (xs : List Variable) → VariablesFit w xs → IsOf w (declared_type x.declared) (find_variable x xs)
-found_fits w x [] f = by x.declared
+pub found_fits : (w : Things) (x : VariableUse) (xs : List Variable) → DimsFine (declared_type x.declared) → VariablesFit w xs → IsOf w (declared_type x.declared) (find_variable x xs)
+found_fits w x [] d f = by x.declared d
   where
-    by : (d : Declaration) → IsOf w (declared_type d) (zero_declared d)
-    by (t.Typed l a) = zero_fine w a
-    by t.Foreach = tt
-found_fits w x (y ∷ ys) f = by (same_variable x y.named) refl (found_fits w x ys f.1)
+    by : (d : Declaration) → DimsFine (declared_type d) → IsOf w (declared_type d) (zero_declared d)
+    by (t.Typed l a) d = zero_fine w a d
+    by t.Foreach d = tt
+found_fits w x (y ∷ ys) d f = by (same_variable x y.named) refl (found_fits w x ys d f.1)
   where
     by : (b : Bool) → same_variable x y.named ≡ b → IsOf w (declared_type x.declared) (find_variable x ys) → IsOf w (declared_type x.declared) (if b then y.held else find_variable x ys)
     by true z k = subst (λ a. IsOf w a y.held) (sym (same_declared x.declared y.named.declared (and_right (x.number == y.named.number) _ z))) f.0
@@ -165,21 +165,21 @@ module _ (s : ScopeContents) (w : Things) (env : Env) (f : EnvFits (uses_of env.
       by (t.Typed l a) z i = sym (some_same a u z)
       by t.Foreach z i = absurd (true_false i)
 
-  index_dims : (a u : ValueType) (ts : List ValueType) (h : Held) (zs : List ℤ) (through : ValueType) (x : Things) → index_type a ts ≡ Some u → IsOf x a h → length zs ≡ counts ts → TargetFits p x u (InPart (Element h through (point_of_numbers zs)))
-  index_dims (t.Pt n) u ts h zs through x z k c = λ id q. absurd (none_some id (sym (ap thing_of k.1) ∙ q))
-  index_dims (t.Grid a n l) u ts h zs through x z k c = λ id q. by ts z c (grid_in x a n l h k id q)
+  index_dims : (a u : ValueType) (ts : List ValueType) (h : Held) (zs : List ℤ) (through : ValueType) (x : Things) → index_type a ts ≡ Some u → DimsFine a → IsOf x a h → length zs ≡ counts ts → TargetFits p x u (InPart (Element h through (point_of_numbers zs)))
+  index_dims (t.Pt n) u ts h zs through x z d k c = λ id q. absurd (none_some id (sym (ap thing_of k.1) ∙ q))
+  index_dims (t.Grid a n l) u ts h zs through x z d k c = λ id q. by ts z c (grid_in x a n l h k id q)
     where
-      by : (ts : List ValueType) → index_type (t.Grid a n l) ts ≡ Some u → length zs ≡ counts ts → {id : Id} → IsGridOf x a n id → (b : ValueType) × (m : ℕ) × (as_global u ≡ as_global b) × IsGridOf x b m id × (length zs ≡ m)
+      by : (ts : List ValueType) → index_type (t.Grid a n l) ts ≡ Some u → length zs ≡ counts ts → {id : Id} → IsGridOf x a n id → (b : ValueType) × (m : ℕ) × (as_global u ≡ as_global b) × IsGridOf x b m id × ((point_of_numbers zs).dim ≡ m)
       by (t.Pt m ∷ []) z c i =
           let q = where_some (n == m) (read_through l a) u z in
-          (a, n, ap as_global (sym q.1) ∙ read_alike l a, i, c ∙ plus_zero m ∙ sym (eqb-true n m q.0))
+          (a, n, ap as_global (sym q.1) ∙ read_alike l a, i, point_dim zs n (c ∙ plus_zero m ∙ sym (eqb-true n m q.0)) d.0)
         where
           plus_zero : (m : ℕ) → m + 0 ≡ m
           plus_zero m = omega arith
       by ts z c i =
           let q = where_some (all_ints ts && (length ts == n)) (read_through l a) u z in
-          (a, n, ap as_global (sym q.1) ∙ read_alike l a, i, c ∙ ints_count ts (and_left (all_ints ts) (length ts == n) q.0) ∙ eqb-true (length ts) n (and_right (all_ints ts) (length ts == n) q.0))
-  index_dims _ u ts h zs through x z k c = absurd (none_some u z)
+          (a, n, ap as_global (sym q.1) ∙ read_alike l a, i, point_dim zs n (c ∙ ints_count ts (and_left (all_ints ts) (length ts == n) q.0) ∙ eqb-true (length ts) n (and_right (all_ints ts) (length ts == n) q.0)) d.0)
+  index_dims _ u ts h zs through x z d k c = absurd (none_some u z)
 
   located_fine : (target : NumberedExp) (u : ValueType) → IsTarget p env.method s target u → Sound p (λ x y. TargetFits p x u y) w (located env target)
   located_fine (e.Variable at x) u k = sound_value p _ w _ (variable_target at x u k)
@@ -202,18 +202,19 @@ module _ (s : ScopeContents) (w : Things) (env : Env) (f : EnvFits (uses_of env.
       select _ z k = absurd (none_some u z)
   located_fine (e.Index at a parts) u k =
       let q = both_there index_type (operand_type p s a) (operands p s parts) u (plainly _ u k.0.1) in
-      sound_then p (λ x h. IsOf x q.0 h) _ w (eval env a) _ (eval_fine (uses_of env.method) s w env f g a k.0.0.0 q.0 q.2).sound (λ x j h y.
+      let r = eval_fine (uses_of env.method) s w env f g a k.0.0.0 q.0 q.2 in
+      sound_then p (λ x h. IsOf x q.0 h) _ w (eval env a) _ r.sound (λ x j h y.
       sound_then p (λ z zs. length zs ≡ counts q.1) _ x (eval_numbers env parts) _ (numbers_fine (uses_of env.method) s x env (env_stays (uses_of env.method) s w x env j f) g parts k.0.0.1 q.1 q.3) (λ z l zs c.
-      sound_value p _ z _ (index_dims q.0 u q.1 h zs (type_of env a) z q.4 (of_stays x z q.0 h l y) c)))
+      sound_value p _ z _ (index_dims q.0 u q.1 h zs (type_of env a) z q.4 r.dims (of_stays x z q.0 h l y) c)))
   located_fine _ u k = sound_value p _ w _ (λ id z. absurd (none_some id z))
 
   -- what a target holds
-  held_fine : (at : Place) (u type : ValueType) (x : Target) → TargetFits p w u x → VariablesFit w env.variables → Sound p (λ y h. IsOf y u h) w (held_in env at type x)
-  held_fine at u type (InVariable x) k v = sound_value p _ w _ (subst (λ a. IsOf w a (find_variable x env.variables)) (sym k) (found_fits w x env.variables v))
-  held_fine at u type (InPart (Field object through field)) k v =
+  held_fine : (at : Place) (u type : ValueType) (x : Target) → DimsFine u → TargetFits p w u x → VariablesFit w env.variables → Sound p (λ y h. IsOf y u h) w (held_in env at type x)
+  held_fine at u type (InVariable x) d k v = sound_value p _ w _ (subst (λ a. IsOf w a (find_variable x env.variables)) (sym k) (found_fits w x env.variables (subst DimsFine k d) v))
+  held_fine at u type (InPart (Field object through field)) d k v =
       sound_then p (λ x (r : Reference). (a : ValueType) × (as_global u ≡ as_global a) × IsFieldOf p x r.thing field a) _ w (needed at through object) _ (needed_fine p w at through object (λ x id. (a : ValueType) × (as_global u ≡ as_global a) × IsFieldOf p x id field a) k) (λ x j r z.
       sound_asked p _ x (request_through r at (act.GetField r.thing field) (ValueOf type)) (z.0, z.2) (λ y l answer q. alike y z.0 u _ (sym z.1) (q z.0 (z.2.0, l.classes r.thing z.2.0 z.2.1, z.2.2))))
-  held_fine at u type (InPart (Element grid through index)) k v =
+  held_fine at u type (InPart (Element grid through index)) d k v =
       sound_then p (λ x (r : Reference). (a : ValueType) × (n : ℕ) × (as_global u ≡ as_global a) × IsGridOf x a n r.thing × (index.dim ≡ n)) _ w (needed at through grid) _ (needed_fine p w at through grid (λ x id. (a : ValueType) × (n : ℕ) × (as_global u ≡ as_global a) × IsGridOf x a n id × (index.dim ≡ n)) k) (λ x j r z.
       sound_asked p _ x (request_through r at (act.GetElem r.thing index) (ValueOf type)) (z.0, z.1, z.3, z.4) (λ y l answer q. alike y z.0 u _ (sym z.2) (q z.0 z.1 (grid_stays x y z.0 z.1 r.thing l z.3))))
 
@@ -270,12 +271,12 @@ into_fine s w env f g d v (Assigned at target) type right k r =
     stored_fine s a env fits_there g d at k.0 place i (target_stays p x a k.0 place (grows_two x z a l m) y) (variables_stay w a env.variables (grows_all w x z a j l m) v) q)))
 into_fine s w env f g d v (Updated at op target) type right k r =
     let p = env.program in
-    let seen = (eval_fine (uses_of env.method) s w env f g target k.2.0.0 k.0 k.2.0.1).seen in
+    let told = eval_fine (uses_of env.method) s w env f g target k.2.0.0 k.0 k.2.0.1 in
     sound_then p (λ x y. TargetFits p x k.0 y) _ w (located env target) _ (located_fine s w env f g target k.0 k.2) (λ x j place y.
     sound_then p (λ x h. IsOf x k.0 h) _ x (held_in env (place_of_numbered target) (type_of env target) place) _
-    (held_fine s x env (env_stays (uses_of env.method) s w x env j f) g (place_of_numbered target) k.0 (type_of env target) place y (variables_stay w x env.variables j v)) (λ b n old old_is.
+    (held_fine s x env (env_stays (uses_of env.method) s w x env j f) g (place_of_numbered target) k.0 (type_of env target) place told.dims y (variables_stay w x env.variables j v)) (λ b n old old_is.
     sound_then p (λ x h. IsOf x type h) _ b right _ (r b (grows_two w x b j n)) (λ z l h o.
     sound_then p (λ x h. IsOf x k.1 h) _ z (operated at op old h) _ (operated_fine p z at k.0 type k.1 k.0 type old h (seen_same k.0) (seen_same type) (of_stays b z k.0 old l old_is) o op k.3).0 (λ c m new new_is.
-    sound_then p (λ x h. IsOf x k.0 h) _ c (converted at (type_of env target) new) _ (into_fine_update p c at k.1 k.0 _ new k.4 seen new_is) (λ a q i i_is.
+    sound_then p (λ x h. IsOf x k.0 h) _ c (converted at (type_of env target) new) _ (into_fine_update p c at k.1 k.0 _ new k.4 told.seen new_is) (λ a q i i_is.
     let all = grows_two w b a (grows_two w x b j n) (grows_all b z c a l m q) in
     stored_fine s a env (env_stays (uses_of env.method) s w a env all f) g d at k.0 place i (target_stays p x a k.0 place (grows_two x b a n (grows_all b z c a l m q)) y) (variables_stay w a env.variables all v) i_is)))))
