@@ -190,6 +190,7 @@ count_of type = 1
 dim_is : (n : ℕ) → IsDim n → is_dim n ≡ true
 dim_is n d = ap₂ (λ a b. a && b) (le-leb 1 n d.0) (le-leb n 3 d.1)
 
+-- a point of one to three numbers has as many dimensions
 pub point_dim : (zs : List ℤ) (n : ℕ) → length zs ≡ n → IsDim n → (point_of_numbers zs).dim ≡ n
 point_dim zs n h d = (rw (dim_is (length zs) (subst IsDim (sym h) d)) refl) ∙ h
 
@@ -501,10 +502,10 @@ never_called m None type h = none_some type h
 never_called None (Some ts) type h = none_some type h
 never_called (Some m) (Some ts) type h = none_some type h
 
--- a zero of each type
 zero_there : (n : ℕ) (h : Held) → IsDim n → where_dim n h ≡ h
 zero_there n h d = ap (λ b. if b then h else nothing) (dim_is n d)
 
+-- a zero of each type
 pub zero_fine : (w : Things) (type : ValueType) → DimsFine type → IsOf w type (zero_of type)
 zero_fine w t.Int d = (_, refl)
 zero_fine w t.Long d = (_, refl)
@@ -728,6 +729,7 @@ made_dims : (lo hi step : Point) → HasDims lo.dim (made lo hi step)
 made_dims lo hi step =
     ranges_dims lo.dim (tidy (record { low = lo.x1; high = hi.x1; step = natural step.x1 })) (used lo.dim 2 (record { low = lo.x2; high = hi.x2; step = natural step.x2 })) (used lo.dim 3 (record { low = lo.x3; high = hi.x3; step = natural step.x3 }))
 
+-- the domain within bounds of so many coordinates
 bounds_dims : (n : ℕ) (b : literal.Bounds) → AreOf n b → IsDim n → HasDims n (rect_of_bounds b)
 bounds_dims n b h d =
     let even : is_even b ≡ true = ap₂ (λ x y. x && y) (ap₂ (λ x y. x && y) (dim_is (length b.low) (subst IsDim (sym h.0) d)) (eq-eqb (length b.high) (length b.low) (h.1 ∙ sym h.0))) (eq-eqb (length b.step) (length b.low) (h.2 ∙ sym h.0)) in
