@@ -1,0 +1,25 @@
+-- The laws of every run of a checked program.
+use Rattle.ti_lang.specs.Program.Classes.{NumberedProgram}
+use Rattle.ti_lang.specs.Meaning.Processes.{Setting}
+use Rattle.ti_rules.specs.ProgramRefusals.{IsChecked}
+use Rattle.ti_align.specs.Alignment.{ArrivalsAgree, NoneAfterEnd, OfEveryRun}
+use Rattle.ti_align.specs.Stopping.{NoneWaits}
+use Rattle.ti_align.proofs.Aligning as aligning
+use Rattle.ti_align.proofs.Rounds.{same_departures}
+use Rattle.ti_align.proofs.Stopping as stopping
+use Rattle.ti_align.proofs.Checked.{checked_fine}
+
+pub arrivals_agree : (p : NumberedProgram) → IsChecked p → OfEveryRun ArrivalsAgree p
+arrivals_agree p c procs fuel es a b d e w =
+    let s : Setting = record { program = p; procs = procs; fuel = fuel } in
+    let fine = checked_fine p c in
+    aligning.arrivals_agree s fine es w (same_departures s fine es w)
+
+pub none_after_end : (p : NumberedProgram) → IsChecked p → OfEveryRun NoneAfterEnd p
+none_after_end p c procs fuel es a b d e w =
+    let s : Setting = record { program = p; procs = procs; fuel = fuel } in
+    let fine = checked_fine p c in
+    aligning.none_after_end s fine es w (same_departures s fine es w)
+
+pub none_waits : (p : NumberedProgram) → IsChecked p → OfEveryRun NoneWaits p
+none_waits p c procs fuel es a b d e w = stopping.none_waits (record { program = p; procs = procs; fuel = fuel }) es w (arrivals_agree p c procs fuel es a b d e w) (none_after_end p c procs fuel es a b d e w)

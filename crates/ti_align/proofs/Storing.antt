@@ -1,0 +1,282 @@
+-- What a receiver takes: variables and cells keep to their types.
+use Rattle.std.proofs.Common.{◌≡◌, ◌⊎◌, ℕ, ℤ, ◌+◌, length, Bool, true, false, not, ◌&&◌, ◌||◌, ◌==◌, inl, inr, if◌then◌else◌, unwrap_or, option_and_then, Option, Some, List, [], ◌∷◌, refl, ap, sym, ◌∙◌, subst, arith, eqb-true}
+use Rattle.std.specs.List.{list_any}
+use Rattle.ti_base.specs.declared.place.Place.{Place}
+use Rattle.ti_base.specs.declared.value.Id.{Id}
+use Rattle.ti_base.specs.declared.action.Action.TheVariants as act
+use Rattle.ti_lang.specs.Program.Types.{ValueType, Declaration, VariableUse}
+use Rattle.ti_lang.specs.Program.Types as t
+use Rattle.ti_lang.specs.Program.Expressions.{NumberedExp, place_of_numbered}
+use Rattle.ti_lang.specs.Program.Expressions as e
+use Rattle.ti_lang.specs.Program.Classes.{NumberedProgram}
+use Rattle.ti_lang.specs.Program.Scope.{ScopeContents}
+use Rattle.ti_lang.specs.Typing.Kinds.{as_global, read_through, class_of_type}
+use Rattle.ti_lang.specs.Typing.Fits.{fits}
+use Rattle.ti_lang.specs.Typing.Declared.{variable_type, field_type, field_numbered, named_field_type}
+use Rattle.ti_lang.specs.Typing.Expressions.{plain, operand, all_ints, index_type, select_type, operands, operand_type}
+use Rattle.ti_lang.specs.Meaning.Held.{Held, Plain, thing_of, plain_of}
+use Rattle.ti_lang.specs.Meaning.Asking.{ToBeDone, ValueOf, Reference, request_through, Asking, gives, asked, needed}
+use Rattle.ti_lang.specs.Meaning.Literals.{point_of_numbers}
+use Rattle.ti_lang.specs.Meaning.Conversions.{converted}
+use Rattle.ti_lang.specs.Meaning.Operators.{operated}
+use Rattle.ti_lang.specs.Meaning.Parts.{Field, Element}
+use Rattle.ti_lang.specs.Meaning.Processes.{Variable, Receiver, Nowhere, Declared, Assigned, Updated}
+use Rattle.ti_lang.specs.Meaning.Scoping.{Env, same_declaration, same_variable, declared_type, zero_declared, find_variable, with_changed, without, type_of, field_selected}
+use Rattle.ti_lang.specs.Meaning.Evaluation.{eval, eval_numbers}
+use Rattle.ti_lang.specs.Meaning.Targets.{Target, InVariable, InPart, located, held_in, stored, into}
+use Rattle.ti_rules.specs.Broken.Targets.{is_foreach_use}
+use Rattle.ti_rules.specs.Broken.Statements.{narrows}
+use Rattle.ti_align.specs.Things.{Things, Grows, IsStorable, IsGridOf, IsOf, DimsFine}
+use Rattle.ti_align.specs.Sound.{IsFieldOf, Sound}
+use Rattle.ti_align.specs.Fitting.{EnvFits, FieldsFit}
+use Rattle.ti_align.specs.Heap.{FieldsStorable}
+use Rattle.ti_align.specs.Work.{VariablesFit, uses_of, IsTarget, ReceiverFits}
+use Rattle.ti_align.proofs.Vars.{true_false, and_left, and_right}
+use Rattle.ti_align.proofs.Computing.{grows_not, grows_then, grid_stays, of_stays, sound_then, sound_value, sound_asked}
+use Rattle.ti_align.proofs.Operating.{none_some, some_same, where_some, or_either, type_same, Seen, seen_same, converted_fine, cast_fine, operated_fine}
+use Rattle.ti_align.proofs.Evaluating.{and_then, mapped, both_there, no_call, named_field, needed_fine, object_of, grid_in, ints_count, counts, Evaluates, env_stays, point_dim, zero_fine, eval_fine, numbers_fine}
+
+-- ---- types that are alike
+
+pub global_twice : (a : ValueType) → as_global (as_global a) ≡ as_global a
+global_twice (t.Class c l) = refl
+global_twice (t.Grid e n l) = refl
+global_twice t.Int = refl
+global_twice t.Long = refl
+global_twice t.Boolean = refl
+global_twice (t.Pt n) = refl
+global_twice (t.Rc n) = refl
+global_twice (t.Dm n) = refl
+global_twice t.Region = refl
+global_twice t.Null = refl
+global_twice t.Void = refl
+
+pub to_global : (w : Things) (a : ValueType) (h : Held) → IsOf w a h → IsOf w (as_global a) h
+to_global w (t.Class c l) h k = k
+to_global w (t.Grid e n l) h k = k
+to_global w t.Int h k = k
+to_global w t.Long h k = k
+to_global w t.Boolean h k = k
+to_global w (t.Pt n) h k = k
+to_global w (t.Rc n) h k = k
+to_global w (t.Dm n) h k = k
+to_global w t.Region h k = k
+to_global w t.Null h k = k
+to_global w t.Void h k = k
+
+from_global : (w : Things) (a : ValueType) (h : Held) → IsOf w (as_global a) h → IsOf w a h
+from_global w (t.Class c l) h k = k
+from_global w (t.Grid e n l) h k = k
+from_global w t.Int h k = k
+from_global w t.Long h k = k
+from_global w t.Boolean h k = k
+from_global w (t.Pt n) h k = k
+from_global w (t.Rc n) h k = k
+from_global w (t.Dm n) h k = k
+from_global w t.Region h k = k
+from_global w t.Null h k = k
+from_global w t.Void h k = k
+
+alike : (w : Things) (a b : ValueType) (h : Held) → as_global a ≡ as_global b → IsOf w a h → IsOf w b h
+alike w a b h z k = from_global w b h (subst (λ c. IsOf w c h) z (to_global w a h k))
+
+read_alike : (l : Bool) (a : ValueType) → as_global (read_through l a) ≡ as_global a
+read_alike true a = refl
+read_alike false a = global_twice a
+
+-- what goes into a cell
+pub plain_is : (w : Things) (a : ValueType) (h : Held) → IsStorable a → IsOf w a h → IsOf w a (Plain (plain_of h))
+plain_is w t.Int h s k = (k.0, ap (λ y. Plain (plain_of y)) k.1)
+plain_is w t.Long h s k = (k.0, ap (λ y. Plain (plain_of y)) k.1)
+plain_is w t.Boolean h s k = (k.0, ap (λ y. Plain (plain_of y)) k.1)
+plain_is w (t.Pt n) h s k = (k.0, ap (λ y. Plain (plain_of y)) k.1, k.2)
+plain_is w (t.Rc n) h s k = (k.0, ap (λ y. Plain (plain_of y)) k.1, k.2)
+plain_is w (t.Class c l) h s k = (k.0, ap (λ y. Plain (plain_of y)) k.1, k.2)
+plain_is w (t.Grid e n l) h s k = (k.0, ap (λ y. Plain (plain_of y)) k.1, k.2)
+plain_is w (t.Dm n) h s k = absurd s
+plain_is w t.Region h s k = absurd s
+plain_is w t.Null h s k = absurd s
+plain_is w t.Void h s k = absurd s
+
+-- ---- variables
+
+pub variables_stay : (u w : Things) (xs : List Variable) → Grows u w → VariablesFit u xs → VariablesFit w xs
+variables_stay u w [] g f = tt
+variables_stay u w (x ∷ xs) g f = (of_stays u w _ x.held g f.0, variables_stay u w xs g f.1)
+
+same_declared : (d c : Declaration) → same_declaration d c ≡ true → declared_type d ≡ declared_type c
+same_declared (t.Typed l a) (t.Typed m b) h = type_same a b (and_right _ _ h)
+same_declared t.Foreach t.Foreach h = refl
+same_declared (t.Typed l a) t.Foreach h = absurd (true_false (sym h))
+same_declared t.Foreach (t.Typed l a) h = absurd (true_false (sym h))
+
+pub found_fits : (w : Things) (x : VariableUse) (xs : List Variable) → DimsFine (declared_type x.declared) → VariablesFit w xs → IsOf w (declared_type x.declared) (find_variable x xs)
+found_fits w x [] d f = by x.declared d
+  where
+    by : (d : Declaration) → DimsFine (declared_type d) → IsOf w (declared_type d) (zero_declared d)
+    by (t.Typed l a) d = zero_fine w a d
+    by t.Foreach d = tt
+found_fits w x (y ∷ ys) d f = by (same_variable x y.named) refl (found_fits w x ys d f.1)
+  where
+    by : (b : Bool) → same_variable x y.named ≡ b → IsOf w (declared_type x.declared) (find_variable x ys) → IsOf w (declared_type x.declared) (if b then y.held else find_variable x ys)
+    by true z k = subst (λ a. IsOf w a y.held) (sym (same_declared x.declared y.named.declared (and_right (x.number == y.named.number) _ z))) f.0
+    by false z k = k
+
+changed_fits : (w : Things) (x : VariableUse) (h : Held) (xs : List Variable) → IsOf w (declared_type x.declared) h → VariablesFit w xs → VariablesFit w (with_changed x h xs)
+changed_fits w x h [] k f = tt
+changed_fits w x h (y ∷ ys) k f = by (same_variable x y.named) refl (changed_fits w x h ys k f.1)
+  where
+    by : (b : Bool) → same_variable x y.named ≡ b → VariablesFit w (with_changed x h ys) → VariablesFit w (if b then record y { held = h } ∷ ys else y ∷ with_changed x h ys)
+    by true z i = (subst (λ a. IsOf w a h) (same_declared x.declared y.named.declared (and_right (x.number == y.named.number) _ z)) k, f.1)
+    by false z i = (f.0, i)
+
+pub without_fits : (w : Things) (xs : List VariableUse) (ys : List Variable) → VariablesFit w ys → VariablesFit w (without xs ys)
+without_fits w xs [] f = tt
+without_fits w xs (y ∷ ys) f = by (not (list_any (λ x. same_variable x y.named) xs)) (without_fits w xs ys f.1)
+  where
+    by : (b : Bool) → VariablesFit w (without xs ys) → VariablesFit w (if b then y ∷ without xs ys else without xs ys)
+    by true i = (f.0, i)
+    by false i = i
+
+-- ---- targets
+
+-- a target takes values of this type
+abbrev TargetFits : NumberedProgram → Things → ValueType → Target → Type 0
+TargetFits p w u (InVariable x) = u ≡ declared_type x.declared
+TargetFits p w u (InPart (Field object through field)) = (id : Id) → thing_of object ≡ Some id → (a : ValueType) × (as_global u ≡ as_global a) × IsFieldOf p w id field a
+TargetFits p w u (InPart (Element grid through index)) = (id : Id) → thing_of grid ≡ Some id → (a : ValueType) × (n : ℕ) × (as_global u ≡ as_global a) × IsGridOf w a n id × (index.dim ≡ n)
+
+target_stays : (p : NumberedProgram) (u w : Things) (type : ValueType) (x : Target) → Grows u w → TargetFits p u type x → TargetFits p w type x
+target_stays p u w type (InVariable x) g f = f
+target_stays p u w type (InPart (Field object through field)) g f = λ id z. let k = f id z in (k.0, k.1, (k.2.0, g.classes id k.2.0 k.2.1, k.2.2))
+target_stays p u w type (InPart (Element grid through index)) g f = λ id z. let k = f id z in (k.0, k.1, k.2, grid_stays u w k.0 k.1 id g k.3, k.4)
+
+plainly : (o : Option ValueType) (u : ValueType) → operand (plain o) ≡ Some u → o ≡ Some u
+plainly o u h = (no_call (plain o) u h).1
+
+module _ (s : ScopeContents) (w : Things) (env : Env) (f : EnvFits (uses_of env.method) s w env) (g : FieldsFit env.program) where
+  abbrev p : NumberedProgram
+  p = env.program
+
+  variable_target : (at : Place) (x : VariableUse) (u : ValueType) → IsTarget p env.method s (e.Variable at x) u → u ≡ declared_type x.declared
+  variable_target at x u k = by x.declared (plainly (variable_type s x) u k.0.1) k.1
+    where
+      by : (d : Declaration) → variable_type s (record { number = x.number; declared = d }) ≡ Some u → is_foreach_use d ≡ false → u ≡ declared_type d
+      by (t.Typed l a) z i = sym (some_same a u z)
+      by t.Foreach z i = absurd (true_false i)
+
+  index_dims : (a u : ValueType) (ts : List ValueType) (h : Held) (zs : List ℤ) (through : ValueType) (x : Things) → index_type a ts ≡ Some u → DimsFine a → IsOf x a h → length zs ≡ counts ts → TargetFits p x u (InPart (Element h through (point_of_numbers zs)))
+  index_dims (t.Pt n) u ts h zs through x z d k c = λ id q. absurd (none_some id (sym (ap thing_of k.1) ∙ q))
+  index_dims (t.Grid a n l) u ts h zs through x z d k c = λ id q. by ts z c (grid_in x a n l h k id q)
+    where
+      by : (ts : List ValueType) → index_type (t.Grid a n l) ts ≡ Some u → length zs ≡ counts ts → {id : Id} → IsGridOf x a n id → (b : ValueType) × (m : ℕ) × (as_global u ≡ as_global b) × IsGridOf x b m id × ((point_of_numbers zs).dim ≡ m)
+      by (t.Pt m ∷ []) z c i =
+          let q = where_some (n == m) (read_through l a) u z in
+          (a, n, ap as_global (sym q.1) ∙ read_alike l a, i, point_dim zs n (c ∙ plus_zero m ∙ sym (eqb-true n m q.0)) d.0)
+        where
+          plus_zero : (m : ℕ) → m + 0 ≡ m
+          plus_zero m = omega arith
+      by ts z c i =
+          let q = where_some (all_ints ts && (length ts == n)) (read_through l a) u z in
+          (a, n, ap as_global (sym q.1) ∙ read_alike l a, i, point_dim zs n (c ∙ ints_count ts (and_left (all_ints ts) (length ts == n) q.0) ∙ eqb-true (length ts) n (and_right (all_ints ts) (length ts == n) q.0)) d.0)
+  index_dims _ u ts h zs through x z d k c = absurd (none_some u z)
+
+  located_fine : (target : NumberedExp) (u : ValueType) → IsTarget p env.method s target u → Sound p (λ x y. TargetFits p x u y) w (located env target)
+  located_fine (e.Variable at x) u k = sound_value p _ w _ (variable_target at x u k)
+  located_fine (e.OwnField at field) u k =
+      let q = mapped as_global (option_and_then (λ c. field_type p c field) s.this_class) u (plainly _ u k.0.1) in
+      let c = and_then (λ c. field_type p c field) s.this_class q.0 q.1 in
+      sound_value p _ w _ (λ id z. (q.0, ap as_global (sym q.2) ∙ global_twice q.0, (c.0, f.this c.0 c.1 id z, c.2)))
+  located_fine (e.Select at a name) u k =
+      let q = and_then (λ x. select_type p x name) (operand_type p s a) u (plainly _ u k.0.1) in
+      select q.0 q.2 (eval_fine (uses_of env.method) s w env f g a k.0.0 q.0 q.1)
+    where
+      select : (type : ValueType) → select_type p type name ≡ Some u → Evaluates w env a type → Sound p (λ x y. TargetFits p x u y) w (located env (e.Select at a name))
+      select (t.Class c l) z k =
+          let q = mapped (read_through l) (named_field_type p c name) u z in
+          let i = named_field p c name q.0 q.1 in
+          let number : field_selected env a name ≡ i.0 = ap (λ u. unwrap_or (option_and_then (field_numbered p name) (class_of_type u)) 0) k.seen ∙ ap (λ o. unwrap_or o 0) i.1 in
+          sound_then p (λ x h. IsOf x (t.Class c l) h) _ w (eval env a) _ k.sound (λ x j h y.
+          subst (λ m. Sound p (λ x y. TargetFits p x u y) x (gives (InPart (Field h (type_of env a) m)))) (sym number)
+          (sound_value p _ x _ (λ id r. (q.0, ap as_global (sym q.2) ∙ read_alike l q.0, (c, object_of x c l h y id r, i.2)))))
+      select _ z k = absurd (none_some u z)
+  located_fine (e.Index at a parts) u k =
+      let q = both_there index_type (operand_type p s a) (operands p s parts) u (plainly _ u k.0.1) in
+      let r = eval_fine (uses_of env.method) s w env f g a k.0.0.0 q.0 q.2 in
+      sound_then p (λ x h. IsOf x q.0 h) _ w (eval env a) _ r.sound (λ x j h y.
+      sound_then p (λ z zs. length zs ≡ counts q.1) _ x (eval_numbers env parts) _ (numbers_fine (uses_of env.method) s x env (env_stays (uses_of env.method) s w x env j f) g parts k.0.0.1 q.1 q.3) (λ z l zs c.
+      sound_value p _ z _ (index_dims q.0 u q.1 h zs (type_of env a) z q.4 r.dims (of_stays x z q.0 h l y) c)))
+  located_fine _ u k = sound_value p _ w _ (λ id z. absurd (none_some id z))
+
+  -- what a target holds
+  held_fine : (at : Place) (u type : ValueType) (x : Target) → DimsFine u → TargetFits p w u x → VariablesFit w env.variables → Sound p (λ y h. IsOf y u h) w (held_in env at type x)
+  held_fine at u type (InVariable x) d k v = sound_value p _ w _ (subst (λ a. IsOf w a (find_variable x env.variables)) (sym k) (found_fits w x env.variables (subst DimsFine k d) v))
+  held_fine at u type (InPart (Field object through field)) d k v =
+      sound_then p (λ x (r : Reference). (a : ValueType) × (as_global u ≡ as_global a) × IsFieldOf p x r.thing field a) _ w (needed at through object) _ (needed_fine p w at through object (λ x id. (a : ValueType) × (as_global u ≡ as_global a) × IsFieldOf p x id field a) k) (λ x j r z.
+      sound_asked p _ x (request_through r at (act.GetField r.thing field) (ValueOf type)) (z.0, z.2) (λ y l answer q. alike y z.0 u _ (sym z.1) (q z.0 (z.2.0, l.classes r.thing z.2.0 z.2.1, z.2.2))))
+  held_fine at u type (InPart (Element grid through index)) d k v =
+      sound_then p (λ x (r : Reference). (a : ValueType) × (n : ℕ) × (as_global u ≡ as_global a) × IsGridOf x a n r.thing × (index.dim ≡ n)) _ w (needed at through grid) _ (needed_fine p w at through grid (λ x id. (a : ValueType) × (n : ℕ) × (as_global u ≡ as_global a) × IsGridOf x a n id × (index.dim ≡ n)) k) (λ x j r z.
+      sound_asked p _ x (request_through r at (act.GetElem r.thing index) (ValueOf type)) (z.0, z.1, z.3, z.4) (λ y l answer q. alike y z.0 u _ (sym z.2) (q z.0 z.1 (grid_stays x y z.0 z.1 r.thing l z.3))))
+
+  -- what a target takes
+  stored_fine : FieldsStorable p → (at : Place) (u : ValueType) (x : Target) (h : Held) → TargetFits p w u x → VariablesFit w env.variables → IsOf w u h → Sound p (λ y vs. VariablesFit y vs) w (stored env at x h)
+  stored_fine d at u (InVariable x) h k v i = sound_value p _ w _ (changed_fits w x h env.variables (subst (λ a. IsOf w a h) k i) v)
+  stored_fine d at u (InPart (Field object through field)) h k v i =
+      sound_then p (λ x (r : Reference). (a : ValueType) × (as_global u ≡ as_global a) × IsFieldOf p x r.thing field a) _ w (needed at through object) _ (needed_fine p w at through object (λ x id. (a : ValueType) × (as_global u ≡ as_global a) × IsFieldOf p x id field a) k) (λ x j r z.
+      sound_then p (λ y o. Unit {0}) _ x (asked (request_through r at (act.PutField r.thing field (plain_of h)) ToBeDone)) _
+      (sound_asked p _ x (request_through r at (act.PutField r.thing field (plain_of h)) ToBeDone) (z.0, z.2, plain_is x z.0 h (d z.2.0 field z.0 z.2.2) (alike x u z.0 h z.1 (of_stays w x u h j i))) (λ y l answer q. tt)) (λ y l o q.
+      sound_value p _ y _ (variables_stay x y env.variables l (variables_stay w x env.variables j v))))
+  stored_fine d at u (InPart (Element grid through index)) h k v i =
+      sound_then p (λ x (r : Reference). (a : ValueType) × (n : ℕ) × (as_global u ≡ as_global a) × IsGridOf x a n r.thing × (index.dim ≡ n)) _ w (needed at through grid) _ (needed_fine p w at through grid (λ x id. (a : ValueType) × (n : ℕ) × (as_global u ≡ as_global a) × IsGridOf x a n id × (index.dim ≡ n)) k) (λ x j r z.
+      sound_then p (λ y o. Unit {0}) _ x (asked (request_through r at (act.PutElem r.thing index (plain_of h)) ToBeDone)) _
+      (sound_asked p _ x (request_through r at (act.PutElem r.thing index (plain_of h)) ToBeDone) (z.0, z.1, z.3, z.4, plain_is x z.0 h z.3.4 (alike x u z.0 h z.2 (of_stays w x u h j i))) (λ y l answer q. tt)) (λ y l o q.
+      sound_value p _ y _ (variables_stay x y env.variables l (variables_stay w x env.variables j v))))
+
+grows_two : (u w x : Things) → Grows u w → Grows w x → Grows u x
+grows_two u w x a b = grows_then u w x a b
+
+grows_all : (u w x y : Things) → Grows u w → Grows w x → Grows x y → Grows u y
+grows_all u w x y a b c = grows_then u x y (grows_then u w x a b) c
+
+-- a value that an operator gives goes into a target
+into_fine_update : (p : NumberedProgram) (w : Things) (at : Place) (r u seen : ValueType) (h : Held) → (narrows r u || fits r u) ≡ true → Seen u seen → IsOf w r h → Sound p (λ x k. IsOf x u k) w (converted at seen h)
+into_fine_update p w at r u seen h z i k = by (or_either _ _ z)
+  where
+    narrow : (r u : ValueType) → narrows r u ≡ true → Seen u seen → IsOf w r h → Sound p (λ x k. IsOf x u k) w (converted at seen h)
+    narrow t.Long t.Int z i k = subst (λ a. Sound p (λ x k. IsOf x t.Int k) w (converted at a h)) (sym i) (cast_fine p w at t.Int t.Long h refl k)
+    narrow t.Long _ z i k = absurd (true_false (sym z))
+    narrow _ _ z i k = absurd (true_false (sym z))
+
+    by : (narrows r u ≡ true) ⊎ (fits r u ≡ true) → Sound p (λ x k. IsOf x u k) w (converted at seen h)
+    by (inl z) = narrow r u z i k
+    by (inr z) = converted_fine p w at r u seen h z i k
+
+-- a value on its way to a receiver
+pub into_fine : (s : ScopeContents) (w : Things) (env : Env) → EnvFits (uses_of env.method) s w env → FieldsFit env.program → FieldsStorable env.program → VariablesFit w env.variables
+    → (receiver : Receiver) (type : ValueType) (right : Asking Held) → ReceiverFits env.program env.method s receiver type
+    → ((u : Things) → Grows w u → Sound env.program (λ x h. IsOf x type h) u right) → Sound env.program (λ x vs. VariablesFit x vs) w (into env receiver right)
+into_fine s w env f g d v Nowhere type right k r = sound_then env.program _ _ w right _ (r w (grows_not w)) (λ x j h y. sound_value env.program _ x _ (variables_stay w x env.variables j v))
+into_fine s w env f g d v (Declared at variable) type right k r =
+    let p = env.program in
+    sound_then p (λ x h. IsOf x type h) _ w right _ (r w (grows_not w)) (λ x j h y.
+    sound_then p (λ x h. IsOf x (declared_type variable.declared) h) _ x (converted at (declared_type variable.declared) h) _ (converted_fine p x at type _ _ h k (seen_same _) y) (λ z l i o.
+    sound_value p _ z _ (o, variables_stay x z env.variables l (variables_stay w x env.variables j v))))
+into_fine s w env f g d v (Assigned at target) type right k r =
+    let p = env.program in
+    let seen = (eval_fine (uses_of env.method) s w env f g target k.1.0.0 k.0 k.1.0.1).seen in
+    sound_then p (λ x y. TargetFits p x k.0 y) _ w (located env target) _ (located_fine s w env f g target k.0 k.1) (λ x j place y.
+    sound_then p (λ x h. IsOf x type h) _ x right _ (r x j) (λ z l h o.
+    sound_then p (λ x h. IsOf x k.0 h) _ z (converted at (type_of env target) h) _ (converted_fine p z at type k.0 _ h k.2 seen o) (λ a m i q.
+    let fits_there = env_stays (uses_of env.method) s w a env (grows_all w x z a j l m) f in
+    stored_fine s a env fits_there g d at k.0 place i (target_stays p x a k.0 place (grows_two x z a l m) y) (variables_stay w a env.variables (grows_all w x z a j l m) v) q)))
+into_fine s w env f g d v (Updated at op target) type right k r =
+    let p = env.program in
+    let told = eval_fine (uses_of env.method) s w env f g target k.2.0.0 k.0 k.2.0.1 in
+    sound_then p (λ x y. TargetFits p x k.0 y) _ w (located env target) _ (located_fine s w env f g target k.0 k.2) (λ x j place y.
+    sound_then p (λ x h. IsOf x k.0 h) _ x (held_in env (place_of_numbered target) (type_of env target) place) _
+    (held_fine s x env (env_stays (uses_of env.method) s w x env j f) g (place_of_numbered target) k.0 (type_of env target) place told.dims y (variables_stay w x env.variables j v)) (λ b n old old_is.
+    sound_then p (λ x h. IsOf x type h) _ b right _ (r b (grows_two w x b j n)) (λ z l h o.
+    sound_then p (λ x h. IsOf x k.1 h) _ z (operated at op old h) _ (operated_fine p z at k.0 type k.1 k.0 type old h (seen_same k.0) (seen_same type) (of_stays b z k.0 old l old_is) o op k.3).0 (λ c m new new_is.
+    sound_then p (λ x h. IsOf x k.0 h) _ c (converted at (type_of env target) new) _ (into_fine_update p c at k.1 k.0 _ new k.4 told.seen new_is) (λ a q i i_is.
+    let all = grows_two w b a (grows_two w x b j n) (grows_all b z c a l m q) in
+    stored_fine s a env (env_stays (uses_of env.method) s w a env all f) g d at k.0 place i (target_stays p x a k.0 place (grows_two x b a n (grows_all b z c a l m q)) y) (variables_stay w a env.variables all v) i_is)))))

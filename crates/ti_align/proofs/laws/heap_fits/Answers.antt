@@ -1,0 +1,5 @@
+use Rattle.ti_align.proofs.Heaping.{keeps_types}
+use Rattle.ti_align.proofs.laws.heap_fits.Goals as goal
+
+pub returns : goal.returns
+returns c p elements h i a wanted s q f k = keeps_types p elements h i a wanted s q f k

@@ -1,0 +1,79 @@
+-- When what the heap of a history holds is of the types that the program gives it.
+use Rattle.std.specs.Prelude.{◌≡◌, ℕ, ◌∷◌, Bool, true, false, if◌then◌else◌, Option, Some}
+use Rattle.ti_base.specs.declared.value.Id.{Id}
+use Rattle.ti_base.specs.declared.value.Value.{Value}
+use Rattle.ti_base.specs.declared.value.Value.TheVariants as v
+use Rattle.ti_base.specs.declared.action.Action.{Action}
+use Rattle.ti_base.specs.declared.action.Action.TheVariants as act
+use Rattle.ti_base.specs.declared.entry.Answer.{Answer}
+use Rattle.ti_base.specs.declared.entry.Answer.TheVariants.{Val}
+use Rattle.ti_base.specs.declared.place.Place.{Place}
+use Rattle.ti_base.specs.Cells.{Cell, Field, Element, Grid, same_id}
+use Rattle.ti_lang.specs.Program.Types.{ValueType}
+use Rattle.ti_lang.specs.Program.Types as t
+use Rattle.ti_lang.specs.Program.Classes.{NumberedProgram}
+use Rattle.ti_lang.specs.Typing.Declared.{field_type}
+use Rattle.ti_lang.specs.Meaning.Held.{Plain}
+use Rattle.ti_lang.specs.Meaning.Zeros.{zero_of_type}
+use Rattle.ti_lang.specs.Meaning.Asking.{Wanted, NewThing}
+use Rattle.ti_lang.specs.Meaning.Histories.{History}
+use Rattle.ti_lang.specs.Meaning.RegionsOf.{is_made}
+use Rattle.ti_lang.specs.Meaning.HeapOf.{class_of, grid_of, last_written}
+use Rattle.ti_lang.specs.Meaning.HeapAnswers.{Answers, Impossible, heap_answer}
+use Rattle.ti_align.specs.Things.{Things, Grows, IsStorable, IsOf}
+use Rattle.ti_align.specs.Sound.{IsFieldOf, FitsAsked}
+
+-- the types of the elements of blocks
+abbrev pub Elements : Type 0
+Elements = Id → Option ValueType
+
+-- what is there after a history, where the elements of blocks have these types
+abbrev pub things_of : Elements → History → Things
+things_of elements h = record { class_at = λ id. class_of id h; grid_at = λ id. grid_of id h; element_at = elements; is_made = λ r. is_made r h }
+
+-- the block is a grid of zeros of the type of its elements, which may have it
+abbrev pub IsBlock : History → Id → ValueType → Type 0
+IsBlock h block type = (g : Grid) × (grid_of block h ≡ Some g) × (g.zero ≡ zero_of_type type) × IsStorable type
+
+-- all fields have such types
+abbrev pub FieldsStorable : NumberedProgram → Type 0
+FieldsStorable p = (class field : ℕ) (type : ValueType) → field_type p class field ≡ Some type → IsStorable type
+
+-- the cell may hold the value: a field or an element of its type
+abbrev pub MayHold : NumberedProgram → Things → Cell → Value → Type 0
+MayHold p w (Field obj field) value = (type : ValueType) × IsFieldOf p w obj field type × IsOf w type (Plain value)
+MayHold p w (Element block at) value = (type : ValueType) × (w.element_at block ≡ Some type) × IsOf w type (Plain value)
+
+-- what was written to cells is of their types; each block is a grid of zeros of the type of its elements
+pub record HeapFits (p : NumberedProgram) (elements : Elements) (h : History) : Type 0 where
+  pub cells : (cell : Cell) (value : Value) → last_written cell h ≡ Some value → MayHold p (things_of elements h) cell value
+  pub blocks : (block : Id) (type : ValueType) → elements block ≡ Some type → IsBlock h block type
+
+-- ---- an action
+
+-- the types of the elements behind an entry: a new grid is a block of its own
+abbrev pub elements_behind : Elements → Action → Wanted → Answer → Elements
+elements_behind elements (act.NewGrid zero domain region) (NewThing (t.Grid element n is_local)) (Val (v.Grid (Some new))) =
+    λ id. if same_id id new then Some element else elements id
+elements_behind elements a wanted answer = elements
+
+-- an action of the heap: it makes a thing, or is done to one
+abbrev pub is_of_heap : Action → Bool
+is_of_heap (act.Print literal value) = false
+is_of_heap (act.Arrive kind arg given) = false
+is_of_heap act.Depart = false
+is_of_heap (act.Take who) = false
+is_of_heap act.End = false
+is_of_heap (act.Fault kind) = false
+is_of_heap a = true
+
+-- What an action names is there: then it is possible, and behind it the heap still fits, all is there that was there, and the
+-- answer fits, unless it is one that another process gave.
+pub record KeepsTypes (p : NumberedProgram) (elements : Elements) (h : History) (i : ℕ) (a : Action) (wanted : Wanted) : Type 0 where
+  pub possible : is_of_heap a ≡ true → heap_answer p h i a ≡ Impossible → ⊥
+  pub kept : (place : Place) (r : Answer) → heap_answer p h i a ≡ Answers r
+      → HeapFits p (elements_behind elements a wanted r) (record { proc = i; place = place; act = a; answer = r } ∷ h)
+  pub grown : (place : Place) (r : Answer) → heap_answer p h i a ≡ Answers r
+      → Grows (things_of elements h) (things_of (elements_behind elements a wanted r) (record { proc = i; place = place; act = a; answer = r } ∷ h))
+  pub answered : (place : Place) (r : Answer) → is_of_heap a ≡ true → heap_answer p h i a ≡ Answers r
+      → FitsAsked p (things_of (elements_behind elements a wanted r) (record { proc = i; place = place; act = a; answer = r } ∷ h)) a wanted r

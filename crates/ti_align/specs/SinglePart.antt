@@ -1,0 +1,31 @@
+-- What processes have in common: the single part of a process.
+use Rattle.std.specs.Prelude.{Bool, false, List, map, filter}
+use Rattle.ti_lang.specs.Program.Types.{Declaration, Typed, Foreach}
+use Rattle.ti_lang.specs.Program.Classes.{NumberedMethod}
+use Rattle.ti_lang.specs.Meaning.Processes.{Variable, Frame, Process}
+use Rattle.ti_lang.specs.Meaning.Turns.{Turn, turns_at}
+
+-- a variable is declared single; one of a foreach is none of these, it has its place among the turns
+abbrev pub is_single_declared : Declaration → Bool
+is_single_declared (Typed is_single type) = is_single
+is_single_declared Foreach = false
+
+-- the single variables with what they hold
+abbrev pub singles : List Variable → List Variable
+singles variables = filter (λ (w : Variable). is_single_declared w.named.declared) variables
+
+-- what a call in progress has in common with those of other processes
+pub record SingleFrame : Type 0 where
+  pub method : NumberedMethod
+  -- the single variables in scope, the newest first
+  pub variables : List Variable
+  -- the points at which all foreach loops around the work that is left stand, the innermost first
+  pub turns : List Turn
+
+-- that of a call in progress
+abbrev pub single_frame : Frame → SingleFrame
+single_frame f = record { method = f.method; variables = singles f.variables; turns = turns_at f.left }
+
+-- the single part of a process: that of each call in progress, the innermost first
+abbrev pub single_part : Process → List SingleFrame
+single_part p = map single_frame p.frames

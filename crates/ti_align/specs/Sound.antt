@@ -1,0 +1,73 @@
+-- Computations that ask only for what is there, and come to what they should, whatever fitting answers they get.
+use Rattle.std.specs.Prelude.{◌≡◌, ℕ, ◌<◌, ◌-◌, true, List, [], ◌∷◌, Some}
+use Rattle.ti_base.specs.declared.place.Place.{Place}
+use Rattle.ti_base.specs.declared.value.Id.{Id}
+use Rattle.ti_base.specs.declared.fault.FaultKind.{FaultKind}
+use Rattle.ti_base.specs.declared.action.Action.{Action}
+use Rattle.ti_base.specs.declared.action.Action.TheVariants as act
+use Rattle.ti_base.specs.declared.action.ViewHow.{ViewHow}
+use Rattle.ti_base.specs.declared.action.ViewHow.TheVariants.{Restrict, Translate, Slice}
+use Rattle.ti_base.specs.declared.entry.Answer.{Answer}
+use Rattle.ti_base.specs.declared.value.Zero.{Zero}
+use Rattle.ti_base.specs.Points.{IsDim}
+use Rattle.ti_lang.specs.Program.Types.{ValueType}
+use Rattle.ti_lang.specs.Program.Types as t
+use Rattle.ti_lang.specs.Program.Classes.{NumberedProgram}
+use Rattle.ti_lang.specs.Typing.Declared.{field_type}
+use Rattle.ti_lang.specs.Meaning.Held.{Plain}
+use Rattle.ti_lang.specs.Meaning.Zeros.{zeros_of_class, zero_of_type}
+use Rattle.ti_lang.specs.Meaning.Asking.{Wanted, ValueOf, NewThing, Request, Asking, Gives, Asks, Fails, told}
+use Rattle.ti_align.specs.Things.{Things, Grows, HasDims, IsStorable, IsGridOf, IsPlaced, IsOf}
+
+-- ---- what is asked for
+
+-- how a view is taken of a grid of so many dimensions
+abbrev pub SuitsView : ViewHow → ℕ → Type 0
+SuitsView (Restrict r) n = r.dim ≡ n
+SuitsView (Translate by) n = by.dim ≡ n
+SuitsView (Slice k j) n = 1 < n
+
+-- the dimensions of the view
+abbrev pub dims_viewed : ViewHow → ℕ → ℕ
+dims_viewed (Slice k j) n = n - 1
+dims_viewed how n = n
+
+-- a field of an object of a class, of this type
+abbrev pub IsFieldOf : NumberedProgram → Things → Id → ℕ → ValueType → Type 0
+IsFieldOf p w obj field type = (class : ℕ) × (w.class_at obj ≡ Some class) × (field_type p class field ≡ Some type)
+
+-- what an action names is there
+abbrev pub IsThere : NumberedProgram → Things → Action → Wanted → Type 0
+IsThere p w (act.GetField obj field) wanted = (type : ValueType) × IsFieldOf p w obj field type
+IsThere p w (act.PutField obj field value) wanted = (type : ValueType) × IsFieldOf p w obj field type × IsOf w type (Plain value)
+IsThere p w (act.NewObj class region) wanted = (zeros : List Zero) × (zeros_of_class p class ≡ Some zeros) × IsPlaced w region
+IsThere p w (act.NewGrid zero domain region) wanted =
+    (element : ValueType) × (n : ℕ) × (wanted ≡ NewThing (t.Grid element n true)) × (zero ≡ zero_of_type element) × HasDims n domain × IsDim n × IsPlaced w region × IsStorable element
+IsThere p w (act.GetElem grid at) wanted = (element : ValueType) × (n : ℕ) × IsGridOf w element n grid × (at.dim ≡ n)
+IsThere p w (act.PutElem grid at value) wanted = (element : ValueType) × (n : ℕ) × IsGridOf w element n grid × (at.dim ≡ n) × IsOf w element (Plain value)
+IsThere p w (act.MakeView grid how) wanted = (element : ValueType) × (n : ℕ) × IsGridOf w element n grid × SuitsView how n
+IsThere p w (act.DomainOf grid) wanted = (element : ValueType) × (n : ℕ) × IsGridOf w element n grid
+IsThere p w a wanted = Unit {0}
+
+-- ---- what is answered
+
+-- the answer fits the action
+abbrev pub FitsAsked : NumberedProgram → Things → Action → Wanted → Answer → Type 0
+FitsAsked p w (act.GetField obj field) wanted r = (type : ValueType) → IsFieldOf p w obj field type → IsOf w type (told r)
+FitsAsked p w (act.NewObj class region) wanted r = IsOf w (t.Class class true) (told r)
+FitsAsked p w (act.NewGrid zero domain region) wanted r = (element : ValueType) (n : ℕ) → wanted ≡ NewThing (t.Grid element n true) → IsOf w (t.Grid element n true) (told r)
+FitsAsked p w (act.GetElem grid at) wanted r = (element : ValueType) (n : ℕ) → IsGridOf w element n grid → IsOf w element (told r)
+FitsAsked p w (act.MakeView grid how) wanted r = (element : ValueType) (n : ℕ) → IsGridOf w element n grid → IsOf w (t.Grid element (dims_viewed how n) true) (told r)
+FitsAsked p w (act.DomainOf grid) wanted r = (element : ValueType) (n : ℕ) → IsGridOf w element n grid → IsOf w (t.Rc n) (told r)
+FitsAsked p w (act.Take who) wanted r = (type : ValueType) → wanted ≡ ValueOf type → IsOf w type (told r)
+FitsAsked p w a wanted r = Unit {0}
+
+-- ---- computations
+
+-- The computation comes to what the fact holds of, or to a fault, or asks for what is there; and where the answer fits, in whatever
+-- is there by then, so does what is left of it.
+pub data Sound (p : NumberedProgram) {A : Type 0} (P : Things → A → Type 0) : Things → Asking A → Type 0 where
+  value : {w : Things} {m : Asking A} (a : A) → P w a → ((rest : List Answer) → m rest ≡ Gives a rest) → Sound p P w m
+  fault : {w : Things} {m : Asking A} (kind : FaultKind) (at : Place) → ((rest : List Answer) → m rest ≡ Fails kind at) → Sound p P w m
+  asks : {w : Things} {m : Asking A} (q : Request) → m [] ≡ Asks q → IsThere p w q.action q.wanted
+      → ((u : Things) → Grows w u → (r : Answer) → FitsAsked p u q.action q.wanted r → Sound p P u (λ rest. m (r ∷ rest))) → Sound p P w m

@@ -1,0 +1,72 @@
+-- What is there at a moment of a run, and which values are of which type then. Ranges of numbers are no part of it.
+use Rattle.std.specs.Prelude.{◌≡◌, ◌⊎◌, ℕ, ℤ, Bool, true, List, Option, Some, None}
+use Rattle.ti_base.specs.declared.point.Point.{Point}
+use Rattle.ti_base.specs.declared.point.Rect.{Rect}
+use Rattle.ti_base.specs.declared.value.Id.{Id}
+use Rattle.ti_base.specs.declared.value.Value.TheVariants as v
+use Rattle.ti_base.specs.PointSets.{AllOf}
+use Rattle.ti_base.specs.Points.{IsDim}
+use Rattle.ti_base.specs.Cells.{Grid}
+use Rattle.ti_lang.specs.Program.Types.{ValueType}
+use Rattle.ti_lang.specs.Program.Types as t
+use Rattle.ti_lang.specs.Meaning.Held.{Held, Plain, Dm}
+
+-- ---- things
+
+-- the class of each object, each grid, the type of the elements of each block, and the regions that were made
+pub record Things : Type 0 where
+  pub class_at : Id → Option ℕ
+  pub grid_at : Id → Option Grid
+  pub element_at : Id → Option ValueType
+  pub is_made : ℕ → Bool
+
+-- all that is there in the first is there in the second
+pub record Grows (u w : Things) : Type 0 where
+  pub classes : (id : Id) (class : ℕ) → u.class_at id ≡ Some class → w.class_at id ≡ Some class
+  pub grids : (id : Id) (g : Grid) → u.grid_at id ≡ Some g → w.grid_at id ≡ Some g
+  pub elements : (id : Id) (type : ValueType) → u.element_at id ≡ Some type → w.element_at id ≡ Some type
+  pub regions : (r : ℕ) → u.is_made r ≡ true → w.is_made r ≡ true
+
+-- ---- values of types
+
+-- a rectangular domain of so many dimensions
+abbrev pub HasDims : ℕ → Rect → Type 0
+HasDims n r = (r.dim ≡ n) × (r.lo.dim ≡ n) × (r.hi.dim ≡ n)
+
+-- a type that a field or an element may have
+abbrev pub IsStorable : ValueType → Type 0
+IsStorable (t.Dm n) = ⊥
+IsStorable t.Region = ⊥
+IsStorable t.Null = ⊥
+IsStorable t.Void = ⊥
+IsStorable type = Unit {0}
+
+-- the thing is a grid of so many dimensions, whose elements have this type
+abbrev pub IsGridOf : Things → ValueType → ℕ → Id → Type 0
+IsGridOf w element n id = (g : Grid) × (w.grid_at id ≡ Some g) × HasDims n g.domain × (w.element_at g.block ≡ Some element) × IsStorable element
+
+-- things are placed there: in none, or in a region that was made
+abbrev pub IsPlaced : Things → ℕ → Type 0
+IsPlaced w r = (r ≡ 0) ⊎ (w.is_made r ≡ true)
+
+-- a value of the type; a reference names nothing, or a thing of the class, or of the element type and dimensions
+abbrev pub IsOf : Things → ValueType → Held → Type 0
+IsOf w t.Int h = (n : ℤ) × (h ≡ Plain (v.Int n))
+IsOf w t.Long h = (n : ℤ) × (h ≡ Plain (v.Long n))
+IsOf w t.Boolean h = (b : Bool) × (h ≡ Plain (v.Bool b))
+IsOf w (t.Pt n) h = (p : Point) × (h ≡ Plain (v.Pt p)) × (p.dim ≡ n)
+IsOf w (t.Rc n) h = (r : Rect) × (h ≡ Plain (v.Rc r)) × HasDims n r
+IsOf w (t.Dm n) h = (ps : List Point) × (h ≡ Dm n ps) × AllOf n ps
+IsOf w t.Region h = (r : ℕ) × (h ≡ Plain (v.Region r)) × IsPlaced w r
+IsOf w (t.Class class is_local) h = (o : Option Id) × (h ≡ Plain (v.Obj o)) × ((id : Id) → o ≡ Some id → w.class_at id ≡ Some class)
+IsOf w (t.Grid element n is_local) h = (o : Option Id) × (h ≡ Plain (v.Grid o)) × ((id : Id) → o ≡ Some id → IsGridOf w element n id)
+IsOf w t.Null h = h ≡ Plain (v.Obj None)
+IsOf w t.Void h = Unit {0}
+
+-- one to three dimensions, wherever there are any
+abbrev pub DimsFine : ValueType → Type 0
+DimsFine (t.Pt n) = IsDim n
+DimsFine (t.Rc n) = IsDim n
+DimsFine (t.Dm n) = IsDim n
+DimsFine (t.Grid element n is_local) = IsDim n × DimsFine element
+DimsFine type = Unit {0}

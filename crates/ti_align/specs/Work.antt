@@ -1,0 +1,246 @@
+-- Work that fits the types: pieces of work that are left in a frame, and the moves that they come to.
+use Rattle.std.specs.Prelude.{◌≡◌, ℕ, Bool, true, false, ◌&&◌, ◌||◌, is_none, List, [], ◌∷◌, Option, Some, None, slice_get}
+use Rattle.ti_base.specs.declared.place.Place.{Place}
+use Rattle.ti_base.specs.declared.value.Id.{Id}
+use Rattle.ti_base.specs.declared.value.Zero.{Zero}
+use Rattle.ti_base.specs.declared.action.CollKind.{CollKind}
+use Rattle.ti_base.specs.declared.action.CollKind.TheVariants as coll
+use Rattle.ti_base.specs.declared.action.Deposit.{Deposit}
+use Rattle.ti_base.specs.declared.action.Deposit.TheVariants as deposit
+use Rattle.ti_base.specs.Points.{IsDim}
+use Rattle.ti_base.specs.PointSets.{AllOf}
+use Rattle.ti_lang.specs.Program.Types.{ValueType, Declaration, VariableUse}
+use Rattle.ti_lang.specs.Program.Types as t
+use Rattle.ti_lang.specs.Program.Expressions.{NumberedExp, numbered_ranges}
+use Rattle.ti_lang.specs.Program.Expressions as e
+use Rattle.ti_lang.specs.Program.Statements.{NumberedDims, NumberedInit, NumberedPrint, NumberedStm, MaybeNumbered, NumberedStms, numbered_stms}
+use Rattle.ti_lang.specs.Program.Statements as st
+use Rattle.ti_lang.specs.Program.Classes.{NumberedMethod, NumberedProgram}
+use Rattle.ti_lang.specs.Program.Scope.{ScopeContents, this_of, method_scope}
+use Rattle.ti_lang.specs.Typing.Declared.{in_scope, result_type}
+use Rattle.ti_lang.specs.Typing.Kinds.{is_void, element_of, as_global, domain_dim}
+use Rattle.ti_lang.specs.Typing.Fits.{fits}
+use Rattle.ti_lang.specs.Typing.Operators.{binary_type}
+use Rattle.ti_lang.specs.Typing.Expressions.{typed, operand_type}
+use Rattle.ti_lang.specs.Meaning.Held.{Plain}
+use Rattle.ti_lang.specs.Meaning.Asking.{Wanted, ToBeDone, ValueOf, NewThing}
+use Rattle.ti_lang.specs.Meaning.Zeros.{zeros_of_class}
+use Rattle.ti_lang.specs.Meaning.HeapAnswers.{is_dim}
+use Rattle.ti_lang.specs.Meaning.Processes.{Variable, Receiver, Nowhere, Declared, Assigned, Updated, Loop, While, Foreach, Work, Do, End, Before, Behind, Receive, CopyAll, TakeAll}
+use Rattle.ti_lang.specs.Meaning.Scoping.{declared_type}
+use Rattle.ti_lang.specs.Meaning.Statements.{one_more}
+use Rattle.ti_lang.specs.Meaning.Moves.{Move, Goes, Turns, Calls, Returns, Meets, Deletes}
+use Rattle.ti_rules.specs.InitialTypes.{can_broadcast}
+use Rattle.ti_rules.specs.Standing.{variables_inside}
+use Rattle.ti_rules.specs.Broken.Targets.{is_foreach_variable}
+use Rattle.ti_rules.specs.Broken.Statements.{narrows}
+use Rattle.ti_align.specs.Things.{Things, IsStorable, IsGridOf, IsPlaced, IsOf}
+use Rattle.ti_align.specs.Fitting.{IsWritten, AreWritten}
+
+-- ---- variables
+
+-- each variable holds a value of its type
+abbrev pub VariablesFit : Things → List Variable → Type 0
+VariablesFit w [] = Unit {0}
+VariablesFit w (x ∷ xs) = IsOf w (declared_type x.named.declared) x.held × VariablesFit w xs
+
+-- one to three dimensions, wherever there are any
+abbrev pub has_dims : ValueType → Bool
+has_dims (t.Pt n) = is_dim n
+has_dims (t.Rc n) = is_dim n
+has_dims (t.Dm n) = is_dim n
+has_dims (t.Grid element n is_local) = is_dim n && has_dims element
+has_dims type = true
+
+-- a variable that a method may use: a type has one to three dimensions, and a foreach variable isn't numbered as a parameter
+abbrev pub may_use : NumberedMethod → ℕ → Declaration → Bool
+may_use m number (t.Typed is_single type) = has_dims type
+may_use m number t.Foreach = is_none (in_scope (method_scope m) number)
+
+abbrev pub uses_of : NumberedMethod → VariableUse → Bool
+uses_of m v = may_use m v.number v.declared
+
+-- ---- scopes
+
+-- what is in scope in the turns of a loop
+abbrev pub scope_inside : NumberedProgram → ScopeContents → Loop → ScopeContents
+scope_inside p s (While at c update body) = s
+scope_inside p s (Foreach at number domain points body) = record s { variables = variables_inside p s number domain }
+
+-- what is in scope before the work that is left, over what is in scope behind it
+abbrev pub scope_over : NumberedProgram → ScopeContents → List Work → ScopeContents
+scope_over p s [] = s
+scope_over p s (Behind loop ∷ left) = scope_inside p (scope_over p s left) loop
+scope_over p s (w ∷ left) = scope_over p s left
+
+-- ---- the text
+
+-- the domain over which a new grid spreads
+abbrev pub domain_written : Place → NumberedDims → NumberedExp
+domain_written at (st.Domain x) = x
+domain_written at (st.Ranges ranges) = e.Rect at (numbered_ranges ranges)
+
+-- a call, or a member form
+abbrev pub is_form_of_call : NumberedExp → Bool
+is_form_of_call (e.Call at method args) = true
+is_form_of_call (e.OwnCall at method args) = true
+is_form_of_call (e.Member at x name args) = true
+is_form_of_call x = false
+
+module _ (p : NumberedProgram) (m : NumberedMethod) where
+  -- an expression inside another has this type
+  abbrev pub IsInner : ScopeContents → NumberedExp → ValueType → Type 0
+  IsInner s x type = IsWritten (uses_of m) x × (operand_type p s x ≡ Some type)
+
+  -- a whole expression is written so; an own call is one of a method of the class of `this`, or of a static one
+  abbrev pub IsWhole : ScopeContents → NumberedExp → Type 0
+  IsWhole s (e.Call at method args) = AreWritten (uses_of m) args
+  IsWhole s (e.OwnCall at method args) =
+      AreWritten (uses_of m) args × ((called : NumberedMethod) → slice_get p.methods method ≡ Some called → (class : ℕ) → this_of called ≡ Some class → s.this_class ≡ Some class)
+  IsWhole s x = IsWritten (uses_of m) x
+
+  -- a whole expression has this type
+  abbrev pub WholeFits : ScopeContents → NumberedExp → ValueType → Type 0
+  WholeFits s x type = (typed p s x ≡ Some type) × IsWhole s x
+
+  -- what is assigned to has this type
+  abbrev pub IsTarget : ScopeContents → NumberedExp → ValueType → Type 0
+  IsTarget s target type = IsInner s target type × (is_foreach_variable target ≡ false)
+
+  -- the receiver takes a value of this type
+  abbrev pub ReceiverFits : ScopeContents → Receiver → ValueType → Type 0
+  ReceiverFits s Nowhere type = Unit {0}
+  ReceiverFits s (Declared at v) type = fits type (declared_type v.declared) ≡ true
+  ReceiverFits s (Assigned at target) type = (u : ValueType) × IsTarget s target u × (fits type u ≡ true)
+  ReceiverFits s (Updated at op target) type = (u : ValueType) × (r : ValueType) × IsTarget s target u × (binary_type op u type ≡ Some r) × ((narrows r u || fits r u) ≡ true)
+
+  -- things are placed in what this says
+  abbrev pub RegionFits : ScopeContents → Option NumberedExp → Type 0
+  RegionFits s None = Unit {0}
+  RegionFits s (Some x) = IsInner s x t.Region
+
+  -- a right side comes to a value of this type
+  abbrev pub InitFits : ScopeContents → NumberedInit → ValueType → Type 0
+  InitFits s (st.Value x) type = WholeFits s x type × (is_void type ≡ false)
+  InitFits s (st.NewRegion at) type = type ≡ t.Region
+  InitFits s (st.NewObject at region class) type = (type ≡ t.Class class true) × RegionFits s region × ((zeros : List Zero) × (zeros_of_class p class ≡ Some zeros))
+  InitFits s (st.NewGrid at region element dims_at dims) type =
+      (n : ℕ) × (type ≡ t.Grid element.type n true) × RegionFits s region × IsInner s (domain_written dims_at dims) (t.Rc n) × IsStorable element.type
+  InitFits s (st.Broadcast at x root) type = (u : ValueType) × (type ≡ as_global u) × IsInner s x u × IsInner s root t.Int × (can_broadcast u ≡ true)
+
+  -- a value that is printed
+  abbrev pub PrintFits : ScopeContents → NumberedPrint → Type 0
+  PrintFits s st.Nothing = Unit {0}
+  PrintFits s (st.Text literal) = Unit {0}
+  PrintFits s (st.Expression x) = (type : ValueType) × IsInner s x type
+  PrintFits s (st.TextAndExpression literal x) = (type : ValueType) × IsInner s x type
+
+  -- a condition, if there is one
+  abbrev pub ConditionFits : ScopeContents → Option NumberedExp → Type 0
+  ConditionFits s None = Unit {0}
+  ConditionFits s (Some c) = IsInner s c t.Boolean
+
+  -- a foreach over such a domain, whose variable is of its own
+  abbrev pub DomainFits : ScopeContents → ℕ → NumberedExp → ℕ → Type 0
+  DomainFits s number domain n = ((type : ValueType) × IsInner s domain type × (domain_dim type ≡ Some n)) × (is_none (in_scope s number) ≡ true) × IsDim n
+
+  abbrev mutual
+    pub StmFits : ScopeContents → NumberedStm → Type 0
+    StmFits s (st.Declare at type variable value) = (u : ValueType) × InitFits s value u × (fits u type.type ≡ true)
+    StmFits s (st.Assign at target value) = (u : ValueType) × InitFits s value u × ReceiverFits s (Assigned at target) u
+    StmFits s (st.Update at op target x) = (u : ValueType) × InitFits s (st.Value x) u × ReceiverFits s (Updated at op target) u
+    StmFits s (st.Step at op target) = ReceiverFits s (Updated at (one_more op) target) t.Int
+    StmFits s (st.Call x) = (u : ValueType) × WholeFits s x u × (is_form_of_call x ≡ true)
+    StmFits s (st.Print at what) = PrintFits s what
+    StmFits s (st.Return at (Some x)) = (u : ValueType) × IsInner s x u × (fits u (result_type m) ≡ true)
+    StmFits s (st.Block body) = StmsFit s body
+    StmFits s (st.If at c x) = IsInner s c t.Boolean × StmFits s x
+    StmFits s (st.IfElse at c x y) = IsInner s c t.Boolean × StmFits s x × StmFits s y
+    StmFits s (st.While at c body) = IsInner s c t.Boolean × StmFits s body
+    StmFits s (st.For at first c update body) = MaybeFits s first × ConditionFits s c × MaybeFits s update × StmFits s body
+    StmFits s (st.Foreach at number domain body) = ((n : ℕ) × DomainFits s number domain n) × StmFits (record s { variables = variables_inside p s number domain }) body
+    StmFits s x = Unit {0}
+
+    pub MaybeFits : ScopeContents → MaybeNumbered → Type 0
+    MaybeFits s st.NoStm = Unit {0}
+    MaybeFits s (st.SomeStm x) = StmFits s x
+
+    pub StmsFit : ScopeContents → NumberedStms → Type 0
+    StmsFit s st.Nil = Unit {0}
+    StmsFit s (st.Cons x rest) = StmFits s x × StmsFit s rest
+
+  -- a loop in progress
+  abbrev pub LoopFits : ScopeContents → Loop → Type 0
+  LoopFits s (While at c update body) = ConditionFits s c × MaybeFits s update × StmFits s body
+  LoopFits s (Foreach at number domain points body) =
+      ((n : ℕ) × DomainFits s number domain n × AllOf n points) × StmFits (record s { variables = variables_inside p s number domain }) body
+
+-- a foreach in a turn stands at a point
+abbrev pub IsTurning : Loop → Type 0
+IsTurning (Foreach at number domain [] body) = ⊥
+IsTurning loop = Unit {0}
+
+-- the statements of a method
+abbrev pub MethodFits : NumberedProgram → NumberedMethod → Type 0
+MethodFits p m = StmsFit p m (method_scope m) (numbered_stms m.body)
+
+-- those of all of these methods
+abbrev pub MethodsFit : NumberedProgram → List NumberedMethod → Type 0
+MethodsFit p [] = Unit {0}
+MethodsFit p (m ∷ ms) = MethodFits p m × MethodsFit p ms
+
+-- ---- work and moves
+
+-- the object that `this` is, where there is one, is of the class of the method
+abbrev pub ThisFits : Things → NumberedMethod → Option Id → Type 0
+ThisFits w m this = (class : ℕ) → this_of m ≡ Some class → (id : Id) → this ≡ Some id → w.class_at id ≡ Some class
+
+-- a deposit of this type
+abbrev pub DepositFits : Things → ValueType → Deposit → Type 0
+DepositFits w type (deposit.One value) = IsOf w type (Plain value)
+DepositFits w type given = Unit {0}
+
+module _ (p : NumberedProgram) (m : NumberedMethod) where
+  -- a piece of work
+  abbrev pub WorkFits : ScopeContents → Things → Work → Type 0
+  WorkFits s w (Do x) = StmFits p m s x
+  WorkFits s w (End x) = Unit {0}
+  WorkFits s w (Before loop) = LoopFits p m s loop
+  WorkFits s w (Behind loop) = LoopFits p m s loop × IsTurning loop
+  WorkFits s w (Receive receiver h) = (type : ValueType) × IsOf w type h × ReceiverFits p m s receiver type
+  WorkFits s w (CopyAll at to from points) = (element : ValueType) × (n : ℕ) × IsGridOf w element n to.thing × IsGridOf w element n from.thing × AllOf n points
+  WorkFits s w (TakeAll at grid procs) = IsGridOf w (element_of grid.type) 1 grid.thing
+
+  -- all that is left
+  abbrev pub WorksFit : ScopeContents → Things → List Work → Type 0
+  WorksFit s w [] = Unit {0}
+  WorksFit s w (x ∷ works) = WorkFits (scope_over p s works) w x × WorksFit s w works
+
+  -- what the answer to a departure is of, if it goes anywhere
+  abbrev pub IsAwaited : ScopeContents → Wanted → Receiver → ValueType → Type 0
+  IsAwaited s ToBeDone receiver type = Unit {0}
+  IsAwaited s (ValueOf u) receiver type = ReceiverFits p m s receiver type
+  IsAwaited s (NewThing u) receiver type = ReceiverFits p m s receiver type
+
+  -- the process comes for a region
+  abbrev pub IsOfKind : CollKind → ValueType → Type 0
+  IsOfKind coll.MakeRegion type = type ≡ t.Region
+  IsOfKind kind type = Unit {0}
+
+  -- the values that are taken are of this type
+  abbrev pub TakesOf : List Work → ValueType → Type 0
+  TakesOf [] type = Unit {0}
+  TakesOf (TakeAll at grid procs ∷ works) type = (element_of grid.type ≡ type) × TakesOf works type
+  TakesOf (w ∷ works) type = TakesOf works type
+
+  -- a move
+  abbrev pub MoveFits : ScopeContents → Things → Move → Type 0
+  MoveFits s w (Goes variables works) = VariablesFit w variables × WorksFit s w works
+  MoveFits s w (Turns at variables works) = VariablesFit w variables × WorksFit s w works
+  MoveFits s w (Calls at method this parameters receiver) = MethodFits p method × ThisFits w method this × VariablesFit w parameters × ReceiverFits p m s receiver (result_type method)
+  MoveFits s w (Returns None) = Unit {0}
+  MoveFits s w (Returns (Some h)) = IsOf w (result_type m) h
+  MoveFits s w (Meets wait given behind) =
+      ((type : ValueType) × IsAwaited s wait.wanted wait.receiver type × DepositFits w type given × IsOfKind wait.kind type × TakesOf behind type) × WorksFit s w behind
+  MoveFits s w (Deletes at region) = IsPlaced w region
+  MoveFits s w move = Unit {0}

@@ -1,0 +1,68 @@
+// Laws of the alignment: functions that do nothing, whose contracts are the laws.
+ghost use Rattle.std.specs.Prelude.{◌≡◌, ◌∷◌, ℕ, Bool, List, Some};
+ghost use Rattle.ti_base.specs.declared.action.Action.{Action};
+ghost use Rattle.ti_lang.specs.Program.Types.{ValueType, VariableUse};
+ghost use Rattle.ti_lang.specs.Program.Expressions.{NumberedExp};
+ghost use Rattle.ti_lang.specs.Program.Classes.{NumberedProgram};
+ghost use Rattle.ti_lang.specs.Program.Scope.{ScopeContents, method_scope};
+ghost use Rattle.ti_lang.specs.Program.Views.{program_of};
+ghost use Rattle.ti_lang.specs.Typing.Expressions.{operand_type};
+ghost use Rattle.ti_lang.specs.Meaning.Scoping.{Env, env_of};
+ghost use Rattle.ti_lang.specs.Meaning.Evaluation.{eval};
+ghost use Rattle.ti_lang.specs.Meaning.Asking.{Wanted};
+ghost use Rattle.ti_lang.specs.Meaning.Processes.{Process, Frame, Work};
+ghost use Rattle.ti_lang.specs.Meaning.Performing.{performed};
+ghost use Rattle.ti_lang.specs.Meaning.Histories.{History};
+ghost use Rattle.ti_lang.specs.Meaning.HeapAnswers.{IsAnswered};
+ghost use Rattle.ti_align.specs.Alignment.{ArrivalsAgree, NoneAfterEnd, OfEveryRun};
+ghost use Rattle.ti_align.specs.Stopping.{NoneWaits};
+ghost use Rattle.ti_align.specs.Things.{Things, IsOf};
+ghost use Rattle.ti_align.specs.Sound.{IsThere, Sound};
+ghost use Rattle.ti_align.specs.Fitting.{EnvFits, FieldsFit, IsWritten};
+ghost use Rattle.ti_align.specs.Work.{VariablesFit, scope_over, MethodsFit, ThisFits, WorksFit, MoveFits};
+ghost use Rattle.ti_align.specs.Heap.{Elements, things_of, FieldsStorable, HeapFits, KeepsTypes};
+
+use ti_rules::Checked;
+
+/// In every run of a checked program, for every n, the nth arrivals of any two processes are at the
+/// same place, of the same kind and argument, and with the same single part. The first part of
+/// alignment.
+pub fn arrivals_agree(c: &Checked)
+    ensures { OfEveryRun ArrivalsAgree (program_of c.now.program.parts) }
+{}
+
+/// In every run of a checked program no process arrives more often than one that has its end. The
+/// second part of alignment.
+pub fn none_after_end(c: &Checked)
+    ensures { OfEveryRun NoneAfterEnd (program_of c.now.program.parts) }
+{}
+
+/// In every run of a checked program no process waits for ever: where there is no fault and no
+/// process can take an entry, all have their end, or some process has come to an action that names a
+/// thing, a class or a region which isn't there. The third part of alignment, but for such actions.
+pub fn none_waits(c: &Checked)
+    ensures { OfEveryRun NoneWaits (program_of c.now.program.parts) }
+{}
+
+/// What an expression comes to inside another is a value of the type that the rules give it, and all
+/// that it asks for is there, whatever fitting answers it gets: where the variables that are used
+/// hold values of their types.
+pub fn expressions_fit()
+    ensures { (uses : VariableUse → Bool) (s : ScopeContents) (w : Things) (env : Env) (x : NumberedExp) (type : ValueType) → EnvFits uses s w env → FieldsFit env.program
+        → IsWritten uses x → operand_type env.program s x ≡ Some type → Sound env.program (λ u h. IsOf u type h) w (eval env x) }
+{}
+
+/// What an action of the heap names is there: then it is possible, behind it what was written to
+/// fields and elements is of their types, and its answer fits.
+pub fn heap_fits()
+    ensures { (p : NumberedProgram) (elements : Elements) (h : History) (i : ℕ) (a : Action) (wanted : Wanted) → FieldsStorable p → IsAnswered p h → HeapFits p elements h
+        → IsThere p (things_of elements h) a wanted → KeepsTypes p elements h i a wanted }
+{}
+
+/// What is to be done next in a frame that fits the types comes to a move that fits them, whatever
+/// fitting answers it gets: variables keep to their types, and so do parameters, results and deposits.
+pub fn work_fits()
+    ensures { (p : Process) (f : Frame) (left : List Work) (w : Things) (x : Work) → VariablesFit w f.variables → ThisFits w f.method f.this → FieldsFit p.setting.program
+        → FieldsStorable p.setting.program → MethodsFit p.setting.program p.setting.program.methods → WorksFit p.setting.program f.method (method_scope f.method) w (x ∷ left)
+        → Sound p.setting.program (λ u move. MoveFits p.setting.program f.method (scope_over p.setting.program (method_scope f.method) left) u move) w (performed (env_of p f left) x) }
+{}
