@@ -1,0 +1,129 @@
+// The shared regions of a run.
+
+use crate::region::{Region, region_counted};
+use std::alloc::Global;
+use std::marker::Model;
+use ti_base::{Memory, Value};
+
+/// The shared regions that were made, with a count for each.
+///
+/// Contracts see the list of the regions in the order of their making, each with whether it is live and
+/// with its count. Regions are numbered from 1. The counts are those of references into a region from
+/// cells outside it, as far as `note_put` is told of each write.
+#[derive(Drop)]
+pub struct Regions {
+    regions: Vec<Region>,
+}
+
+impl Model for Regions {
+    ghost use Rattle.std.specs.Prelude.{List, ◌<◌, ◌^◌, vec_len};
+    ghost use Rattle.ti_region.specs.declared.region.Region.{Region};
+
+    ghost Value = { List Region };
+
+    ghost view = { λ r. r.regions.items };
+
+    ghost invariant = { λ r. vec_len r.regions < 2 ^ 32 };
+}
+
+impl Regions {
+    ghost use Rattle.std.specs.Prelude.{◌≡◌, ◌+◌, ◌-◌, ◌^◌, ◌<◌, true, [], ◌∷◌, ◌++◌, length, Some, IfOk, OnOk, OnErr};
+    ghost use Rattle.ti_region.specs.Counting.{IsMade, region_at, new_region, deleted, counted_for, one_less, one_more, CanLose, CanGain, after_put};
+
+    /// No region.
+    pub fn new(alloc: Global) -> Self
+        ensures { result ≡ [] }
+    {
+        Regions {
+            regions: Vec::new(alloc),
+        }
+    }
+
+    /// Makes a region, which is live and has the count 0, and answers its number.
+    ///
+    /// Fewer than 2^32 - 1 regions were made. On want of memory nothing changed.
+    pub fn make(&mut self) -> Result<u32, Memory>
+        requires { length self.old < 2 ^ 32 - 1 }
+        ensures number { IfOk result (λ r. r ≡ length self.old + 1) }
+        ensures made { OnOk result (self.new ≡ self.old ++ new_region ∷ []) }
+        ensures kept { OnErr result (self.new ≡ self.old) }
+    {
+        self.regions.push(Region {
+            is_live: true,
+            count: 0,
+        })?;
+        Ok(self.made())
+    }
+
+    /// How many regions were made.
+    pub fn made(&self) -> u32
+        ensures { result ≡ length self.now }
+    {
+        self.regions.len() as u32
+    }
+
+    /// Whether a region that was made isn't deleted.
+    pub fn is_live(&self, r: u32) -> bool
+        requires { IsMade self.now r }
+        ensures { result ≡ (region_at self.now r).is_live }
+    {
+        self.regions[r as usize - 1].is_live
+    }
+
+    /// The count of a region that was made.
+    pub fn outside_refs(&self, r: u32) -> u64
+        requires { IsMade self.now r }
+        ensures { result ≡ (region_at self.now r).count }
+    {
+        self.regions[r as usize - 1].count
+    }
+
+    // Takes 1 from the count of a region.
+    fn lose_one(&mut self, r: u32)
+        requires { CanLose self.old (Some r) }
+        ensures { self.new ≡ one_less self.old (Some r) }
+    {
+        let region = &mut self.regions[r as usize - 1];
+        region.count -= 1;
+    }
+
+    // Adds 1 to the count of a region.
+    fn gain_one(&mut self, r: u32)
+        requires { CanGain self.old (Some r) }
+        ensures { self.new ≡ one_more self.old (Some r) }
+    {
+        let region = &mut self.regions[r as usize - 1];
+        region.count += 1;
+    }
+
+    /// Counts a write to a cell that lies in region `cell_region` and held `before`, and holds `after` now.
+    ///
+    /// It takes 1 from the count of the region of the thing that `before` names, and then adds 1 to that
+    /// of the thing that `after` names, each only where that region is neither 0 nor `cell_region`. These
+    /// regions were made, and no count leaves the numbers from 0 to 2^64 - 1.
+    pub fn note_put(&mut self, cell_region: u32, before: Value, after: Value)
+        requires before { CanLose self.old (counted_for cell_region before) }
+        requires after { CanGain (one_less self.old (counted_for cell_region before)) (counted_for cell_region after) }
+        ensures { self.new ≡ after_put cell_region before after self.old }
+    {
+        match region_counted(cell_region, before) {
+            Some(region) => self.lose_one(region),
+            None => {}
+        }
+        match region_counted(cell_region, after) {
+            Some(region) => self.gain_one(region),
+            None => {}
+        }
+    }
+
+    /// Deletes a region, which is live and has the count 0.
+    pub fn delete(&mut self, r: u32)
+        requires made { IsMade self.old r }
+        requires live { (region_at self.old r).is_live ≡ true }
+        requires unused { (region_at self.old r).count ≡ 0 }
+        ensures { self.new ≡ deleted self.old r }
+    {
+        let region = &mut self.regions[r as usize - 1];
+        region.is_live = false;
+    }
+}

@@ -1,0 +1,199 @@
+// The rounds of a run.
+
+use crate::arrival::Arrival;
+use crate::seat::{Seat, all_reach, none_left};
+use std::alloc::Global;
+use std::marker::Model;
+use ti_base::{CollKind, Deposit, Memory, Place};
+
+/// The rounds of collectives that all processes go through together: the nth round is the nth arrival of
+/// each process.
+///
+/// Contracts speak of the whole courses of all processes: all arrivals so far, with what each gave, and how
+/// often each has left a round. What is kept of a course is how far it is and its two latest arrivals,
+/// since no process can be more than one round ahead of another.
+#[derive(Drop)]
+pub struct Rounds {
+    seats: Vec<Seat>,
+}
+
+impl Model for Rounds {
+    ghost use Rattle.std.specs.Prelude.{List};
+    ghost use Rattle.ti_rounds.specs.declared.seat.Seat.{Seat};
+    ghost use Rattle.ti_rounds.specs.Mirrors.{AreInStep};
+
+    ghost Value = { List Seat };
+
+    ghost view = { λ r. r.seats.items };
+
+    ghost invariant = { λ r. AreInStep r.seats.items };
+}
+
+impl Rounds {
+    ghost use Rattle.std.specs.Prelude.{◌≡◌, ℕ, ◌+◌, ◌-◌, ◌^◌, ◌<◌, ◌≤◌, ◌↔◌, List, length, replicate, slice_set, Some, IsTrue, IfOk};
+    ghost use Rattle.ti_base.specs.declared.action.Deposit.TheVariants.{Nothing};
+    ghost use Rattle.ti_rounds.specs.declared.arrival.Arrival.{Arrival as ArrivalRecord};
+    ghost use Rattle.ti_rounds.specs.Seats.{seat_at, round_at, left_by, Goes, Waits, IsReached, IsUnleft, collective_of};
+    ghost use Rattle.ti_rounds.specs.Courses.{Course, no_course, Keeps, AllSay, said_at, given_at, departure_of, with_arrival, with_departure};
+    ghost use Rattle.ti_rounds.specs.Mirrors.{AreInStep};
+
+    /// The rounds of so many processes, none of which has arrived at one.
+    pub fn new(alloc: Global, procs: u32) -> Result<Self, Memory>
+        ensures { IfOk result (λ rounds. Keeps rounds (replicate procs no_course)) }
+    {
+        let mut seats = Vec::new(alloc);
+        seats.resize(procs as usize, Seat::new())?;
+        Ok(Rounds { seats })
+    }
+
+    // What is kept of a process, and that all are in step.
+    fn seat(&self, p: u32) -> Seat
+        requires { p < length self.now }
+        ensures value { result ≡ seat_at self.now p }
+        ensures in_step { AreInStep self.now }
+    {
+        self.seats[p as usize]
+    }
+
+    // Keeps something else of a process.
+    fn keep(&mut self, p: u32, seat: Seat)
+        requires process { p < length self.old }
+        requires in_step { AreInStep (slice_set self.old p seat) }
+        ensures { self.new ≡ slice_set self.old p seat }
+    {
+        self.seats[p as usize] = seat;
+    }
+
+    // What a process gave at a round that all have reached, and beyond which nobody is by more than one.
+    fn given_in(&self, who: u32, round: u64) -> Deposit
+        requires reached { IsReached self.now round }
+        requires kept { (q : ℕ) → q < length self.now → round_at self.now q ≤ round + 1 }
+        ensures { (courses : List Course) → Keeps self.now courses → result ≡ given_at courses who round }
+    {
+        match self.seats.get(who as usize) {
+            Some(seat) => seat.given_at(round),
+            None => Deposit::Nothing,
+        }
+    }
+
+    /// The process arrives at its next round.
+    ///
+    /// It isn't waiting, and whoever has arrived at this round already said the same kind, place and
+    /// argument. It has arrived fewer than 2^64 - 1 times.
+    pub fn arrive(&mut self, p: u32, kind: CollKind, place: Place, arg: Option<u32>, d: Deposit)
+        requires process { p < length self.old }
+        requires goes { Goes self.old p }
+        requires agrees { (courses : List Course) × Keeps self.old courses × AllSay courses (round_at self.old p + 1) (kind, place, arg) }
+        requires countable { round_at self.old p < 2 ^ 64 - 1 }
+        ensures { (courses : List Course) → Keeps self.old courses → Keeps self.new (with_arrival courses p (record {
+          kind = kind;
+          place = place;
+          arg = arg;
+          deposit = d;
+        })) }
+    {
+        let seat = self.seat(p);
+        self.keep(
+            p,
+            seat.arrived(Arrival {
+                kind,
+                place,
+                arg,
+                deposit: d,
+            }),
+        );
+    }
+
+    /// Whether all have arrived at the round in which the process waits.
+    pub fn complete(&self, p: u32) -> bool
+        requires process { p < length self.now }
+        requires waits { Waits self.now p }
+        ensures { IsTrue result ↔ IsReached self.now (round_at self.now p) }
+    {
+        let seat = self.seat(p);
+        all_reach(&self.seats, seat.arrivals)
+    }
+
+    /// Whether nobody has left the round in which the process waits.
+    pub fn first_out(&self, p: u32) -> bool
+        requires process { p < length self.now }
+        requires waits { Waits self.now p }
+        ensures { IsTrue result ↔ IsUnleft self.now (round_at self.now p) }
+    {
+        let seat = self.seat(p);
+        none_left(&self.seats, seat.arrivals)
+    }
+
+    // What the departure from the round in which the process waits gives.
+    fn handed_out(&self, p: u32) -> Deposit
+        requires process { p < length self.now }
+        requires waits { Waits self.now p }
+        requires complete { IsReached self.now (round_at self.now p) }
+        ensures { (courses : List Course) → Keeps self.now courses → result ≡ departure_of courses p }
+    {
+        let seat = self.seat(p);
+        let Some(arrival) = seat.latest else {
+            return Deposit::Nothing;
+        };
+        let CollKind::Broadcast = arrival.kind else {
+            return Deposit::Nothing;
+        };
+        match arrival.arg {
+            Some(root) => self.given_in(root, seat.arrivals),
+            None => Deposit::Nothing,
+        }
+    }
+
+    /// The process leaves the round in which it waits, which all have reached. It gets what the root gave
+    /// where this is a broadcast, and else `Nothing`.
+    pub fn depart(&mut self, p: u32) -> Deposit
+        requires process { p < length self.old }
+        requires waits { Waits self.old p }
+        requires complete { IsReached self.old (round_at self.old p) }
+        ensures left { (courses : List Course) → Keeps self.old courses → Keeps self.new (with_departure courses p) }
+        ensures value { (courses : List Course) → Keeps self.old courses → result ≡ departure_of courses p }
+    {
+        let deposit = self.handed_out(p);
+        let seat = self.seat(p);
+        self.keep(p, seat.departed());
+        deposit
+    }
+
+    /// What `who` gave in the round that the process left last. It isn't waiting.
+    pub fn take(&self, p: u32, who: u32) -> Deposit
+        requires process { p < length self.now }
+        requires giver { who < length self.now }
+        requires goes { Goes self.now p }
+        requires left { 0 < left_by self.now p }
+        ensures { (courses : List Course) → Keeps self.now courses → result ≡ given_at courses who (left_by self.now p) }
+    {
+        let seat = self.seat(p);
+        self.given_in(who, seat.departures)
+    }
+
+    /// Kind, place and argument of the round in which the process waits, which all who have arrived at it
+    /// said.
+    pub fn round_of(&self, p: u32) -> (CollKind, Place, Option<u32>)
+        requires process { p < length self.now }
+        requires waits { Waits self.now p }
+        ensures own { (courses : List Course) → Keeps self.now courses → said_at courses p (round_at self.now p) ≡ Some result }
+        ensures all { (courses : List Course) → Keeps self.now courses → AllSay courses (round_at self.now p) result }
+    {
+        match self.seat(p).latest {
+            Some(arrival) => arrival.collective(),
+            None => unreachable!(),
+        }
+    }
+
+    /// What `who` gave in the round in which the process waits, which all have reached.
+    pub fn given(&self, p: u32, who: u32) -> Deposit
+        requires process { p < length self.now }
+        requires giver { who < length self.now }
+        requires waits { Waits self.now p }
+        requires complete { IsReached self.now (round_at self.now p) }
+        ensures { (courses : List Course) → Keeps self.now courses → result ≡ given_at courses who (round_at self.now p) }
+    {
+        let seat = self.seat(p);
+        self.given_in(who, seat.arrivals)
+    }
+}
