@@ -1,0 +1,4 @@
+pub mod Conditions
+pub mod MirrorsLedger
+pub mod MirrorsRounds
+pub mod Stores

@@ -1,0 +1,8 @@
+//! The history of a run, with the heap and the rounds that it makes.
+#![tactic(auto)]
+
+mod act_err;
+mod ledger;
+mod meets;
+
+pub use act_err::ActErr;
