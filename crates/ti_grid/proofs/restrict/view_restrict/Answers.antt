@@ -1,0 +1,62 @@
+use Rattle.std.proofs.Common.{◌≡◌, true, false, refl, sym, ap, subst, ◌∙◌}
+use Rattle.std.proofs.lemmas.Bool.{eq-eqb}
+use Rattle.ti_base.specs.declared.point.Point.{Point}
+use Rattle.ti_base.specs.declared.point.Rect.{Rect}
+use Rattle.ti_base.specs.declared.action.ViewHow.TheVariants.{Restrict}
+use Rattle.ti_base.specs.Rects.{IsRect, IsIn, meet}
+use Rattle.ti_rect.proofs.RectLaws.{none_in}
+use Rattle.ti_rect.proofs.ViewLaws.{view_inside}
+use Rattle.ti_grid.specs.declared.layout.Layout.{Layout}
+use Rattle.ti_grid.specs.MirrorsNumbers.{number_of}
+use Rattle.ti_grid.specs.Views.{IsLaid, IsSeen}
+use Rattle.ti_grid.proofs.SeenLaws.{is_laid, is_seen}
+use Rattle.ti_grid.proofs.restrict.view_restrict.Goals as goal
+use Rattle.ti_grid.proofs.restrict.view_restrict.Goals.{After-is_empty, After-restricted}
+
+viewed : (c : After-is_empty) → IsRect (meet c.layout-l.result.dom c.args.r.now) × ((p : Point) → IsIn (meet c.layout-l.result.dom c.args.r.now) p → IsIn c.layout-l.result.dom p)
+viewed c =
+    let same = c.requires.dim ∙ sym (ap (λ (v : Layout). v.dom.dim) c.layout-l.ensures.value) in
+    view_inside (Restrict c.args.r.now) c.layout-l.result.dom c.layout-l.ensures.laid.form c.requires.form (eq-eqb c.args.r.now.dim c.layout-l.result.dom.dim same) refl
+
+-- nothing is there where the meet is empty
+nothing : (c : After-is_empty) → c.is_empty.result ≡ true → (p : Point) → IsIn (meet c.layout-l.result.dom c.args.r.now) p
+    → number_of (record c.layout-l.result { dom = c.rect_meet-dom.result }) p ≡ number_of c.layout-l.result p
+nothing c t p w = absurd (none_in c.rect_meet-dom.result (c.is_empty.ensures.0 t) p (subst (λ (r : Rect). IsIn r p) (sym c.rect_meet-dom.ensures.value) w))
+
+kept : (c : After-restricted) → (p : Point) → IsIn (meet c.layout-l.result.dom c.args.r.now) p → number_of c.restricted.result p ≡ number_of c.layout-l.result p
+kept c p w = c.restricted.ensures.numbers p (subst (λ (r : Rect). IsIn r p) (sym c.rect_meet-dom.ensures.value) w)
+
+pub laid-requires : goal.laid-requires
+laid-requires c =
+    let l = c.layout-l.result in
+    let a = (goal.at.laid-requires c).After-is_empty in
+    let v = viewed a in
+    is_laid (Restrict c.args.r.now) l (record l { dom = c.rect_meet-dom.result }) c.layout-l.ensures.laid refl c.rect_meet-dom.ensures.value v.0 v.1 (nothing a c.if-is_empty.true) (λ p q w x e. e)
+
+pub returns-then-is_empty : goal.returns-then-is_empty
+returns-then-is_empty c =
+    let l = c.layout-l.result in
+    let a = (goal.at.returns-then-is_empty c).After-is_empty in
+    let v = viewed a in
+    subst (λ (x : Layout). IsSeen (Restrict c.args.r.now) x c.laid.result) c.layout-l.ensures.value
+    (subst (IsSeen (Restrict c.args.r.now) l) (sym c.laid.ensures)
+    (is_seen (Restrict c.args.r.now) l (record l { dom = c.rect_meet-dom.result }) c.layout-l.ensures.laid refl c.rect_meet-dom.ensures.value v.0 v.1 (nothing a c.if-is_empty.true)))
+
+pub restricted-requires-clause-inside : goal.restricted-requires-clause-inside
+restricted-requires-clause-inside c = λ p w. ((c.rect_meet-dom.ensures.points p).0 w).0
+
+pub laid-requires-2 : goal.laid-requires-2
+laid-requires-2 c =
+    let l = c.layout-l.result in
+    let v = viewed (goal.at.laid-requires-2 c).After-is_empty in
+    is_laid (Restrict c.args.r.now) l c.restricted.result c.layout-l.ensures.laid c.restricted.ensures.block (c.restricted.ensures.domain ∙ c.rect_meet-dom.ensures.value) v.0 v.1
+    (kept (goal.at.laid-requires-2 c).After-restricted) (λ p q w x e. e)
+
+pub returns : goal.returns
+returns c =
+    let l = c.layout-l.result in
+    let v = viewed (goal.at.returns c).After-is_empty in
+    subst (λ (x : Layout). IsSeen (Restrict c.args.r.now) x c.laid-2.result) c.layout-l.ensures.value
+    (subst (IsSeen (Restrict c.args.r.now) l) (sym c.laid-2.ensures)
+    (is_seen (Restrict c.args.r.now) l c.restricted.result c.layout-l.ensures.laid c.restricted.ensures.block (c.restricted.ensures.domain ∙ c.rect_meet-dom.ensures.value) v.0 v.1
+    (kept (goal.at.returns c).After-restricted)))

@@ -1,0 +1,11 @@
+use Rattle.std.proofs.Common.{ℕ, length, sym, ap, subst, ◌∙◌}
+use Rattle.ti_base.specs.declared.point.Rect.{Rect}
+use Rattle.ti_base.specs.Rects.{points_of}
+use Rattle.ti_grid.specs.Views.{IsWhole, NumbersBelow}
+use Rattle.ti_grid.proofs.WholeLaws.{whole_below}
+use Rattle.ti_grid.proofs.whole.view_of.Goals as goal
+
+pub returns-clause-below : goal.returns-clause-below
+returns-clause-below c =
+    subst (NumbersBelow (length (points_of c.args.dom.now))) (sym c.laid.ensures)
+    (subst (λ (r : Rect). NumbersBelow (length (points_of r)) c.whole.result) c.whole.ensures.dom (whole_below c.whole.result c.whole.ensures.numbers))

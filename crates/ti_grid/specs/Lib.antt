@@ -1,0 +1,2 @@
+pub mod MirrorsNumbers
+pub mod Views

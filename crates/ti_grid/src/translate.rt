@@ -1,0 +1,30 @@
+// Views that are shifted.
+
+ghost use Rattle.std.specs.Prelude.{◌≡◌, ◌↔◌, IsErr, IfOk};
+ghost use Rattle.std.specs.Result.{result_err};
+ghost use Rattle.ti_base.specs.declared.action.ViewHow.TheVariants.{Translate};
+ghost use Rattle.ti_base.specs.Points.{IsPoint};
+ghost use Rattle.ti_base.specs.Rects.{LeavesRange};
+ghost use Rattle.ti_base.specs.Cells.{view_fault};
+ghost use Rattle.ti_grid.specs.Views.{IsSeen};
+
+use crate::layout::Layout;
+use crate::view::{View, laid, layout};
+use ti_base::{FaultKind, Point};
+use ti_rect::rect_translate;
+
+/// The view with each point moved by the coordinates of `p`. The fault is `Range`, exactly where a coordinate of
+/// a point of the domain would leave 32 bits; a view without points never has one.
+pub fn view_translate(v: &View, p: &Point) -> Result<View, FaultKind>
+    requires by { IsPoint p.now }
+    requires dim { p.now.dim ≡ v.now.dom.dim }
+    ensures fault { result_err result ≡ view_fault (Translate p.now) v.now.dom }
+    ensures range { IsErr result ↔ LeavesRange v.now.dom p.now }
+    ensures view { IfOk result (λ moved. IsSeen (Translate p.now) v.now moved) }
+{
+    let l = layout(v);
+    match rect_translate(&l.dom, p) {
+        Ok(dom) => Ok(laid(Layout { dom, ..l })),
+        Err(_) => Err(FaultKind::Range),
+    }
+}
