@@ -1,4 +1,6 @@
 pub mod Courses
+pub mod HeapSteps
+pub mod Makings
 pub mod Meeting
 pub mod NoRegions
 pub mod OneMore

@@ -11,6 +11,7 @@ use Rattle.ti_lang.specs.Meaning.RoundsOf.{Arrival, arrival_in, arrival_at, roun
 use Rattle.ti_lang.specs.Meaning.RegionsOf.{is_gone}
 use Rattle.ti_lang.specs.Meaning.HeapOf.{cost_of_making, region_made_in, cost_of}
 use Rattle.ti_store.specs.Conditions.{is_regionless, is_regionless_kind}
+use Rattle.ti_store.specs.MirrorsHeap.{full_cost}
 use Rattle.ti_store.specs.MirrorsLedger.{AreOurs}
 
 -- ---- arrivals
@@ -56,10 +57,6 @@ none_gone procs r (e ∷ h) ours =
     and_or (is_departure e.act) (is_delete_of r (last_arrival e.proc h)) (is_gone r h) (none_deleted procs e.proc r h ours.2) (none_gone procs r h ours.2)
 
 -- ---- cost
-
--- what all things cost that a process made
-abbrev pub full_cost : NumberedProgram → ℕ → History → ℕ
-full_cost program i h = sum_by (λ (e : Entry). cost_of_making program e.act) (entries_of i h)
 
 pub cost_full : (program : NumberedProgram) (procs i : ℕ) (h : History) → AreOurs procs h → cost_of program i h ≡ full_cost program i h
 cost_full program procs i h ours =

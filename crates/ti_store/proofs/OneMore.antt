@@ -1,5 +1,5 @@
 -- One entry more: what it adds to what is told of a process.
-use Rattle.std.proofs.Common.{◌≡◌, ℕ, suc, ◌+◌, ◌≤◌, ◌==◌, Bool, true, false, cond, ◌||◌, List, [], ◌∷◌, ◌++◌, length, filter, reverse, count_by, refl, sym, ap, subst, ◌∙◌, arith, eq-eqb, eqb-true}
+use Rattle.std.proofs.Common.{◌≡◌, ℕ, zero, suc, ◌+◌, ◌<◌, ◌≤◌, ◌==◌, Bool, true, false, cond, ◌||◌, List, [], ◌∷◌, ◌++◌, length, replicate, slice_get, Some, filter, reverse, count_by, refl, sym, ap, subst, ◌∙◌, arith, eq-eqb, eqb-true}
 use Rattle.std.specs.List.{list_any}
 use Rattle.std.proofs.lemmas.List.{reverse-append}
 use Rattle.std.proofs.lemmas.List.Elements.{filter-append}
@@ -69,3 +69,10 @@ or_false false false = refl
 
 pub fault_more : (es : List Entry) (e : Entry) → has_fault (es ++ e ∷ []) ≡ (has_fault es || is_fault e.act)
 fault_more es e = list_any-append (λ (e : Entry). is_fault e.act) es (e ∷ []) ∙ or_false (has_fault es) (is_fault e.act)
+
+-- ---- lists
+
+pub get_replicate : {A : Type 0} (m n : ℕ) (x : A) → n < m → slice_get (replicate m x) n ≡ Some x
+get_replicate zero n x l = absurd (omega arith)
+get_replicate (suc m) zero x l = refl
+get_replicate (suc m) (suc n) x l = get_replicate m n x (omega arith)

@@ -16,7 +16,9 @@ arrive-requires-clause-agrees c =
     (k.courses, k.keeps, all_say l.procs l.entries.items l.rounds c.args.p (c.args.kind, c.args.place, c.args.arg) k c.requires.agrees)
 
 pub arrive-requires-clause-countable : goal.arrive-requires-clause-countable
-arrive-requires-clause-countable c = ?
+arrive-requires-clause-countable c =
+    let l = c.args.self.now in
+    countable l.procs l.entries.items l.rounds c.args.p (2 ^ 64 - 1) c.requires.kept (omega (arith, l.entries.ok.0, c.requires.room, c.capacity-room.ensures, c.capacity-room.type_inv))
 
 pub returns-clause-kept : goal.returns-clause-kept
 returns-clause-kept c =
