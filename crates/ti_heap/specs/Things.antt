@@ -1,0 +1,150 @@
+-- How the lists of things that the code keeps mean the maps.
+use Rattle.std.specs.Prelude.{◌≡◌, ℕ, zero, suc, ◌+◌, ◌≤◌, Bool, true, false, ◌&&◌, ◌==◌, if◌then◌else◌, List, [], ◌∷◌, ◌++◌, map, length, sum_by, slice_get, slice_set, Option, Some, None}
+use Rattle.std.specs.List.{flat_map}
+use Rattle.std.specs.Option.{option_map, option_and_then, option_map_or}
+use Rattle.ti_base.specs.declared.value.Id.{Id}
+use Rattle.ti_base.specs.declared.value.Value.{Value}
+use Rattle.ti_grid.specs.declared.layout.Layout.{Layout}
+use Rattle.ti_grid.specs.Views.{cell_number, NumbersBelow}
+use Rattle.ti_heap.specs.declared.thing.Thing.{Thing}
+use Rattle.ti_heap.specs.declared.thing.Thing.TheVariants.{Object, Block, Seen, Gone}
+use Rattle.ti_heap.specs.Contents.{Cell, cell_at, GridMap, Made, Contents}
+
+-- ---- one thing
+
+-- what its cells hold
+abbrev pub values_of : Thing → List Value
+values_of (Object region fields) = fields
+values_of (Block whole elements) = elements
+values_of (Seen view) = []
+values_of Gone = []
+
+-- the region in which it lies
+abbrev pub region_of : Thing → ℕ
+region_of (Object region fields) = region
+region_of (Block whole elements) = whole.block.region
+region_of (Seen view) = view.block.region
+region_of Gone = 0
+
+-- its region and its cost
+abbrev pub made_of : Thing → Made
+made_of (Object region fields) = record { region = region; cost = 1 + length fields }
+made_of (Block whole elements) = record { region = whole.block.region; cost = 1 + length elements }
+made_of (Seen view) = record { region = view.block.region; cost = 1 }
+made_of Gone = record { region = 0; cost = 0 }
+
+abbrev pub cost_of : Thing → ℕ
+cost_of t = (made_of t).cost
+
+-- how it lies in a block, where it is a grid
+abbrev pub layout_of : Thing → Option Layout
+layout_of (Object region fields) = None
+layout_of (Block whole elements) = Some whole
+layout_of (Seen view) = Some view
+layout_of Gone = None
+
+-- a name has its owner and region
+abbrev pub is_named : Id → Thing → Bool
+is_named id (Object region fields) = id.owner == id.maker && id.region == region
+is_named id (Block whole elements) = id.owner == whole.block.owner && id.region == whole.block.region
+is_named id (Seen view) = id.owner == view.block.owner && id.region == view.block.region
+is_named id Gone = false
+
+-- another value in one of its cells
+abbrev pub put_in : ℕ → Value → Thing → Thing
+put_in i v (Object region fields) = Object region (slice_set fields i v)
+put_in i v (Block whole elements) = Block whole (slice_set elements i v)
+put_in i v (Seen view) = Seen view
+put_in i v Gone = Gone
+
+-- gone, where it lies in the region
+abbrev pub dropped : ℕ → Thing → Thing
+dropped region t = if region_of t == region then Gone else t
+
+-- the values of its cells, where it lies in the region
+abbrev pub values_in : ℕ → Thing → List Value
+values_in region t = if region_of t == region then values_of t else []
+
+-- ---- things by maker and serial
+
+abbrev pub Things : Type 0
+Things = ℕ → ℕ → Option Thing
+
+abbrev pub thing_at : List (List Thing) → Things
+thing_at h maker serial = option_and_then (λ things. slice_get things serial) (slice_get h maker)
+
+abbrev pub named : Id → Thing → Option Thing
+named id t = if is_named id t then Some t else None
+
+-- the thing with this name
+abbrev pub live : Things → Id → Option Thing
+live things id = option_and_then (named id) (things id.maker id.serial)
+
+abbrev pub held_in : Things → Cell → Option Value
+held_in things cell = option_and_then (λ t. slice_get (values_of t) cell.number) (live things cell.thing)
+
+abbrev pub map_of : Layout → GridMap
+map_of l = record { domain = l.dom; cell = λ p. option_map (cell_at l.block) (cell_number l p) }
+
+abbrev pub layout_in : Things → Id → Option Layout
+layout_in things id = option_and_then layout_of (live things id)
+
+abbrev pub grid_in : Things → Id → Option GridMap
+grid_in things id = option_map map_of (layout_in things id)
+
+-- ---- the heap
+
+-- what a process made
+abbrev pub share_of : List (List Thing) → ℕ → List Thing
+share_of h p = option_map_or (λ things. things) (slice_get h p) []
+
+abbrev pub made_in : List (List Thing) → ℕ → List Made
+made_in h p = map made_of (share_of h p)
+
+-- the maps
+abbrev pub contents : List (List Thing) → Contents
+contents h = record { procs = length h; held = held_in (thing_at h); grid = grid_in (thing_at h); made = made_in h }
+
+-- the values of all cells of a region, thing by thing
+abbrev pub all_values_in : ℕ → List (List Thing) → List Value
+all_values_in region h = flat_map (λ things. flat_map (values_in region) things) h
+
+-- those that are still to come
+abbrev pub values_left : ℕ → List Value → List Thing → List (List Thing) → List Value
+values_left region values things shares = values ++ (flat_map (values_in region) things ++ all_values_in region shares)
+
+-- ---- what is kept
+
+-- the block of a view is there, and has all its cells
+pub record IsBacked (things : Things) (l : Layout) : Type 0 where
+  pub whole : Layout
+  pub elements : List Value
+  pub there : live things l.block ≡ Some (Block whole elements)
+  pub below : NumbersBelow (length elements) l
+
+-- the block of each grid is there
+abbrev pub IsSound : Things → Type 0
+IsSound things = (maker serial : ℕ) (t : Thing) (l : Layout) → things maker serial ≡ Some t → layout_of t ≡ Some l → IsBacked things l
+
+-- a new thing under this name has its block
+abbrev pub HasBacking : Things → Id → Thing → Type 0
+HasBacking things id (Object region fields) = Unit {0}
+HasBacking things id (Block whole elements) = (whole.block ≡ id) × NumbersBelow (length elements) whole
+HasBacking things id (Seen view) = IsBacked things view
+HasBacking things id Gone = Unit {0}
+
+-- what the things of a process cost
+abbrev pub total_cost : List Thing → ℕ
+total_cost things = sum_by (λ (m : Made). m.cost) (map made_of things)
+
+-- the cost is counted, and isn't too much
+pub record IsCounted (cost : ℕ) (things : List Thing) : Type 0 where
+  pub same : cost ≡ total_cost things
+  pub most : cost ≤ 1048576
+
+-- ---- lists with one element changed
+
+abbrev pub changed_at : {A : Type 0} → ℕ → (A → A) → List A → List A
+changed_at n f [] = []
+changed_at zero f (x ∷ xs) = f x ∷ xs
+changed_at (suc n) f (x ∷ xs) = x ∷ changed_at n f xs

@@ -1,0 +1,69 @@
+// The values of the cells of a region.
+
+ghost use Rattle.std.specs.Prelude.{◌≡◌, [], ◌∷◌, ◌++◌};
+ghost use Rattle.std.specs.List.{flat_map};
+ghost use Rattle.std.specs.Iterator.{YieldsFirst, item_count};
+ghost use Rattle.ti_heap.specs.Things.{values_in, all_values_in};
+
+use crate::heap::Heap;
+use crate::share::Share;
+use crate::thing::Thing;
+use std::marker::Model;
+use ti_base::Value;
+
+/// The values of the cells of a region, one after another. Contracts see those that are still to come.
+#[derive(Drop)]
+pub struct Cells<'a> {
+    region: u32,
+    values: &'a [Value],
+    things: &'a [Thing],
+    shares: &'a [Share],
+}
+
+impl<'a> Model for Cells<'a> {
+    ghost use Rattle.std.specs.Prelude.{List};
+    ghost use Rattle.ti_base.specs.declared.value.Value.{Value as Held};
+    ghost use Rattle.ti_heap.specs.Things.{values_left};
+
+    ghost Value = { List Held };
+
+    ghost view = { λ c. values_left c.region c.values.now c.things.now c.shares.now };
+}
+
+impl<'a> Iterator for Cells<'a> {
+    type Item = Value;
+
+    ghost next_gives = { YieldsFirst (λ values. values) };
+
+    ghost remaining = { item_count (λ values. values) };
+
+    fn next(&mut self) -> Option<Value> {
+        while self.values.is_empty() {
+            if let Some((thing, others)) = self.things.split_first() {
+                self.things = others;
+                self.values = thing.values_in(self.region);
+            } else {
+                let (share, others) = self.shares.split_first()?;
+                self.shares = others;
+                self.things = share.things();
+            }
+        }
+        let (value, others) = self.values.split_first()?;
+        self.values = others;
+        Some(*value)
+    }
+}
+
+impl Heap {
+    /// The values of the cells of the things that lie in the region, thing by thing.
+    pub fn cells_of(&self, region: u32) -> Cells<'_>
+        ensures { result ≡ all_values_in region self.now }
+    {
+        Cells {
+            region,
+            values: &[],
+            things: &[],
+            shares: self.shares(),
+        }
+    }
+}

@@ -1,0 +1,53 @@
+// Elements of grids.
+
+ghost use Rattle.std.specs.Prelude.{◌≡◌, ◌↔◌, IsErr, Some, IsSome, IsSomeAnd};
+ghost use Rattle.std.specs.Option.{option_map};
+ghost use Rattle.ti_base.specs.Rects.{IsIn};
+ghost use Rattle.ti_heap.specs.Contents.{grid_cell, Reads, Writes};
+ghost use Rattle.ti_heap.specs.Things.{contents};
+
+use crate::heap::Heap;
+use ti_base::{FaultKind, Id, Point, Rect, Value};
+use ti_grid::index_of;
+
+impl Heap {
+    /// What the element of a grid at a point holds. The fault is `Bounds`, exactly where the point isn't in the
+    /// domain. The grid is in no dropped region, and the point has its dimension.
+    pub fn get_elem(&self, grid: Id, at: &Point) -> Result<Value, FaultKind>
+        requires { IsSomeAnd ((contents self.now).grid grid) (λ g. at.now.dim ≡ g.domain.dim) }
+        ensures value { Reads (contents self.now) (grid_cell grid at.now (contents self.now)) result }
+        ensures bounds { IsSomeAnd ((contents self.now).grid grid) (λ g. IsErr result ↔ (IsIn g.domain at.now → ⊥)) }
+    {
+        let view = self.view(grid);
+        match index_of(view, at) {
+            Some(i) => Ok(self.value(view.block(), i)),
+            None => Err(FaultKind::Bounds),
+        }
+    }
+
+    /// Writes the element of a grid at a point: no other cell changes, and nothing else. The fault is `Bounds`,
+    /// exactly where the point isn't in the domain, and then nothing changes.
+    pub fn put_elem(&mut self, grid: Id, at: &Point, v: Value) -> Result<(), FaultKind>
+        requires { IsSomeAnd ((contents self.old).grid grid) (λ g. at.now.dim ≡ g.domain.dim) }
+        ensures value { Writes (contents self.old) (grid_cell grid at.now (contents self.old)) v result (contents self.new) }
+        ensures bounds { IsSomeAnd ((contents self.old).grid grid) (λ g. IsErr result ↔ (IsIn g.domain at.now → ⊥)) }
+    {
+        let view = self.view(grid);
+        let block = view.block();
+        match index_of(view, at) {
+            Some(i) => {
+                self.put(block, i, v);
+                Ok(())
+            }
+            None => Err(FaultKind::Bounds),
+        }
+    }
+
+    /// The domain of a grid, which is in no dropped region.
+    pub fn domain_of(&self, grid: Id) -> Rect
+        requires { IsSome ((contents self.now).grid grid) }
+        ensures { option_map (λ g. g.domain) ((contents self.now).grid grid) ≡ Some result }
+    {
+        self.view(grid).domain()
+    }
+}

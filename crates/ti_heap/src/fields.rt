@@ -1,0 +1,26 @@
+// Fields of objects.
+
+ghost use Rattle.std.specs.Prelude.{◌≡◌, IsSome, Some};
+ghost use Rattle.ti_heap.specs.Contents.{cell_at, with_value};
+ghost use Rattle.ti_heap.specs.Things.{contents};
+
+use crate::heap::Heap;
+use ti_base::{Id, Value};
+
+impl Heap {
+    /// What a field of an object holds. The object is in no dropped region and has the field.
+    pub fn get_field(&self, obj: Id, field: u32) -> Value
+        requires { IsSome ((contents self.now).held (cell_at obj field)) }
+        ensures { (contents self.now).held (cell_at obj field) ≡ Some result }
+    {
+        self.value(obj, u64::from(field))
+    }
+
+    /// Writes a field of an object: no other cell changes, and nothing else.
+    pub fn put_field(&mut self, obj: Id, field: u32, v: Value)
+        requires { IsSome ((contents self.old).held (cell_at obj field)) }
+        ensures { contents self.new ≡ with_value (cell_at obj field) v (contents self.old) }
+    {
+        self.put(obj, u64::from(field), v);
+    }
+}

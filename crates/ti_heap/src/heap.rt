@@ -1,0 +1,139 @@
+// The heap, and what its calls are made of.
+
+ghost use Rattle.std.specs.Prelude.{◌≡◌, ℕ, ◌+◌, ◌<◌, ◌≤◌, nat_lt, true, length, IfOk, OnOk, OnErr, IsSome, Some};
+ghost use Rattle.std.specs.Option.{option_map};
+ghost use Rattle.ti_heap.specs.Contents.{nothing, cost_of, own_id, with_value, with_thing, without_region, cell_at};
+ghost use Rattle.ti_heap.specs.Things.{thing_at, live, held_in, layout_in, layout_of, map_of, values_of, contents, share_of, is_named, IsBacked, IsSound, HasBacking};
+ghost use Rattle.ti_heap.specs.Things as things;
+
+use crate::share::Share;
+use crate::thing::Thing;
+use std::alloc::Global;
+use std::marker::Model;
+use ti_base::{Id, Memory, Value};
+use ti_grid::View;
+
+/// The objects and grids of all processes.
+///
+/// Contracts see it through `contents`: what each cell holds, the domain of each grid and the cell of each of
+/// its points, and for each process what it made with its cost.
+#[derive(Drop)]
+pub struct Heap {
+    shares: Vec<Share>,
+}
+
+impl Model for Heap {
+    ghost use Rattle.std.specs.Prelude.{List};
+    ghost use Rattle.ti_heap.specs.declared.thing.Thing.{Thing};
+    ghost use Rattle.ti_heap.specs.Things.{thing_at, IsSound};
+
+    ghost Value = { List (List Thing) };
+
+    ghost view = { λ h. h.shares.items };
+
+    ghost invariant = { λ h. IsSound (thing_at h.shares.items) };
+}
+
+impl Heap {
+    /// A heap for so many processes, none of which has made anything.
+    pub fn new(alloc: Global, procs: u32) -> Result<Self, Memory>
+        ensures { IfOk result (λ heap. contents heap ≡ nothing procs) }
+    {
+        let mut shares = Vec::new(alloc);
+        for _process in 0..procs {
+            shares.push(Share::new(alloc))?;
+        }
+        Ok(Heap { shares })
+    }
+
+    /// What each process made.
+    pub fn shares(&self) -> &[Share]
+        ensures shares { result.now ≡ self.now }
+        ensures sound { IsSound (thing_at self.now) }
+    {
+        &self.shares
+    }
+
+    /// The thing with this name.
+    fn thing(&self, id: Id) -> &Thing
+        requires { IsSome (live (thing_at self.now) id) }
+        ensures { live (thing_at self.now) id ≡ Some result.now }
+    {
+        let share = &self.shares()[id.maker as usize];
+        share.thing(id.serial)
+    }
+
+    /// What a cell holds.
+    pub fn value(&self, id: Id, i: u64) -> Value
+        requires { IsSome (held_in (thing_at self.now) (cell_at id i)) }
+        ensures { held_in (thing_at self.now) (cell_at id i) ≡ Some result }
+    {
+        self.thing(id).value(i)
+    }
+
+    /// The grid with this name, as a view of a block.
+    pub fn view(&self, grid: Id) -> &View
+        requires { IsSome (layout_in (thing_at self.now) grid) }
+        ensures layout { layout_in (thing_at self.now) grid ≡ Some result.now }
+        ensures backed { IsBacked (thing_at self.now) result.now }
+    {
+        let _shares = self.shares();
+        match self.thing(grid) {
+            Thing::Block { whole, .. } => whole,
+            Thing::Seen(view) => view,
+            _ => unreachable!(),
+        }
+    }
+
+    /// How many things the process has made.
+    pub fn count(&self, p: u32) -> u64
+        requires { p < length self.now }
+        ensures { result ≡ length ((contents self.now).made p) }
+    {
+        let share = &self.shares()[p as usize];
+        share.count()
+    }
+
+    /// Whether so much more of the process would cost too much.
+    pub fn is_full(&self, p: u32, cells: u64) -> bool
+        requires { p < length self.now }
+        ensures { result ≡ nat_lt 1048576 (cost_of p (contents self.now) + cells) }
+    {
+        let share = &self.shares()[p as usize];
+        share.is_full(cells)
+    }
+
+    /// Another value in a cell.
+    pub fn put(&mut self, id: Id, i: u64, value: Value)
+        requires { IsSome (held_in (thing_at self.old) (cell_at id i)) }
+        ensures { contents self.new ≡ with_value (cell_at id i) value (contents self.old) }
+    {
+        let share = &mut self.shares[id.maker as usize];
+        share.put(id.serial, i, value);
+    }
+
+    /// One more thing, by its name. On want of memory nothing changes.
+    pub fn push(&mut self, id: Id, thing: Thing) -> Result<(), Memory>
+        requires here { id.maker < length self.old }
+        requires next { id.serial ≡ length (share_of self.old id.maker) }
+        requires named { is_named id thing ≡ true }
+        requires room { cost_of id.maker (contents self.old) + things.cost_of thing ≤ 1048576 }
+        requires backed { HasBacking (thing_at self.old) id thing }
+        ensures ok { OnOk result (contents self.new ≡ with_thing id (values_of thing) (option_map map_of (layout_of thing)) (contents self.old)) }
+        ensures err { OnErr result (self.new ≡ self.old) }
+    {
+        let share = &mut self.shares[id.maker as usize];
+        share.push(thing)
+    }
+
+    /// Without what lies in the region, which isn't 0. What was dropped costs nothing.
+    pub fn drop_region(&mut self, region: u32)
+        requires { 0 < region }
+        ensures { contents self.new ≡ without_region region (contents self.old) }
+    {
+        for i in 0..self.shares.len() {
+            let share = &mut self.shares[i];
+            share.drop_region(region);
+        }
+    }
+}

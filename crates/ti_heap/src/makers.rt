@@ -1,0 +1,141 @@
+// Calls that make things.
+
+ghost use Rattle.std.specs.Prelude.{◌≡◌, ◌+◌, ◌<◌, nat_lt, true, map, replicate, length, [], IfOk, OnErr, IsSomeAnd, Some, None, if◌then◌else◌};
+ghost use Rattle.std.specs.Option.{option_map};
+ghost use Rattle.std.specs.Result.{result_err};
+ghost use Rattle.ti_base.specs.Rects.{IsRect, points_of};
+ghost use Rattle.ti_base.specs.Cells.{zero_value, suits, view_fault};
+ghost use Rattle.ti_rect.specs.Views.{IsView};
+ghost use Rattle.ti_grid.specs.Views.{IsSeen};
+ghost use Rattle.ti_heap.specs.Contents.{FaultsAs, new_fault, seen_fault, own_id, view_id, with_thing, whole_map, seen_map, cost_of};
+ghost use Rattle.ti_heap.specs.Things.{contents};
+
+use crate::error::HeapErr;
+use crate::heap::Heap;
+use crate::thing::Thing;
+use crate::values::{Values, zero_of};
+use std::alloc::Global;
+use ti_base::{FaultKind, Id, Rect, ViewHow, Zero};
+use ti_grid::{View, view_of, view_restrict, view_slice, view_translate};
+use ti_rect::rect_size;
+
+/// The view of a view.
+fn seen(view: &View, how: ViewHow) -> Result<View, FaultKind>
+    requires how { IsView how }
+    requires suits { suits how view.now.dom ≡ true }
+    ensures fault { result_err result ≡ view_fault how view.now.dom }
+    ensures view { IfOk result (IsSeen how view.now) }
+{
+    match how {
+        ViewHow::Restrict(r) => Ok(view_restrict(view, &r)),
+        ViewHow::Translate(by) => view_translate(view, &by),
+        ViewHow::Slice(k, j) => view_slice(view, k, j),
+    }
+}
+
+impl Heap {
+    /// The name of the next thing that the process makes in its own memory.
+    fn next_id(&self, p: u32, region: u32) -> Id
+        requires proc { p < (contents self.now).procs }
+        requires serial { length ((contents self.now).made p) < 4294967295 }
+        ensures { result ≡ own_id p region (contents self.now) }
+    {
+        Id {
+            maker: p,
+            serial: self.count(p) as u32,
+            owner: p,
+            region,
+        }
+    }
+
+    /// How many elements a grid over the domain has, where the process has room for it.
+    fn room_for(&self, p: u32, dom: &Rect) -> Option<u64>
+        requires proc { p < (contents self.now).procs }
+        requires form { IsRect dom.now }
+        ensures { result ≡ (if nat_lt 1048576 (cost_of p (contents self.now) + (1 + length (points_of dom.now))) then None else Some (length (points_of dom.now))) }
+    {
+        match rect_size(dom) {
+            Ok(count) => {
+                let count = count as u64;
+                if self.is_full(p, 1 + count) {
+                    None
+                } else {
+                    Some(count)
+                }
+            }
+            Err(_) => None,
+        }
+    }
+
+    /// Makes an object of process `p` in a region, its fields zero. It costs 1 and 1 for each field; the fault is
+    /// `HeapFull`, exactly where the cost of `p` would pass 1,048,576. The process has made fewer than 2^32 - 1
+    /// things. On an error nothing changes.
+    pub fn new_obj(&mut self, alloc: Global, p: u32, zeros: &[Zero], region: u32) -> Result<Id, HeapErr>
+        requires proc { p < (contents self.old).procs }
+        requires serial { length ((contents self.old).made p) < 4294967295 }
+        ensures fault { FaultsAs (new_fault p (length zeros.now) (contents self.old)) result }
+        ensures id { IfOk result (λ id. id ≡ own_id p region (contents self.old)) }
+        ensures made { IfOk result (λ id. contents self.new ≡ with_thing id (map zero_value zeros.now) None (contents self.old)) }
+        ensures err { OnErr result (self.new ≡ self.old) }
+    {
+        if self.is_full(p, 1 + zeros.len() as u64) {
+            return Err(HeapErr::Faulted(FaultKind::HeapFull));
+        }
+        let fields = Values::of(alloc, zeros)?;
+        let id = self.next_id(p, region);
+        self.push(id, Thing::Object { region, fields })?;
+        Ok(id)
+    }
+
+    /// Makes a grid of process `p` over a domain in a region, its elements zero. It costs 1 and 1 for each element;
+    /// the fault is `HeapFull`, exactly where the cost of `p` would pass 1,048,576. The process has made fewer than
+    /// 2^32 - 1 things. On an error nothing changes.
+    pub fn new_grid(&mut self, alloc: Global, p: u32, zero: Zero, dom: &Rect, region: u32) -> Result<Id, HeapErr>
+        requires proc { p < (contents self.old).procs }
+        requires serial { length ((contents self.old).made p) < 4294967295 }
+        requires form { IsRect dom.now }
+        ensures fault { FaultsAs (new_fault p (length (points_of dom.now)) (contents self.old)) result }
+        ensures id { IfOk result (λ id. id ≡ own_id p region (contents self.old)) }
+        ensures made { IfOk result (λ id. contents self.new ≡ with_thing id (replicate (length (points_of dom.now)) (zero_value zero)) (Some (whole_map id dom.now)) (contents self.old)) }
+        ensures err { OnErr result (self.new ≡ self.old) }
+    {
+        let count = match self.room_for(p, dom) {
+            Some(count) => count,
+            None => return Err(HeapErr::Faulted(FaultKind::HeapFull)),
+        };
+        let elements = Values::filled(alloc, zero_of(zero), count)?;
+        let id = self.next_id(p, region);
+        let whole = view_of(id, dom);
+        self.push(id, Thing::Block { whole, elements })?;
+        Ok(id)
+    }
+
+    /// Makes a view of a grid for process `p`. It shares the grid's cells, lies where the grid lies, and costs 1.
+    /// The fault is that of the view, `Range` or `Bounds`, and behind it `HeapFull`, exactly where the cost of `p`
+    /// would pass 1,048,576. The grid is in no dropped region, the rectangle or point has its dimension, a sliced
+    /// grid has at least two, and the process has made fewer than 2^32 - 1 things. On an error nothing changes.
+    pub fn make_view(&mut self, p: u32, grid: Id, how: ViewHow) -> Result<Id, HeapErr>
+        requires proc { p < (contents self.old).procs }
+        requires serial { length ((contents self.old).made p) < 4294967295 }
+        requires how { IsView how }
+        requires grid { IsSomeAnd ((contents self.old).grid grid) (λ g. suits how g.domain ≡ true) }
+        ensures fault { IsSomeAnd ((contents self.old).grid grid) (λ g. FaultsAs (seen_fault p how g (contents self.old)) result) }
+        ensures id { IfOk result (λ id. id ≡ view_id p grid (contents self.old)) }
+        ensures made { IfOk result (λ id. contents self.new ≡ with_thing id [] (option_map (seen_map how) ((contents self.old).grid grid)) (contents self.old)) }
+        ensures err { OnErr result (self.new ≡ self.old) }
+    {
+        let view = match seen(self.view(grid), how) {
+            Ok(view) => view,
+            Err(kind) => return Err(HeapErr::Faulted(kind)),
+        };
+        if self.is_full(p, 1) {
+            return Err(HeapErr::Faulted(FaultKind::HeapFull));
+        }
+        let id = Id {
+            owner: grid.owner,
+            ..self.next_id(p, grid.region)
+        };
+        self.push(id, Thing::Seen(view))?;
+        Ok(id)
+    }
+}

@@ -1,0 +1,98 @@
+// Things that a process made.
+
+ghost use Rattle.std.specs.Prelude.{◌≡◌, ◌+◌, ◌<◌, length, slice_get, Some, if◌then◌else◌, ◌==◌, []};
+ghost use Rattle.ti_heap.specs.Things.{values_of, region_of, cost_of, put_in, dropped, values_in};
+
+use crate::values::Values;
+use ti_base::Value;
+use ti_grid::View;
+
+/// A thing that a process made.
+#[derive(Drop)]
+pub enum Thing {
+    /// An object in a region, with its fields.
+    Object { region: u32, fields: Values },
+    /// A block: the view of the whole of it, and its elements.
+    Block { whole: View, elements: Values },
+    /// A view of a block.
+    Seen(View),
+    /// What lay in a region that was dropped.
+    Gone,
+}
+
+impl Thing {
+    /// The region in which it lies; what was dropped lies in none.
+    pub fn region(&self) -> u32
+        ensures { result ≡ region_of self.now }
+    {
+        match self {
+            Thing::Object { region, .. } => *region,
+            Thing::Block { whole, .. } => whole.block().region,
+            Thing::Seen(view) => view.block().region,
+            Thing::Gone => 0,
+        }
+    }
+
+    /// What it costs: 1, and 1 for each cell; what was dropped costs nothing.
+    pub fn cost(&self) -> u64
+        ensures { result ≡ cost_of self.now }
+    {
+        match self {
+            Thing::Object { fields, .. } => 1 + fields.count(),
+            Thing::Block { elements, .. } => 1 + elements.count(),
+            Thing::Seen(_) => 1,
+            Thing::Gone => 0,
+        }
+    }
+
+    /// The value of its cell with this number.
+    pub fn value(&self, i: u64) -> Value
+        requires { i < length (values_of self.now) }
+        ensures { slice_get (values_of self.now) i ≡ Some result }
+    {
+        match self {
+            Thing::Object { fields, .. } => fields.get(i),
+            Thing::Block { elements, .. } => elements.get(i),
+            _ => unreachable!(),
+        }
+    }
+
+    /// Another value in its cell with this number.
+    pub fn put(&mut self, i: u64, value: Value)
+        requires { i < length (values_of self.old) }
+        ensures { self.new ≡ put_in i value self.old }
+    {
+        match self {
+            Thing::Object { fields, .. } => fields.put(i, value),
+            Thing::Block { elements, .. } => elements.put(i, value),
+            _ => unreachable!(),
+        }
+    }
+
+    /// Gone, where it lies in the region; and what it cost then.
+    pub fn drop_from(&mut self, region: u32) -> u64
+        ensures thing { self.new ≡ dropped region self.old }
+        ensures freed { result + cost_of self.new ≡ cost_of self.old }
+    {
+        if self.region() != region {
+            return 0;
+        }
+        let cost = self.cost();
+        *self = Thing::Gone;
+        cost
+    }
+
+    /// The values of its cells, where it lies in the region.
+    pub fn values_in(&self, region: u32) -> &[Value]
+        ensures { result.now ≡ values_in region self.now }
+    {
+        if self.region() != region {
+            return &[];
+        }
+        match self {
+            Thing::Object { fields, .. } => fields.as_slice(),
+            Thing::Block { elements, .. } => elements.as_slice(),
+            _ => &[],
+        }
+    }
+}
