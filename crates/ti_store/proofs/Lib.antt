@@ -1,7 +1,9 @@
 pub mod Courses
+pub mod Doing
 pub mod HeapSteps
 pub mod Makings
 pub mod Meeting
 pub mod NoRegions
 pub mod OneMore
+pub mod Replies
 pub mod Running

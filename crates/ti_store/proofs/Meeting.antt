@@ -77,7 +77,7 @@ countable procs es seats p n k few = omega (arith, round_in procs es seats p k, 
 
 -- ---- what is handed out
 
-possible_value : (o : Option Value) → IsPossible (answers_value o) → (v : Value) × (o ≡ Some v)
+pub possible_value : (o : Option Value) → IsPossible (answers_value o) → (v : Value) × (o ≡ Some v)
 possible_value None h = absurd h
 possible_value (Some v) h = (v, refl)
 

@@ -1,5 +1,5 @@
 -- One entry more: what it adds to what is told of a process.
-use Rattle.std.proofs.Common.{◌≡◌, ℕ, zero, suc, ◌+◌, ◌<◌, ◌≤◌, ◌==◌, Bool, true, false, cond, ◌||◌, List, [], ◌∷◌, ◌++◌, length, replicate, slice_get, Some, filter, reverse, count_by, refl, sym, ap, subst, ◌∙◌, arith, eq-eqb, eqb-true}
+use Rattle.std.proofs.Common.{◌≡◌, ℕ, zero, suc, ◌+◌, ◌<◌, ◌≤◌, ◌==◌, Bool, true, false, cond, ◌||◌, List, [], ◌∷◌, ◌++◌, length, replicate, get_or, slice_get, Some, filter, reverse, count_by, refl, sym, ap, subst, ◌∙◌, arith, eq-eqb, eqb-true}
 use Rattle.std.specs.List.{list_any}
 use Rattle.std.proofs.lemmas.List.{reverse-append}
 use Rattle.std.proofs.lemmas.List.Elements.{filter-append}
@@ -76,3 +76,8 @@ pub get_replicate : {A : Type 0} (m n : ℕ) (x : A) → n < m → slice_get (re
 get_replicate zero n x l = absurd (omega arith)
 get_replicate (suc m) zero x l = refl
 get_replicate (suc m) (suc n) x l = get_replicate m n x (omega arith)
+
+pub get_some : {A : Type 0} (xs : List A) (i : ℕ) (x : A) → i < length xs → x ≡ get_or xs i x → slice_get xs i ≡ Some x
+get_some [] i x l e = absurd (omega arith)
+get_some (y ∷ ys) zero x l e = ap Some (sym e)
+get_some (y ∷ ys) (suc i) x l e = get_some ys i x (omega arith) e

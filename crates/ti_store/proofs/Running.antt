@@ -56,7 +56,7 @@ ready_when s es i at _ h = tt
 
 -- ---- arrivals agree
 
-arrives_done : (h : History) (kind : CollKind) (arg : Option ℕ) → is_regionless_kind kind ≡ true → arrives h kind arg ≡ Answers Done
+pub arrives_done : (h : History) (kind : CollKind) (arg : Option ℕ) → is_regionless_kind kind ≡ true → arrives h kind arg ≡ Answers Done
 arrives_done h coll.Barrier arg k = refl
 arrives_done h coll.Broadcast arg k = refl
 arrives_done h coll.Exchange arg k = refl

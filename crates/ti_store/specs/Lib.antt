@@ -1,5 +1,6 @@
 pub mod Conditions
 pub mod MirrorsHeap
 pub mod MirrorsLedger
+pub mod MirrorsParts
 pub mod MirrorsRounds
 pub mod Stores

@@ -3,6 +3,11 @@
 
 mod act_err;
 mod ledger;
+mod makers;
 mod meets;
+mod perform;
+mod reads;
+mod writes;
+mod zeros;
 
 pub use act_err::ActErr;
