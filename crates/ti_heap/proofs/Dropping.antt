@@ -46,7 +46,7 @@ module _ (r : ℕ) (h : List (List Thing)) where
   live_dropped : (id : Id) → live (thing_at (map (map (dropped r)) h)) id ≡ (if eqb id.region r then None else live (thing_at h) id)
   live_dropped id = ap (option_and_then (named id)) (at_dropped id.maker id.serial) ∙ by (thing_at h id.maker id.serial)
     where
-      nothing_left : (v : Bool) → None ≡ (if v then None else None)
+      nothing_left : (v : Bool) → ◌≡◌ {A = Option Thing} None (if v then None else None)
       nothing_left true = refl
       nothing_left false = refl
 

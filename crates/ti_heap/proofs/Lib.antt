@@ -2,6 +2,7 @@ pub mod Changes
 pub mod Costs
 pub mod Dropping
 pub mod Grids
+pub mod Listing
 pub mod Lists
 pub mod Makings
 pub mod Names

@@ -1,5 +1,5 @@
 -- What contracts see of a heap: finite maps from names.
-use Rattle.std.specs.Prelude.{◌≡◌, ℕ, ◌+◌, Bool, ◌&&◌, ◌==◌, nat_lt, if◌then◌else◌, List, [], ◌∷◌, ◌++◌, map, length, sum_by, slice_get, Option, Some, None, Result, Ok, Err}
+use Rattle.std.specs.Prelude.{◌≡◌, ◌⊎◌, ◌↔◌, ℕ, ◌+◌, IsSome, Bool, ◌&&◌, ◌==◌, nat_lt, if◌then◌else◌, List, [], ◌∷◌, ◌++◌, map, length, sum_by, slice_get, Option, Some, None, Result, Ok, Err}
 use Rattle.std.specs.Option.{option_map, option_and_then}
 use Rattle.ti_base.specs.declared.point.Point.{Point}
 use Rattle.ti_base.specs.declared.point.Rect.{Rect}
@@ -114,6 +114,24 @@ Reads s (Some cell) r = (v : Value) × (s.held cell ≡ Some v) × (r ≡ Ok v)
 abbrev pub Writes : Contents → Option Cell → Value → Result (Unit {0}) FaultKind → Contents → Type 0
 Writes s None v r after = (r ≡ Err Bounds) × (after ≡ s)
 Writes s (Some cell) v r after = (r ≡ Ok tt) × (after ≡ with_value cell v s)
+
+-- ---- the cells of a region
+
+abbrev pub IsAmong : List Cell → Cell → Type 0
+IsAmong [] c = ⊥
+IsAmong (d ∷ ds) c = (c ≡ d) ⊎ IsAmong ds c
+
+-- no cell stands twice in the list
+abbrev pub AreApart : List Cell → Type 0
+AreApart [] = Unit {0}
+AreApart (c ∷ cs) = (IsAmong cs c → ⊥) × AreApart cs
+
+-- what the cells of a region hold, each cell once
+pub record ListsCells (s : Contents) (region : ℕ) (values : List Value) : Type 0 where
+  pub cells : List Cell
+  pub once : AreApart cells
+  pub has : (c : Cell) → IsAmong cells c ↔ ((c.thing.region ≡ region) × IsSome (s.held c))
+  pub values_are : map s.held cells ≡ map Some values
 
 -- ---- faults
 

@@ -3,7 +3,8 @@
 ghost use Rattle.std.specs.Prelude.{◌≡◌, [], ◌∷◌, ◌++◌};
 ghost use Rattle.std.specs.List.{flat_map};
 ghost use Rattle.std.specs.Iterator.{YieldsFirst, item_count};
-ghost use Rattle.ti_heap.specs.Things.{values_in, all_values_in};
+ghost use Rattle.ti_heap.specs.Contents.{ListsCells};
+ghost use Rattle.ti_heap.specs.Things.{values_in, all_values_in, contents};
 
 use crate::heap::Heap;
 use crate::share::Share;
@@ -55,9 +56,10 @@ impl<'a> Iterator for Cells<'a> {
 }
 
 impl Heap {
-    /// The values of the cells of the things that lie in the region, thing by thing.
+    /// What the cells of the things in the region hold, each cell once: thing by thing, in the order of making.
     pub fn cells_of(&self, region: u32) -> Cells<'_>
-        ensures { result ≡ all_values_in region self.now }
+        ensures values { result ≡ all_values_in region self.now }
+        ensures cells { ListsCells (contents self.now) region result }
     {
         Cells {
             region,

@@ -70,7 +70,13 @@ impl Heap {
     /// Makes an object of process `p` in a region, its fields zero. It costs 1 and 1 for each field; the fault is
     /// `HeapFull`, exactly where the cost of `p` would pass 1,048,576. The process has made fewer than 2^32 - 1
     /// things. On an error nothing changes.
-    pub fn new_obj(&mut self, alloc: Global, p: u32, zeros: &[Zero], region: u32) -> Result<Id, HeapErr>
+    pub fn new_obj(
+        &mut self,
+        alloc: Global,
+        p: u32,
+        zeros: &[Zero],
+        region: u32,
+    ) -> Result<Id, HeapErr>
         requires proc { p < (contents self.old).procs }
         requires serial { length ((contents self.old).made p) < 4294967295 }
         ensures fault { FaultsAs (new_fault p (length zeros.now) (contents self.old)) result }
@@ -90,7 +96,14 @@ impl Heap {
     /// Makes a grid of process `p` over a domain in a region, its elements zero. It costs 1 and 1 for each element;
     /// the fault is `HeapFull`, exactly where the cost of `p` would pass 1,048,576. The process has made fewer than
     /// 2^32 - 1 things. On an error nothing changes.
-    pub fn new_grid(&mut self, alloc: Global, p: u32, zero: Zero, dom: &Rect, region: u32) -> Result<Id, HeapErr>
+    pub fn new_grid(
+        &mut self,
+        alloc: Global,
+        p: u32,
+        zero: Zero,
+        dom: &Rect,
+        region: u32,
+    ) -> Result<Id, HeapErr>
         requires proc { p < (contents self.old).procs }
         requires serial { length ((contents self.old).made p) < 4294967295 }
         requires form { IsRect dom.now }

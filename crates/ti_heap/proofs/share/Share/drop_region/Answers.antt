@@ -26,8 +26,8 @@ loop-i-preserved c =
     let at = slice_get_read xs (length xs) c.loop-i.i t refl (inside (goal.at.loop-i-preserved c).After-drop_from-freed) c.index_mut-thing.ensures.value in
     let n = cost_set xs c.loop-i.i t c.drop_from-freed.new.self (inside (goal.at.loop-i-preserved c).After-drop_from-freed) c.index_mut-thing.ensures.value in (
       ap (λ (y : Thing). set xs c.loop-i.i y) c.drop_from-freed.ensures.thing ∙ set_changed xs c.loop-i.i f t at
-      ∙ ap (changed_at c.loop-i.i f) c.loop-i.invariant.0 ∙ front_more f c.loop-i.i c.self.inside.things.items
-      ∙ ap (λ (k : ℕ). front_mapped f k c.self.inside.things.items) (sym (add-one c.loop-i.i)),
+          ∙ ap (changed_at c.loop-i.i f) c.loop-i.invariant.0 ∙ front_more f c.loop-i.i c.self.inside.things.items
+          ∙ ap (λ (k : ℕ). front_mapped f k c.self.inside.things.items) (sym (add-one c.loop-i.i)),
       record {
         same = omega (arith, n, c.drop_from-freed.ensures.freed, c.loop-i.invariant.1.same);
         most = omega (arith, c.loop-i.invariant.1.most);
