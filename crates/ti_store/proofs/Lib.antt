@@ -1,3 +1,4 @@
+pub mod Beginning
 pub mod Courses
 pub mod Doing
 pub mod HeapSteps
@@ -7,3 +8,4 @@ pub mod NoRegions
 pub mod OneMore
 pub mod Replies
 pub mod Running
+pub mod Stepping

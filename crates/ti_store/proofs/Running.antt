@@ -22,7 +22,7 @@ use Rattle.ti_lang.specs.Meaning.HeapAnswers.{Answers, arrives, heap_answer}
 use Rattle.ti_lang.specs.Meaning.Answers.{FitsAction}
 use Rattle.ti_lang.specs.Meaning.Runs.{World, IsReady, entry_with, entry_of, CanTake, IsRun, more}
 use Rattle.ti_lang.proofs.MeaningLaws.Running.{history_grows}
-use Rattle.ti_store.specs.Conditions.{most_procs, most_fuel, HasNext, IsPossible, is_regionless, is_regionless_kind, collective_in, collective_at, ArrivalsAgree, SuitsRun, SuitsStore}
+use Rattle.ti_store.specs.Conditions.{IsWithin, HasNext, IsPossible, is_regionless, is_regionless_kind, collective_in, collective_at, ArrivalsAgree, SuitsRun, SuitsStore}
 use Rattle.ti_store.specs.Stores.{next_of}
 use Rattle.ti_store.specs.MirrorsRounds.{arrivals_said}
 use Rattle.ti_store.specs.MirrorsLedger.{AllArrived, AgreesWith, MayDo}
@@ -107,17 +107,10 @@ agree_now s es p at kind arg d agree q =
 
 -- ---- what is known of an action
 
--- bounds of a run
-pub record IsWithin (s : Setting) : Type 0 where
-  pub some : 1 ≤ s.procs
-  pub few : s.procs ≤ most_procs
-  pub fuel : 1 ≤ s.fuel
-  pub limit : s.fuel ≤ most_fuel
+pub suits : (s : Setting) (es : List Entry) → IsWithin s.procs s.fuel → SuitsStore s.program → IsRun s es → SuitsRun s es
+suits s es w all run = all s.procs s.fuel es w run
 
-pub suits : (s : Setting) (es : List Entry) → IsWithin s → SuitsStore s.program → IsRun s es → SuitsRun s es
-suits s es w all run = all s.procs s.fuel es w.some w.few w.fuel w.limit run
-
-agrees : (s : Setting) (es : List Entry) (p : ℕ) (at : Place) (a : Action) → IsWithin s → SuitsStore s.program → IsRun s es → p < s.procs → has_fault es ≡ false
+agrees : (s : Setting) (es : List Entry) (p : ℕ) (at : Place) (a : Action) → IsWithin s.procs s.fuel → SuitsStore s.program → IsRun s es → p < s.procs → has_fault es ≡ false
     → HasNext s p (entries_of p es) (next.Act at a) → is_regionless a ≡ true
     → (said : CollKind × Place × Option ℕ) → collective_in at a ≡ Some said → AgreesWith p es said
 agrees s es p at (act.Arrive kind arg d) w all run inside goes has k said is =
@@ -128,7 +121,7 @@ agrees s es p at (act.Arrive kind arg d) w all run inside goes has k said is =
     subst (AgreesWith p es) same (agree_now s es p at kind arg d (suits s (es ++ e ∷ []) w all grown).agree)
 agrees s es p at _ w all run inside goes has k said is = cc
 
-pub may_do : (s : Setting) (es : List Entry) (p : ℕ) (at : Place) (a : Action) → IsWithin s → SuitsStore s.program → IsRun s es → p < s.procs → has_fault es ≡ false
+pub may_do : (s : Setting) (es : List Entry) (p : ℕ) (at : Place) (a : Action) → IsWithin s.procs s.fuel → SuitsStore s.program → IsRun s es → p < s.procs → has_fault es ≡ false
     → HasNext s p (entries_of p es) (next.Act at a) → IsReady s es p (next.Act at a) → (is_departure a ≡ true → AllArrived s.procs p es) → MayDo s.program s.procs es p at a
 may_do s es p at a w all run inside goes has ready arrived =
     let known = suits s es w all run in record {
@@ -142,5 +135,5 @@ may_do s es p at a w all run inside goes has ready arrived =
 
 -- ---- answers fit
 
-pub fits : (s : Setting) (es : List Entry) (e : Entry) (p : Process) → IsWithin s → SuitsStore s.program → IsRun s (es ++ e ∷ []) → is_answered e ≡ true → World s es e.proc p → FitsAction p e.answer
+pub fits : (s : Setting) (es : List Entry) (e : Entry) (p : Process) → IsWithin s.procs s.fuel → SuitsStore s.program → IsRun s (es ++ e ∷ []) → is_answered e ≡ true → World s es e.proc p → FitsAction p e.answer
 fits s es e p w all run answered world = (suits s (es ++ e ∷ []) w all run).fit es [] e p refl answered world

@@ -31,10 +31,17 @@ most_procs = 32
 abbrev pub most_fuel : ℕ
 most_fuel = 4000000
 
+-- a run with so many processes and so many ticks for each is within these limits
+pub record IsWithin (procs fuel : ℕ) : Type 0 where
+  pub some : 1 ≤ procs
+  pub few : procs ≤ most_procs
+  pub fueled : 1 ≤ fuel
+  pub limited : fuel ≤ most_fuel
+
 -- the fact of every run of a program, for every number of processes and every fuel
 abbrev pub OfEveryRun : (Setting → List Entry → Type 0) → NumberedProgram → Type 0
 OfEveryRun fact program =
-    (procs fuel : ℕ) (es : List Entry) → 1 ≤ procs → procs ≤ most_procs → 1 ≤ fuel → fuel ≤ most_fuel →
+    (procs fuel : ℕ) (es : List Entry) → IsWithin procs fuel →
     IsRun (record { program = program; procs = procs; fuel = fuel }) es → fact (record { program = program; procs = procs; fuel = fuel }) es
 
 -- ---- what a process has next

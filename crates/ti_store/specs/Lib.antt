@@ -3,4 +3,5 @@ pub mod MirrorsHeap
 pub mod MirrorsLedger
 pub mod MirrorsParts
 pub mod MirrorsRounds
+pub mod MirrorsStore
 pub mod Stores

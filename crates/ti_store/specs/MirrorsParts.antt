@@ -1,5 +1,5 @@
 -- Nobody has to believe what stands here: it mirrors the code, and only contracts of private functions and the invariant speak of it.
-use Rattle.std.specs.Prelude.{◌≡◌, ℕ, ◌<◌, ◌∷◌, List, map, vec_len, vec_capacity, Result, Ok, Err}
+use Rattle.std.specs.Prelude.{◌≡◌, ℕ, ◌<◌, false, [], ◌∷◌, ◌++◌, List, map, vec_len, vec_capacity, Result, Ok, Err}
 use Rattle.ti_base.specs.declared.place.Place.{Place}
 use Rattle.ti_base.specs.declared.value.Value.{Value}
 use Rattle.ti_base.specs.declared.value.Zero.{Zero}
@@ -15,7 +15,7 @@ use Rattle.ti_lang.specs.declared.program.classes.Field.{Field}
 use Rattle.ti_lang.specs.Program.Classes.{NumberedProgram}
 use Rattle.ti_lang.specs.Program.Views.{program_of, value_type_of}
 use Rattle.ti_lang.specs.Meaning.Zeros.{zero_of_type}
-use Rattle.ti_lang.specs.Meaning.Histories.{History, history_of}
+use Rattle.ti_lang.specs.Meaning.Histories.{History, history_of, is_end, is_fault}
 use Rattle.ti_lang.specs.Meaning.HeapAnswers.{Outcome, Answers, Faults, heap_answer}
 use Rattle.ti_store.specs.declared.ledger.Ledger.{Ledger}
 use Rattle.ti_store.specs.declared.ledger.Reply.{Reply}
@@ -70,3 +70,36 @@ pub record Does (old : Ledger) (p : ℕ) (at : Place) (a : Action) (reply : Repl
 abbrev pub read_outcome : Result Value FaultKind → Outcome
 read_outcome (Ok value) = Answers (Val value)
 read_outcome (Err kind) = Faults kind
+
+-- ---- one step
+
+-- what comes of what a process does: a fault of its own is one
+abbrev pub came_of : NumberedProgram → History → ℕ → Action → Outcome
+came_of program h p (act.Fault kind) = Faults kind
+came_of program h p a = heap_answer program h p a
+
+-- process p may do this, where it is an action
+abbrev pub MayAct : Ledger → ℕ → Place → Action → Type 0
+MayAct l p at a = is_end a ≡ false → is_fault a ≡ false → MayDo (program_in l) l.procs l.entries.items p at a
+
+-- what process p does came to this; its entry is still to be added
+pub record Comes (old : Ledger) (p : ℕ) (at : Place) (a : Action) (reply : Reply) (new : Ledger) : Type 0 where
+  pub answer : came_of (program_in old) (history_in old) p a ≡ outcome_of reply
+  pub kept : IsKept new (entry_after p at a reply ∷ history_in old)
+  pub same : new ≡ record old { heap = new.heap; rounds = new.rounds }
+
+-- and its entry was added
+pub record Steps (old : Ledger) (p : ℕ) (at : Place) (a : Action) (reply : Reply) (new : Ledger) : Type 0 where
+  pub answer : came_of (program_in old) (history_in old) p a ≡ outcome_of reply
+  pub kept : IsKept new (history_in new)
+  pub entries : new.entries.items ≡ old.entries.items ++ entry_after p at a reply ∷ []
+  pub program : new.program ≡ old.program
+  pub procs : new.procs ≡ old.procs
+
+-- nothing that can be seen of the ledger changed
+pub record SameLedger (old new : Ledger) : Type 0 where
+  pub entries : new.entries.items ≡ old.entries.items
+  pub program : new.program ≡ old.program
+  pub procs : new.procs ≡ old.procs
+  pub heap : new.heap ≡ old.heap
+  pub rounds : new.rounds ≡ old.rounds

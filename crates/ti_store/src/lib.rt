@@ -7,7 +7,10 @@ mod makers;
 mod meets;
 mod perform;
 mod reads;
+mod step;
+mod store;
 mod writes;
 mod zeros;
 
 pub use act_err::ActErr;
+pub use store::Store;
