@@ -8,7 +8,6 @@ use Rattle.ti_store.specs.MirrorsHeap.{KeepsHeap}
 use Rattle.ti_store.specs.MirrorsParts.{KeepsParts}
 use Rattle.ti_store.proofs.Courses.{no_courses}
 use Rattle.std.proofs.Common.{List}
-use Rattle.ti_base.specs.Cells.{Cell, Field, Element}
 
 new_heap : (program : NumberedProgram) (procs : ℕ) → KeepsHeap program procs [] (nothing procs)
 new_heap program procs = record {

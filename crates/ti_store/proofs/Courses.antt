@@ -1,7 +1,7 @@
 -- The courses of a history: what an entry more makes of them, and what they tell of its rounds.
-use Rattle.std.proofs.Common.{◌≡◌, ◌⊎◌, inl, inr, ⊎_elim, ℕ, zero, suc, ◌+◌, ◌<◌, ◌≤◌, ◌==◌, ◌&&◌, Bool, true, false, cond, List, [], ◌∷◌, length, map, set, replicate, count_by, slice_get, Option, Some, None, refl, sym, ap, ap₂, subst, ◌∙◌, arith, eq-eqb, eqb-true}
+use Rattle.std.proofs.Common.{◌≡◌, ⊎_elim, ℕ, zero, suc, ◌+◌, ◌<◌, ◌==◌, ◌&&◌, Bool, true, false, cond, List, [], ◌∷◌, length, set, replicate, count_by, slice_get, Option, Some, None, refl, sym, ap, ap₂, subst, ◌∙◌, zero-add, arith, eq-eqb, eqb-true}
 use Rattle.std.specs.List.{filter_map, cons_option}
-use Rattle.std.specs.Option.{option_map, option_and_then, option_map_or}
+use Rattle.std.specs.Option.{option_map, option_and_then}
 use Rattle.std.proofs.lemmas.List.{get_or-set_same, get_or-set_other, length-set, length-map, length-replicate}
 use Rattle.std.proofs.lemmas.List.Sums.{sum_by-cons}
 use Rattle.std.proofs.lemmas.Bool.{ne_eqb, cases_eq}
@@ -25,7 +25,7 @@ use Rattle.ti_lang.specs.Meaning.RoundsOf.{arrival_in, arrival_at, value_in, giv
 use Rattle.ti_lang.specs.Meaning.RoundsOf as lang
 use Rattle.ti_store.specs.Conditions.{collective_in, collective_at}
 use Rattle.ti_store.specs.MirrorsRounds.{said_by, arrivals_said, course_of, AreCourses, KeepsRounds}
-use Rattle.ti_store.proofs.OneMore.{one, counted, entries_own, entries_other, counted_own, counted_other}
+use Rattle.ti_store.proofs.OneMore.{one, entries_own, entries_other, counted_own}
 
 -- ---- how many arrivals there are
 
@@ -74,9 +74,6 @@ none_said : (at : Place) (a : Action) → is_arrival a ≡ false → said_by at 
 none_said at (act.Arrive kind arg given) k = cc
 none_said at _ k = refl
 
-zero_plus : (n : ℕ) → 0 + n ≡ n
-zero_plus n = omega arith
-
 course_quiet : (i : ℕ) (e : Entry) (h : History) → is_arrival e.act ≡ false → is_departure e.act ≡ false → course_of i (e ∷ h) ≡ course_of i h
 course_quiet i e h a d = by (e.proc == i) refl
   where
@@ -84,7 +81,7 @@ course_quiet i e h a d = by (e.proc == i) refl
     by false k = course_other i e h k
     by true k =
         let said = ap (λ o. cons_option o (arrivals_said i h)) (none_said e.place e.act a) in
-        let left = ap (λ t. one t + departures i h) d ∙ zero_plus (departures i h) in
+        let left = ap (λ t. one t + departures i h) d ∙ zero-add (departures i h) in
         course_own i e h (eqb-true e.proc i k) ∙ (λ j. record { arrivals = said j; departures = left j })
 
 pub quiet_courses : (procs : ℕ) (e : Entry) (h : History) (seats : List Seat) → is_arrival e.act ≡ false → is_departure e.act ≡ false → KeepsRounds procs h seats → KeepsRounds procs (e ∷ h) seats
@@ -101,10 +98,10 @@ set_courses procs e h courses c are inside is = record { count = length-set cour
   where
     each : (i : ℕ) → course_at (set courses e.proc c) i ≡ course_of i (e ∷ h)
     each i = ⊎_elim
-      (λ same. let own : course_at (set courses e.proc c) e.proc ≡ c = get_or-set_same courses e.proc c no_course (omega (arith, are.count)) in
-      subst (λ j. course_at (set courses e.proc c) j ≡ course_of j (e ∷ h)) same (own ∙ is))
-      (λ apart. get_or-set_other courses e.proc i c no_course (λ s. apart (sym s)) ∙ are.each i ∙ sym (course_other i e h (ne_eqb e.proc i apart)))
-      (cases_eq e.proc i)
+        (λ same. let own : course_at (set courses e.proc c) e.proc ≡ c = get_or-set_same courses e.proc c no_course (omega (arith, are.count)) in
+        subst (λ j. course_at (set courses e.proc c) j ≡ course_of j (e ∷ h)) same (own ∙ is))
+        (λ apart. get_or-set_other courses e.proc i c no_course (λ s. apart (sym s)) ∙ are.each i ∙ sym (course_other i e h (ne_eqb e.proc i apart)))
+        (cases_eq e.proc i)
 
 -- an arrival
 pub arrival_courses : (procs : ℕ) (h : History) (courses : List Course) (p : ℕ) (at : Place) (kind : CollKind) (arg : Option ℕ) (d : Deposit) (r : Answer) → p < procs → AreCourses procs h courses
@@ -115,7 +112,7 @@ arrival_courses procs h courses p at kind arg d r inside are =
     let c = course_at courses p in
     let next : Course = record { arrivals = a ∷ c.arrivals; departures = c.departures } in
     let more : next ≡ record { arrivals = a ∷ arrivals_said p h; departures = departures p h } = ap (λ (c : Course). let n : Course = record { arrivals = a ∷ c.arrivals; departures = c.departures } in n) (are.each p) in
-    let left = sym (zero_plus (departures p h)) in
+    let left = sym (zero-add (departures p h)) in
     let same : next ≡ course_of p (e ∷ h) = more ∙ (λ j. record { arrivals = a ∷ arrivals_said p h; departures = left j }) ∙ sym (course_own p e h refl) in
     set_courses procs e h courses next are inside same
 

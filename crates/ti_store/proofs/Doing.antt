@@ -1,5 +1,5 @@
 -- What comes of actions on the heap, and what the heap is then.
-use Rattle.std.proofs.Common.{◌≡◌, inl, inr, ⊎_elim, ℕ, ◌+◌, ◌<◌, ◌≤◌, ◌==◌, ◌||◌, nat_lt, not, Bool, true, false, cond, List, [], ◌∷◌, length, map, replicate, slice_get, sum_by, count_by, Option, Some, None, is_some, IsSome, Result, Ok, Err, refl, sym, ap, ap₂, subst, ◌∙◌, arith, eqb-true, ltb-false}
+use Rattle.std.proofs.Common.{◌≡◌, ⊎_elim, ℕ, ◌+◌, ◌<◌, ◌≤◌, ◌==◌, ◌||◌, nat_lt, not, Bool, true, false, cond, List, [], ◌∷◌, length, map, replicate, slice_get, sum_by, count_by, Option, Some, None, is_some, IsSome, Result, Ok, Err, refl, sym, ap, ap₂, subst, ◌∙◌, arith, eqb-true, ltb-false}
 use Rattle.std.specs.Option.{option_map, option_and_then, option_map_or, IsSomeAnd}
 use Rattle.std.proofs.lemmas.List.Sums.{sum_by-cons}
 use Rattle.std.proofs.lemmas.Option.{slice_get-map}
@@ -17,11 +17,10 @@ use Rattle.ti_base.specs.declared.action.Action.{Action}
 use Rattle.ti_base.specs.declared.action.Action.TheVariants as act
 use Rattle.ti_base.specs.declared.action.ViewHow.{ViewHow}
 use Rattle.ti_base.specs.declared.action.ViewHow.TheVariants.{Restrict, Translate, Slice}
-use Rattle.ti_base.specs.declared.entry.Answer.{Answer}
 use Rattle.ti_base.specs.declared.entry.Answer.TheVariants.{Done, Val}
 use Rattle.ti_base.specs.declared.entry.Entry.{Entry}
 use Rattle.ti_base.specs.Rects.{IsRect, is_in, points_of}
-use Rattle.ti_base.specs.Cells.{Cell, Field, Element, zero_value, Grid, cell_of, suits, view_fault}
+use Rattle.ti_base.specs.Cells.{Field, Element, zero_value, Grid, cell_of, suits, view_fault}
 use Rattle.ti_base.proofs.PointLaws.{length_points}
 use Rattle.ti_rect.specs.Views.{IsView}
 use Rattle.ti_rounds.specs.declared.seat.Seat.{Seat}
@@ -37,12 +36,12 @@ use Rattle.ti_lang.specs.Meaning.Zeros.{zero_of_type, zeros_of_class}
 use Rattle.ti_lang.specs.Meaning.Histories.{History, is_making, is_arrival, is_departure, entries_of, things_made}
 use Rattle.ti_lang.specs.Meaning.RegionsOf.{is_made, is_gone}
 use Rattle.ti_lang.specs.Meaning.HeapOf.{new_id, view_id, grid_of, written_by, cell_value, cost_of, cost_of_making, most_cells}
-use Rattle.ti_lang.specs.Meaning.HeapAnswers.{Outcome, Answers, Faults, Impossible, where_some, possible_if, faults_if, answers_value, makes, places, is_dim, at_point, views, heap_answer}
+use Rattle.ti_lang.specs.Meaning.HeapAnswers.{Outcome, Answers, Faults, where_some, possible_if, faults_if, answers_value, makes, places, is_dim, at_point, views, heap_answer}
 use Rattle.ti_store.specs.Conditions.{IsPossible, IsFormedView, is_regionless}
-use Rattle.ti_store.specs.MirrorsHeap.{full_cost, KeepsGrid, KeepsHeap}
+use Rattle.ti_store.specs.MirrorsHeap.{full_cost, KeepsHeap}
 use Rattle.ti_store.specs.MirrorsLedger.{AreOurs}
 use Rattle.ti_store.specs.MirrorsParts.{field_zeros, KeepsParts, read_outcome}
-use Rattle.ti_store.proofs.OneMore.{one}
+use Rattle.ti_store.proofs.OneMore.{some_same, one}
 use Rattle.ti_store.proofs.NoRegions.{none_gone, cost_full}
 use Rattle.ti_store.proofs.Courses.{quiet_courses}
 use Rattle.ti_store.proofs.Meeting.{possible_value}
@@ -83,9 +82,6 @@ pub field_there : (program : NumberedProgram) (procs : ℕ) (h : History) (s : C
 field_there program procs h s p obj field k possible =
     let old = possible_value (cell_value program (Field obj field) h) possible in
     ap is_some (k.fields obj field old.0 old.1)
-
-some_same : {A : Type 0} (a b : A) → Some a ≡ Some b → a ≡ b
-some_same a b e = cc
 
 pub field_read : (program : NumberedProgram) (procs : ℕ) (h : History) (s : Contents) (p : ℕ) (obj : Id) (field : ℕ) (x : Value) → KeepsHeap program procs h s
     → IsPossible (heap_answer program h p (act.GetField obj field)) → s.held (cell_at obj field) ≡ Some x → heap_answer program h p (act.GetField obj field) ≡ Answers (Val x)
@@ -348,7 +344,7 @@ object_done program procs h s s' seats p at class region zeros id inside k r is 
     } in (
       object_answer program procs h p class region zeros k.ours r is ∙ room.0 ∙ ap (λ i. Answers (Val (v.Obj (Some i)))) (sym name),
       subst (λ s. KeepsParts program procs (record { proc = p; place = at; act = act.NewObj class region; answer = Val (v.Obj (Some id)) } ∷ h) s seats) (sym made)
-      (subst (λ i. KeepsParts program procs (record { proc = p; place = at; act = act.NewObj class region; answer = Val (v.Obj (Some i)) } ∷ h) (with_thing i (map zero_value zeros) None s) seats) (sym name) kept),
+          (subst (λ i. KeepsParts program procs (record { proc = p; place = at; act = act.NewObj class region; answer = Val (v.Obj (Some i)) } ∷ h) (with_thing i (map zero_value zeros) None s) seats) (sym name) kept),
     )
 
 pub object_full : (program : NumberedProgram) (procs : ℕ) (h : History) (s : Contents) (seats : List Seat) (p class region : ℕ) (zeros : List Zero) (kind : FaultKind) → KeepsParts program procs h s seats
@@ -388,8 +384,8 @@ grid_done program procs h s s' seats p at zero domain region id inside k r form 
     } in (
       grid_answer program procs h p zero domain region k.ours r possible ∙ room.0 ∙ ap (λ i. Answers (Val (v.Grid (Some i)))) (sym name),
       subst (λ s. KeepsParts program procs (record { proc = p; place = at; act = act.NewGrid zero domain region; answer = Val (v.Grid (Some id)) } ∷ h) s seats) (sym made)
-      (subst (λ i. KeepsParts program procs (record { proc = p; place = at; act = act.NewGrid zero domain region; answer = Val (v.Grid (Some i)) } ∷ h) (with_thing i values (Some (whole_map i domain)) s) seats)
-      (sym name) kept),
+          (subst (λ i. KeepsParts program procs (record { proc = p; place = at; act = act.NewGrid zero domain region; answer = Val (v.Grid (Some i)) } ∷ h) (with_thing i values (Some (whole_map i domain)) s) seats)
+          (sym name) kept),
     )
 
 pub grid_full : (program : NumberedProgram) (procs : ℕ) (h : History) (s : Contents) (seats : List Seat) (p : ℕ) (zero : Zero) (domain : Rect) (region : ℕ) (kind : FaultKind) → KeepsParts program procs h s seats
@@ -452,11 +448,11 @@ view_done program procs h s s' seats p at grid how id inside k form possible non
       heap = view_keeps program procs h s p at grid how g.0 k.heap g.1 form g.2 sound room.1;
     } in (
       view_answer program h p grid how g.0 g.1 g.2
-      ∙ ap (λ o. views o (makes program h p (act.MakeView grid how) (v.Grid (Some new)))) sound
-      ∙ room.0
-      ∙ ap (λ i. Answers (Val (v.Grid (Some i)))) (sym name),
+          ∙ ap (λ o. views o (makes program h p (act.MakeView grid how) (v.Grid (Some new)))) sound
+          ∙ room.0
+          ∙ ap (λ i. Answers (Val (v.Grid (Some i)))) (sym name),
       subst (λ s. KeepsParts program procs (record { proc = p; place = at; act = act.MakeView grid how; answer = Val (v.Grid (Some id)) } ∷ h) s seats) (sym made)
-      (subst (λ i. KeepsParts program procs (record { proc = p; place = at; act = act.MakeView grid how; answer = Val (v.Grid (Some i)) } ∷ h) (with_thing i [] gm s) seats) (sym name) kept),
+          (subst (λ i. KeepsParts program procs (record { proc = p; place = at; act = act.MakeView grid how; answer = Val (v.Grid (Some i)) } ∷ h) (with_thing i [] gm s) seats) (sym name) kept),
     )
 
 views_fault : (a b : Option FaultKind) (kind : FaultKind) (o : Outcome) → first_fault a b ≡ Some kind → (b ≡ Some kind → o ≡ Faults kind) → views a o ≡ Faults kind
@@ -470,7 +466,7 @@ view_full program procs h s seats p grid how kind k possible some =
     let g = viewed_of program h p grid how possible in
     let old = k.heap.grids grid g.0 g.1 in
     let first : first_fault (view_fault how g.0.domain) (new_fault p 0 s) ≡ Some kind =
-        ap (λ d. first_fault (view_fault how d) (new_fault p 0 s)) (sym old.domain) ∙ subst (λ o. IsSomeAnd o (λ (m : GridMap). seen_fault p how m s ≡ Some kind)) old.there some in
+    ap (λ d. first_fault (view_fault how d) (new_fault p 0 s)) (sym old.domain) ∙ subst (λ o. IsSomeAnd o (λ (m : GridMap). seen_fault p how m s ≡ Some kind)) old.there some in
     view_answer program h p grid how g.0 g.1 g.2
     ∙ views_fault (view_fault how g.0.domain) (new_fault p 0 s) kind (makes program h p (act.MakeView grid how) (v.Grid (Some (view_id p grid h)))) first
     (makes_full program procs h s p (act.MakeView grid how) 0 (v.Grid (Some (view_id p grid h))) kind k.ours k.heap refl)

@@ -1,9 +1,8 @@
 -- What an entry more makes of the heap of a history: what makes nothing, and writes.
-use Rattle.std.proofs.Common.{◌≡◌, inl, inr, ⊎_elim, ℕ, suc, if◌then◌else◌, ◌+◌, ◌<◌, ◌≤◌, ◌==◌, ◌&&◌, Bool, true, false, cond, List, [], ◌∷◌, length, sum_by, slice_get, Option, Some, None, refl, sym, ap, subst, ◌∙◌, arith, eq-eqb, eqb-true}
+use Rattle.std.proofs.Common.{◌≡◌, ⊎_elim, ℕ, suc, if◌then◌else◌, ◌+◌, ◌<◌, ◌≤◌, ◌==◌, ◌&&◌, Bool, true, false, cond, List, [], ◌∷◌, length, sum_by, slice_get, Option, Some, None, refl, sym, ap, subst, ◌∙◌, zero-add, arith, eq-eqb, eqb-true}
 use Rattle.std.specs.Option.{option_map, option_and_then, option_map_or}
 use Rattle.std.proofs.lemmas.List.Sums.{sum_by-cons}
-use Rattle.std.proofs.lemmas.Bool.{cases_Bool, cases_lt, ne_eqb}
-use Rattle.ti_base.specs.declared.place.Place.{Place}
+use Rattle.std.proofs.lemmas.Bool.{and_parts, cases_Bool, cases_lt, true≢false}
 use Rattle.ti_base.specs.declared.point.Point.{Point}
 use Rattle.ti_base.specs.declared.point.Rect.{Rect}
 use Rattle.ti_base.specs.declared.value.Id.{Id}
@@ -11,11 +10,10 @@ use Rattle.ti_base.specs.declared.value.Value.{Value}
 use Rattle.ti_base.specs.declared.value.Zero.{Zero}
 use Rattle.ti_base.specs.declared.action.Action.{Action}
 use Rattle.ti_base.specs.declared.action.Action.TheVariants as act
-use Rattle.ti_base.specs.declared.entry.Answer.{Answer}
 use Rattle.ti_base.specs.declared.entry.Entry.{Entry}
 use Rattle.ti_base.specs.PointSets.{same_point}
 use Rattle.ti_base.specs.Rects.{points_of}
-use Rattle.ti_base.specs.Cells.{Cell, Field, Element, same_id, same_cell, thing_of, zero_value, Grid, cell_of, whole_grid}
+use Rattle.ti_base.specs.Cells.{Cell, Field, Element, same_id, same_cell, thing_of, zero_value, Grid, whole_grid}
 use Rattle.ti_base.proofs.DomainLaws.{same_from, same_self}
 use Rattle.ti_grid.specs.Views.{place_in}
 use Rattle.ti_heap.specs.Contents.{cell_at, with_value, Contents}
@@ -23,27 +21,20 @@ use Rattle.ti_heap.specs.Contents as heap
 use Rattle.ti_lang.specs.Program.Classes.{NumberedProgram}
 use Rattle.ti_lang.specs.Meaning.Zeros.{zeros_of_class}
 use Rattle.ti_lang.specs.Meaning.Histories.{History, is_making, entries_of, things_made}
-use Rattle.ti_lang.specs.Meaning.HeapOf.{is_object, is_grid, class_of, class_made, grid_of, grid_made, written_by, written_to, or_else, last_written, zeros_of, zero_of, cell_value, cost_of_making}
+use Rattle.ti_lang.specs.Meaning.HeapOf.{is_object, is_grid, class_of, class_made, grid_of, grid_made, written_by, written_to, or_else, last_written, zero_of, cell_value, cost_of_making}
 use Rattle.ti_store.specs.MirrorsHeap.{full_cost, KeepsGrid, KeepsHeap}
-use Rattle.ti_store.proofs.OneMore.{one, entries_own, entries_other, counted_own, counted_other}
+use Rattle.ti_store.proofs.OneMore.{some_same, one, entries_own, entries_other, counted_own, counted_other}
 
 -- ---- names
-
-true_false : true ≡ false → ⊥
-true_false e = let P : ⊥ = cc in P
-
-pub both_true : (a b : Bool) → (a && b) ≡ true → (a ≡ true) × (b ≡ true)
-both_true true b e = (refl, e)
-both_true false b e = cc
 
 pub name_self : (id : Id) → same_id id id ≡ true
 name_self id = rw (eq-eqb id.maker id.maker refl, eq-eqb id.serial id.serial refl, eq-eqb id.owner id.owner refl, eq-eqb id.region id.region refl) refl
 
 pub same_name : (a b : Id) → same_id a b ≡ true → a ≡ b
 same_name a b e =
-    let x = both_true (a.maker == b.maker && a.serial == b.serial && a.owner == b.owner) (a.region == b.region) e in
-    let y = both_true (a.maker == b.maker && a.serial == b.serial) (a.owner == b.owner) x.0 in
-    let z = both_true (a.maker == b.maker) (a.serial == b.serial) y.0 in
+    let x = and_parts (a.maker == b.maker && a.serial == b.serial && a.owner == b.owner) (a.region == b.region) e in
+    let y = and_parts (a.maker == b.maker && a.serial == b.serial) (a.owner == b.owner) x.0 in
+    let z = and_parts (a.maker == b.maker) (a.serial == b.serial) y.0 in
     λ i. record { maker = eqb-true a.maker b.maker z.0 i; serial = eqb-true a.serial b.serial z.1 i; owner = eqb-true a.owner b.owner y.1 i; region = eqb-true a.region b.region x.1 i }
 
 pub not_true : (b : Bool) → (b ≡ true → ⊥) → b ≡ false
@@ -52,8 +43,8 @@ not_true false h = refl
 
 -- the same cell is in the same thing
 pub same_thing : (a b : Cell) → same_cell a b ≡ true → thing_of a ≡ thing_of b
-same_thing (Field a f) (Field b g) e = same_name a b (both_true (same_id a b) (f == g) e).0
-same_thing (Element a p) (Element b q) e = same_name a b (both_true (same_id a b) (same_point p q) e).0
+same_thing (Field a f) (Field b g) e = same_name a b (and_parts (same_id a b) (f == g) e).0
+same_thing (Element a p) (Element b q) e = same_name a b (and_parts (same_id a b) (same_point p q) e).0
 same_thing (Field a f) (Element b q) e = cc
 same_thing (Element a p) (Field b g) e = cc
 
@@ -120,13 +111,10 @@ class_still id e h k = ap (λ t. cond (t && is_object id e.answer) (class_made e
 pub grid_still : (id : Id) (e : Entry) (h : History) → is_making e.act ≡ false → grid_of id (e ∷ h) ≡ grid_of id h
 grid_still id e h k = ap (λ t. cond (t && is_grid id e.answer) (grid_made id e.act (λ viewed. grid_of viewed h)) (grid_of id h)) k
 
-zero_plus : (n : ℕ) → 0 + n ≡ n
-zero_plus n = omega arith
-
 things_still : (p : ℕ) (e : Entry) (h : History) → is_making e.act ≡ false → things_made p (e ∷ h) ≡ things_made p h
 things_still p e h k =
     ⊎_elim
-    (λ own. counted_own is_making p e h (eqb-true e.proc p own) ∙ ap (λ t. one t + things_made p h) k ∙ zero_plus (things_made p h))
+    (λ own. counted_own is_making p e h (eqb-true e.proc p own) ∙ ap (λ t. one t + things_made p h) k ∙ zero-add (things_made p h))
     (λ other. counted_other is_making p e h other)
     (cases_Bool (e.proc == p))
 
@@ -145,7 +133,7 @@ cost_other program p e h k = ap (sum_by (λ (e : Entry). cost_of_making program 
 cost_still : (program : NumberedProgram) (p : ℕ) (e : Entry) (h : History) → is_making e.act ≡ false → full_cost program p (e ∷ h) ≡ full_cost program p h
 cost_still program p e h k =
     ⊎_elim
-    (λ own. cost_own program p e h (eqb-true e.proc p own) ∙ ap (λ n. n + full_cost program p h) (free program e.act k) ∙ zero_plus (full_cost program p h))
+    (λ own. cost_own program p e h (eqb-true e.proc p own) ∙ ap (λ n. n + full_cost program p h) (free program e.act k) ∙ zero-add (full_cost program p h))
     (λ other. cost_other program p e h other)
     (cases_Bool (e.proc == p))
 
@@ -240,7 +228,7 @@ put_field_keeps program procs e h s obj field v old m w held k =
     put_over (same_id o obj && f == field) v x (cell_value program (Field o f) h) (s.held (cell_at o f)) (k.fields o f) (sym (value_put program (Field o f) (Field obj field) v e h m w) ∙ is))
     (λ b zero whole q n g place.
     let apart : (same_id b obj && n == field) ≡ false = not_true (same_id b obj && n == field) (λ t.
-    let name = same_name b obj (both_true (same_id b obj) (n == field) t).0 in
+    let name = same_name b obj (and_parts (same_id b obj) (n == field) t).0 in
     object_apart program procs h s obj b class.0 (whole_grid b zero whole) k class.1 g (subst (λ x. same_id x b ≡ true) name (name_self b))) in
     ap (λ t. cond t (Some v) (s.held (cell_at b n))) apart
     ∙ k.elements b zero whole q n g place
@@ -267,9 +255,6 @@ place_points (q ∷ qs) p n e = by (same_point p q) refl (place_in qs p) (place_
     by false k None go is = cc
     by false k (Some m) go is = subst (λ i. slice_get (q ∷ qs) i ≡ Some p) (next_place m is) (go m refl)
 
-some_same : (p q : Point) → Some p ≡ Some q → p ≡ q
-some_same p q e = cc
-
 pub same_places : (ps : List Point) (p q : Point) (m n : ℕ) → place_in ps p ≡ Some m → place_in ps q ≡ Some n → (m == n) ≡ same_point p q
 same_places ps p q m n x y =
     ⊎_elim
@@ -277,7 +262,7 @@ same_places ps p q m n x y =
     (λ apart. apart ∙ sym (not_true (same_point p q) (λ t.
     let number : Some m ≡ Some n = sym x ∙ ap (place_in ps) (same_from p q t) ∙ y in
     let same : m ≡ n = cc in
-    true_false (sym (eq-eqb m n same) ∙ apart))))
+    true≢false (sym (eq-eqb m n same) ∙ apart))))
     (cases_Bool (m == n))
 
 pub put_elem_keeps : (program : NumberedProgram) (procs : ℕ) (e : Entry) (h : History) (s : Contents) (b : Id) (q : Point) (zero : Zero) (whole : Rect) (n : ℕ) (v : Value) → is_making e.act ≡ false
@@ -296,7 +281,7 @@ put_elem_keeps program procs e h s b q zero whole n v m w g place k =
         let before : cell_value program (Field o f) h ≡ Some x = kept (cell_value program (Field o f) h) x (sym (value_put program (Field o f) (Element b q) v e h m w) ∙ is) in
         let class = field_class program h o f x before in
         let apart : (same_id o b && f == n) ≡ false = not_true (same_id o b && f == n) (λ t.
-        object_apart program procs h s o b class.0 (whole_grid b zero whole) k class.1 g (both_true (same_id o b) (f == n) t).0) in
+        object_apart program procs h s o b class.0 (whole_grid b zero whole) k class.1 g (and_parts (same_id o b) (f == n) t).0) in
         ap (λ t. cond t (Some v) (s.held (cell_at o f))) apart ∙ k.fields o f x before
 
     grids_same : (z : Zero) (u : Rect) → Some (whole_grid b z u) ≡ Some (whole_grid b zero whole) → u ≡ whole

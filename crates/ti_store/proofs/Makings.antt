@@ -1,5 +1,5 @@
 -- What a new thing makes of the heap of a history.
-use Rattle.std.proofs.Common.{◌≡◌, inl, inr, ⊎_elim, ℕ, ◌+◌, ◌<◌, ◌≤◌, ◌==◌, ◌&&◌, Bool, true, false, cond, List, [], ◌∷◌, ◌++◌, length, map, replicate, sum_by, slice_get, Option, Some, None, IfSome, refl, sym, ap, subst, ◌∙◌, arith, eq-eqb, eqb-true}
+use Rattle.std.proofs.Common.{◌≡◌, inl, inr, ⊎_elim, ℕ, ◌+◌, ◌<◌, ◌≤◌, ◌==◌, Bool, true, false, cond, List, [], ◌∷◌, ◌++◌, length, map, replicate, sum_by, slice_get, Option, Some, None, IfSome, refl, sym, ap, subst, ◌∙◌, arith, eq-eqb}
 use Rattle.std.specs.Option.{option_map, option_and_then, option_map_or}
 use Rattle.std.proofs.lemmas.List.{length-append, length-map, length-replicate}
 use Rattle.std.proofs.lemmas.List.Sums.{sum_by-append}
@@ -12,15 +12,13 @@ use Rattle.ti_base.specs.declared.value.Id.{Id}
 use Rattle.ti_base.specs.declared.value.Value.{Value}
 use Rattle.ti_base.specs.declared.value.Value.TheVariants as v
 use Rattle.ti_base.specs.declared.value.Zero.{Zero}
-use Rattle.ti_base.specs.declared.action.Action.{Action}
 use Rattle.ti_base.specs.declared.action.Action.TheVariants as act
 use Rattle.ti_base.specs.declared.action.ViewHow.{ViewHow}
-use Rattle.ti_base.specs.declared.entry.Answer.{Answer}
 use Rattle.ti_base.specs.declared.entry.Answer.TheVariants.{Val}
 use Rattle.ti_base.specs.declared.entry.Entry.{Entry}
 use Rattle.ti_base.specs.PointSets.{same_point, IsAmong}
-use Rattle.ti_base.specs.Rects.{IsRect, IsIn, is_in, points_of, size_of}
-use Rattle.ti_base.specs.Cells.{Cell, Field, Element, same_id, thing_of, zero_value, Grid, cell_of, whole_grid, view, view_domain, seen_point, suits, view_fault}
+use Rattle.ti_base.specs.Rects.{IsRect, is_in, points_of}
+use Rattle.ti_base.specs.Cells.{Cell, Field, Element, same_id, thing_of, zero_value, Grid, whole_grid, view, view_domain, seen_point, suits, view_fault}
 use Rattle.ti_base.proofs.DomainLaws.{same_self}
 use Rattle.ti_base.proofs.PointLaws.{length_points}
 use Rattle.ti_rect.specs.Views.{IsView}
@@ -33,11 +31,11 @@ use Rattle.ti_heap.specs.Contents.{cell_at, GridMap, with_thing, whole_map, seen
 use Rattle.ti_heap.specs.Contents as heap
 use Rattle.ti_lang.specs.Program.Classes.{NumberedProgram}
 use Rattle.ti_lang.specs.Meaning.Zeros.{zeros_of_class}
-use Rattle.ti_lang.specs.Meaning.Histories.{History, is_making, entries_of, things_made}
-use Rattle.ti_lang.specs.Meaning.HeapOf.{new_id, view_id, class_of, grid_of, written_by, written_to, or_else, last_written, cell_value, cost_of_making, most_cells}
+use Rattle.ti_lang.specs.Meaning.Histories.{History, is_making, things_made}
+use Rattle.ti_lang.specs.Meaning.HeapOf.{new_id, view_id, class_of, grid_of, written_by, last_written, cell_value, cost_of_making, most_cells}
 use Rattle.ti_store.specs.MirrorsHeap.{full_cost, KeepsGrid, KeepsHeap}
-use Rattle.ti_store.proofs.OneMore.{get_replicate, one, counted_own, counted_other}
-use Rattle.ti_store.proofs.HeapSteps.{both_true, name_self, same_name, not_true, none_some, cell_of_field, cell_of_element, field_class, cost_own, cost_other, grid_kept, last_still}
+use Rattle.ti_store.proofs.OneMore.{some_same, get_replicate, one, counted_own, counted_other}
+use Rattle.ti_store.proofs.HeapSteps.{name_self, same_name, not_true, none_some, cell_of_field, cell_of_element, field_class, cost_own, cost_other, grid_kept, last_still}
 
 -- ---- whatever is made
 
@@ -216,10 +214,7 @@ place_small : (ps : List Point) (p : Point) (n : ℕ) → place_in ps p ≡ Some
 place_small ps p n e = subst (λ o. IfSome o (λ i. i < length ps)) e (place_below ps p)
 
 grid_parts : (id : Id) (z y : Zero) (r q : Rect) → Some (whole_grid id z r) ≡ Some (whole_grid id y q) → (z ≡ y) × (r ≡ q)
-grid_parts id z y r q e = let same : whole_grid id z r ≡ whole_grid id y q = cc in (ap (λ (g : Grid). g.zero) same, ap (λ (g : Grid). g.domain) same)
-
-some_grid : (f g : Grid) → Some f ≡ Some g → f ≡ g
-some_grid f g e = cc
+grid_parts id z y r q e = let same = some_same (whole_grid id z r) (whole_grid id y q) e in (ap (λ (g : Grid). g.zero) same, ap (λ (g : Grid). g.domain) same)
 
 pub grid_keeps : (program : NumberedProgram) (procs : ℕ) (h : History) (s : Contents) (p : ℕ) (at : Place) (zero : Zero) (domain : Rect) (region : ℕ) → KeepsHeap program procs h s
     → IsRect domain → full_cost program p h + (1 + length (points_of domain)) ≤ most_cells
@@ -244,7 +239,7 @@ grid_keeps program procs h s p at zero domain region k form room =
     let small : n < length (points_of domain) = subst (λ r. n < length (points_of r)) (sym parts.1) (place_small (points_of whole) q n place) in
     get_replicate (length (points_of domain)) n (zero_value zero) small
     ∙ sym (λ j. option_map (λ zero. option_map_or (λ value. value) (unwritten (Element new q) refl j) zero) (option_map (λ (g : Grid). zero_value g.zero) (here j))))
-    (λ g there. subst (λ g. KeepsGrid (e ∷ h) (with_thing new values gm s) new g) (some_grid (whole_grid new zero domain) g (sym here ∙ there)) (record {
+    (λ g there. subst (λ g. KeepsGrid (e ∷ h) (with_thing new values gm s) new g) (some_same (whole_grid new zero domain) g (sym here ∙ there)) (record {
       form = form;
       map = whole_map new domain;
       there = ap (λ t. cond t gm (s.grid new)) (name_self new);
@@ -277,9 +272,9 @@ view_keeps program procs h s p at viewed how g k is form fit sound room =
     made_keeps program procs e h s k new [] gm refl refl refl refl refl room (λ id t. refl) other_grid
     (λ field x held. let c = field_class program (e ∷ h) new field x held in absurd (none_some (class_of new h) c.0 no_more c.1))
     (λ zero whole q n there place.
-    let same : g.block ≡ new = ap (λ (f : Grid). f.block) (some_grid (view how g) (whole_grid new zero whole) (sym here ∙ there)) in
+    let same : g.block ≡ new = ap (λ (f : Grid). f.block) (some_same (view how g) (whole_grid new zero whole) (sym here ∙ there)) in
     absurd (none_some (grid_of new h) (whole_grid g.block g.zero old.whole) none (subst (λ i. grid_of i h ≡ Some (whole_grid g.block g.zero old.whole)) same old.block)))
-    (λ f there. subst (λ f. KeepsGrid (e ∷ h) (with_thing new [] gm s) new f) (some_grid (view how g) f (sym here ∙ there)) (record {
+    (λ f there. subst (λ f. KeepsGrid (e ∷ h) (with_thing new [] gm s) new f) (some_same (view how g) f (sym here ∙ there)) (record {
       form = seen.0;
       map = seen_map how old.map;
       there = ap (λ t. cond t gm (s.grid new)) (name_self new) ∙ ap (option_map (seen_map how)) old.there;

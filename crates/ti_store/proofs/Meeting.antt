@@ -1,16 +1,13 @@
 -- What the rounds of a history tell of its processes, and what collectives answer.
-use Rattle.std.proofs.Common.{◌≡◌, ℕ, ◌+◌, ◌<◌, ◌≤◌, ◌==◌, ◌&&◌, Bool, true, false, cond, List, [], ◌∷◌, length, slice_get, Option, Some, None, IfSome, refl, sym, ap, subst, ◌∙◌, arith, eqb-true}
+use Rattle.std.proofs.Common.{◌≡◌, ℕ, ◌+◌, ◌<◌, ◌==◌, ◌&&◌, Bool, true, false, cond, List, [], ◌∷◌, length, slice_get, Option, Some, None, IfSome, refl, sym, ap, subst, ◌∙◌, arith, eqb-true}
 use Rattle.std.specs.Option.{option_map, option_and_then, option_map_or}
+use Rattle.std.proofs.lemmas.Bool.{and_parts}
 use Rattle.ti_base.specs.declared.place.Place.{Place}
 use Rattle.ti_base.specs.declared.value.Value.{Value}
-use Rattle.ti_base.specs.declared.action.Action.{Action}
 use Rattle.ti_base.specs.declared.action.Action.TheVariants as act
 use Rattle.ti_base.specs.declared.action.CollKind.{CollKind}
 use Rattle.ti_base.specs.declared.action.CollKind.TheVariants as coll
-use Rattle.ti_base.specs.declared.action.Deposit.{Deposit}
 use Rattle.ti_base.specs.declared.action.Deposit.TheVariants as deposit
-use Rattle.ti_base.specs.declared.entry.Answer.{Answer}
-use Rattle.ti_base.specs.declared.entry.Answer.TheVariants.{Done, Val}
 use Rattle.ti_base.specs.declared.entry.Entry.{Entry}
 use Rattle.ti_rounds.specs.declared.arrival.Arrival.{Arrival}
 use Rattle.ti_rounds.specs.declared.seat.Seat.{Seat}
@@ -21,9 +18,9 @@ use Rattle.ti_lang.specs.Program.Classes.{NumberedProgram}
 use Rattle.ti_lang.specs.Meaning.Histories.{History, history_of, is_arrival, is_departure, arrivals, departures}
 use Rattle.ti_lang.specs.Meaning.RoundsOf.{arrival_in, arrival_at, last_arrival, value_in, given}
 use Rattle.ti_lang.specs.Meaning.RoundsOf as lang
-use Rattle.ti_lang.specs.Meaning.HeapAnswers.{Outcome, Answers, Faults, Impossible, where_some, answers_value, departs, heap_answer}
+use Rattle.ti_lang.specs.Meaning.HeapAnswers.{Answers, where_some, answers_value, departs, heap_answer}
 use Rattle.ti_store.specs.Conditions.{IsPossible, is_regionless_kind, collective_at}
-use Rattle.ti_store.specs.MirrorsRounds.{arrivals_said, course_of, AreCourses, KeepsRounds}
+use Rattle.ti_store.specs.MirrorsRounds.{arrivals_said, AreCourses, KeepsRounds}
 use Rattle.ti_store.specs.MirrorsLedger.{AreOurs, AllArrived, AgreesWith, answer_given}
 use Rattle.ti_store.proofs.OneMore.{one, counted_own, counted_few, counted_back}
 use Rattle.ti_store.proofs.NoRegions.{kind_regionless}
@@ -67,9 +64,9 @@ pub all_say : (procs : ℕ) (es : List Entry) (seats : List Seat) (p : ℕ) (sai
 all_say procs es seats p said k agrees q =
     let h = history_of es in
     let at : said_at k.courses q (round_at seats p + 1) ≡ collective_at q (arrivals p es + 1) h =
-        ap (option_map collective_of) (arrival_of procs h k.courses (round_at seats p + 1) q k.are)
-        ∙ collective_met q (round_at seats p + 1) h
-        ∙ ap (λ n. collective_at q (n + 1) h) (round_in procs es seats p k) in
+    ap (option_map collective_of) (arrival_of procs h k.courses (round_at seats p + 1) q k.are)
+    ∙ collective_met q (round_at seats p + 1) h
+    ∙ ap (λ n. collective_at q (n + 1) h) (round_in procs es seats p k) in
     subst (λ o. IfSome o (λ other. other ≡ said)) (sym at) (agrees q)
 
 pub countable : (procs : ℕ) (es : List Entry) (seats : List Seat) (p n : ℕ) → KeepsRounds procs (history_of es) seats → length es < n → round_at seats p < n
@@ -101,10 +98,6 @@ gave_some i who h v g = by (arrival_at who (arrivals i h) h) refl g
     by None e k = cc
     by (Some a) e k = (a, e)
 
-both_true : (a b : Bool) → (a && b) ≡ true → (a ≡ true) × (b ≡ true)
-both_true true b e = (refl, e)
-both_true false b e = cc
-
 arrived_ours : (procs who round : ℕ) (h : History) (a : lang.Arrival) → AreOurs procs h → arrival_at who round h ≡ Some a → (who < procs) × (0 < round)
 arrived_ours procs who round [] a ours e = cc
 arrived_ours procs who round (d ∷ h) a ours e = by (d.proc == who && is_arrival d.act && arrivals who (d ∷ h) == round) refl (arrived_ours procs who round h a ours.2) e
@@ -112,8 +105,8 @@ arrived_ours procs who round (d ∷ h) a ours e = by (d.proc == who && is_arriva
     by : (t : Bool) → (d.proc == who && is_arrival d.act && arrivals who (d ∷ h) == round) ≡ t → (arrival_at who round h ≡ Some a → (who < procs) × (0 < round))
         → cond t (arrival_in d.act) (arrival_at who round h) ≡ Some a → (who < procs) × (0 < round)
     by true k go x =
-        let t = both_true (d.proc == who && is_arrival d.act) (arrivals who (d ∷ h) == round) k in
-        let u = both_true (d.proc == who) (is_arrival d.act) t.0 in
+        let t = and_parts (d.proc == who && is_arrival d.act) (arrivals who (d ∷ h) == round) k in
+        let u = and_parts (d.proc == who) (is_arrival d.act) t.0 in
         let same : d.proc ≡ who = eqb-true d.proc who u.0 in
         let count : arrivals who (d ∷ h) ≡ one (is_arrival d.act) + arrivals who h = counted_own is_arrival who d h same in
         let more : one (is_arrival d.act) ≡ 1 = ap one u.1 in
@@ -157,8 +150,8 @@ depart_answer program procs h courses p ours are possible =
         let kind = kind_regionless procs p (arrivals p h) h (heard a) ours last in
         let answer = departs_answer program procs h courses p round are (length_said p h) a.kind a.arg kind (subst IsPossible here possible) in
         let handed : departure_of courses p ≡ handed_at courses round a.kind a.arg =
-            ap (λ (c : Course). option_map_or (λ (a : Arrival). handed_at courses (length c.arrivals) a.kind a.arg) (slice_get c.arrivals 0) deposit.Nothing) (are.each p)
-            ∙ ap (λ o. option_map_or (λ (a : Arrival). handed_at courses round a.kind a.arg) o deposit.Nothing) first in
+        ap (λ (c : Course). option_map_or (λ (a : Arrival). handed_at courses (length c.arrivals) a.kind a.arg) (slice_get c.arrivals 0) deposit.Nothing) (are.each p)
+        ∙ ap (λ o. option_map_or (λ (a : Arrival). handed_at courses round a.kind a.arg) o deposit.Nothing) first in
         here ∙ answer ∙ ap (λ d. Answers (answer_given d)) (sym handed)
 
 -- where a process goes on, it left the round that it reached last

@@ -1,6 +1,5 @@
 -- One entry more: what it adds to what is told of a process.
-use Rattle.std.proofs.Common.{◌≡◌, ℕ, zero, suc, ◌+◌, ◌<◌, ◌≤◌, ◌==◌, Bool, true, false, cond, ◌||◌, List, [], ◌∷◌, ◌++◌, length, replicate, get_or, slice_get, Some, filter, reverse, count_by, refl, sym, ap, subst, ◌∙◌, arith, eq-eqb, eqb-true}
-use Rattle.std.specs.List.{list_any}
+use Rattle.std.proofs.Common.{◌≡◌, ℕ, zero, suc, ◌+◌, ◌<◌, ◌≤◌, ◌==◌, Bool, true, false, cond, ◌||◌, List, [], ◌∷◌, ◌++◌, length, replicate, get_or, slice_get, Some, reverse, count_by, refl, sym, ap, subst, ◌∙◌, arith, eq-eqb, eqb-true}
 use Rattle.std.proofs.lemmas.List.{reverse-append}
 use Rattle.std.proofs.lemmas.List.Elements.{filter-append}
 use Rattle.std.proofs.lemmas.List.Sums.{sum_by-cons, sum_by-append}
@@ -70,7 +69,10 @@ or_false false false = refl
 pub fault_more : (es : List Entry) (e : Entry) → has_fault (es ++ e ∷ []) ≡ (has_fault es || is_fault e.act)
 fault_more es e = list_any-append (λ (e : Entry). is_fault e.act) es (e ∷ []) ∙ or_false (has_fault es) (is_fault e.act)
 
--- ---- lists
+-- ---- options and lists
+
+pub some_same : {A : Type 0} (a b : A) → Some a ≡ Some b → a ≡ b
+some_same a b e = cc
 
 pub get_replicate : {A : Type 0} (m n : ℕ) (x : A) → n < m → slice_get (replicate m x) n ≡ Some x
 get_replicate zero n x l = absurd (omega arith)

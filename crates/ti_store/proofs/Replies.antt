@@ -29,6 +29,6 @@ pub fault_does : (l : Ledger) (s : List (List Thing)) (p : ℕ) (at : Place) (a 
 fault_does l s p at a kind r same is = record {
   answer = is;
   kept = subst (λ s. KeepsParts (program_in l) l.procs (entry_after p at a (Faulted kind) ∷ history_in l) (contents s) l.rounds) (sym same)
-    (fault_parts (program_in l) l.procs (history_in l) (contents l.heap) l.rounds p at kind r.process r.kept);
+      (fault_parts (program_in l) l.procs (history_in l) (contents l.heap) l.rounds p at kind r.process r.kept);
   same = refl;
 }

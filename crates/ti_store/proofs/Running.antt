@@ -1,5 +1,5 @@
 -- What a store does is a step of a run, and what is known of every run is known of it.
-use Rattle.std.proofs.Common.{◌≡◌, ◌⊎◌, inl, inr, ⊎_elim, ℕ, ◌+◌, ◌<◌, ◌≤◌, ◌==◌, ◌&&◌, Bool, true, false, cond, List, [], ◌∷◌, ◌++◌, length, Option, Some, None, IfSome, refl, sym, ap, subst, ◌∙◌, arith, eq-eqb}
+use Rattle.std.proofs.Common.{◌≡◌, ⊎_elim, ℕ, ◌+◌, ◌<◌, ◌==◌, ◌&&◌, true, false, cond, List, [], ◌∷◌, ◌++◌, Option, Some, None, IfSome, refl, sym, ap, subst, ◌∙◌, arith, eq-eqb}
 use Rattle.std.specs.Option.{option_map}
 use Rattle.std.proofs.lemmas.Bool.{ne_eqb, cases_eq}
 use Rattle.ti_base.specs.declared.place.Place.{Place}
@@ -14,15 +14,13 @@ use Rattle.ti_base.specs.declared.entry.Entry.{Entry}
 use Rattle.ti_base.specs.declared.entry.Next.{Next}
 use Rattle.ti_base.specs.declared.entry.Next.TheVariants as next
 use Rattle.ti_rounds.specs.Seats.{collective_of}
-use Rattle.ti_rounds.specs.Courses as rounds
-use Rattle.ti_lang.specs.Program.Classes.{NumberedProgram}
 use Rattle.ti_lang.specs.Meaning.Processes.{Setting, Process}
-use Rattle.ti_lang.specs.Meaning.Histories.{History, history_of, is_end, is_fault, is_arrival, is_departure, is_answered, entries_of, arrivals, departures, has_fault}
-use Rattle.ti_lang.specs.Meaning.HeapAnswers.{Answers, arrives, heap_answer}
+use Rattle.ti_lang.specs.Meaning.Histories.{History, history_of, is_end, is_fault, is_arrival, is_departure, is_answered, entries_of, arrivals, has_fault}
+use Rattle.ti_lang.specs.Meaning.HeapAnswers.{Answers, arrives}
 use Rattle.ti_lang.specs.Meaning.Answers.{FitsAction}
-use Rattle.ti_lang.specs.Meaning.Runs.{World, IsReady, entry_with, entry_of, CanTake, IsRun, more}
+use Rattle.ti_lang.specs.Meaning.Runs.{World, IsReady, entry_with, entry_of, IsRun, more}
 use Rattle.ti_lang.proofs.MeaningLaws.Running.{history_grows}
-use Rattle.ti_store.specs.Conditions.{IsWithin, HasNext, IsPossible, is_regionless, is_regionless_kind, collective_in, collective_at, ArrivalsAgree, SuitsRun, SuitsStore}
+use Rattle.ti_store.specs.Conditions.{IsWithin, HasNext, is_regionless, is_regionless_kind, collective_in, collective_at, ArrivalsAgree, SuitsRun, SuitsStore}
 use Rattle.ti_store.specs.Stores.{next_of}
 use Rattle.ti_store.specs.MirrorsRounds.{arrivals_said}
 use Rattle.ti_store.specs.MirrorsLedger.{AllArrived, AgreesWith, MayDo}

@@ -1,5 +1,5 @@
 -- One step of a ledger is a step of a run.
-use Rattle.std.proofs.Common.{◌≡◌, ℕ, ◌+◌, ◌<◌, ◌||◌, Bool, true, false, cond, List, [], ◌∷◌, ◌++◌, Option, Some, None, refl, sym, ap, subst, ◌∙◌}
+use Rattle.std.proofs.Common.{◌≡◌, ℕ, ◌+◌, ◌<◌, ◌||◌, Bool, true, false, cond, List, [], ◌∷◌, ◌++◌, Some, refl, sym, ap, subst, ◌∙◌}
 use Rattle.ti_base.specs.declared.place.Place.{Place}
 use Rattle.ti_base.specs.declared.fault.FaultKind.{FaultKind}
 use Rattle.ti_base.specs.declared.action.Action.{Action}
@@ -15,7 +15,7 @@ use Rattle.ti_lang.specs.Program.Classes.{NumberedProgram}
 use Rattle.ti_lang.specs.Program.Views.{program_of}
 use Rattle.ti_lang.specs.Meaning.Processes.{Setting, Process}
 use Rattle.ti_lang.specs.Meaning.Histories.{History, history_of, is_end, is_fault, is_departure, is_answered, entries_of, arrivals, departures, has_fault}
-use Rattle.ti_lang.specs.Meaning.HeapAnswers.{Outcome, Answers, Faults, heap_answer}
+use Rattle.ti_lang.specs.Meaning.HeapAnswers.{Answers, heap_answer}
 use Rattle.ti_lang.specs.Meaning.Answers.{FitsAction}
 use Rattle.ti_lang.specs.Meaning.Runs.{World, IsReady, entry_with, entry_of, IsRun}
 use Rattle.ti_lang.proofs.MeaningLaws.Running.{history_grows}
@@ -24,7 +24,7 @@ use Rattle.ti_store.specs.declared.ledger.Reply.{Reply}
 use Rattle.ti_store.specs.declared.ledger.Reply.TheVariants.{Answered, Faulted}
 use Rattle.ti_store.specs.Conditions.{IsWithin, HasNext, SuitsStore}
 use Rattle.ti_store.specs.Stores.{next_of}
-use Rattle.ti_store.specs.MirrorsLedger.{AllArrived, MayDo}
+use Rattle.ti_store.specs.MirrorsLedger.{AllArrived}
 use Rattle.ti_store.specs.MirrorsParts.{program_in, history_in, KeepsParts, IsKept, outcome_of, entry_after, Does, came_of, MayAct, Comes, Steps, SameLedger}
 use Rattle.ti_store.specs.MirrorsStore.{setting_in, IsLedger}
 use Rattle.ti_store.proofs.OneMore.{fault_more}
@@ -92,7 +92,7 @@ steps_from l l0 l1 l2 p at a reply same c program procs heap rounds items =
     record {
       answer = (λ j. came_of (program_of (sym same.program j).parts) (history_of (sym same.entries j)) p a) ∙ c.answer;
       kept = along (program_in l1) (program_in l2) l1.procs l2.procs (e ∷ history_in l0) (history_in l2) (contents l1.heap) (contents l2.heap) l1.rounds l2.rounds
-        (λ j. program_of (sym program j).parts) (sym procs) (sym history) (ap contents (sym heap)) (sym rounds) c.kept;
+          (λ j. program_of (sym program j).parts) (sym procs) (sym history) (ap contents (sym heap)) (sym rounds) c.kept;
       entries = grown ∙ ap (λ xs. xs ++ e ∷ []) same.entries;
       program = program ∙ ap (λ (k : Ledger). k.program) c.same ∙ same.program;
       procs = procs ∙ ap (λ (k : Ledger). k.procs) c.same ∙ same.procs;

@@ -1,9 +1,7 @@
 -- Nobody has to believe what stands here: it mirrors the code, and only contracts of private functions and the invariant speak of it.
-use Rattle.std.specs.Prelude.{◌≡◌, ℕ, ◌+◌, ◌<◌, Bool, true, if◌then◌else◌, List, [], ◌∷◌, Option, Some, IfSome}
+use Rattle.std.specs.Prelude.{◌≡◌, ℕ, ◌+◌, ◌<◌, true, if◌then◌else◌, List, [], ◌∷◌, Option, Some, IfSome}
 use Rattle.ti_base.specs.declared.place.Place.{Place}
-use Rattle.ti_base.specs.declared.fault.FaultKind.{FaultKind}
 use Rattle.ti_base.specs.declared.action.Action.{Action}
-use Rattle.ti_base.specs.declared.action.Action.TheVariants as act
 use Rattle.ti_base.specs.declared.action.CollKind.{CollKind}
 use Rattle.ti_base.specs.declared.action.Deposit.{Deposit}
 use Rattle.ti_base.specs.declared.action.Deposit.TheVariants as deposit
@@ -12,7 +10,7 @@ use Rattle.ti_base.specs.declared.entry.Answer.TheVariants.{Done, Val}
 use Rattle.ti_base.specs.declared.entry.Entry.{Entry}
 use Rattle.ti_lang.specs.Program.Classes.{NumberedProgram}
 use Rattle.ti_lang.specs.Meaning.Histories.{History, history_of, is_departure, arrivals, departures}
-use Rattle.ti_lang.specs.Meaning.HeapAnswers.{Outcome, Answers, Faults, heap_answer}
+use Rattle.ti_lang.specs.Meaning.HeapAnswers.{heap_answer}
 use Rattle.ti_store.specs.Conditions.{IsPossible, IsFormed, is_regionless, collective_in, collective_at}
 
 -- every entry is one of these processes, and has nothing to do with regions

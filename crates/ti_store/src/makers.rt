@@ -12,7 +12,14 @@ use ti_heap::HeapErr;
 
 impl Ledger {
     /// Makes an object of a class. On want of memory nothing changes.
-    pub fn new_obj(&mut self, alloc: Global, p: u32, place: Place, class: u32, region: u32) -> Result<Reply, Memory>
+    pub fn new_obj(
+        &mut self,
+        alloc: Global,
+        p: u32,
+        place: Place,
+        class: u32,
+        region: u32,
+    ) -> Result<Reply, Memory>
         requires { IsReadyFor self.old p place (act.NewObj class region) }
         ensures ok { IfOk result (λ reply. Does self.old p place (act.NewObj class region) reply self.new) }
         ensures err { OnErr result (self.new ≡ self.old) }
@@ -29,7 +36,15 @@ impl Ledger {
     }
 
     /// Makes a grid over a domain. On want of memory nothing changes.
-    pub fn new_grid(&mut self, alloc: Global, p: u32, place: Place, zero: Zero, dom: Rect, region: u32) -> Result<Reply, Memory>
+    pub fn new_grid(
+        &mut self,
+        alloc: Global,
+        p: u32,
+        place: Place,
+        zero: Zero,
+        dom: Rect,
+        region: u32,
+    ) -> Result<Reply, Memory>
         requires { IsReadyFor self.old p place (act.NewGrid zero dom region) }
         ensures ok { IfOk result (λ reply. Does self.old p place (act.NewGrid zero dom region) reply self.new) }
         ensures err { OnErr result (self.new ≡ self.old) }
@@ -42,7 +57,13 @@ impl Ledger {
     }
 
     /// Makes a view of a grid. On want of memory nothing changes.
-    pub fn make_view(&mut self, p: u32, place: Place, grid: Id, how: ViewHow) -> Result<Reply, Memory>
+    pub fn make_view(
+        &mut self,
+        p: u32,
+        place: Place,
+        grid: Id,
+        how: ViewHow,
+    ) -> Result<Reply, Memory>
         requires { IsReadyFor self.old p place (act.MakeView grid how) }
         ensures ok { IfOk result (λ reply. Does self.old p place (act.MakeView grid how) reply self.new) }
         ensures err { OnErr result (self.new ≡ self.old) }

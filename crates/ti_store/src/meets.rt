@@ -32,10 +32,18 @@ impl Ledger {
     }
 
     /// The process arrives at a collective.
-    pub fn arrive(&mut self, p: u32, place: Place, kind: CollKind, arg: Option<u32>, given: Deposit) -> Reply
+    pub fn arrive(
+        &mut self,
+        p: u32,
+        place: Place,
+        kind: CollKind,
+        arg: Option<u32>,
+        given: Deposit,
+    ) -> Reply
         requires { IsReadyFor self.old p place (act.Arrive kind arg given) }
         ensures { Does self.old p place (act.Arrive kind arg given) result self.new }
     {
+        // There is room for an entry more, so the arrivals can be counted.
         let _room = self.entries.capacity();
         self.rounds.arrive(p, kind, place, arg, given);
         Reply::Answered(Answer::Done)

@@ -20,7 +20,13 @@ impl Ledger {
 
     /// What the process does comes to a reply; heap and rounds are then those of the history with its
     /// entry, which is still to be added. On want of memory nothing changes.
-    pub fn perform(&mut self, alloc: Global, p: u32, place: Place, a: Action) -> Result<Reply, Memory>
+    pub fn perform(
+        &mut self,
+        alloc: Global,
+        p: u32,
+        place: Place,
+        a: Action,
+    ) -> Result<Reply, Memory>
         requires ready { IsReadyFor self.old p place a }
         requires goes_on { is_end a ≡ false }
         requires no_fault { is_fault a ≡ false }
@@ -29,9 +35,13 @@ impl Ledger {
     {
         match a {
             Action::GetField { obj, field } => Ok(self.get_field(p, place, obj, field)),
-            Action::PutField { obj, field, value } => Ok(self.put_field(p, place, obj, field, value)),
+            Action::PutField { obj, field, value } => Ok(self.put_field(
+                p, place, obj, field, value,
+            )),
             Action::NewObj { class, region } => self.new_obj(alloc, p, place, class, region),
-            Action::NewGrid { zero, dom, region } => self.new_grid(alloc, p, place, zero, dom, region),
+            Action::NewGrid { zero, dom, region } => self.new_grid(
+                alloc, p, place, zero, dom, region,
+            ),
             Action::GetElem { grid, at } => Ok(self.get_elem(p, place, grid, at)),
             Action::PutElem { grid, at, value } => Ok(self.put_elem(p, place, grid, at, value)),
             Action::MakeView { grid, how } => self.make_view(p, place, grid, how),

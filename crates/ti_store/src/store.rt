@@ -46,8 +46,9 @@ impl Model for Store {
 impl Store {
     /// The store of a program with so many processes and so much fuel for each, before the first entry.
     ///
-    /// It keeps a copy of the program. The program has no shared regions, and in every run of it what
-    /// each process asks for is possible, all meet the same collectives, and each answer fits.
+    /// It keeps a copy of the program. In every run of the program what a process asks for is possible and in
+    /// its form, all meet the same collectives, each answer fits what was asked for, and there are no shared
+    /// regions.
     pub fn new(alloc: Global, c: &Checked, procs: u32, fuel: u32) -> Result<Self, Memory>
         requires within { IsWithin procs fuel }
         requires suits { SuitsStore (program_of c.now.program.parts) }
@@ -75,8 +76,11 @@ impl Store {
 
     /// The process does what it has next: an action, its end or a fault of its own.
     ///
-    /// Its entry is added with its answer, or with the fault that comes of it, and then the run has ended. A
-    /// departure waits until all have arrived.
+    /// Its entry is added, with its answer or as the fault that comes of it. `Halted` comes exactly where
+    /// the history ends with a fault or the store was halted; else `NotYet` exactly where this is a departure
+    /// and not all have arrived at the round; else `Faulted` exactly where a fault comes of it, which is then
+    /// the last entry. Want of memory may come in place of an answer or a fault. But for `Faulted`, nothing
+    /// changes on an error.
     pub fn act(&mut self, alloc: Global, p: u32, place: Place, a: Action) -> Result<Answer, ActErr>
         requires process { p < self.old.procs }
         requires next { IsNextOf self.old p place a }
@@ -100,7 +104,7 @@ impl Store {
         }
     }
 
-    /// Nothing more is done, for want of memory elsewhere.
+    /// Halts the store, for want of memory elsewhere: nothing more is done.
     pub fn halt_for_memory(&mut self)
         ensures { self.new ≡ record self.old { halted = true } }
     {

@@ -1,4 +1,4 @@
-use Rattle.std.proofs.Common.{ℕ, Option, ◌<◌, ◌^◌, ◌-◌, ◌∷◌, arith, refl}
+use Rattle.std.proofs.Common.{ℕ, Option, ◌^◌, ◌-◌, arith, refl}
 use Rattle.ti_base.specs.declared.place.Place.{Place}
 use Rattle.ti_base.specs.declared.action.CollKind.{CollKind}
 use Rattle.ti_base.specs.declared.action.Action.TheVariants as act

@@ -28,8 +28,8 @@ returns c =
     let e : Entry = record { proc = c.args.p; place = c.args.place; act = act.Depart; answer = c.answer_given.result } in
     record {
       answer = depart_answer (program_in l) l.procs (history_in l) k.rounds.courses c.args.p k.ours k.rounds.are c.requires.may.possible
-        ∙ ap (λ d. Answers (answer_given d)) (sym (c.depart.ensures.value k.rounds.courses k.rounds.keeps))
-        ∙ ap Answers (sym c.answer_given.ensures);
+          ∙ ap (λ d. Answers (answer_given d)) (sym (c.depart.ensures.value k.rounds.courses k.rounds.keeps))
+          ∙ ap Answers (sym c.answer_given.ensures);
       kept = record {
         ours = (c.requires.process, refl, k.ours);
         rounds = record {

@@ -21,7 +21,7 @@ returns-in-Ok-clause-ok c =
     let l = c.args.self.now in
     let e = c.in-Ok.ensures in
     let done = grid_done (program_in l) l.procs (history_in l) (contents l.heap) (contents c.new_grid.new.self) l.rounds c.args.p c.args.place c.args.zero c.args.dom c.args.region c.in-Ok.id
-      c.requires.process c.requires.kept c.requires.may.regionless c.requires.may.formed c.requires.may.possible e.fault e.id e.made in
+    c.requires.process c.requires.kept c.requires.may.regionless c.requires.may.formed c.requires.may.possible e.fault e.id e.made in
     record { answer = done.0; kept = done.1; same = refl }
 
 pub returns-in-Err-Faulted-clause-ok : goal.returns-in-Err-Faulted-clause-ok

@@ -25,12 +25,12 @@ returns-in-Ok-clause-ok c =
     let e = c.in-Ok.ensures in
     let look = c.in-Some.ensures.lookup in
     let found : slice_get l.program.parts.classes.items c.args.class ≡ Some c.in-Some.class.now =
-      subst (λ xs. slice_get xs c.args.class ≡ Some c.in-Some.class.now) c.deref.ensures.value (get_some c.deref.result.now c.args.class c.in-Some.class.now look.3.0 look.1) in
+    subst (λ xs. slice_get xs c.args.class ≡ Some c.in-Some.class.now) c.deref.ensures.value (get_some c.deref.result.now c.args.class c.in-Some.class.now look.3.0 look.1) in
     let zeros : c.deref-3.result.now ≡ field_zeros c.in-Some.class.now.fields.items = c.deref-3.ensures.value ∙ c.in_ok-zeros.ensures ∙ ap field_zeros c.deref-2.ensures.value in
     let is : zeros_of_class (program_in l) c.args.class ≡ Some c.deref-3.result.now =
-      class_zeros l.program.parts c.args.class ∙ ap (option_map (λ (c : Class). field_zeros c.fields.items)) found ∙ ap Some (sym zeros) in
+    class_zeros l.program.parts c.args.class ∙ ap (option_map (λ (c : Class). field_zeros c.fields.items)) found ∙ ap Some (sym zeros) in
     let done = object_done (program_in l) l.procs (history_in l) (contents l.heap) (contents c.new_obj.new.self) l.rounds c.args.p c.args.place c.args.class c.args.region c.deref-3.result.now c.in-Ok.id
-      c.requires.process c.requires.kept c.requires.may.regionless is e.fault e.id e.made in
+    c.requires.process c.requires.kept c.requires.may.regionless is e.fault e.id e.made in
     record { answer = done.0; kept = done.1; same = refl }
 
 pub returns-in-Err-Faulted-clause-ok : goal.returns-in-Err-Faulted-clause-ok
@@ -39,10 +39,10 @@ returns-in-Err-Faulted-clause-ok c =
     let e = c.in-Err-Faulted.ensures in
     let look = c.in-Some.ensures.lookup in
     let found : slice_get l.program.parts.classes.items c.args.class ≡ Some c.in-Some.class.now =
-      subst (λ xs. slice_get xs c.args.class ≡ Some c.in-Some.class.now) c.deref.ensures.value (get_some c.deref.result.now c.args.class c.in-Some.class.now look.3.0 look.1) in
+    subst (λ xs. slice_get xs c.args.class ≡ Some c.in-Some.class.now) c.deref.ensures.value (get_some c.deref.result.now c.args.class c.in-Some.class.now look.3.0 look.1) in
     let zeros : c.deref-3.result.now ≡ field_zeros c.in-Some.class.now.fields.items = c.deref-3.ensures.value ∙ c.in_ok-zeros.ensures ∙ ap field_zeros c.deref-2.ensures.value in
     let is : zeros_of_class (program_in l) c.args.class ≡ Some c.deref-3.result.now =
-      class_zeros l.program.parts c.args.class ∙ ap (option_map (λ (c : Class). field_zeros c.fields.items)) found ∙ ap Some (sym zeros) in
+    class_zeros l.program.parts c.args.class ∙ ap (option_map (λ (c : Class). field_zeros c.fields.items)) found ∙ ap Some (sym zeros) in
     let told = subst (λ (x : HeapErr). FaultsAs (new_fault c.args.p (length c.deref-3.result.now) (contents l.heap)) (Err x)) c.in-Err-Faulted.field-0-is e.fault in
     fault_does l c.new_obj.new.self c.args.p c.args.place (act.NewObj c.args.class c.args.region) c.in-Err-Faulted.kind c.requires e.err
     (object_full (program_in l) l.procs (history_in l) (contents l.heap) l.rounds c.args.p c.args.class c.args.region c.deref-3.result.now c.in-Err-Faulted.kind c.requires.kept

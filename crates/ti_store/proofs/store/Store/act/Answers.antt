@@ -1,4 +1,4 @@
-use Rattle.std.proofs.Common.{◌≡◌, ◌<◌, sym, subst}
+use Rattle.std.proofs.Common.{◌<◌, sym, subst}
 use Rattle.ti_lang.specs.Meaning.Histories.{entries_of}
 use Rattle.ti_lang.specs.Meaning.Runs.{World}
 use Rattle.ti_store.specs.declared.ledger.Reply.TheVariants.{Answered, Faulted}

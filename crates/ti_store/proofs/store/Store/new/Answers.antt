@@ -1,4 +1,4 @@
-use Rattle.std.proofs.Common.{◌≡◌, sym, ap, subst}
+use Rattle.std.proofs.Common.{sym, ap, subst}
 use Rattle.ti_heap.specs.Things.{contents}
 use Rattle.ti_lang.specs.Program.Views.{program_of}
 use Rattle.ti_lang.specs.Meaning.Histories.{history_of, has_fault}
@@ -20,5 +20,5 @@ invariant_of-result c =
       run = subst (IsRun s) (sym empty) none;
       faulted_is = sym (ap has_fault empty);
       kept = subst (λ es. KeepsParts program c.args.procs (history_of es) (contents c.in_ok-heap.heap) c.in_ok-rounds.rounds) (sym empty)
-        (new_parts program c.args.procs (contents c.in_ok-heap.heap) c.in_ok-rounds.rounds c.in_ok-heap.ensures c.in_ok-rounds.ensures);
+          (new_parts program c.args.procs (contents c.in_ok-heap.heap) c.in_ok-rounds.rounds c.in_ok-heap.ensures c.in_ok-rounds.ensures);
     }
