@@ -28,13 +28,14 @@ pub struct Store {
 }
 
 impl Model for Store {
-    ghost use Rattle.std.specs.Coded.{codes};
+    ghost use Rattle.ti_base.specs.contracts.entry.Entry as entry;
     ghost use Rattle.ti_lang.specs.contracts.program.classes.Parts as parts;
     ghost use Rattle.ti_store.specs.Stores.{StoreState};
+    ghost use Rattle.ti_store.specs.MirrorsState.{state_code};
 
     ghost Value = { StoreState };
 
-    ghost coded = { Prim.hlevel (codes, parts.the_row.coded) };
+    ghost coded = { state_code parts.the_row.coded entry.the_row.coded };
 
     ghost use Rattle.ti_store.specs.MirrorsStore.{state_in, IsStore};
 
