@@ -1,0 +1,144 @@
+-- What a process of the code stands for, and what its steps say.
+use Rattle.std.specs.Prelude.{◌≡◌, ℕ, List, [], ◌∷◌, reverse, Option, None, Some}
+use Rattle.ti_base.specs.declared.entry.Answer.{Answer}
+use Rattle.ti_base.specs.declared.entry.Next.TheVariants as next
+use Rattle.ti_lang.specs.Program.Statements.{NumberedStm, NumberedStms, numbered_stms}
+use Rattle.ti_lang.specs.Program.Classes.{NumberedMethod, NumberedProgram}
+use Rattle.ti_lang.specs.Program.Scope.{this_of}
+use Rattle.ti_lang.specs.Meaning.Asking.{Request, ToBeDone, told as value_told}
+use Rattle.ti_lang.specs.Meaning.Processes as process
+use Rattle.ti_lang.specs.Meaning.Processes.{Process, Receiver, Nowhere, Work, Receive, Wait}
+use Rattle.ti_lang.specs.Meaning.Scoping.{Env}
+use Rattle.ti_lang.specs.Meaning.Turns.{turns_at, dims_at}
+use Rattle.ti_lang.specs.Meaning.Steps.{Step, To, At, Ends, Faults, spends, answered, step}
+use Rattle.ti_lang.specs.Meaning.NextStep.{shown}
+use Rattle.ti_eval.specs.declared.frame.Todo.{Todo}
+use Rattle.ti_eval.specs.declared.frame.Todo.TheVariants as todo
+use Rattle.ti_eval.specs.Frames.{Site, slots_of, left_of, rest_of}
+use Rattle.ti_eval.specs.Places.{inside}
+use Rattle.ti_moves.specs.Moves.{method_at, wait_of, expected}
+use Rattle.ti_moves.specs.Receiving.{receiver_of}
+use Rattle.ti_exec.specs.declared.process.Call.{Call}
+use Rattle.ti_exec.specs.declared.process.Mode.{Mode}
+use Rattle.ti_exec.specs.declared.process.Mode.TheVariants as mode
+use Rattle.ti_exec.specs.declared.process.Walker.{Walker}
+use Rattle.ti_exec.specs.declared.process.Pending.{Pending}
+use Rattle.ti_exec.specs.declared.process.Pending.TheVariants as pend
+use Rattle.ti_exec.specs.declared.process.Turn.{Turn}
+use Rattle.ti_exec.specs.declared.process.Turn.TheVariants as turn
+
+-- ---- calls
+
+-- the body of the method of a call
+abbrev pub body_of : NumberedProgram → Call → NumberedStms
+body_of c f = numbered_stms (method_at c f.method).body
+
+-- where its text stands
+abbrev pub site_of : NumberedProgram → ℕ → Call → Site
+site_of c procs f = record { program = c; this = this_of (method_at c f.method); procs = procs }
+
+-- its innermost statement
+abbrev pub here : NumberedProgram → Call → NumberedStm
+here c f = inside (body_of c f) (reverse f.levels.items)
+
+-- the work that is left in it, where this is left of the innermost statement
+abbrev pub left_in : NumberedProgram → ℕ → Call → Todo → List Work
+left_in c procs f t = left_of (site_of c procs f) (body_of c f) (reverse f.levels.items) t
+
+-- the work behind the innermost statement
+abbrev pub rest : NumberedProgram → ℕ → Call → List Work
+rest c procs f = rest_of (site_of c procs f) (body_of c f) (reverse f.levels.items)
+
+-- the frame of a call with this work left, whose caller wants the result there
+abbrev pub frame_of : NumberedProgram → Receiver → Call → List Work → process.Frame
+frame_of c receiver f left = record { method = method_at c f.method; this = f.this; variables = slots_of f.variables.items; left = left; receiver = receiver }
+
+-- where the calls below want the result of the one above them
+abbrev pub receiver_below : NumberedProgram → List Call → Receiver
+receiver_below c [] = Nowhere
+receiver_below c (f ∷ fs) = receiver_of (here c f)
+
+-- calls that wait in their innermost statements for what comes out of the one above them, the innermost first
+abbrev pub frames_below : NumberedProgram → ℕ → List Call → List process.Frame
+frames_below c procs [] = []
+frames_below c procs (f ∷ fs) = frame_of c (receiver_below c fs) f (rest c procs f) ∷ frames_below c procs fs
+
+-- ---- processes
+
+-- the frames below the innermost
+abbrev pub below_of : NumberedProgram → Walker → List process.Frame
+below_of c w = frames_below c w.team.procs (reverse w.below.items)
+
+-- the innermost frame with this work left
+abbrev pub top_of : NumberedProgram → Walker → List Work → process.Frame
+top_of c w left = frame_of c (receiver_below c (reverse w.below.items)) w.top left
+
+-- where the innermost statement is evaluated
+abbrev pub env_in : NumberedProgram → Walker → Env
+env_in c w = record {
+  number = w.team.number;
+  procs = w.team.procs;
+  program = c;
+  method = method_at c w.top.method;
+  this = w.top.this;
+  variables = slots_of w.top.variables.items;
+  turns = turns_at (rest c w.team.procs w.top);
+  dims = dims_at c (this_of (method_at c w.top.method)) (rest c w.team.procs w.top);
+}
+
+-- the frames of a process that goes on so
+abbrev pub frames_in : NumberedProgram → Walker → Mode → List process.Frame
+frames_in c w (mode.Walks t) = top_of c w (left_in c w.team.procs w.top t) ∷ below_of c w
+frames_in c w (mode.Receives h) = top_of c w (Receive (receiver_of (here c w.top)) h ∷ rest c w.team.procs w.top) ∷ below_of c w
+frames_in c w (mode.Waits meeting t) = top_of c w (left_in c w.team.procs w.top t) ∷ below_of c w
+frames_in c w (mode.Expects meeting) = top_of c w (rest c w.team.procs w.top) ∷ below_of c w
+frames_in c w mode.Ended = []
+
+-- the collective at which such a process waits
+abbrev pub wait_in : NumberedProgram → Walker → Mode → Option Wait
+wait_in c w (mode.Waits meeting t) = Some (wait_of meeting ToBeDone Nowhere)
+wait_in c w (mode.Expects meeting) = Some (expected (env_in c w) (here c w.top) meeting)
+wait_in c w m = None
+
+-- a process that goes on so, with these answers to its current work
+abbrev pub going_on : NumberedProgram → Walker → Mode → List Answer → Process
+going_on c w m answers = record {
+  setting = record { program = c; procs = w.team.procs; fuel = w.fuel };
+  number = w.team.number;
+  spent = w.spent;
+  frames = frames_in c w m;
+  wait = wait_in c w m;
+  answers = answers;
+}
+
+abbrev pub process_of : NumberedProgram → Walker → Process
+process_of c w = going_on c w w.mode w.answers.items
+
+-- ---- steps
+
+-- how a process goes on behind its departure, which gave this
+abbrev pub mode_behind : Mode → Answer → Mode
+mode_behind (mode.Waits meeting t) r = mode.Walks t
+mode_behind (mode.Expects meeting) r = mode.Receives (value_told r)
+mode_behind m r = m
+
+-- what the answer makes of a process in the code
+abbrev pub told : NumberedProgram → Walker → Pending → Answer → Process
+told c w pend.Pushed r = spends (answered (process_of c w) r)
+told c w (pend.Arrived m) r = spends (going_on c w m [])
+told c w pend.Left r = spends (going_on c w (mode_behind w.mode r) [])
+
+-- the process stands at an action, of which the answer makes this
+pub record Stands (s : Step) (n : next.Next) (makes : Answer → Process) : Type 0 where
+  pub request : Request
+  pub go : Answer → Process
+  pub is : s ≡ At request go
+  pub shows : shown s ≡ Some n
+  pub goes : (r : Answer) → go r ≡ makes r
+
+-- what the code makes of the step of a process
+abbrev pub IsTurn : NumberedProgram → Walker → Turn → Walker → Type 0
+IsTurn c old turn.Went new = step (process_of c old) ≡ To (process_of c new)
+IsTurn c old (turn.Asks at action pending) new = (process_of c new ≡ process_of c old) × Stands (step (process_of c old)) (next.Act at action) (told c new pending)
+IsTurn c old (turn.Ends at) new = (process_of c new ≡ process_of c old) × (step (process_of c old) ≡ Ends at)
+IsTurn c old (turn.Fails kind at) new = (process_of c new ≡ process_of c old) × (step (process_of c old) ≡ Faults kind at)

@@ -1,0 +1,68 @@
+// A process of a run.
+
+use ti_base::{Action, FaultKind, Id, Place};
+use ti_eval::{Held, Level, Slot, Team, Todo, Told};
+use ti_moves::Meeting;
+
+/// A call in progress, at a statement of its method.
+#[derive(Drop)]
+pub struct Call {
+    /// The number of the method.
+    pub method: usize,
+    pub this: Option<Id>,
+    /// The variables in scope, the oldest first.
+    pub variables: Vec<Slot>,
+    /// The statements entered, the outermost first.
+    pub levels: Vec<Level>,
+}
+
+/// How a process goes on.
+#[derive(Drop)]
+pub enum Mode {
+    /// This is left of the innermost statement.
+    Walks(Todo),
+    /// A value is on its way to where the innermost statement wants it.
+    Receives(Held),
+    /// It waits at a collective, behind which this is left.
+    Waits(Meeting, Todo),
+    /// It waits at a collective whose value the innermost statement wants.
+    Expects(Meeting),
+    /// No call is in progress.
+    Ended,
+}
+
+/// A process: the call in which it goes on, and those below, the outermost first. These wait in their statements for what
+/// comes out of the call above.
+#[derive(Drop)]
+pub struct Walker {
+    pub team: Team,
+    /// The ticks that it may spend, and those that it has spent.
+    pub fuel: u32,
+    pub spent: u32,
+    pub below: Vec<Call>,
+    pub top: Call,
+    pub mode: Mode,
+    /// The answers that its current work has got so far.
+    pub answers: Vec<Told>,
+}
+
+/// What the answer to an action makes of a process.
+#[derive(Drop)]
+pub enum Pending {
+    /// One answer more to its current work.
+    Pushed,
+    /// It has arrived, and goes on so.
+    Arrived(Mode),
+    /// It has left the collective.
+    Left,
+}
+
+/// A step of a process.
+#[derive(Drop)]
+pub enum Turn {
+    /// It went on silently.
+    Went,
+    Asks(Place, Action, Pending),
+    Ends(Place),
+    Fails(FaultKind, Place),
+}

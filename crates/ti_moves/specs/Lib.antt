@@ -1,0 +1,4 @@
+pub mod Callees
+pub mod Moves
+pub mod Points
+pub mod Receiving

@@ -1,0 +1,41 @@
+-- What clauses see of receivers and right sides in the code.
+use Rattle.std.specs.Prelude.{Option, None, Some}
+use Rattle.std.specs.Borrow.{Bor}
+use Rattle.ti_lang.specs.declared.program.stmts.Stmt.{Stmt}
+use Rattle.ti_lang.specs.Program.Statements.{NumberedStm}
+use Rattle.ti_lang.specs.Program.Statements as s
+use Rattle.ti_lang.specs.Program.Views.{expression_of, statement_of, type_use_of}
+use Rattle.ti_lang.specs.Meaning.Held.{Held}
+use Rattle.ti_lang.specs.Meaning.Asking.{Asking, gives}
+use Rattle.ti_lang.specs.Meaning.Processes as process
+use Rattle.ti_lang.specs.Meaning.Scoping.{Env}
+use Rattle.ti_lang.specs.Meaning.Evaluation.{eval}
+use Rattle.ti_lang.specs.Meaning.Statements.{declared_as, one_more}
+use Rattle.ti_moves.specs.declared.receiving.Receiver.{Receiver}
+use Rattle.ti_moves.specs.declared.receiving.Receiver.TheVariants as r
+use Rattle.ti_moves.specs.declared.receiving.Right.{Right}
+use Rattle.ti_moves.specs.declared.receiving.Right.TheVariants as right
+
+-- a statement; one that isn't there is empty
+abbrev pub stm_seen : Option (Bor Stmt) → NumberedStm
+stm_seen None = s.Empty
+stm_seen (Some b) = statement_of b.now
+
+abbrev pub receiver_seen : Receiver → process.Receiver
+receiver_seen r.Nowhere = process.Nowhere
+receiver_seen (r.Declared at ty variable) = process.Declared at (declared_as (type_use_of ty.now) variable)
+receiver_seen (r.Assigned at target) = process.Assigned at (expression_of target.now)
+receiver_seen (r.Updated at op target) = process.Updated at op (expression_of target.now)
+
+-- where the value of a statement's right side goes
+abbrev pub receiver_of : NumberedStm → process.Receiver
+receiver_of (s.Declare at type variable value) = process.Declared at (declared_as type variable)
+receiver_of (s.Assign at target value) = process.Assigned at target
+receiver_of (s.Update at op target x) = process.Updated at op target
+receiver_of (s.Step at op target) = process.Updated at (one_more op) target
+receiver_of x = process.Nowhere
+
+-- what a right side comes to
+abbrev pub right_seen : Env → Right → Asking Held
+right_seen env (right.Value x) = eval env (expression_of x.now)
+right_seen env (right.Known h) = gives h.now

@@ -1,0 +1,23 @@
+//! What statements come to, from the answers that their actions have got so far: moves of their process.
+#![tactic(auto)]
+
+mod calls;
+mod collectives;
+mod copies;
+mod makers;
+mod moves;
+mod points;
+mod prints;
+mod receiving;
+mod scopes;
+mod spots;
+mod statements;
+mod targets;
+
+pub use copies::{copy_element, take_element};
+pub use moves::{Change, Left, Meeting, Move};
+pub use points::next_point;
+pub use receiving::{Receiver, Right};
+pub use scopes::leave;
+pub use spots::{condition, count, has_update, is_for, loop_place, statement_at};
+pub use statements::{received, statement};
