@@ -62,7 +62,7 @@ turn_of : (site : Site) (x : NumberedStm) (t : Todo) (ws : List Work) → turns_
 turn_of site x todo.Here ws = refl
 turn_of site x todo.Inside ws = refl
 turn_of site x (todo.From n) ws = none_in_list (drop n (list_in x)) x ws
-turn_of site x todo.Ending ws = none_at_end x ws
+turn_of site x todo.Ending ws = refl
 turn_of site x todo.Before ws = none_at_end x ws
 turn_of site x todo.Behind ws = none_at_end x ws
 turn_of site x (todo.Each variable domain last) ws = refl

@@ -137,7 +137,7 @@ abbrev pub work_of : Site → NumberedStm → Todo → List Work
 work_of site x todo.Here = Do x ∷ []
 work_of site x todo.Inside = []
 work_of site x (todo.From n) = map Do (drop n (list_in x)) ++ End x ∷ []
-work_of site x todo.Ending = end_of_for x
+work_of site x todo.Ending = End x ∷ []
 work_of site x todo.Before = Before (loop_of x) ∷ end_of_for x
 work_of site x todo.Behind = Behind (loop_of x) ∷ end_of_for x
 work_of site x (todo.Each variable domain last) = Before (foreach_of x variable (points_above domain last)) ∷ []

@@ -21,5 +21,5 @@ pub fn call<'a, 'c>(
 ) -> Option<Result<(Move<'c>, &'a [Told]), Stop>>
     ensures { (x : NumberedStm) → CallComes (env_of env.now) x answers.now result (called (env_of env.now) (expression_of e.now)) }
 {
-    todo
+    None
 }

@@ -13,5 +13,5 @@ pub fn next_point(domain: &Held, last: Option<Point>) -> Option<Point>
     ensures value { points_above domain.now last ≡ from_point domain.now result }
     ensures form { IfSome result IsPoint }
 {
-    todo
+    None
 }

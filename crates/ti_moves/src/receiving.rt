@@ -4,6 +4,7 @@ ghost use Rattle.std.specs.Prelude.{◌≡◌};
 ghost use Rattle.ti_lang.specs.Program.Statements.{NumberedStm};
 ghost use Rattle.ti_lang.specs.Meaning.Targets.{into as into_spec};
 ghost use Rattle.ti_lang.specs.Meaning.Moves.{receives as receives_spec};
+ghost use Rattle.ti_lang.specs.Meaning.Statements.{one_more as one_more_spec};
 ghost use Rattle.ti_eval.specs.Comes.{ComesAs};
 ghost use Rattle.ti_eval.specs.Envs.{env_of};
 ghost use Rattle.ti_moves.specs.declared.moves.Change.{Change as Changing};
@@ -15,7 +16,7 @@ use std::alloc::Global;
 use ti_base::Place;
 use ti_eval::{Env, Held, Stop, Todo, Told};
 use ti_lang::program::{Expr, Stmt, TypeUse};
-use ti_lang::tree::BinaryOperator;
+use ti_lang::tree::{BinaryOperator, StepOperator};
 
 /// Where the value of a right side goes.
 #[derive(Clone, Copy)]
@@ -44,11 +45,60 @@ pub enum Right<'r> {
     Known(&'r Held),
 }
 
+// `++` adds 1, and `--` subtracts it.
+fn one_more(operator: StepOperator) -> BinaryOperator
+    ensures { result ≡ one_more_spec operator }
+{
+    match operator {
+        StepOperator::Increment => BinaryOperator::Add,
+        StepOperator::Decrement => BinaryOperator::Subtract,
+    }
+}
+
 /// Where the value of a statement's right side goes.
-pub fn receiver<'c>(x: Option<&'c Stmt>) -> Receiver<'c>
+pub fn receiver_at<'c>(x: Option<&'c Stmt>) -> Receiver<'c>
     ensures { receiver_seen result ≡ receiver_of (stm_seen x.entry) }
 {
-    todo
+    match x {
+        Some(s) => match s {
+            Stmt::Declare {
+                place,
+                ty,
+                variable,
+                value: _,
+            } => Receiver::Declared {
+                at: *place,
+                ty,
+                variable: *variable,
+            },
+            Stmt::Assign {
+                place,
+                target,
+                value: _,
+            } => Receiver::Assigned { at: *place, target },
+            Stmt::Update {
+                place,
+                operator,
+                target,
+                value: _,
+            } => Receiver::Updated {
+                at: *place,
+                operator: *operator,
+                target,
+            },
+            Stmt::Step {
+                place,
+                operator,
+                target,
+            } => Receiver::Updated {
+                at: *place,
+                operator: one_more(*operator),
+                target,
+            },
+            _ => Receiver::Nowhere,
+        },
+        None => Receiver::Nowhere,
+    }
 }
 
 /// What becomes of the variables in scope when what a right side comes to has gone to its receiver.

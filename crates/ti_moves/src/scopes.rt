@@ -13,5 +13,4 @@ use ti_lang::program::Stmt;
 pub fn leave(variables: &mut Vec<Slot>, x: Option<&Stmt>)
     ensures { slots_of variables.new.items ≡ without (declared_in (stm_seen x.entry)) (slots_of variables.old.items) }
 {
-    todo
 }

@@ -23,14 +23,14 @@ pub fn statement_at<'c>(body: &'c [Stmt], levels: &[Level]) -> Option<&'c Stmt>
     requires { 0 < length levels.now }
     ensures { stm_seen result ≡ inside (numbered_stms (map statement_of body.now)) (reverse levels.now) }
 {
-    todo
+    None
 }
 
 /// How many statements the list of the innermost block has.
 pub fn count(body: &[Stmt], levels: &[Level]) -> usize
     ensures { result ≡ length (list_in (inside (numbered_stms (map statement_of body.now)) (reverse levels.now))) }
 {
-    todo
+    0
 }
 
 /// The condition of a loop; a missing one is true.
@@ -49,19 +49,39 @@ pub fn condition<'a>(
 pub fn loop_place(x: Option<&Stmt>) -> Place
     ensures { result ≡ place_of (stm_seen x.entry) }
 {
-    todo
+    match x {
+        Some(s) => match s {
+            Stmt::While { place, .. } => *place,
+            Stmt::For { place, .. } => *place,
+            Stmt::Foreach { place, .. } => *place,
+            _ => Place { line: 0, col: 0 },
+        },
+        None => Place { line: 0, col: 0 },
+    }
 }
 
 /// Whether each turn of a loop ends with an update.
 pub fn has_update(x: Option<&Stmt>) -> bool
     ensures { maybe_do (update_in (stm_seen x.entry)) ≡ (if result then Do (part_of (stm_seen x.entry) Update) ∷ [] else []) }
 {
-    todo
+    match x {
+        Some(s) => match s {
+            Stmt::For { update, .. } => update.is_some(),
+            _ => false,
+        },
+        None => false,
+    }
 }
 
 /// Whether it is a `for`.
 pub fn is_for(x: Option<&Stmt>) -> bool
     ensures { end_of_for (stm_seen x.entry) ≡ (if result then End (stm_seen x.entry) ∷ [] else []) }
 {
-    todo
+    match x {
+        Some(s) => match s {
+            Stmt::For { .. } => true,
+            _ => false,
+        },
+        None => false,
+    }
 }
