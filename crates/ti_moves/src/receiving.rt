@@ -1,21 +1,33 @@
 // Where the values of right sides go.
 
-ghost use Rattle.std.specs.Prelude.{◌≡◌};
+ghost use Rattle.std.specs.Prelude.{◌≡◌, List, IfOk};
+ghost use Rattle.ti_lang.specs.Program.Types.{ValueType};
+ghost use Rattle.ti_lang.specs.Program.Expressions.{place_of_numbered};
 ghost use Rattle.ti_lang.specs.Program.Statements.{NumberedStm};
+ghost use Rattle.ti_lang.specs.Program.Views.{expression_of, type_use_of, value_type_of};
+ghost use Rattle.ti_lang.specs.Meaning.Held.{Held as Holding};
+ghost use Rattle.ti_lang.specs.Meaning.Asking.{Got, followed, gives};
+ghost use Rattle.ti_lang.specs.Meaning.Conversions as conversions;
+ghost use Rattle.ti_lang.specs.Meaning.Processes as process;
+ghost use Rattle.ti_lang.specs.Meaning.Scoping.{with_new, type_of};
+ghost use Rattle.ti_lang.specs.Meaning.Targets as targets;
 ghost use Rattle.ti_lang.specs.Meaning.Targets.{into as into_spec};
 ghost use Rattle.ti_lang.specs.Meaning.Moves.{receives as receives_spec};
-ghost use Rattle.ti_lang.specs.Meaning.Statements.{one_more as one_more_spec};
-ghost use Rattle.ti_eval.specs.Comes.{ComesAs};
+ghost use Rattle.ti_lang.specs.Meaning.Statements.{one_more as one_more_spec, declared_as};
+ghost use Rattle.ti_eval.specs.Comes.{Comes, ComesAs};
 ghost use Rattle.ti_eval.specs.Envs.{env_of};
+ghost use Rattle.ti_eval.specs.Frames.{slot_of};
 ghost use Rattle.ti_moves.specs.declared.moves.Change.{Change as Changing};
 ghost use Rattle.ti_moves.specs.Moves.{changed, move_of};
 ghost use Rattle.ti_moves.specs.Receiving.{stm_seen, receiver_seen, receiver_of, right_seen};
+ghost use Rattle.ti_moves.specs.Targets.{target_of, converted_into, operated_into};
 
 use crate::moves::{Change, Left, Move};
+use crate::targets::{Target, as_target, held_in, located, stored};
 use std::alloc::Global;
-use ti_base::Place;
-use ti_eval::{Env, Held, Stop, Todo, Told};
-use ti_lang::program::{Expr, Stmt, TypeUse};
+use ti_base::{Memory, Place};
+use ti_eval::{Env, Held, Slot, Stop, Todo, Told, converted, evaluate, operated};
+use ti_lang::program::{Declared, Expr, Stmt, TypeUse, Variable};
 use ti_lang::tree::{BinaryOperator, StepOperator};
 
 /// Where the value of a right side goes.
@@ -101,6 +113,221 @@ pub fn receiver_at<'c>(x: Option<&'c Stmt>) -> Receiver<'c>
     }
 }
 
+// The value of a right side.
+fn value_of<'a>(
+    alloc: Global,
+    env: &Env,
+    right: Right,
+    answers: &'a [Told],
+) -> Result<(Held, &'a [Told]), Stop>
+    ensures { Comes result (right_seen (env_of env.now) right.entry answers.now) }
+{
+    match right {
+        Right::Value(e) => evaluate(alloc, env, e, answers),
+        Right::Known(h) => Ok((h.copy(alloc)?, answers)),
+    }
+}
+
+// ---- nowhere
+
+// A value that is dropped.
+#[tactic(auto, using(ti_eval::proofs::Steps::steps))]
+fn dropped_from<'a, 'c>(
+    got: Result<(Held, &'a [Told]), Stop>,
+) -> Result<(Change<'c>, &'a [Told]), Stop>
+    ensures { (ws : List process.Variable) (m : Got Holding) → Comes got.entry m → ComesAs (λ (c : Changing). changed c ws) result (followed m (λ h. gives ws)) }
+{
+    match got {
+        Ok((_, answers)) => Ok((Change::Same, answers)),
+        Err(stop) => Err(stop),
+    }
+}
+
+// ---- into a new variable
+
+// A new variable.
+fn new_slot(alloc: Global, ty: &TypeUse, number: u32, held: Held) -> Result<Slot, Memory>
+    ensures { IfOk result (λ s. slot_of s ≡ record { named = declared_as (type_use_of ty.now) number; held = held }) }
+{
+    let declared = Declared::Typed {
+        single: ty.single,
+        ty: ty.ty.copy(alloc)?,
+    };
+    let variable = Variable { number, declared };
+    Ok(Slot { variable, held })
+}
+
+// A new variable that holds the value.
+#[tactic(auto, using(ti_eval::proofs::Steps::steps))]
+fn new_from<'a, 'c>(
+    alloc: Global,
+    ty: &TypeUse,
+    variable: u32,
+    got: Result<(Held, &'a [Told]), Stop>,
+) -> Result<(Change<'c>, &'a [Told]), Stop>
+    ensures { (ws : List process.Variable) (m : Got Holding) → Comes got.entry m → ComesAs (λ (c : Changing). changed c ws) result (followed m (λ k. gives (with_new (declared_as (type_use_of ty.now) variable) k ws))) }
+{
+    match got {
+        Ok((held, answers)) => {
+            let slot = new_slot(alloc, ty, variable, held)?;
+            Ok((Change::New(slot), answers))
+        }
+        Err(stop) => Err(stop),
+    }
+}
+
+// A new variable that holds the value as one of its type.
+#[tactic(auto, using(ti_eval::proofs::Steps::steps))]
+fn declared_from<'a, 'c>(
+    alloc: Global,
+    at: Place,
+    ty: &TypeUse,
+    variable: u32,
+    got: Result<(Held, &'a [Told]), Stop>,
+) -> Result<(Change<'c>, &'a [Told]), Stop>
+    ensures { (ws : List process.Variable) (m : Got Holding) → Comes got.entry m → ComesAs (λ (c : Changing). changed c ws) result (followed m (λ h rest. followed (conversions.converted at (value_type_of ty.now.ty) h rest) (λ k. gives (with_new (declared_as (type_use_of ty.now) variable) k ws)))) }
+{
+    match got {
+        Ok((h, answers)) => {
+            let got = converted(alloc, at, &ty.ty, h, answers);
+            new_from(alloc, ty, variable, got)
+        }
+        Err(stop) => Err(stop),
+    }
+}
+
+// ---- into a target
+
+// The value goes into the target.
+#[tactic(auto, using(ti_eval::proofs::Steps::steps))]
+fn stored_from<'a, 'c>(
+    env: &Env,
+    at: Place,
+    place: Target<'c>,
+    got: Result<(Held, &'a [Told]), Stop>,
+) -> Result<(Change<'c>, &'a [Told]), Stop>
+    ensures { (through : ValueType) (m : Got Holding) → Comes got.entry m → ComesAs (λ (c : Changing). changed c (env_of env.now).variables) result (followed m (λ k. targets.stored (env_of env.now) at (target_of through place.entry) k)) }
+{
+    match got {
+        Ok((k, answers)) => stored(env, at, place, k, answers),
+        Err(stop) => Err(stop),
+    }
+}
+
+// The value goes into the target as one of its type.
+#[tactic(auto, using(ti_eval::proofs::Steps::steps))]
+fn assigned_from<'a, 'c>(
+    alloc: Global,
+    env: &Env,
+    at: Place,
+    target: &'c Expr,
+    place: Target<'c>,
+    got: Result<(Held, &'a [Told]), Stop>,
+) -> Result<(Change<'c>, &'a [Told]), Stop>
+    ensures { (through : ValueType) (m : Got Holding) → Comes got.entry m → ComesAs (λ (c : Changing). changed c (env_of env.now).variables) result (followed m (λ h. converted_into (env_of env.now) at (expression_of target.now) (target_of through place.entry) h)) }
+{
+    match got {
+        Ok((h, answers)) => {
+            let got = as_target(alloc, env, at, target, h, answers);
+            stored_from(env, at, place, got)
+        }
+        Err(stop) => Err(stop),
+    }
+}
+
+// What a right side comes to goes into the target.
+#[tactic(auto, using(ti_eval::proofs::Steps::steps))]
+fn assigned_at<'a, 'c>(
+    alloc: Global,
+    env: &Env,
+    at: Place,
+    target: &'c Expr,
+    right: Right,
+    got: Result<(Target<'c>, &'a [Told]), Stop>,
+) -> Result<(Change<'c>, &'a [Told]), Stop>
+    ensures { (through : ValueType) (m : Got targets.Target) → ComesAs (target_of through) got.entry m → ComesAs (λ (c : Changing). changed c (env_of env.now).variables) result (followed m (λ place rest. followed (right_seen (env_of env.now) right.entry rest) (λ h. converted_into (env_of env.now) at (expression_of target.now) place h))) }
+{
+    match got {
+        Ok((place, answers)) => {
+            let got = value_of(alloc, env, right, answers);
+            assigned_from(alloc, env, at, target, place, got)
+        }
+        Err(stop) => Err(stop),
+    }
+}
+
+// ---- into a target, by an operator
+
+// What the operator makes of the value that the target held and of another one goes into the target.
+#[tactic(auto, using(ti_eval::proofs::Steps::steps))]
+fn operated_from<'a, 'c>(
+    alloc: Global,
+    env: &Env,
+    at: Place,
+    operator: BinaryOperator,
+    target: &'c Expr,
+    place: Target<'c>,
+    old: Held,
+    got: Result<(Held, &'a [Told]), Stop>,
+) -> Result<(Change<'c>, &'a [Told]), Stop>
+    ensures { (through : ValueType) (m : Got Holding) → Comes got.entry m → ComesAs (λ (c : Changing). changed c (env_of env.now).variables) result (followed m (λ h. operated_into (env_of env.now) at operator (expression_of target.now) (target_of through place.entry) old h)) }
+{
+    match got {
+        Ok((h, answers)) => {
+            let got = operated(alloc, at, operator, &old, h, answers);
+            assigned_from(alloc, env, at, target, place, got)
+        }
+        Err(stop) => Err(stop),
+    }
+}
+
+// The same with what a right side comes to.
+#[tactic(auto, using(ti_eval::proofs::Steps::steps))]
+fn updated_from<'a, 'c>(
+    alloc: Global,
+    env: &Env,
+    at: Place,
+    operator: BinaryOperator,
+    target: &'c Expr,
+    place: Target<'c>,
+    right: Right,
+    got: Result<(Held, &'a [Told]), Stop>,
+) -> Result<(Change<'c>, &'a [Told]), Stop>
+    ensures { (through : ValueType) (m : Got Holding) → Comes got.entry m → ComesAs (λ (c : Changing). changed c (env_of env.now).variables) result (followed m (λ old left. followed (right_seen (env_of env.now) right.entry left) (λ h. operated_into (env_of env.now) at operator (expression_of target.now) (target_of through place.entry) old h))) }
+{
+    match got {
+        Ok((old, answers)) => {
+            let got = value_of(alloc, env, right, answers);
+            operated_from(alloc, env, at, operator, target, place, old, got)
+        }
+        Err(stop) => Err(stop),
+    }
+}
+
+// The same with what the target holds.
+#[tactic(auto, using(ti_eval::proofs::Steps::steps))]
+fn updated_at<'a, 'c>(
+    alloc: Global,
+    env: &Env,
+    at: Place,
+    operator: BinaryOperator,
+    target: &'c Expr,
+    right: Right,
+    got: Result<(Target<'c>, &'a [Told]), Stop>,
+) -> Result<(Change<'c>, &'a [Told]), Stop>
+    ensures { (through : ValueType) (m : Got targets.Target) → ComesAs (target_of through) got.entry m → ComesAs (λ (c : Changing). changed c (env_of env.now).variables) result (followed m (λ place left. followed (targets.held_in (env_of env.now) (place_of_numbered (expression_of target.now)) (type_of (env_of env.now) (expression_of target.now)) place left) (λ old more. followed (right_seen (env_of env.now) right.entry more) (λ h. operated_into (env_of env.now) at operator (expression_of target.now) place old h)))) }
+{
+    match got {
+        Ok((place, answers)) => {
+            let got = held_in(alloc, env, target.place(), &place, answers);
+            updated_from(alloc, env, at, operator, target, place, right, got)
+        }
+        Err(stop) => Err(stop),
+    }
+}
+
+// ---- any receiver
+
 /// What becomes of the variables in scope when what a right side comes to has gone to its receiver.
 pub fn into<'a, 'c>(
     alloc: Global,
@@ -111,10 +338,29 @@ pub fn into<'a, 'c>(
 ) -> Result<(Change<'c>, &'a [Told]), Stop>
     ensures { ComesAs (λ (c : Changing). changed c (env_of env.now).variables) result (into_spec (env_of env.now) (receiver_seen receiver.entry) (right_seen (env_of env.now) right.entry) answers.now) }
 {
-    Err(Stop::Memory)
+    match receiver {
+        Receiver::Nowhere => dropped_from(value_of(alloc, env, right, answers)),
+        Receiver::Declared { at, ty, variable } => {
+            let got = value_of(alloc, env, right, answers);
+            declared_from(alloc, at, ty, variable, got)
+        }
+        Receiver::Assigned { at, target } => {
+            let got = located(alloc, env, target, answers);
+            assigned_at(alloc, env, at, target, right, got)
+        }
+        Receiver::Updated {
+            at,
+            operator,
+            target,
+        } => {
+            let got = located(alloc, env, target, answers);
+            updated_at(alloc, env, at, operator, target, right, got)
+        }
+    }
 }
 
 /// The statement goes on when what a right side comes to has gone to its receiver.
+#[tactic(auto, using(ti_eval::proofs::Steps::steps))]
 pub fn receives<'a, 'c>(
     alloc: Global,
     env: &Env,
@@ -124,5 +370,8 @@ pub fn receives<'a, 'c>(
 ) -> Result<(Move<'c>, &'a [Told]), Stop>
     ensures { (x : NumberedStm) → ComesAs (move_of (env_of env.now) x) result (receives_spec (env_of env.now) (receiver_seen receiver.entry) (right_seen (env_of env.now) right.entry) answers.now) }
 {
-    Err(Stop::Memory)
+    match into(alloc, env, receiver, right, answers) {
+        Ok((change, answers)) => Ok((Move::Goes(change, Left::Of(Todo::Inside)), answers)),
+        Err(stop) => Err(stop),
+    }
 }

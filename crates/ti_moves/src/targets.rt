@@ -1,1 +1,249 @@
 // What assignments write.
+
+ghost use Rattle.std.specs.Prelude.{◌≡◌, ℤ, List};
+ghost use Rattle.std.specs.declared.vec.Vec.{Vec as Row};
+ghost use Rattle.std.specs.declared.alloc.Global.{Global as Heap};
+ghost use Rattle.ti_base.specs.declared.value.Id.{Id as Thing};
+ghost use Rattle.ti_base.specs.declared.action.Action.TheVariants.{PutField, PutElem};
+ghost use Rattle.ti_lang.specs.Program.Types.{ValueType};
+ghost use Rattle.ti_lang.specs.Program.Views.{expression_of};
+ghost use Rattle.ti_lang.specs.Typing.Seen.{seen};
+ghost use Rattle.ti_lang.specs.Meaning.Held.{Held as Holding, plain_of, as_type as as_type_spec};
+ghost use Rattle.ti_lang.specs.Meaning.Asking.{Got, ToBeDone, asked as asked_spec, followed, gives};
+ghost use Rattle.ti_lang.specs.Meaning.Literals as literal;
+ghost use Rattle.ti_lang.specs.Meaning.Conversions as conversions;
+ghost use Rattle.ti_lang.specs.Meaning.Parts as part;
+ghost use Rattle.ti_lang.specs.Meaning.Processes.{Variable as InScope};
+ghost use Rattle.ti_lang.specs.Meaning.Scoping.{type_of as type_of_spec};
+ghost use Rattle.ti_lang.specs.Meaning.Targets as targets;
+ghost use Rattle.ti_eval.specs.Comes.{Comes, ComesAs};
+ghost use Rattle.ti_eval.specs.Envs.{env_of};
+ghost use Rattle.ti_moves.specs.declared.moves.Change.{Change as Changing};
+ghost use Rattle.ti_moves.specs.Moves.{changed};
+ghost use Rattle.ti_moves.specs.Targets.{target_of, through_of, written};
+
+use crate::moves::Change;
+use std::alloc::Global;
+use ti_base::{Action, FaultKind, Place, Point, Value};
+use ti_eval::{
+    Env, Held, Stop, Told, as_type, asked, evaluate, evaluate_numbers, fetch_element, fetch_field,
+    field_selected, find, point_of_numbers, to_domain, type_of,
+};
+use ti_lang::program::{Expr, Ty, Variable};
+use ti_lang::typing::Seen;
+
+/// What an assignment names: a variable or a cell.
+#[derive(Drop)]
+pub enum Target<'c> {
+    Variable(&'c Variable),
+    /// A field of an object.
+    Field(Held, u32),
+    /// An element of a grid.
+    Element(Held, Point),
+}
+
+// ---- targets
+
+// A field of an object.
+#[tactic(auto, using(ti_eval::proofs::Steps::steps))]
+fn field_from<'a, 'c>(
+    field: u32,
+    got: Result<(Held, &'a [Told]), Stop>,
+) -> Result<(Target<'c>, &'a [Told]), Stop>
+    ensures { (through : ValueType) (m : Got Holding) → Comes got.entry m → ComesAs (target_of through) result (followed m (λ h. gives (targets.InPart (part.Field h through field)))) }
+{
+    match got {
+        Ok((h, answers)) => Ok((Target::Field(h, field), answers)),
+        Err(stop) => Err(stop),
+    }
+}
+
+// An element of a grid, at the point of the numbers.
+#[tactic(auto, using(ti_eval::proofs::Steps::steps))]
+fn element_from<'a, 'c>(
+    grid: Held,
+    got: Result<(Vec<i32>, &'a [Told]), Stop>,
+) -> Result<(Target<'c>, &'a [Told]), Stop>
+    ensures { (through : ValueType) (m : Got (List ℤ)) → ComesAs (λ (v : Row ℤ Heap). v.items) got.entry m → ComesAs (target_of through) result (followed m (λ xs. gives (targets.InPart (part.Element grid through (literal.point_of_numbers xs))))) }
+{
+    match got {
+        Ok((numbers, answers)) => Ok((Target::Element(grid, point_of_numbers(&numbers)), answers)),
+        Err(stop) => Err(stop),
+    }
+}
+
+/// The target that an expression names: its reference and its index are evaluated.
+#[tactic(auto, using(ti_eval::proofs::Evaluating::evaluating))]
+pub fn located<'a, 'c>(
+    alloc: Global,
+    env: &Env,
+    e: &'c Expr,
+    answers: &'a [Told],
+) -> Result<(Target<'c>, &'a [Told]), Stop>
+    ensures { ComesAs (target_of (through_of (env_of env.now) (expression_of e.now))) result (targets.located (env_of env.now) (expression_of e.now) answers.now) }
+{
+    match e {
+        Expr::Variable(_, v) => Ok((Target::Variable(v), answers)),
+        Expr::OwnField(_, field) => {
+            let this = Held::plain(Value::Obj(env.this));
+            Ok((Target::Field(this, *field), answers))
+        }
+        Expr::Select {
+            place: _,
+            receiver,
+            name,
+        } => {
+            let field = field_selected(env, receiver, *name)?;
+            field_from(field, evaluate(alloc, env, receiver, answers))
+        }
+        Expr::Index {
+            place: _,
+            receiver,
+            indices,
+        } => match evaluate(alloc, env, receiver, answers) {
+            Ok((h, answers)) => element_from(h, evaluate_numbers(alloc, env, indices, answers)),
+            Err(stop) => Err(stop),
+        },
+        _ => Ok((Target::Field(Held::truth(false), 0), answers)),
+    }
+}
+
+// ---- what they hold
+
+/// What a target holds.
+pub fn held_in<'a>(
+    alloc: Global,
+    env: &Env,
+    at: Place,
+    target: &Target,
+    answers: &'a [Told],
+) -> Result<(Held, &'a [Told]), Stop>
+    ensures { (through type : ValueType) → Comes result (targets.held_in (env_of env.now) at type (target_of through target.now) answers.now) }
+{
+    match target {
+        Target::Variable(v) => Ok((find(alloc, v, env.variables)?, answers)),
+        Target::Field(object, field) => fetch_field(at, object, *field, answers),
+        Target::Element(grid, index) => fetch_element(at, grid, *index, answers),
+    }
+}
+
+// A value as one of a type in the text, where this is no domain.
+fn as_seen<'p>(t: Seen<'p>, h: Held) -> Held
+    ensures { result ≡ as_type_spec (seen t.entry) h }
+{
+    match t {
+        Seen::Long => as_type(&Ty::Long, h),
+        Seen::Int => as_type(&Ty::Int, h),
+        Seen::Class { class: _, local: _ } => Held::plain(Value::Obj(h.thing())),
+        Seen::Grid {
+            elem: _,
+            any_dim: _,
+            dim: _,
+            local: _,
+        } => Held::plain(Value::Grid(h.thing())),
+        _ => h,
+    }
+}
+
+// A value as one of a type in the text.
+fn converted<'a, 'p>(
+    alloc: Global,
+    at: Place,
+    t: Seen<'p>,
+    h: Held,
+    answers: &'a [Told],
+) -> Result<(Held, &'a [Told]), Stop>
+    ensures { Comes result (conversions.converted at (seen t.entry) h answers.now) }
+{
+    match t {
+        Seen::Dm(_) => to_domain(alloc, at, h, answers),
+        _ => Ok((as_seen(t, h), answers)),
+    }
+}
+
+/// A value as one of the type that a target has in the text.
+pub fn as_target<'a>(
+    alloc: Global,
+    env: &Env,
+    at: Place,
+    e: &Expr,
+    h: Held,
+    answers: &'a [Told],
+) -> Result<(Held, &'a [Told]), Stop>
+    ensures { Comes result (conversions.converted at (type_of_spec (env_of env.now) (expression_of e.now)) h answers.now) }
+{
+    converted(alloc, at, type_of(env, e), h, answers)
+}
+
+// A write, which changes no variable.
+fn put<'a, 'c>(
+    at: Place,
+    action: Action,
+    answers: &'a [Told],
+) -> Result<(Change<'c>, &'a [Told]), Stop>
+    ensures { (through : ValueType) (ws : List InScope) → ComesAs (λ (c : Changing). changed c ws) result (followed (asked_spec (record { place = at; action = action; through = through; wanted = ToBeDone }) answers.now) (λ done. gives ws)) }
+{
+    match asked(at, action, answers) {
+        Ok((_, answers)) => Ok((Change::Same, answers)),
+        Err(stop) => Err(stop),
+    }
+}
+
+// A write into a field of an object.
+fn put_field<'a, 'c>(
+    at: Place,
+    object: &Held,
+    field: u32,
+    h: &Held,
+    answers: &'a [Told],
+) -> Result<(Change<'c>, &'a [Told]), Stop>
+    ensures { (through : ValueType) (ws : List InScope) → ComesAs (λ (c : Changing). changed c ws) result (written at through object.now (λ (obj : Thing). PutField obj field (plain_of h.now)) ws answers.now) }
+{
+    match object.thing() {
+        Some(obj) => {
+            let value = h.value();
+            put(at, Action::PutField { obj, field, value }, answers)
+        }
+        None => Err(Stop::Fails(FaultKind::NullRef, at)),
+    }
+}
+
+// A write into an element of a grid.
+fn put_element<'a, 'c>(
+    at: Place,
+    grid: &Held,
+    index: Point,
+    h: &Held,
+    answers: &'a [Told],
+) -> Result<(Change<'c>, &'a [Told]), Stop>
+    ensures { (through : ValueType) (ws : List InScope) → ComesAs (λ (c : Changing). changed c ws) result (written at through grid.now (λ (grid : Thing). PutElem grid index (plain_of h.now)) ws answers.now) }
+{
+    match grid.thing() {
+        Some(grid) => {
+            let action = Action::PutElem {
+                grid,
+                at: index,
+                value: h.value(),
+            };
+            put(at, action, answers)
+        }
+        None => Err(Stop::Fails(FaultKind::NullRef, at)),
+    }
+}
+
+/// A value goes into a target.
+pub fn stored<'a, 'c>(
+    env: &Env,
+    at: Place,
+    target: Target<'c>,
+    h: Held,
+    answers: &'a [Told],
+) -> Result<(Change<'c>, &'a [Told]), Stop>
+    ensures { (through : ValueType) → ComesAs (λ (c : Changing). changed c (env_of env.now).variables) result (targets.stored (env_of env.now) at (target_of through target.entry) h answers.now) }
+{
+    match target {
+        Target::Variable(v) => Ok((Change::Changed(v, h), answers)),
+        Target::Field(object, field) => put_field(at, &object, field, &h, answers),
+        Target::Element(grid, index) => put_element(at, &grid, index, &h, answers),
+    }
+}

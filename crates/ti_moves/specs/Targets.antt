@@ -1,0 +1,52 @@
+-- What clauses see of the targets of assignments in the code.
+use Rattle.std.specs.Prelude.{List}
+use Rattle.ti_base.specs.declared.place.Place.{Place}
+use Rattle.ti_base.specs.declared.value.Id.{Id}
+use Rattle.ti_base.specs.declared.action.Action.{Action}
+use Rattle.ti_syntax.specs.declared.tree.exprs.BinaryOperator.{BinaryOperator}
+use Rattle.ti_lang.specs.Program.Types.{ValueType, Void}
+use Rattle.ti_lang.specs.Program.Expressions.{NumberedExp}
+use Rattle.ti_lang.specs.Program.Expressions as e
+use Rattle.ti_lang.specs.Program.Views.{variable_of}
+use Rattle.ti_lang.specs.Meaning.Held.{Held}
+use Rattle.ti_lang.specs.Meaning.Asking.{ToBeDone, request_through, Asking, ◌>>=◌, gives, asked, needed}
+use Rattle.ti_lang.specs.Meaning.Conversions.{converted}
+use Rattle.ti_lang.specs.Meaning.Operators.{operated}
+use Rattle.ti_lang.specs.Meaning.Processes.{Variable}
+use Rattle.ti_lang.specs.Meaning.Parts.{Field, Element}
+use Rattle.ti_lang.specs.Meaning.Scoping.{Env, type_of}
+use Rattle.ti_lang.specs.Meaning.Targets as target
+use Rattle.ti_moves.specs.declared.targets.Target.{Target}
+use Rattle.ti_moves.specs.declared.targets.Target.TheVariants as t
+
+-- a target, where the reference that names its thing has this type in the text
+abbrev pub target_of : ValueType → Target → target.Target
+target_of through (t.Variable variable) = target.InVariable (variable_of variable.now)
+target_of through (t.Field object field) = target.InPart (Field object through field)
+target_of through (t.Element grid index) = target.InPart (Element grid through index)
+
+-- the type in the text of the reference in an expression that names a target; `Void` where there is none
+abbrev pub through_of : Env → NumberedExp → ValueType
+through_of env (e.OwnField at field) = type_of env (e.This at)
+through_of env (e.Select at x name) = type_of env x
+through_of env (e.Index at x parts) = type_of env x
+through_of env x = Void
+
+-- these variables are in scope after a write into a cell of the thing that a value of this type names
+abbrev pub written : Place → ValueType → Held → (Id → Action) → List Variable → Asking (List Variable)
+written at through h put ws = do
+  r ← needed at through h
+  done ← asked (request_through r at (put r.thing) ToBeDone)
+  gives ws
+
+-- the variables in scope after a value went into a target, as one of the type that the target has in the text
+abbrev pub converted_into : Env → Place → NumberedExp → target.Target → Held → Asking (List Variable)
+converted_into env at e place h = do
+  k ← converted at (type_of env e) h
+  target.stored env at place k
+
+-- the same of what an operator makes of the value that the target held and of another one
+abbrev pub operated_into : Env → Place → BinaryOperator → NumberedExp → target.Target → Held → Held → Asking (List Variable)
+operated_into env at op e place old h = do
+  new ← operated at op old h
+  converted_into env at e place new
