@@ -41,7 +41,10 @@ pub enum Receiver<'c> {
         variable: u32,
     },
     /// Into what an assignment names.
-    Assigned { at: Place, target: &'c Expr },
+    Assigned {
+        at: Place,
+        target: &'c Expr,
+    },
     /// There by an operator.
     Updated {
         at: Place,

@@ -1,0 +1,11 @@
+use Rattle.ti_eval.specs.Envs.{env_of}
+use Rattle.ti_moves.specs.declared.moves.Change.{Change}
+use Rattle.ti_moves.specs.Moves.{changed}
+use Rattle.ti_moves.specs.Targets.{target_of}
+use Rattle.ti_moves.proofs.Goings.{goes_on_as}
+use Rattle.ti_moves.proofs.receiving.assigned_at.Goals as goal
+
+pub returns-in-Ok : goal.returns-in-Ok
+returns-in-Ok c = λ through m p.
+    goes_on_as (target_of through) (λ (d : Change). changed d (env_of c.args.env.now).variables) c.assigned_from.result c.args.got m _ c.in-Ok.place c.in-Ok.answers c.in-Ok.is p
+    (c.assigned_from.ensures through _ c.value_of-got.ensures)
