@@ -1,1 +1,3 @@
+pub mod Calling
 pub mod Goings
+pub mod MethodLaws

@@ -1,16 +1,393 @@
 // Calls of declared methods.
 
-ghost use Rattle.std.specs.Prelude.{◌≡◌};
+ghost use Rattle.std.specs.Prelude.{◌≡◌, ◌==◌, ◌&&◌, IfOk, List, [], Option, Some, map, not, find, position, slice_get, option_map};
+ghost use Rattle.std.specs.declared.vec.Vec.{Vec as Row};
+ghost use Rattle.std.specs.declared.alloc.Global.{Global as Heap};
+ghost use Rattle.ti_base.specs.declared.value.Id.{Id as Thing};
+ghost use Rattle.ti_lang.specs.declared.program.classes.Method.{Method as Coded};
+ghost use Rattle.ti_lang.specs.Program.Types.{Typed};
+ghost use Rattle.ti_lang.specs.Program.Expressions.{numbered_exps};
 ghost use Rattle.ti_lang.specs.Program.Statements.{NumberedStm};
-ghost use Rattle.ti_lang.specs.Program.Views.{expression_of};
-ghost use Rattle.ti_lang.specs.Meaning.Calls.{called};
+ghost use Rattle.ti_lang.specs.Program.Classes.{NumberedMethod};
+ghost use Rattle.ti_lang.specs.Program.Views.{program_of, expression_of, value_type_of, numbered_param_of, numbered_params_of};
+ghost use Rattle.ti_lang.specs.Typing.Seen.{seen};
+ghost use Rattle.ti_lang.specs.Typing.Declared.{is_static_method, instance_method};
+ghost use Rattle.ti_lang.specs.Typing.Called.{called_method, method_behind};
+ghost use Rattle.ti_lang.specs.Meaning.Held.{Held as Seen};
+ghost use Rattle.ti_lang.specs.Meaning.Asking.{Got, followed, gives};
+ghost use Rattle.ti_lang.specs.Meaning.Conversions as conversions;
+ghost use Rattle.ti_lang.specs.Meaning.Processes.{Variable as Named};
+ghost use Rattle.ti_lang.specs.Meaning.Scoping.{Env as Where};
+ghost use Rattle.ti_lang.specs.Meaning.Calls.{bound, called, call_by, maybe_needed, parameters_from, parameters_of};
+ghost use Rattle.ti_lang.specs.Meaning.Moves as move;
+ghost use Rattle.ti_eval.specs.declared.frame.Slot.{Slot as Kept};
+ghost use Rattle.ti_eval.specs.Comes.{Comes, ComesAs};
 ghost use Rattle.ti_eval.specs.Envs.{env_of};
+ghost use Rattle.ti_eval.specs.Frames.{method_seen, slot_of, slots_of};
+ghost use Rattle.ti_moves.specs.Arguments.{given, calls_on};
 ghost use Rattle.ti_moves.specs.Callees.{CallComes};
+ghost use Rattle.ti_moves.specs.Moves.{method_at, move_of};
+ghost use Rattle.ti_moves.specs.Receiving.{receiver_of};
 
 use crate::moves::Move;
 use std::alloc::Global;
-use ti_eval::{Env, Stop, Told};
-use ti_lang::program::Expr;
+use ti_base::{FaultKind, Id, Memory, Place, Value};
+use ti_eval::{Env, Held, Slot, Stop, Told, class_of_this, converted, evaluate};
+use ti_lang::program::{Declared, Expr, Method, Param, Params, Parts, Ty, Variable, has_static};
+use ti_lang::typing::{Seen as Kind, type_in_text};
+
+// ---- which method
+
+// The method of a number; none stands for one that isn't there.
+#[tactic(auto, using(ti_lang::proofs::Elements::method_lookups))]
+fn method<'p>(program: &'p Parts, number: usize) -> Option<&'p Method>
+    ensures { method_seen result ≡ method_at (program_of program.now) number }
+{
+    if number < program.methods.len() {
+        Some(&program.methods[number])
+    } else {
+        None
+    }
+}
+
+// A number, where it is that of a method.
+#[tactic(auto, using(crate::proofs::MethodLaws::method_numbers))]
+fn declared(program: &Parts, number: u32) -> Option<usize>
+    ensures { slice_get (program_of program.now).methods number ≡ option_map (method_at (program_of program.now)) result }
+{
+    let number = number as usize;
+    if number < program.methods.len() {
+        Some(number)
+    } else {
+        None
+    }
+}
+
+// The number of the first method of a class and a name.
+fn first_named(methods: &[Method], class: u32, name: u32) -> Option<usize>
+    ensures { result ≡ position (λ (m : Coded). (m.class == class) && (m.name == name)) methods.now }
+{
+    methods
+        .iter()
+        .position(|m| m.class == class && m.name == name)
+}
+
+// The same, of the methods of a program.
+#[tactic(auto, using(crate::proofs::MethodLaws::named_at))]
+fn method_named(program: &Parts, class: u32, name: u32) -> Option<usize>
+    ensures { find (λ (m : NumberedMethod). (m.class == class) && (m.name == name)) (program_of program.now).methods ≡ option_map (method_at (program_of program.now)) result }
+{
+    first_named(&program.methods, class, name)
+}
+
+fn is_instance(m: Option<&Method>) -> bool
+    ensures { result ≡ not (is_static_method (method_seen m.entry)) }
+{
+    match m {
+        Some(m) => !has_static(&m.modifiers),
+        None => true,
+    }
+}
+
+// The number of the first method of a class and a name, where it's an instance method.
+#[tactic(auto, unfolding(ti_lang::specs::Typing::Declared::instance_method))]
+fn instance_named(program: &Parts, class: u32, name: u32) -> Option<usize>
+    ensures { instance_method (program_of program.now) class name ≡ option_map (method_at (program_of program.now)) result }
+{
+    match method_named(program, class, name) {
+        Some(number) => if is_instance(method(program, number)) {
+            Some(number)
+        } else {
+            None
+        },
+        None => None,
+    }
+}
+
+// The number of the instance method of a name, behind an object.
+fn named_behind<'p>(program: &'p Parts, t: Kind<'p>, name: u32) -> Option<usize>
+    ensures { method_behind (program_of program.now) (seen t.entry) name ≡ option_map (method_at (program_of program.now)) result }
+{
+    match t {
+        Kind::Class { class, local: _ } => instance_named(program, class, name),
+        _ => None,
+    }
+}
+
+// The number of the declared method that an expression calls, if it is such a call.
+#[tactic(auto, using(ti_lang::proofs::ProgramBridges::program_bridges))]
+fn number_called(program: &Parts, this: Option<u32>, e: &Expr) -> Option<usize>
+    ensures { called_method (program_of program.now) this (expression_of e.now) ≡ option_map (method_at (program_of program.now)) result }
+{
+    match e {
+        Expr::Call { method: number, .. } => declared(program, *number),
+        Expr::OwnCall { method: number, .. } => declared(program, *number),
+        Expr::Member { receiver, name, .. } => {
+            named_behind(program, type_in_text(program, this, receiver), *name)
+        }
+        _ => None,
+    }
+}
+
+// ---- arguments
+
+// A value as one of a type.
+#[tactic(auto, using(ti_eval::proofs::Steps::steps))]
+fn converted_from<'a>(
+    alloc: Global,
+    at: Place,
+    ty: &Ty,
+    got: Result<(Held, &'a [Told]), Stop>,
+) -> Result<(Held, &'a [Told]), Stop>
+    ensures { (m : Got Seen) → Comes got.entry m → Comes result (followed m (λ h. conversions.converted at (value_type_of ty.now) h)) }
+{
+    match got {
+        Ok((h, answers)) => converted(alloc, at, ty, h, answers),
+        Err(stop) => Err(stop),
+    }
+}
+
+// The parameter of a number, with the value of its argument. A number that 32 bits don't hold is want of memory.
+fn slot(alloc: Global, number: usize, param: &Param, held: Held) -> Result<Slot, Memory>
+    ensures { IfOk result (λ s. slot_of s ≡ record { named = record { number = number; declared = Typed param.now.ty.single (value_type_of param.now.ty.ty) }; held = held }) }
+{
+    let Ok(number) = u32::try_from(number) else {
+        return Err(Memory);
+    };
+    let declared = Declared::Typed {
+        single: param.ty.single,
+        ty: param.ty.ty.copy(alloc)?,
+    };
+    let variable = Variable { number, declared };
+    Ok(Slot { variable, held })
+}
+
+// The same, behind its argument.
+#[tactic(auto, using(ti_eval::proofs::Steps::steps))]
+fn slot_from<'a>(
+    alloc: Global,
+    number: usize,
+    param: &Param,
+    got: Result<(Held, &'a [Told]), Stop>,
+) -> Result<(Slot, &'a [Told]), Stop>
+    ensures { (m : Got Seen) → Comes got.entry m → ComesAs slot_of result (followed m (λ h. gives (record { named = record { number = number; declared = Typed param.now.ty.single (value_type_of param.now.ty.ty) }; held = h }))) }
+{
+    match got {
+        Ok((h, answers)) => Ok((slot(alloc, number, param, h)?, answers)),
+        Err(stop) => Err(stop),
+    }
+}
+
+// The parameter of a number, with the value of its argument, made one of its type at once.
+fn argument<'a>(
+    alloc: Global,
+    env: &Env,
+    number: usize,
+    param: &Param,
+    x: &Expr,
+    answers: &'a [Told],
+) -> Result<(Slot, &'a [Told]), Stop>
+    ensures { ComesAs slot_of result (given (env_of env.now) (record { number = number; declared = Typed param.now.ty.single (value_type_of param.now.ty.ty) }) (expression_of x.now) answers.now) }
+{
+    let got = evaluate(alloc, env, x, answers);
+    let got = converted_from(alloc, x.place(), &param.ty.ty, got);
+    slot_from(alloc, number, param, got)
+}
+
+// The parameters with the values of their arguments, as far as both go.
+fn bind<'a>(
+    alloc: Global,
+    env: &Env,
+    params: &[Param],
+    args: &[Expr],
+    answers: &'a [Told],
+) -> Result<(Vec<Slot>, &'a [Told]), Stop>
+    ensures { ComesAs (λ (v : Row Kept Heap). slots_of v.items) result (bound (env_of env.now) (parameters_from 0 (map numbered_param_of params.now)) (numbered_exps (map expression_of args.now)) [] answers.now) }
+{
+    let mut found = Vec::new(alloc);
+    let mut left = answers;
+    let mut i = 0;
+    while i < params.len() && i < args.len() {
+        match argument(alloc, env, i, &params[i], &args[i], left) {
+            Ok((slot, rest)) => {
+                found.push(slot)?;
+                left = rest;
+            }
+            Err(stop) => return Err(stop),
+        }
+        i += 1;
+    }
+    Ok((found, left))
+}
+
+// The same; `String[] x` is no variable.
+fn bind_all<'a>(
+    alloc: Global,
+    env: &Env,
+    params: &Params,
+    args: &[Expr],
+    answers: &'a [Told],
+) -> Result<(Vec<Slot>, &'a [Told]), Stop>
+    ensures { ComesAs (λ (v : Row Kept Heap). slots_of v.items) result (bound (env_of env.now) (parameters_of (numbered_params_of params.now)) (numbered_exps (map expression_of args.now)) [] answers.now) }
+{
+    match params {
+        Params::Typed(params) => Ok(bind(alloc, env, params, args, answers)?),
+        Params::Words => Ok((Vec::new(alloc), answers)),
+    }
+}
+
+// The same, of a method; one that isn't there has no parameter.
+fn parameters<'a>(
+    alloc: Global,
+    env: &Env,
+    m: Option<&Method>,
+    args: &[Expr],
+    answers: &'a [Told],
+) -> Result<(Vec<Slot>, &'a [Told]), Stop>
+    ensures { ComesAs (λ (v : Row Kept Heap). slots_of v.items) result (bound (env_of env.now) (parameters_of (method_seen m.entry).params) (numbered_exps (map expression_of args.now)) [] answers.now) }
+{
+    match m {
+        Some(m) => Ok(bind_all(alloc, env, &m.params, args, answers)?),
+        None => Ok((Vec::new(alloc), answers)),
+    }
+}
+
+// ---- the call
+
+// The object that an instance method needs.
+fn needed<'a>(
+    at: Place,
+    object: &Option<Held>,
+    answers: &'a [Told],
+) -> Result<(Option<Id>, &'a [Told]), Stop>
+    ensures { Comes result (maybe_needed at object.now answers.now) }
+{
+    match object {
+        Some(h) => match h.thing() {
+            Some(id) => Ok((Some(id), answers)),
+            None => Err(Stop::Fails(FaultKind::NullRef, at)),
+        },
+        None => Ok((None, answers)),
+    }
+}
+
+// The call, behind the object that it needs.
+#[tactic(auto, using(ti_eval::proofs::Steps::steps))]
+fn calls_with<'a, 'c>(
+    at: Place,
+    method: usize,
+    parameters: Vec<Slot>,
+    got: Result<(Option<Id>, &'a [Told]), Stop>,
+) -> Result<(Move<'c>, &'a [Told]), Stop>
+    ensures { (env : Where) (x : NumberedStm) (m : Got (Option Thing)) → Comes got.entry m → ComesAs (move_of env x) result (followed m (λ this. gives (move.Calls at (method_at env.program method) this (slots_of parameters.items) (receiver_of x)))) }
+{
+    match got {
+        Ok((this, answers)) => {
+            let call = Move::Calls {
+                at,
+                method,
+                this,
+                parameters,
+            };
+            Ok((call, answers))
+        }
+        Err(stop) => Err(stop),
+    }
+}
+
+// The same, behind its arguments.
+#[tactic(auto, using(ti_eval::proofs::Steps::steps))]
+fn calls_behind<'a, 'c>(
+    at: Place,
+    method: usize,
+    object: &Option<Held>,
+    got: Result<(Vec<Slot>, &'a [Told]), Stop>,
+) -> Result<(Move<'c>, &'a [Told]), Stop>
+    ensures { (env : Where) (x : NumberedStm) (m : Got (List Named)) → ComesAs (λ (v : Row Kept Heap). slots_of v.items) got.entry m → ComesAs (move_of env x) result (followed m (λ parameters rest. followed (maybe_needed at object.now rest) (λ this. gives (move.Calls at (method_at env.program method) this parameters (receiver_of x))))) }
+{
+    match got {
+        Ok((parameters, answers)) => {
+            calls_with(at, method, parameters, needed(at, object, answers))
+        }
+        Err(stop) => Err(stop),
+    }
+}
+
+// The call of the method of a number, behind the value of its object.
+#[tactic(auto, using(ti_eval::proofs::Steps::steps))]
+fn calls_from<'a, 'c>(
+    alloc: Global,
+    env: &Env,
+    at: Place,
+    number: usize,
+    args: &[Expr],
+    got: Result<(Option<Held>, &'a [Told]), Stop>,
+) -> Result<(Move<'c>, &'a [Told]), Stop>
+    ensures { (x : NumberedStm) (m : Got (Option Seen)) → Comes got.entry m → ComesAs (move_of (env_of env.now) x) result (followed m (λ object. calls_on (env_of env.now) x at number (numbered_exps (map expression_of args.now)) object)) }
+{
+    match got {
+        Ok((object, answers)) => {
+            let called = method(env.program, number);
+            let got = parameters(alloc, env, called, args, answers);
+            calls_behind(at, number, &object, got)
+        }
+        Err(stop) => Err(stop),
+    }
+}
+
+// The value of an object.
+#[tactic(auto, using(ti_eval::proofs::Steps::steps))]
+fn object_from<'a>(
+    got: Result<(Held, &'a [Told]), Stop>,
+) -> Result<(Option<Held>, &'a [Told]), Stop>
+    ensures { (m : Got Seen) → Comes got.entry m → Comes result (followed m (λ h. gives (Some h))) }
+{
+    match got {
+        Ok((h, answers)) => Ok((Some(h), answers)),
+        Err(stop) => Err(stop),
+    }
+}
+
+// The call that an expression is, of the method of a number.
+fn call_of<'a, 'c>(
+    alloc: Global,
+    env: &Env,
+    number: usize,
+    e: &Expr,
+    answers: &'a [Told],
+) -> Option<Result<(Move<'c>, &'a [Told]), Stop>>
+    ensures { (x : NumberedStm) → CallComes (env_of env.now) x answers.now result (call_by (expression_of e.now) (Some (method_at (program_of env.now.program.now) number))) }
+{
+    match e {
+        Expr::Call {
+            place,
+            method: _,
+            args,
+        } => {
+            let got = Ok((None, answers));
+            Some(calls_from(alloc, env, *place, number, args, got))
+        }
+        Expr::OwnCall {
+            place,
+            method: _,
+            args,
+        } => {
+            let this = Held::plain(Value::Obj(env.this));
+            let got = Ok((Some(this), answers));
+            Some(calls_from(alloc, env, *place, number, args, got))
+        }
+        Expr::Member {
+            place,
+            receiver,
+            name: _,
+            args,
+        } => {
+            let got = object_from(evaluate(alloc, env, receiver, answers));
+            Some(calls_from(alloc, env, *place, number, args, got))
+        }
+        _ => None,
+    }
+}
 
 /// What an expression comes to that is a call of a declared method; none where it is no such call.
 pub fn call<'a, 'c>(
@@ -21,5 +398,8 @@ pub fn call<'a, 'c>(
 ) -> Option<Result<(Move<'c>, &'a [Told]), Stop>>
     ensures { (x : NumberedStm) → CallComes (env_of env.now) x answers.now result (called (env_of env.now) (expression_of e.now)) }
 {
-    None
+    match number_called(env.program, class_of_this(env.method), e) {
+        Some(number) => call_of(alloc, env, number, e, answers),
+        None => None,
+    }
 }
