@@ -1,1 +1,4 @@
+pub mod CopyLaws
 pub mod PointsAbove
+pub mod SameRects
+pub mod Teams
