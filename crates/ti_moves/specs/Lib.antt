@@ -1,5 +1,7 @@
 pub mod Arguments
+pub mod Arriving
 pub mod Callees
+pub mod Copying
 pub mod Moves
 pub mod Points
 pub mod Receiving
