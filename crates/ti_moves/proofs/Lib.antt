@@ -1,6 +1,8 @@
 pub mod Calling
 pub mod CopyLaws
+pub mod Entering
 pub mod Goings
+pub mod Leaving
 pub mod MethodLaws
 pub mod PointsAbove
 pub mod SameRects

@@ -5,4 +5,5 @@ pub mod Copying
 pub mod Moves
 pub mod Points
 pub mod Receiving
+pub mod Scopes
 pub mod Targets
