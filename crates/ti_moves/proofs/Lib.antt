@@ -1,4 +1,5 @@
 pub mod Calling
+pub mod Coming
 pub mod CopyLaws
 pub mod Entering
 pub mod Goings

@@ -1,18 +1,524 @@
 // What statements come to.
 
-ghost use Rattle.std.specs.Prelude.{◌≡◌};
-ghost use Rattle.ti_lang.specs.Meaning.Asking.{gives};
-ghost use Rattle.ti_lang.specs.Meaning.Moves.{receives};
+ghost use Rattle.std.specs.Prelude.{◌≡◌, ℕ, map, None, Some, pos};
+ghost use Rattle.ti_base.specs.declared.place.Place.{Place as At};
+ghost use Rattle.ti_base.specs.declared.value.Value.TheVariants.{Int};
+ghost use Rattle.ti_syntax.specs.Trees.Views.{maybe_of};
+ghost use Rattle.ti_lang.specs.Program.Expressions.{numbered_exps};
+ghost use Rattle.ti_lang.specs.Program.Expressions as exp;
+ghost use Rattle.ti_lang.specs.Program.Statements.{NumberedStm};
+ghost use Rattle.ti_lang.specs.Program.Statements as stm;
+ghost use Rattle.ti_lang.specs.Program.Views.{expression_of, initial_of, printed_of, statement_of};
+ghost use Rattle.ti_lang.specs.Typing.Declared.{result_type};
+ghost use Rattle.ti_lang.specs.Meaning.Held.{Held as Seen, Plain};
+ghost use Rattle.ti_lang.specs.Meaning.Asking.{Got, followed, gives};
+ghost use Rattle.ti_lang.specs.Meaning.Conversions as conversions;
+ghost use Rattle.ti_lang.specs.Meaning.Processes.{Nowhere};
+ghost use Rattle.ti_lang.specs.Meaning.Scoping.{Env as Where};
+ghost use Rattle.ti_lang.specs.Meaning.Evaluation.{eval};
+ghost use Rattle.ti_lang.specs.Meaning.Calls.{called};
+ghost use Rattle.ti_lang.specs.Meaning.Copies as copying;
+ghost use Rattle.ti_lang.specs.Meaning.Collectives as collectives;
+ghost use Rattle.ti_lang.specs.Meaning.Moves.{receives as receives_spec};
+ghost use Rattle.ti_lang.specs.Meaning.Moves as move;
 ghost use Rattle.ti_lang.specs.Meaning.Statements as statements;
-ghost use Rattle.ti_eval.specs.Comes.{ComesAs};
+ghost use Rattle.ti_eval.specs.Comes.{Comes, ComesAs};
 ghost use Rattle.ti_eval.specs.Envs.{env_of};
-ghost use Rattle.ti_moves.specs.Moves.{move_of};
+ghost use Rattle.ti_eval.specs.Frames.{work_of};
+ghost use Rattle.ti_moves.specs.Moves.{move_of, site_in, type_received, type_given};
 ghost use Rattle.ti_moves.specs.Receiving.{stm_seen, receiver_of};
 
-use crate::moves::Move;
+use crate::calls::call;
+use crate::collectives::{broadcasts, deletes, exchanges};
+use crate::copies::copies;
+use crate::makers::{new_grid, new_object};
+use crate::moves::{Change, Left, Meeting, Move};
+use crate::prints::printed;
+use crate::receiving::{Receiver, Right, receiver_at, receives};
 use std::alloc::Global;
-use ti_eval::{Env, Held, Stop, Told};
-use ti_lang::program::Stmt;
+use ti_base::{CollKind, Deposit, Place, Value};
+use ti_eval::{Env, Held, Part, Stop, Todo, Told, called_member, converted, evaluate};
+use ti_lang::program::{Expr, Init, Printed, ResultType, Stmt, Ty};
+use ti_lang::typing::BuiltIn;
+
+// The statement goes on with what is left of it.
+fn goes<'c>(todo: Todo) -> Move<'c>
+    ensures { (env : Where) (x : NumberedStm) → move_of env x result ≡ move.Goes env.variables (work_of (site_in env) x todo) }
+{
+    Move::Goes(Change::Same, Left::Of(todo))
+}
+
+// An arrival without an argument.
+fn meeting(place: Place, kind: CollKind) -> Meeting
+    ensures { result ≡ record { place = place; kind = kind; arg = None } }
+{
+    Meeting {
+        place,
+        kind,
+        arg: None,
+    }
+}
+
+// ---- right sides
+
+// A call comes first, and where it leads; any other value goes to where the statement wants it.
+fn valued<'a, 'c>(
+    alloc: Global,
+    env: &Env,
+    s: &'c Stmt,
+    e: &Expr,
+    answers: &'a [Told],
+) -> Result<(Move<'c>, &'a [Told]), Stop>
+    ensures { ComesAs (move_of (env_of env.now) (statement_of s.now)) result (statements.valued_or_called (env_of env.now) (receiver_of (statement_of s.now)) (expression_of e.now) (called (env_of env.now) (expression_of e.now)) answers.now) }
+{
+    match call(alloc, env, e, answers) {
+        Some(came) => came,
+        None => receives(alloc, env, receiver_at(Some(s)), Right::Value(e), answers),
+    }
+}
+
+// A thing that was made goes to where the statement wants it.
+#[tactic(auto, using(ti_eval::proofs::Steps::steps))]
+fn made<'a, 'c>(
+    alloc: Global,
+    env: &Env,
+    s: &'c Stmt,
+    got: Result<(Held, &'a [Told]), Stop>,
+) -> Result<(Move<'c>, &'a [Told]), Stop>
+    ensures { (m : Got Seen) → Comes got.entry m → ComesAs (move_of (env_of env.now) (statement_of s.now)) result (followed m (λ h. receives_spec (env_of env.now) (receiver_of (statement_of s.now)) (gives h))) }
+{
+    match got {
+        Ok((h, answers)) => received(alloc, env, Some(s), &h, answers),
+        Err(stop) => Err(stop),
+    }
+}
+
+// The statement waits for the value of the root of a broadcast.
+fn broadcast<'a, 'c>(
+    alloc: Global,
+    env: &Env,
+    s: &'c Stmt,
+    at: Place,
+    value: &Expr,
+    root: &Expr,
+    answers: &'a [Told],
+) -> Result<(Move<'c>, &'a [Told]), Stop>
+    requires { type_received (env_of env.now) (statement_of s.now) ≡ type_given (env_of env.now) (stm.Broadcast at (expression_of value.now) (expression_of root.now)) }
+    ensures { ComesAs (move_of (env_of env.now) (statement_of s.now)) result (collectives.broadcasts (env_of env.now) (receiver_of (statement_of s.now)) at (expression_of value.now) (expression_of root.now) answers.now) }
+{
+    match broadcasts(alloc, env, at, value, root, answers) {
+        Ok((arrival, answers)) => Ok((
+            Move::Expects {
+                meeting: arrival.meeting,
+                deposit: arrival.deposit,
+            },
+            answers,
+        )),
+        Err(stop) => Err(stop),
+    }
+}
+
+// The right side of a declaration or an assignment.
+fn initialized<'a, 'c>(
+    alloc: Global,
+    env: &Env,
+    s: &'c Stmt,
+    value: &Init,
+    answers: &'a [Told],
+) -> Result<(Move<'c>, &'a [Told]), Stop>
+    requires { type_received (env_of env.now) (statement_of s.now) ≡ type_given (env_of env.now) (initial_of value.now) }
+    ensures { ComesAs (move_of (env_of env.now) (statement_of s.now)) result (statements.initialized (env_of env.now) (receiver_of (statement_of s.now)) (initial_of value.now) answers.now) }
+{
+    match value {
+        Init::Value(e) => valued(alloc, env, s, e, answers),
+        Init::NewRegion(place) => Ok((
+            Move::Expects {
+                meeting: meeting(*place, CollKind::MakeRegion),
+                deposit: Deposit::Nothing,
+            },
+            answers,
+        )),
+        Init::NewObject {
+            place,
+            region,
+            class,
+        } => {
+            let got = new_object(alloc, env, *place, region, *class, answers);
+            made(alloc, env, s, got)
+        }
+        Init::NewGrid {
+            place,
+            region,
+            element,
+            bracket,
+            dims,
+        } => {
+            let got = new_grid(
+                alloc,
+                env,
+                *place,
+                region,
+                &element.ty,
+                *bracket,
+                dims,
+                answers,
+            );
+            made(alloc, env, s, got)
+        }
+        Init::Broadcast { place, value, root } => {
+            broadcast(alloc, env, s, *place, value, root, answers)
+        }
+    }
+}
+
+// ---- expressions that stand alone
+
+// `a.copy(b)`
+fn copy<'a, 'c>(
+    alloc: Global,
+    env: &Env,
+    at: Place,
+    receiver: &Expr,
+    args: &[Expr],
+    answers: &'a [Told],
+) -> Result<(Move<'c>, &'a [Told]), Stop>
+    ensures { (name : ℕ) → ComesAs (move_of (env_of env.now) (stm.Call (exp.member at (expression_of receiver.now) name (map expression_of args.now)))) result (copying.copies (env_of env.now) at (expression_of receiver.now) (numbered_exps (map expression_of args.now)) answers.now) }
+{
+    match copies(alloc, env, at, receiver, args, answers) {
+        Ok((copy, answers)) => Ok((
+            goes(Todo::Copying {
+                to: copy.to,
+                from: copy.from,
+                domain: copy.domain,
+                last: None,
+            }),
+            answers,
+        )),
+        Err(stop) => Err(stop),
+    }
+}
+
+// `a.exchange(e)`
+fn exchange<'a, 'c>(
+    alloc: Global,
+    env: &Env,
+    at: Place,
+    receiver: &Expr,
+    args: &[Expr],
+    answers: &'a [Told],
+) -> Result<(Move<'c>, &'a [Told]), Stop>
+    ensures { (name : ℕ) → ComesAs (move_of (env_of env.now) (stm.Call (exp.member at (expression_of receiver.now) name (map expression_of args.now)))) result (collectives.exchanges (env_of env.now) at (expression_of receiver.now) (numbered_exps (map expression_of args.now)) answers.now) }
+{
+    match exchanges(alloc, env, at, receiver, args, answers) {
+        Ok((exchange, answers)) => Ok((
+            Move::Meets {
+                meeting: exchange.arrival.meeting,
+                deposit: exchange.arrival.deposit,
+                todo: Todo::Taking {
+                    grid: exchange.grid,
+                    next: 0,
+                },
+            },
+            answers,
+        )),
+        Err(stop) => Err(stop),
+    }
+}
+
+// `r.delete()`
+fn delete<'a, 'c>(
+    alloc: Global,
+    env: &Env,
+    at: Place,
+    receiver: &Expr,
+    answers: &'a [Told],
+) -> Result<(Move<'c>, &'a [Told]), Stop>
+    ensures { (x : NumberedStm) → ComesAs (move_of (env_of env.now) x) result (collectives.deletes (env_of env.now) at (expression_of receiver.now) answers.now) }
+{
+    match deletes(alloc, env, at, receiver, answers) {
+        Ok((region, answers)) => Ok((Move::Deletes { at, region }, answers)),
+        Err(stop) => Err(stop),
+    }
+}
+
+// The value of an expression is dropped.
+fn dropped<'a, 'c>(
+    alloc: Global,
+    env: &Env,
+    e: &Expr,
+    answers: &'a [Told],
+) -> Result<(Move<'c>, &'a [Told]), Stop>
+    ensures { (x : NumberedStm) → ComesAs (move_of (env_of env.now) x) result (receives_spec (env_of env.now) Nowhere (eval (env_of env.now) (expression_of e.now)) answers.now) }
+{
+    receives(alloc, env, Receiver::Nowhere, Right::Value(e), answers)
+}
+
+// A member form: three have no value, the value of another is dropped.
+fn member_alone<'a, 'c>(
+    alloc: Global,
+    env: &Env,
+    e: &Expr,
+    at: Place,
+    receiver: &Expr,
+    name: u32,
+    args: &[Expr],
+    answers: &'a [Told],
+) -> Result<(Move<'c>, &'a [Told]), Stop>
+    requires { expression_of e.now ≡ exp.member at (expression_of receiver.now) name (map expression_of args.now) }
+    ensures { ComesAs (move_of (env_of env.now) (stm.Call (expression_of e.now))) result (statements.alone (env_of env.now) (expression_of e.now) None answers.now) }
+{
+    match called_member(env, receiver, name) {
+        Some(member) => match member {
+            BuiltIn::Copy => copy(alloc, env, at, receiver, args, answers),
+            BuiltIn::Exchange => exchange(alloc, env, at, receiver, args, answers),
+            BuiltIn::Delete => delete(alloc, env, at, receiver, answers),
+            _ => dropped(alloc, env, e, answers),
+        },
+        None => dropped(alloc, env, e, answers),
+    }
+}
+
+// An expression that is no call of a declared method.
+#[tactic(auto, using(ti_lang::proofs::ProgramBridges::program_bridges))]
+fn uncalled<'a, 'c>(
+    alloc: Global,
+    env: &Env,
+    e: &Expr,
+    answers: &'a [Told],
+) -> Result<(Move<'c>, &'a [Told]), Stop>
+    ensures { ComesAs (move_of (env_of env.now) (stm.Call (expression_of e.now))) result (statements.alone (env_of env.now) (expression_of e.now) None answers.now) }
+{
+    match e {
+        Expr::Member {
+            place,
+            receiver,
+            name,
+            args,
+        } => member_alone(alloc, env, e, *place, receiver, *name, args, answers),
+        _ => dropped(alloc, env, e, answers),
+    }
+}
+
+// A call, or a member form.
+fn alone<'a, 'c>(
+    alloc: Global,
+    env: &Env,
+    e: &Expr,
+    answers: &'a [Told],
+) -> Result<(Move<'c>, &'a [Told]), Stop>
+    ensures { ComesAs (move_of (env_of env.now) (stm.Call (expression_of e.now))) result (statements.alone (env_of env.now) (expression_of e.now) (called (env_of env.now) (expression_of e.now)) answers.now) }
+{
+    match call(alloc, env, e, answers) {
+        Some(came) => came,
+        None => uncalled(alloc, env, e, answers),
+    }
+}
+
+// A print.
+fn print<'a, 'c>(
+    alloc: Global,
+    env: &Env,
+    at: Place,
+    what: &Printed,
+    answers: &'a [Told],
+) -> Result<(Move<'c>, &'a [Told]), Stop>
+    ensures { (x : NumberedStm) → ComesAs (move_of (env_of env.now) x) result (statements.printed (env_of env.now) at (printed_of what.now) answers.now) }
+{
+    match printed(alloc, env, at, what, answers) {
+        Ok((_, answers)) => Ok((goes(Todo::Inside), answers)),
+        Err(stop) => Err(stop),
+    }
+}
+
+// ---- returns
+
+// A value as one of the method's result.
+fn as_result<'a>(
+    alloc: Global,
+    env: &Env,
+    at: Place,
+    h: Held,
+    answers: &'a [Told],
+) -> Result<(Held, &'a [Told]), Stop>
+    ensures { Comes result (conversions.converted at (result_type (env_of env.now).method) h answers.now) }
+{
+    match env.method {
+        Some(method) => match &method.result {
+            ResultType::Void => converted(alloc, at, &Ty::Void, h, answers),
+            ResultType::Typed(t) => converted(alloc, at, &t.ty, h, answers),
+        },
+        None => converted(alloc, at, &Ty::Void, h, answers),
+    }
+}
+
+// Out of the method with a value.
+#[tactic(auto, using(ti_eval::proofs::Steps::steps))]
+fn returned<'a, 'c>(got: Result<(Held, &'a [Told]), Stop>) -> Result<(Move<'c>, &'a [Told]), Stop>
+    ensures { (env : Where) (x : NumberedStm) (m : Got Seen) → Comes got.entry m → ComesAs (move_of env x) result (followed m (λ h. gives (move.Returns (Some h)))) }
+{
+    match got {
+        Ok((h, answers)) => Ok((Move::Returns(Some(h)), answers)),
+        Err(stop) => Err(stop),
+    }
+}
+
+// `return`, of a value or of none.
+#[tactic(auto, using(ti_eval::proofs::Steps::steps))]
+fn returns<'a, 'c>(
+    alloc: Global,
+    env: &Env,
+    at: Place,
+    value: &Option<Expr>,
+    answers: &'a [Told],
+) -> Result<(Move<'c>, &'a [Told]), Stop>
+    ensures { (x : NumberedStm) → ComesAs (move_of (env_of env.now) x) result (statements.returns (env_of env.now) at (maybe_of expression_of value.now) answers.now) }
+{
+    match value {
+        Some(e) => match evaluate(alloc, env, e, answers) {
+            Ok((h, answers)) => returned(as_result(alloc, env, at, h, answers)),
+            Err(stop) => Err(stop),
+        },
+        None => Ok((Move::Returns(None), answers)),
+    }
+}
+
+// ---- branches and loops
+
+// `if` without `else`.
+#[tactic(auto, using(ti_eval::proofs::Steps::steps))]
+fn if_alone<'a, 'c>(
+    alloc: Global,
+    env: &Env,
+    condition: &Expr,
+    answers: &'a [Told],
+) -> Result<(Move<'c>, &'a [Told]), Stop>
+    ensures { (at : At) (then : NumberedStm) → ComesAs (move_of (env_of env.now) (stm.If at (expression_of condition.now) then)) result (statements.statement (env_of env.now) (stm.If at (expression_of condition.now) then) answers.now) }
+{
+    match evaluate(alloc, env, condition, answers) {
+        Ok((h, answers)) => {
+            let left = if h.is_true() {
+                Left::Part(Part::Then, Todo::Inside)
+            } else {
+                Left::Of(Todo::Inside)
+            };
+            Ok((Move::Goes(Change::Same, left), answers))
+        }
+        Err(stop) => Err(stop),
+    }
+}
+
+// `if` with `else`.
+#[tactic(auto, using(ti_eval::proofs::Steps::steps))]
+fn if_else<'a, 'c>(
+    alloc: Global,
+    env: &Env,
+    condition: &Expr,
+    answers: &'a [Told],
+) -> Result<(Move<'c>, &'a [Told]), Stop>
+    ensures { (at : At) (then otherwise : NumberedStm) → ComesAs (move_of (env_of env.now) (stm.IfElse at (expression_of condition.now) then otherwise)) result (statements.statement (env_of env.now) (stm.IfElse at (expression_of condition.now) then otherwise) answers.now) }
+{
+    match evaluate(alloc, env, condition, answers) {
+        Ok((h, answers)) => {
+            let part = if h.is_true() { Part::Then } else { Part::Else };
+            Ok((
+                Move::Goes(Change::Same, Left::Part(part, Todo::Inside)),
+                answers,
+            ))
+        }
+        Err(stop) => Err(stop),
+    }
+}
+
+// `foreach`, before its first turn.
+#[tactic(auto, using(ti_eval::proofs::Steps::steps))]
+fn foreach<'a, 'c>(
+    alloc: Global,
+    env: &Env,
+    variable: u32,
+    domain: &Expr,
+    answers: &'a [Told],
+) -> Result<(Move<'c>, &'a [Told]), Stop>
+    ensures { (at : At) (body : NumberedStm) → ComesAs (move_of (env_of env.now) (stm.Foreach at variable (expression_of domain.now) body)) result (statements.statement (env_of env.now) (stm.Foreach at variable (expression_of domain.now) body) answers.now) }
+{
+    match evaluate(alloc, env, domain, answers) {
+        Ok((domain, answers)) => Ok((
+            goes(Todo::Each {
+                variable,
+                domain,
+                last: None,
+            }),
+            answers,
+        )),
+        Err(stop) => Err(stop),
+    }
+}
+
+// ---- statements
+
+// `t++` or `t--`.
+fn step<'a, 'c>(
+    alloc: Global,
+    env: &Env,
+    s: &'c Stmt,
+    answers: &'a [Told],
+) -> Result<(Move<'c>, &'a [Told]), Stop>
+    ensures { ComesAs (move_of (env_of env.now) (statement_of s.now)) result (receives_spec (env_of env.now) (receiver_of (statement_of s.now)) (gives (Plain (Int (pos 1)))) answers.now) }
+{
+    let one = Held::plain(Value::Int(1));
+    received(alloc, env, Some(s), &one, answers)
+}
+
+// A statement that is there.
+#[tactic(auto, using(crate::proofs::Coming::before_list))]
+fn present<'a, 'c>(
+    alloc: Global,
+    env: &Env,
+    s: &'c Stmt,
+    answers: &'a [Told],
+) -> Result<(Move<'c>, &'a [Told]), Stop>
+    ensures { ComesAs (move_of (env_of env.now) (statement_of s.now)) result (statements.statement (env_of env.now) (statement_of s.now) answers.now) }
+{
+    match s {
+        Stmt::Empty => Ok((goes(Todo::Inside), answers)),
+        Stmt::Declare { value, .. } => initialized(alloc, env, s, value, answers),
+        Stmt::Assign { value, .. } => initialized(alloc, env, s, value, answers),
+        Stmt::Update { value, .. } => valued(alloc, env, s, value, answers),
+        Stmt::Step { .. } => step(alloc, env, s, answers),
+        Stmt::Call(e) => alone(alloc, env, e, answers),
+        Stmt::Print(place, what) => print(alloc, env, *place, what, answers),
+        Stmt::Barrier(place) => Ok((
+            Move::Meets {
+                meeting: meeting(*place, CollKind::Barrier),
+                deposit: Deposit::Nothing,
+                todo: Todo::Inside,
+            },
+            answers,
+        )),
+        Stmt::Break(_) => Ok((Move::Breaks, answers)),
+        Stmt::Continue(_) => Ok((Move::Continues, answers)),
+        Stmt::Return(place, value) => returns(alloc, env, *place, value, answers),
+        Stmt::Block(_) => Ok((goes(Todo::From(0)), answers)),
+        Stmt::If {
+            condition,
+            otherwise,
+            ..
+        } => match otherwise {
+            Some(_) => if_else(alloc, env, condition, answers),
+            None => if_alone(alloc, env, condition, answers),
+        },
+        Stmt::While { .. } => Ok((goes(Todo::Before), answers)),
+        Stmt::For { first: Some(_), .. } => Ok((
+            Move::Goes(Change::Same, Left::Part(Part::First, Todo::Before)),
+            answers,
+        )),
+        Stmt::For { first: None, .. } => Ok((goes(Todo::Before), answers)),
+        Stmt::Foreach {
+            variable,
+            domain,
+            ..
+        } => foreach(alloc, env, *variable, domain, answers),
+    }
+}
 
 /// What a statement comes to; none stands for an empty one.
 pub fn statement<'a, 'c>(
@@ -23,7 +529,10 @@ pub fn statement<'a, 'c>(
 ) -> Result<(Move<'c>, &'a [Told]), Stop>
     ensures { ComesAs (move_of (env_of env.now) (stm_seen x.entry)) result (statements.statement (env_of env.now) (stm_seen x.entry) answers.now) }
 {
-    Err(Stop::Memory)
+    match x {
+        Some(s) => present(alloc, env, s, answers),
+        None => Ok((goes(Todo::Inside), answers)),
+    }
 }
 
 /// What it comes to when a value that a call or a collective gave has gone to where the statement wants it.
@@ -34,7 +543,7 @@ pub fn received<'a, 'c>(
     h: &Held,
     answers: &'a [Told],
 ) -> Result<(Move<'c>, &'a [Told]), Stop>
-    ensures { ComesAs (move_of (env_of env.now) (stm_seen x.entry)) result (receives (env_of env.now) (receiver_of (stm_seen x.entry)) (gives h.now) answers.now) }
+    ensures { ComesAs (move_of (env_of env.now) (stm_seen x.entry)) result (receives_spec (env_of env.now) (receiver_of (stm_seen x.entry)) (gives h.now) answers.now) }
 {
-    Err(Stop::Memory)
+    receives(alloc, env, receiver_at(x), Right::Known(h), answers)
 }
