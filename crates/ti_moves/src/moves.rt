@@ -57,7 +57,13 @@ pub enum Move<'c> {
         todo: Todo,
     },
     /// An arrival at a collective whose value the statement waits for.
-    Expects { meeting: Meeting, deposit: Deposit },
+    Expects {
+        meeting: Meeting,
+        deposit: Deposit,
+    },
     /// The arrival at the delete of a region, whose deposit is counted over all frames.
-    Deletes { at: Place, region: u32 },
+    Deletes {
+        at: Place,
+        region: u32,
+    },
 }
