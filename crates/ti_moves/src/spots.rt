@@ -1,8 +1,9 @@
 // Where a call stands in the text.
 
-ghost use Rattle.std.specs.Prelude.{◌≡◌, ◌<◌, [], ◌∷◌, length, map, reverse, if◌then◌else◌};
-ghost use Rattle.ti_lang.specs.Program.Statements.{numbered_stms};
-ghost use Rattle.ti_lang.specs.Program.Views.{statement_of};
+ghost use Rattle.std.specs.Prelude.{◌≡◌, ◌<◌, [], ◌∷◌, length, map, reverse, slice_get, unwrap_or, if◌then◌else◌};
+ghost use Rattle.ti_syntax.specs.Trees.Views.{maybe_of};
+ghost use Rattle.ti_lang.specs.Program.Statements.{Block, Empty, numbered_stms};
+ghost use Rattle.ti_lang.specs.Program.Views.{expression_of, statement_of};
 ghost use Rattle.ti_lang.specs.Meaning.Processes.{Do, End};
 ghost use Rattle.ti_lang.specs.Meaning.Performing as performing;
 ghost use Rattle.ti_lang.specs.Meaning.Statements.{maybe_do};
@@ -15,22 +16,128 @@ ghost use Rattle.ti_moves.specs.Receiving.{stm_seen};
 
 use std::alloc::Global;
 use ti_base::Place;
-use ti_eval::{Env, Held, Level, Stop, Told};
-use ti_lang::program::Stmt;
+use ti_eval::{Env, Held, Level, Part, Stop, Told, evaluate};
+use ti_lang::program::{Expr, Stmt};
+
+// The statement of a number in a list, if there is one.
+#[tactic(auto, using(crate::proofs::Entering::entering))]
+fn item<'c>(list: &'c [Stmt], n: usize) -> Option<&'c Stmt>
+    ensures { stm_seen result ≡ unwrap_or (slice_get (map statement_of list.now) n) Empty }
+{
+    match list.get(n) {
+        Some(s) => Some(s),
+        None => None,
+    }
+}
+
+// The part of a body of a method.
+#[tactic(auto, using(crate::proofs::Entering::entering))]
+fn part_of_body<'c>(body: &'c [Stmt], inner: Part) -> Option<&'c Stmt>
+    ensures { stm_seen result ≡ part_of (Block (numbered_stms (map statement_of body.now))) inner }
+{
+    match inner {
+        Part::Item(n) => item(body, n),
+        _ => None,
+    }
+}
+
+// The part of a statement.
+#[tactic(auto, using(crate::proofs::Entering::entering))]
+fn part<'c>(s: &'c Stmt, inner: Part) -> Option<&'c Stmt>
+    ensures { stm_seen result ≡ part_of (statement_of s.now) inner }
+{
+    match (s, inner) {
+        (Stmt::Block(body), Part::Item(n)) => item(body, n),
+        (Stmt::If { then, .. }, Part::Then) => Some(then),
+        (
+            Stmt::If {
+                otherwise: Some(otherwise),
+                ..
+            },
+            Part::Else,
+        ) => Some(otherwise),
+        (Stmt::While { body, .. }, Part::Body) => Some(body),
+        (Stmt::Foreach { body, .. }, Part::Body) => Some(body),
+        (Stmt::For { body, .. }, Part::Body) => Some(body),
+        (
+            Stmt::For {
+                first: Some(first),
+                ..
+            },
+            Part::First,
+        ) => Some(first),
+        (
+            Stmt::For {
+                update: Some(update),
+                ..
+            },
+            Part::Update,
+        ) => Some(update),
+        _ => None,
+    }
+}
+
+// The same, of a statement that may not be there.
+fn part_in<'c>(x: Option<&'c Stmt>, inner: Part) -> Option<&'c Stmt>
+    ensures { stm_seen result ≡ part_of (stm_seen x.entry) inner }
+{
+    match x {
+        Some(s) => part(s, inner),
+        None => None,
+    }
+}
 
 /// The innermost statement of those entered in the body of a method; none stands for an empty one.
 pub fn statement_at<'c>(body: &'c [Stmt], levels: &[Level]) -> Option<&'c Stmt>
     requires { 0 < length levels.now }
     ensures { stm_seen result ≡ inside (numbered_stms (map statement_of body.now)) (reverse levels.now) }
 {
-    None
+    let mut x = part_of_body(body, levels[0].inner);
+    for n in 1..levels.len() {
+        x = part_in(x, levels[n].inner);
+    }
+    x
+}
+
+// How many statements a block has.
+#[tactic(auto, using(crate::proofs::Entering::entering))]
+fn count_in(x: Option<&Stmt>) -> usize
+    ensures { result ≡ length (list_in (stm_seen x.entry)) }
+{
+    match x {
+        Some(s) => match s {
+            Stmt::Block(body) => body.len(),
+            _ => 0,
+        },
+        None => 0,
+    }
 }
 
 /// How many statements the list of the innermost block has.
+#[tactic(auto, using(crate::proofs::Entering::entering))]
 pub fn count(body: &[Stmt], levels: &[Level]) -> usize
     ensures { result ≡ length (list_in (inside (numbered_stms (map statement_of body.now)) (reverse levels.now))) }
 {
-    0
+    if levels.is_empty() {
+        body.len()
+    } else {
+        count_in(statement_at(body, levels))
+    }
+}
+
+// The condition of a `for`.
+fn given<'a>(
+    alloc: Global,
+    env: &Env,
+    e: &Option<Expr>,
+    answers: &'a [Told],
+) -> Result<(Held, &'a [Told]), Stop>
+    ensures { Comes result (performing.condition (env_of env.now) (maybe_of expression_of e.now) answers.now) }
+{
+    match e {
+        Some(e) => evaluate(alloc, env, e, answers),
+        None => Ok((Held::truth(true), answers)),
+    }
 }
 
 /// The condition of a loop; a missing one is true.
@@ -42,7 +149,14 @@ pub fn condition<'a>(
 ) -> Result<(Held, &'a [Told]), Stop>
     ensures { Comes result (performing.condition (env_of env.now) (condition_in (stm_seen x.entry)) answers.now) }
 {
-    Err(Stop::Memory)
+    match x {
+        Some(s) => match s {
+            Stmt::While { condition, .. } => evaluate(alloc, env, condition, answers),
+            Stmt::For { condition, .. } => given(alloc, env, condition, answers),
+            _ => Ok((Held::truth(true), answers)),
+        },
+        None => Ok((Held::truth(true), answers)),
+    }
 }
 
 /// The place of a loop.
