@@ -174,6 +174,11 @@ abbrev pub IsWalking : Mode → Type 0
 IsWalking (mode.Walks t) = Unit {0}
 IsWalking m = ⊥
 
+-- a value is on its way
+abbrev pub IsReceiving : Mode → Type 0
+IsReceiving (mode.Receives h) = Unit {0}
+IsReceiving m = ⊥
+
 -- something behind the beginning of the innermost statement is left
 abbrev pub IsBegun : Mode → Type 0
 IsBegun (mode.Walks todo.Here) = ⊥
