@@ -34,19 +34,4 @@ nothing_inside (l ∷ m ∷ ls) h = ap (λ x. part_of x l.inner) (nothing_inside
 pub none_inside : (xs : List Level) → 0 < length xs → s.Empty ≡ inside Nil (reverse xs)
 none_inside xs h = rw (nothing_inside (reverse xs) (rw (length-reverse xs) h)) refl
 
--- where a call of a method is evaluated
-abbrev pub env_by : NumberedProgram → Walker → NumberedMethod → Env
-env_by c w m =
-    let left : List Work = rest_of (record { program = c; this = this_of m; procs = w.team.procs }) (numbered_stms m.body) (reverse w.top.levels.items) in
-    record {
-      number = w.team.number;
-      procs = w.team.procs;
-      program = c;
-      method = m;
-      this = w.top.this;
-      variables = slots_of w.top.variables.slots.items;
-      turns = turns_at left;
-      dims = dims_at c (this_of m) left;
-    }
-
 pub ruleset spots = (none_inside, slice_get-map)

@@ -138,10 +138,10 @@ deeper c w ws left at m this vs receiver h d =
     rw (lt-ltb w.spent w.fuel h, e) refl
 
 -- a call has begun
-pub begun_at : (c : NumberedProgram) (w : Walker) (ws : List Work) (b : Below) (f : Call) (as : Vec _ Global) → b.calls.items ≡ w.below.calls.items ++ w.top ∷ [] → f.levels.items ≡ [] → as.items ≡ []
+pub begun_at : (c : NumberedProgram) (w : Walker) (ws : List Work) (b : Below) (f : Call) (got : Vec _ Global) → b.calls.items ≡ w.below.calls.items ++ w.top ∷ [] → f.levels.items ≡ [] → got.items ≡ []
     → spends (entering (process_of c w) (top_of c w ws) (below_of c w) (rest c w.team.procs w.top) (entered (method_at c f.method) f.this (slots_of f.variables.slots.items) (receiver_of (here c w.top))))
-    ≡ process_of c (record { team = w.team; fuel = w.fuel; spent = w.spent + 1; below = b; top = f; mode = mode.Walks (todo.From 0); answers = as })
-begun_at c w ws b f as eb el ea = rw (eb, el, ea, reverse-append, all_left) refl
+    ≡ process_of c (record { team = w.team; fuel = w.fuel; spent = w.spent + 1; below = b; top = f; mode = mode.Walks (todo.From 0); answers = got })
+begun_at c w ws b f got eb el ea = rw (eb, el, ea, reverse-append, all_left) refl
 
 -- ---- moves
 

@@ -4,7 +4,6 @@ ghost use Rattle.std.specs.Prelude.{◌≡◌, ◌<◌, length, IfOk};
 ghost use Rattle.ti_lang.specs.Program.Classes.{NumberedProgram};
 ghost use Rattle.ti_lang.specs.Program.Views.{program_of};
 ghost use Rattle.ti_lang.specs.Meaning.Asking.{gives};
-ghost use Rattle.ti_lang.specs.Meaning.Held as held;
 ghost use Rattle.ti_lang.specs.Meaning.Moves.{receives};
 ghost use Rattle.ti_lang.specs.Meaning.Statements.{statement as statement_spec};
 ghost use Rattle.ti_lang.specs.Meaning.Steps.{end_of};
@@ -14,8 +13,8 @@ ghost use Rattle.ti_eval.specs.Comes.{ComesAs};
 ghost use Rattle.ti_moves.specs.Moves.{move_of};
 ghost use Rattle.ti_moves.specs.Receiving.{receiver_of};
 ghost use Rattle.ti_moves.specs.declared.moves.Meeting.{Meeting as Met};
-ghost use Rattle.ti_exec.specs.declared.process.Mode.TheVariants.{Walks, Receives, Waits, Expects};
-ghost use Rattle.ti_exec.specs.States.{IsTurn, IsSettled, IsWalking, env_in, here};
+ghost use Rattle.ti_exec.specs.declared.process.Mode.TheVariants.{Walks, Waits, Expects};
+ghost use Rattle.ti_exec.specs.States.{IsTurn, IsSettled, IsWalking, IsReceiving, env_in, here};
 
 use crate::process::{Mode, Pending, Turn, Walker};
 use std::alloc::Global;
@@ -84,9 +83,10 @@ impl Walker {
         }
     }
 
-    // The step with a value on its way.
+    // The step with a value on its way. In the body of a method it goes nowhere.
     fn receiving(&mut self, alloc: Global, c: &Parts) -> Result<Turn, Memory>
-        ensures { IfOk result (λ t. (h : held.Held) → self.old.mode ≡ Receives h → IsTurn (program_of c.now) self.old t self.new) }
+        requires { IsReceiving self.old.mode }
+        ensures { IfOk result (λ t. IsTurn (program_of c.now) self.old t self.new) }
     {
         if self.top.levels.is_empty() {
             self.answers.clear();
@@ -98,8 +98,16 @@ impl Walker {
                 Ok((m, _)) => Ok(self.moves(alloc, c, m)?),
                 Err(stop) => Ok(self.stops(stop)?),
             },
-            _ => Ok(Turn::Went),
+            _ => unreachable!(),
         }
+    }
+
+    // The step of a process that waits at a collective.
+    fn leaves(&self, at: Place) -> Turn
+        ensures waits { (c : NumberedProgram) (m : Met) (t : Left) → self.now.mode ≡ Waits m t → m.place ≡ at → IsTurn c self.now result self.now }
+        ensures expects { (c : NumberedProgram) (m : Met) → self.now.mode ≡ Expects m → m.place ≡ at → IsTurn c self.now result self.now }
+    {
+        self.asks(at, Action::Depart, Pending::Left)
     }
 
     // The step at what is at hand.
@@ -114,14 +122,6 @@ impl Walker {
             Mode::Expects(meeting) => Ok(self.leaves(meeting.place)),
             Mode::Ended => Ok(Turn::Ends(end_place(c))),
         }
-    }
-
-    // The step of a process that waits at a collective.
-    fn leaves(&self, at: Place) -> Turn
-        ensures waits { (c : NumberedProgram) (m : Met) (t : Left) → self.now.mode ≡ Waits m t → m.place ≡ at → IsTurn c self.now result self.now }
-        ensures expects { (c : NumberedProgram) (m : Met) → self.now.mode ≡ Expects m → m.place ≡ at → IsTurn c self.now result self.now }
-    {
-        self.asks(at, Action::Depart, Pending::Left)
     }
 
     /// One step.

@@ -7,10 +7,10 @@ ghost use Rattle.ti_moves.specs.Moves.{method_at};
 ghost use Rattle.ti_moves.specs.Receiving.{stm_seen};
 ghost use Rattle.ti_exec.specs.States.{process_of, here, IsSettled};
 
-use ti_moves::statement_at;
 use crate::process::{Call, Walker};
 use ti_base::Memory;
 use ti_lang::program::{Method, Parts, Stmt};
+use ti_moves::statement_at;
 
 impl Call {
     // Its method.

@@ -1,4 +1,4 @@
-use Rattle.std.proofs.Common.{sym, refl}
+use Rattle.std.proofs.Common.{refl}
 use Rattle.ti_exec.proofs.Asked.{waits_at, left_behind, expects_at, handed_on}
 use Rattle.ti_exec.proofs.Works.{turn_at}
 use Rattle.ti_exec.proofs.process.Walker.leaves.Goals as goal
