@@ -1,21 +1,13 @@
 -- Where a call stands.
-use Rattle.std.proofs.Common.{◌≡◌, ap, refl, ◌<◌, ℕ, List, [], ◌∷◌, length, reverse, arith, unwrap_or, slice_get, Option}
+use Rattle.std.proofs.Common.{◌≡◌, ap, refl, ◌<◌, List, [], ◌∷◌, length, reverse, arith}
 use Rattle.std.proofs.lemmas.Option.{slice_get-map}
 use Rattle.std.proofs.lemmas.List.{length-reverse}
 use Rattle.ti_lang.specs.Program.Statements.{Nil}
 use Rattle.ti_lang.specs.Program.Statements as s
-use Rattle.ti_lang.specs.Program.Classes.{NumberedMethod, NumberedProgram}
-use Rattle.ti_lang.specs.Program.Scope.{this_of}
-use Rattle.ti_lang.specs.Meaning.Scoping.{Env}
-use Rattle.ti_lang.specs.Program.Statements.{numbered_stms}
-use Rattle.ti_lang.specs.Meaning.Turns.{turns_at, dims_at}
-use Rattle.ti_lang.specs.Meaning.Processes.{Work}
 use Rattle.ti_eval.specs.declared.frame.Level.{Level}
 use Rattle.ti_eval.specs.declared.frame.Part.{Part}
 use Rattle.ti_eval.specs.declared.frame.Part.TheVariants as part
-use Rattle.ti_eval.specs.Frames.{Site, slots_of, rest_of}
 use Rattle.ti_eval.specs.Places.{inside, part_of}
-use Rattle.ti_exec.specs.declared.process.Walker.{Walker}
 
 nothing_in : (p : Part) → part_of (s.Block Nil) p ≡ s.Empty
 nothing_in (part.Item n) = refl
