@@ -2,10 +2,14 @@
 #![tactic(auto)]
 
 mod applying;
+mod asking;
+mod below;
 mod jumps;
 mod loops;
 mod process;
+mod spot;
 mod steps;
+mod variables;
 mod walker;
 
-pub use process::{Call, Mode, Pending, Turn, Walker};
+pub use process::{Below, Call, Mode, Pending, Turn, Variables, Walker};

@@ -1,19 +1,134 @@
 // The steps of a process.
 
-ghost use Rattle.std.specs.Prelude.{IfOk};
+ghost use Rattle.std.specs.Prelude.{◌≡◌, ◌<◌, length, IfOk};
+ghost use Rattle.ti_lang.specs.Program.Classes.{NumberedProgram};
 ghost use Rattle.ti_lang.specs.Program.Views.{program_of};
-ghost use Rattle.ti_exec.specs.States.{IsTurn};
+ghost use Rattle.ti_lang.specs.Meaning.Asking.{gives};
+ghost use Rattle.ti_lang.specs.Meaning.Moves.{receives};
+ghost use Rattle.ti_lang.specs.Meaning.Statements.{statement as statement_spec};
+ghost use Rattle.ti_lang.specs.Meaning.Steps.{end_of};
+ghost use Rattle.ti_eval.specs.declared.frame.Todo.{Todo as Left};
+ghost use Rattle.ti_eval.specs.declared.frame.Todo.TheVariants.{Here};
+ghost use Rattle.ti_eval.specs.Comes.{ComesAs};
+ghost use Rattle.ti_moves.specs.Moves.{move_of};
+ghost use Rattle.ti_moves.specs.Receiving.{receiver_of};
+ghost use Rattle.ti_moves.specs.declared.moves.Meeting.{Meeting as Met};
+ghost use Rattle.ti_exec.specs.declared.process.Mode.TheVariants.{Walks, Waits, Expects};
+ghost use Rattle.ti_exec.specs.States.{IsTurn, IsSettled, IsWalking, IsReceiving, env_in, here};
 
-use crate::process::{Turn, Walker};
+use crate::process::{Mode, Pending, Turn, Walker};
 use std::alloc::Global;
-use ti_base::Memory;
+use ti_base::{Action, Memory, Place};
+use ti_eval::{Held, Stop, Todo, Told};
 use ti_lang::program::Parts;
+use ti_moves::{Move, received, statement};
+
+// The place of the brace that closes `main`.
+#[tactic(auto, using(crate::proofs::Spots::spots))]
+fn end_place(c: &Parts) -> Place
+    ensures { result ≡ end_of (program_of c.now) }
+{
+    match c.methods.get(c.main as usize) {
+        Some(main) => main.end,
+        None => Place { line: 0, col: 0 },
+    }
+}
 
 impl Walker {
+    // What the innermost statement comes to.
+    fn stated<'a, 'c>(&'a self, alloc: Global, c: &'c Parts) -> Result<(Move<'c>, &'a [Told]), Stop>
+        requires { 0 < length self.now.top.levels.items }
+        ensures { ComesAs (move_of (env_in (program_of c.now) self.now) (here (program_of c.now) self.now.top)) result (statement_spec (env_in (program_of c.now) self.now) (here (program_of c.now) self.now.top) self.now.answers.items) }
+    {
+        statement(alloc, &self.env(c), self.top.stands(c), &self.answers)
+    }
+
+    // What it comes to when a value has gone to where it wants it.
+    fn given<'a, 'c>(
+        &'a self,
+        alloc: Global,
+        c: &'c Parts,
+        h: &Held,
+    ) -> Result<(Move<'c>, &'a [Told]), Stop>
+        requires { 0 < length self.now.top.levels.items }
+        ensures { ComesAs (move_of (env_in (program_of c.now) self.now) (here (program_of c.now) self.now.top)) result (receives (env_in (program_of c.now) self.now) (receiver_of (here (program_of c.now) self.now.top)) (gives h.now) self.now.answers.items) }
+    {
+        received(alloc, &self.env(c), self.top.stands(c), h, &self.answers)
+    }
+
+    // The step at the innermost statement.
+    fn at_statement(&mut self, alloc: Global, c: &Parts) -> Result<Turn, Memory>
+        requires inner { 0 < length self.old.top.levels.items }
+        requires mode { self.old.mode ≡ Walks Here }
+        ensures { IfOk result (λ t. IsTurn (program_of c.now) self.old t self.new) }
+    {
+        match self.stated(alloc, c) {
+            Ok((m, _)) => Ok(self.moves(alloc, c, m)?),
+            Err(stop) => Ok(self.stops(stop)?),
+        }
+    }
+
+    // The step where the process walks on.
+    fn walks(&mut self, alloc: Global, c: &Parts) -> Result<Turn, Memory>
+        requires settled { IsSettled (program_of c.now) self.old }
+        requires mode { IsWalking self.old.mode }
+        ensures { IfOk result (λ t. IsTurn (program_of c.now) self.old t self.new) }
+    {
+        if self.top.levels.is_empty() {
+            return Ok(self.returns(None));
+        }
+        match &self.mode {
+            Mode::Walks(Todo::Here) => Ok(self.at_statement(alloc, c)?),
+            _ => Ok(self.at_rest(alloc, c)?),
+        }
+    }
+
+    // The step with a value on its way. In the body of a method it goes nowhere.
+    fn receiving(&mut self, alloc: Global, c: &Parts) -> Result<Turn, Memory>
+        requires { IsReceiving self.old.mode }
+        ensures { IfOk result (λ t. IsTurn (program_of c.now) self.old t self.new) }
+    {
+        if self.top.levels.is_empty() {
+            self.answers.clear();
+            self.mode = Mode::Walks(Todo::Inside);
+            return Ok(Turn::Went);
+        }
+        match &self.mode {
+            Mode::Receives(h) => match self.given(alloc, c, h) {
+                Ok((m, _)) => Ok(self.moves(alloc, c, m)?),
+                Err(stop) => Ok(self.stops(stop)?),
+            },
+            _ => unreachable!(),
+        }
+    }
+
+    // The step of a process that waits at a collective.
+    fn leaves(&self, at: Place) -> Turn
+        ensures waits { (c : NumberedProgram) (m : Met) (t : Left) → self.now.mode ≡ Waits m t → m.place ≡ at → IsTurn c self.now result self.now }
+        ensures expects { (c : NumberedProgram) (m : Met) → self.now.mode ≡ Expects m → m.place ≡ at → IsTurn c self.now result self.now }
+    {
+        self.asks(at, Action::Depart, Pending::Left)
+    }
+
+    // The step at what is at hand.
+    fn act(&mut self, alloc: Global, c: &Parts) -> Result<Turn, Memory>
+        requires { IsSettled (program_of c.now) self.old }
+        ensures { IfOk result (λ t. IsTurn (program_of c.now) self.old t self.new) }
+    {
+        match &self.mode {
+            Mode::Walks(_) => Ok(self.walks(alloc, c)?),
+            Mode::Receives(_) => Ok(self.receiving(alloc, c)?),
+            Mode::Waits(meeting, _) => Ok(self.leaves(meeting.place)),
+            Mode::Expects(meeting) => Ok(self.leaves(meeting.place)),
+            Mode::Ended => Ok(Turn::Ends(end_place(c))),
+        }
+    }
+
     /// One step.
     pub fn step(&mut self, alloc: Global, c: &Parts) -> Result<Turn, Memory>
         ensures { IfOk result (λ t. IsTurn (program_of c.now) self.old t self.new) }
     {
-        Err(Memory)
+        self.settle(c)?;
+        Ok(self.act(alloc, c)?)
     }
 }

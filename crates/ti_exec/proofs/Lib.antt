@@ -1,0 +1,4 @@
+pub mod Asked
+pub mod Few
+pub mod Spots
+pub mod Works

@@ -1,0 +1,50 @@
+// The calls below the innermost.
+
+ghost use Rattle.std.specs.Prelude.{◌≡◌, ℕ, ◌<◌, ◌≤◌, ◌+◌, ◌*◌, ◌^◌, [], ◌∷◌, ◌++◌, length, reverse, MatchOption, OnOk};
+ghost use Rattle.ti_lang.specs.Program.Classes.{NumberedProgram};
+ghost use Rattle.ti_lang.specs.Meaning.Steps.{named_in};
+ghost use Rattle.ti_exec.specs.States.{frames_below};
+
+use crate::process::{Below, Call};
+use std::alloc::Global;
+use ti_base::Memory;
+
+impl Below {
+    /// None.
+    pub(crate) fn none(alloc: Global) -> Below
+        ensures { result.calls.items ≡ [] }
+    {
+        Below {
+            calls: Vec::new(alloc),
+        }
+    }
+
+    /// A call goes below the innermost.
+    pub(crate) fn push(&mut self, call: Call) -> Result<(), Memory>
+        requires { length self.old.calls.items + 1 < 200 }
+        ensures { OnOk result (self.new.calls.items ≡ self.old.calls.items ++ call ∷ []) }
+    {
+        self.calls.push(call)?;
+        Ok(())
+    }
+
+    /// The call right below the innermost, if there is one.
+    pub(crate) fn pop(&mut self) -> Option<Call>
+        ensures { MatchOption result (self.old.calls.items ≡ []) (λ call. self.old.calls.items ≡ self.new.calls.items ++ call ∷ []) }
+    {
+        self.calls.pop()
+    }
+
+    /// How many variables of these calls name something in a region.
+    #[tactic(auto, using(crate::proofs::Few::few))]
+    pub(crate) fn named(&self, region: u32) -> u32
+        ensures value { (c : NumberedProgram) (procs : ℕ) → result ≡ named_in region (frames_below c procs (reverse self.now.calls.items)) }
+        ensures small { result ≤ 199 * 2 ^ 24 }
+    {
+        let mut count = 0;
+        for call in &self.calls {
+            count += call.named(region);
+        }
+        count
+    }
+}

@@ -1,0 +1,26 @@
+// Where the innermost statement is evaluated.
+
+ghost use Rattle.std.specs.Prelude.{◌≡◌};
+ghost use Rattle.ti_lang.specs.Program.Views.{program_of};
+ghost use Rattle.ti_eval.specs.Envs.{env_of};
+ghost use Rattle.ti_exec.specs.States.{env_in};
+
+use crate::process::Walker;
+use ti_eval::Env;
+use ti_lang::program::Parts;
+
+impl Walker {
+    // Where the innermost statement is evaluated.
+    pub(crate) fn env<'a>(&'a self, c: &'a Parts) -> Env<'a>
+        ensures { env_of result ≡ env_in (program_of c.now) self.now }
+    {
+        Env {
+            team: self.team,
+            program: c,
+            method: self.top.method_in(c),
+            this: self.top.this,
+            variables: &self.top.variables.slots,
+            levels: &self.top.levels,
+        }
+    }
+}

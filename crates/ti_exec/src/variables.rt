@@ -1,0 +1,116 @@
+// The variables in scope of a call.
+
+ghost use Rattle.std.specs.Prelude.{◌≡◌, ◌<◌, ◌≤◌, ◌+◌, ◌^◌, [], ◌∷◌, ◌++◌, count_by, if◌then◌else◌, IfOk, OnOk};
+ghost use Rattle.ti_lang.specs.Meaning.Held.{thing_of};
+ghost use Rattle.ti_lang.specs.Meaning.Processes.{Variable};
+ghost use Rattle.ti_lang.specs.Meaning.Scoping.{without};
+ghost use Rattle.ti_lang.specs.Meaning.Performing.{declared_in};
+ghost use Rattle.ti_lang.specs.Meaning.Steps.{lies_in as lies_in_spec};
+ghost use Rattle.ti_eval.specs.Frames.{slots_of};
+ghost use Rattle.ti_moves.specs.Moves.{changed};
+ghost use Rattle.ti_moves.specs.Receiving.{stm_seen};
+
+use crate::process::{Call, Variables};
+use std::alloc::Global;
+use ti_base::{Id, Memory};
+use ti_eval::{Slot, change};
+use ti_lang::program::Stmt;
+use ti_moves::{Change, leave};
+
+// How many variables a call has room for.
+const ROOM: usize = 16777215;
+
+// Whether the thing lies in the region.
+fn lies_in(region: u32, thing: Option<Id>) -> bool
+    ensures { result ≡ lies_in_spec region thing }
+{
+    match thing {
+        Some(id) => id.region == region,
+        None => false,
+    }
+}
+
+impl Variables {
+    /// None.
+    pub(crate) fn none(alloc: Global) -> Variables
+        ensures { result.slots.items ≡ [] }
+    {
+        Variables {
+            slots: Vec::new(alloc),
+        }
+    }
+
+    /// These, where there is room for them.
+    pub(crate) fn of(slots: Vec<Slot>) -> Result<Variables, Memory>
+        ensures { IfOk result (λ v. v.slots.items ≡ slots.items) }
+    {
+        if slots.len() > ROOM {
+            return Err(Memory);
+        }
+        Ok(Variables { slots })
+    }
+
+    // One more.
+    fn add(&mut self, slot: Slot) -> Result<(), Memory>
+        ensures { OnOk result (self.new.slots.items ≡ self.old.slots.items ++ slot ∷ []) }
+    {
+        if self.slots.len() >= ROOM {
+            return Err(Memory);
+        }
+        self.slots.push(slot)?;
+        Ok(())
+    }
+
+    /// What becomes of them.
+    #[tactic(auto, using(crate::proofs::Few::few))]
+    pub(crate) fn vary(&mut self, by: Change) -> Result<(), Memory>
+        ensures { OnOk result (slots_of self.new.slots.items ≡ changed by.entry (slots_of self.old.slots.items)) }
+    {
+        match by {
+            Change::Same => Ok(()),
+            Change::New(slot) => Ok(self.add(slot)?),
+            Change::Changed(variable, held) => {
+                change(&mut self.slots, variable, held);
+                Ok(())
+            }
+        }
+    }
+
+    /// What a block or a `for` declared leaves at its end.
+    #[tactic(auto, using(crate::proofs::Few::few))]
+    pub(crate) fn leave(&mut self, x: Option<&Stmt>)
+        ensures { slots_of self.new.slots.items ≡ without (declared_in (stm_seen x.entry)) (slots_of self.old.slots.items) }
+    {
+        leave(&mut self.slots, x);
+    }
+
+    // How many of them name something in a region.
+    #[tactic(auto, using(crate::proofs::Few::few))]
+    fn named(&self, region: u32) -> u32
+        ensures value { result ≡ count_by (λ (x : Variable). lies_in_spec region (thing_of x.held)) (slots_of self.now.slots.items) }
+        ensures small { result < 2 ^ 24 }
+    {
+        let mut count = 0;
+        for slot in &self.slots {
+            if lies_in(region, slot.held.thing()) {
+                count += 1;
+            }
+        }
+        count
+    }
+}
+
+impl Call {
+    /// How many of its variables name something in a region; `this` is one.
+    pub(crate) fn named(&self, region: u32) -> u32
+        ensures value { result ≡ count_by (λ (x : Variable). lies_in_spec region (thing_of x.held)) (slots_of self.now.variables.slots.items) + (if lies_in_spec region self.now.this then 1 else 0) }
+        ensures small { result ≤ 2 ^ 24 }
+    {
+        let count = self.variables.named(region);
+        if lies_in(region, self.this) {
+            count + 1
+        } else {
+            count
+        }
+    }
+}
