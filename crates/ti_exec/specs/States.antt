@@ -1,6 +1,7 @@
 -- What a process of the code stands for, and what its steps say.
-use Rattle.std.specs.Prelude.{◌≡◌, ℕ, List, [], ◌∷◌, reverse, Option, None, Some}
+use Rattle.std.specs.Prelude.{◌≡◌, ℕ, ◌≤◌, List, [], ◌∷◌, length, reverse, Option, None, Some}
 use Rattle.ti_base.specs.declared.entry.Answer.{Answer}
+use Rattle.ti_base.specs.declared.entry.Next.{Next}
 use Rattle.ti_base.specs.declared.entry.Next.TheVariants as next
 use Rattle.ti_lang.specs.Program.Statements.{NumberedStm, NumberedStms, numbered_stms}
 use Rattle.ti_lang.specs.Program.Classes.{NumberedMethod, NumberedProgram}
@@ -10,11 +11,12 @@ use Rattle.ti_lang.specs.Meaning.Processes as process
 use Rattle.ti_lang.specs.Meaning.Processes.{Process, Receiver, Nowhere, Work, Receive, Wait}
 use Rattle.ti_lang.specs.Meaning.Scoping.{Env}
 use Rattle.ti_lang.specs.Meaning.Turns.{turns_at, dims_at}
-use Rattle.ti_lang.specs.Meaning.Steps.{Step, To, At, Ends, Faults, spends, answered, step}
+use Rattle.ti_lang.specs.Meaning.Moves.{Move}
+use Rattle.ti_lang.specs.Meaning.Steps.{Step, To, At, Ends, Faults, spends, answered, moves, step}
 use Rattle.ti_lang.specs.Meaning.NextStep.{shown}
 use Rattle.ti_eval.specs.declared.frame.Todo.{Todo}
 use Rattle.ti_eval.specs.declared.frame.Todo.TheVariants as todo
-use Rattle.ti_eval.specs.Frames.{Site, slots_of, left_of, rest_of}
+use Rattle.ti_eval.specs.Frames.{Site, slots_of, list_in, left_of, rest_of}
 use Rattle.ti_eval.specs.Places.{inside}
 use Rattle.ti_moves.specs.Moves.{method_at, wait_of, expected}
 use Rattle.ti_moves.specs.Receiving.{receiver_of}
@@ -51,7 +53,7 @@ rest c procs f = rest_of (site_of c procs f) (body_of c f) (reverse f.levels.ite
 
 -- the frame of a call with this work left, whose caller wants the result there
 abbrev pub frame_of : NumberedProgram → Receiver → Call → List Work → process.Frame
-frame_of c receiver f left = record { method = method_at c f.method; this = f.this; variables = slots_of f.variables.items; left = left; receiver = receiver }
+frame_of c receiver f left = record { method = method_at c f.method; this = f.this; variables = slots_of f.variables.slots.items; left = left; receiver = receiver }
 
 -- where the calls below want the result of the one above them
 abbrev pub receiver_below : NumberedProgram → List Call → Receiver
@@ -67,11 +69,11 @@ frames_below c procs (f ∷ fs) = frame_of c (receiver_below c fs) f (rest c pro
 
 -- the frames below the innermost
 abbrev pub below_of : NumberedProgram → Walker → List process.Frame
-below_of c w = frames_below c w.team.procs (reverse w.below.items)
+below_of c w = frames_below c w.team.procs (reverse w.below.calls.items)
 
 -- the innermost frame with this work left
 abbrev pub top_of : NumberedProgram → Walker → List Work → process.Frame
-top_of c w left = frame_of c (receiver_below c (reverse w.below.items)) w.top left
+top_of c w left = frame_of c (receiver_below c (reverse w.below.calls.items)) w.top left
 
 -- where the innermost statement is evaluated
 abbrev pub env_in : NumberedProgram → Walker → Env
@@ -81,7 +83,7 @@ env_in c w = record {
   program = c;
   method = method_at c w.top.method;
   this = w.top.this;
-  variables = slots_of w.top.variables.items;
+  variables = slots_of w.top.variables.slots.items;
   turns = turns_at (rest c w.team.procs w.top);
   dims = dims_at c (this_of (method_at c w.top.method)) (rest c w.team.procs w.top);
 }
@@ -129,16 +131,52 @@ told c w (pend.Arrived m) r = spends (going_on c w m [])
 told c w pend.Left r = spends (going_on c w (mode_behind w.mode r) [])
 
 -- the process stands at an action, of which the answer makes this
-pub record Stands (s : Step) (n : next.Next) (makes : Answer → Process) : Type 0 where
+pub record Stands (s : Step) (n : Next) (makes : Answer → Process) : Type 0 where
   pub request : Request
   pub go : Answer → Process
   pub is : s ≡ At request go
   pub shows : shown s ≡ Some n
   pub goes : (r : Answer) → go r ≡ makes r
 
+-- what the code makes of a step at which a process stands
+abbrev pub IsStep : NumberedProgram → Process → Step → Turn → Walker → Type 0
+IsStep c p s turn.Went new = s ≡ To (process_of c new)
+IsStep c p s (turn.Asks at action pending) new = (process_of c new ≡ p) × Stands s (next.Act at action) (told c new pending)
+IsStep c p s (turn.Ends at) new = (process_of c new ≡ p) × (s ≡ Ends at)
+IsStep c p s (turn.Fails kind at) new = (process_of c new ≡ p) × (s ≡ Faults kind at)
+
 -- what the code makes of the step of a process
 abbrev pub IsTurn : NumberedProgram → Walker → Turn → Walker → Type 0
-IsTurn c old turn.Went new = step (process_of c old) ≡ To (process_of c new)
-IsTurn c old (turn.Asks at action pending) new = (process_of c new ≡ process_of c old) × Stands (step (process_of c old)) (next.Act at action) (told c new pending)
-IsTurn c old (turn.Ends at) new = (process_of c new ≡ process_of c old) × (step (process_of c old) ≡ Ends at)
-IsTurn c old (turn.Fails kind at) new = (process_of c new ≡ process_of c old) × (step (process_of c old) ≡ Faults kind at)
+IsTurn c old t new = IsStep c (process_of c old) (step (process_of c old)) t new
+
+-- what the code makes of a move of the innermost statement, whatever else was left in its frame
+abbrev pub IsMoved : NumberedProgram → Walker → Move → Turn → Walker → Type 0
+IsMoved c old move t new = (ws : List Work) → IsStep c (process_of c old) (moves (process_of c old) (top_of c old ws) (below_of c old) (rest c old.team.procs old.top) move) t new
+
+-- ---- what is at hand
+
+-- nothing inside the innermost statement comes first, and it isn't done, but for the body of a method
+abbrev pub IsAtHand : NumberedStm → ℕ → Todo → Type 0
+IsAtHand x levels (todo.From n) = length (list_in x) ≤ n
+IsAtHand x levels todo.Inside = levels ≡ 0
+IsAtHand x levels t = Unit {0}
+
+abbrev pub AtHandIn : NumberedProgram → Call → Mode → Type 0
+AtHandIn c f (mode.Walks t) = IsAtHand (here c f) (length f.levels.items) t
+AtHandIn c f m = Unit {0}
+
+-- what the process does next is at hand
+abbrev pub IsSettled : NumberedProgram → Walker → Type 0
+IsSettled c w = AtHandIn c w.top w.mode
+
+-- the process walks on
+abbrev pub IsWalking : Mode → Type 0
+IsWalking (mode.Walks t) = Unit {0}
+IsWalking m = ⊥
+
+-- something behind the beginning of the innermost statement is left
+abbrev pub IsBegun : Mode → Type 0
+IsBegun (mode.Walks todo.Here) = ⊥
+IsBegun (mode.Walks todo.Inside) = ⊥
+IsBegun (mode.Walks t) = Unit {0}
+IsBegun m = ⊥

@@ -1,8 +1,17 @@
 // A process of a run.
 
+ghost use Rattle.std.specs.Prelude.{◌<◌, ◌^◌, length};
+
 use ti_base::{Action, FaultKind, Id, Place};
 use ti_eval::{Held, Level, Slot, Team, Todo, Told};
 use ti_moves::Meeting;
+
+/// The variables in scope of a call, the oldest first. They are so few that those of all calls can be counted.
+#[derive(Drop)]
+pub struct Variables {
+    pub slots: Vec<Slot>,
+    pub ghost few: { length slots.items < 2 ^ 24 },
+}
 
 /// A call in progress, at a statement of its method.
 #[derive(Drop)]
@@ -10,10 +19,16 @@ pub struct Call {
     /// The number of the method.
     pub method: usize,
     pub this: Option<Id>,
-    /// The variables in scope, the oldest first.
-    pub variables: Vec<Slot>,
+    pub variables: Variables,
     /// The statements entered, the outermost first.
     pub levels: Vec<Level>,
+}
+
+/// The calls that wait in their statements for what comes out of the call above, the outermost first.
+#[derive(Drop)]
+pub struct Below {
+    pub calls: Vec<Call>,
+    pub ghost few: { length calls.items < 200 },
 }
 
 /// How a process goes on.
@@ -31,15 +46,14 @@ pub enum Mode {
     Ended,
 }
 
-/// A process: the call in which it goes on, and those below, the outermost first. These wait in their statements for what
-/// comes out of the call above.
+/// A process: the call in which it goes on, and those below.
 #[derive(Drop)]
 pub struct Walker {
     pub team: Team,
     /// The ticks that it may spend, and those that it has spent.
     pub fuel: u32,
     pub spent: u32,
-    pub below: Vec<Call>,
+    pub below: Below,
     pub top: Call,
     pub mode: Mode,
     /// The answers that its current work has got so far.
