@@ -1,4 +1,9 @@
+pub mod Advances
 pub mod Asked
+pub mod Beginnings
 pub mod Few
+pub mod Fieldless
+pub mod Formed
 pub mod Spots
+pub mod Standings
 pub mod Works

@@ -1,1 +1,5 @@
+pub mod MirrorsGoingOn
+pub mod MirrorsStanding
+pub mod MirrorsTreeProc
+pub mod Standing
 pub mod States

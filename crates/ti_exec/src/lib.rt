@@ -4,12 +4,17 @@
 mod applying;
 mod asking;
 mod below;
+mod going_on;
 mod jumps;
+mod laws;
 mod loops;
+mod past;
 mod process;
 mod spot;
 mod steps;
+mod tree_proc;
 mod variables;
 mod walker;
 
-pub use process::{Below, Call, Mode, Pending, Turn, Variables, Walker};
+pub use laws::{fitting_is_formed, has_one_next, process_is_sent};
+pub use tree_proc::TreeProc;

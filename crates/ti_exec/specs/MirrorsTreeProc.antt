@@ -1,0 +1,41 @@
+-- Nobody has to believe what stands here: it mirrors the code, and only contracts of private functions and the invariant speak of it.
+use Rattle.std.specs.Prelude.{◌<◌, vec_len, vec_capacity}
+use Rattle.ti_base.specs.declared.entry.Next.{Next}
+use Rattle.ti_lang.specs.Program.Classes.{NumberedProgram}
+use Rattle.ti_lang.specs.Program.Views.{program_of}
+use Rattle.ti_lang.specs.Meaning.Processes.{Process}
+use Rattle.ti_lang.specs.Meaning.Steps.{step}
+use Rattle.ti_lang.specs.Meaning.NextStep.{Reaches}
+use Rattle.ti_exec.specs.declared.process.Walker.{Walker}
+use Rattle.ti_exec.specs.declared.process.Pending.{Pending}
+use Rattle.ti_exec.specs.declared.going_on.State.{State}
+use Rattle.ti_exec.specs.declared.going_on.State.TheVariants as state
+use Rattle.ti_exec.specs.declared.tree_proc.TreeProc.TheInside.{Inside}
+use Rattle.ti_exec.specs.States.{process_of, told, Stands}
+use Rattle.ti_exec.specs.Standing.{Standing, IsProcess}
+use Rattle.ti_exec.specs.MirrorsGoingOn.{asks_in}
+
+-- what contracts see
+abbrev pub standing_in : Inside → Standing
+standing_in t = record t.past.standing { asks = asks_in t.state }
+
+-- silent steps lead from the process after the answers so far to that of the code
+pub record Follows (s : Standing) (w : Walker) : Type 0 where
+  pub process : Process
+  pub is : IsProcess s process
+  pub reaches : Reaches process (process_of (program_of s.program) w)
+
+-- the process of the code stands at an action, of which each answer makes what the code will make of it, and has room for the answer
+pub record Awaits (c : NumberedProgram) (w : Walker) (pending : Pending) : Type 0 where
+  pub next : Next
+  pub stands : Stands (step (process_of c w)) next (told c w pending)
+  pub room : vec_len w.answers < vec_capacity w.answers
+
+-- the process of the code is where contracts see it
+abbrev pub Agrees : Standing → Walker → State → Type 0
+Agrees s w state.Goes = Follows s w
+Agrees s w (state.Asks pending) = Follows s w × Awaits (program_of s.program) w pending
+Agrees s w state.Spent = Unit {0}
+
+abbrev pub IsSound : Inside → Type 0
+IsSound t = Agrees (standing_in t) t.walker t.state

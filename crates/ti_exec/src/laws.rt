@@ -1,0 +1,28 @@
+// What holds of every process of a checked program.
+
+ghost use Rattle.std.specs.Prelude.{◌≡◌};
+ghost use Rattle.ti_base.specs.declared.entry.Answer.{Answer};
+ghost use Rattle.ti_base.specs.declared.entry.Next.{Next};
+ghost use Rattle.ti_lang.specs.Meaning.Answers.{FitsAction};
+ghost use Rattle.ti_lang.specs.Meaning.Processes.{Process};
+ghost use Rattle.ti_eval.specs.Forms.{IsFormedAnswer};
+ghost use Rattle.ti_exec.specs.Standing.{Standing, HasNext};
+
+use crate::tree_proc::TreeProc;
+
+/// A process has one thing next, and that hangs on what it began with and the answers that it was told alone.
+pub fn has_one_next()
+    ensures { (s : Standing) (m n : Next) → HasNext s m → HasNext s n → m ≡ n }
+{}
+
+/// An answer that fits the action which a process has next is in the form that `TreeProc::answer` asks for.
+pub fn fitting_is_formed()
+    ensures { (p : Process) (r : Answer) → FitsAction p r → IsFormedAnswer r }
+{}
+
+fn sent<T: Send>() {}
+
+/// A process may go to another thread.
+pub fn process_is_sent() {
+    sent::<TreeProc>();
+}
