@@ -122,7 +122,7 @@ pub(crate) fn resolved(alloc: Global, text: &[u8]) -> Result<Program, Stopped> {
 }
 
 /// The program of a text that breaks no rule.
-fn checked(alloc: Global, text: &[u8]) -> Result<Checked, Stopped> {
+pub(crate) fn checked(alloc: Global, text: &[u8]) -> Result<Checked, Stopped> {
     let program = resolved(alloc, text)?;
     Ok(check(alloc, program)?)
 }

@@ -44,4 +44,6 @@ mod trees;
 #[cfg(test)]
 mod values;
 #[cfg(test)]
+mod walks;
+#[cfg(test)]
 mod words;
