@@ -7,6 +7,7 @@ use crate::texts::{Frame, framed};
 use std::alloc::{AllocError, Global};
 use std::fmt::Debug;
 use std::test::Fail;
+use ti_base::Memory;
 use ti_check::{CheckErr, check};
 use ti_lang::program::Program;
 use ti_lex::{LexErr, lex};
@@ -93,6 +94,12 @@ impl From<CheckErr> for Stopped {
             CheckErr::Refused(refusal) => Stopped::Refused(refusal),
             CheckErr::Memory => Stopped::Memory,
         }
+    }
+}
+
+impl From<Memory> for Stopped {
+    fn from(_: Memory) -> Stopped {
+        Stopped::Memory
     }
 }
 

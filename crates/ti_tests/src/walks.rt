@@ -38,7 +38,7 @@ const STATEMENTS: &[Walk] = &[
     Walk {
         text: "println(1 << 33); println(-8 >> 1); println(-8 >>> 28); int d = 0; if (d != 0 && 10 / d > 1) println(1); else println(2);",
         answers: &[],
-        asks: "print Int(2); print Int(-4); print Int(15); print Int(2); end 1:185",
+        asks: "print Int(2); print Int(-4); print Int(15); print Int(2); end 1:184",
     },
     Walk {
         text: "int i = 0; while (i < 2) { println(i); i = i + 1; }",
@@ -125,12 +125,12 @@ const TEXTS: &[Walk] = &[
     Walk {
         text: "class Main { static int f(int x) { if (x > 2) return 1; return 2; } public static single void main(String[] args) { int y = f(3); println(y); y = f(y); println(y); return; } }",
         answers: &[],
-        asks: "print Int(1); print Int(2); end 1:174",
+        asks: "print Int(1); print Int(2); end 1:173",
     },
     Walk {
         text: "class C { int v; int twice() { return v + v; } } class Main { public static single void main(String[] args) { C c = new C(); c.v = 4; c.v++; int y = c.twice(); println(y); c = null; c.v = 1; } }",
         answers: &[Given::Object(0), Given::Done, Given::Int(4), Given::Done, Given::Int(5), Given::Int(5)],
-        asks: "make an object; put Int(4) in 0 of 0; get 0 of 0; put Int(5) in 0 of 0; get 0 of 0; get 0 of 0; print Int(10); nullRef 1:186",
+        asks: "make an object; put Int(4) in 0 of 0; get 0 of 0; put Int(5) in 0 of 0; get 0 of 0; get 0 of 0; print Int(10); nullRef 1:187",
     },
     Walk {
         text: "class Main { static void f() { f(); } public static single void main(String[] args) { f(); } }",
