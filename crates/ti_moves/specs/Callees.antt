@@ -1,9 +1,8 @@
 -- What clauses see of calls in the code.
-use Rattle.std.specs.Prelude.{◌≡◌, ℕ, List, Option, None, Some, Result, slice_get, unwrap_or}
+use Rattle.std.specs.Prelude.{◌≡◌, List, Option, None, Some, Result}
 use Rattle.std.specs.Borrow.{Bor}
 use Rattle.ti_base.specs.declared.entry.Answer.{Answer}
 use Rattle.ti_lang.specs.Program.Statements.{NumberedStm}
-use Rattle.ti_lang.specs.Program.Classes.{NumberedMethod, NumberedProgram}
 use Rattle.ti_lang.specs.Meaning.Calls.{Call, calling}
 use Rattle.ti_lang.specs.Meaning.Scoping.{Env}
 use Rattle.ti_eval.specs.declared.stop.Stop.{Stop}
