@@ -3,6 +3,7 @@ pub mod Evaluating
 pub mod FieldLaws
 pub mod LiteralLaws
 pub mod MemberLaws
+pub mod Nexts
 pub mod Points
 pub mod Sizes
 pub mod Slots

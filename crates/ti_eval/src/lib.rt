@@ -23,6 +23,7 @@ mod stop;
 mod team;
 mod told;
 mod variables;
+mod walking;
 
 pub use bounds::Bounds;
 pub use conversions::{as_domain, as_type, converted, kept_local, to_domain};
@@ -39,3 +40,4 @@ pub use stop::Stop;
 pub use team::Team;
 pub use told::{Told, value_told};
 pub use variables::{change, empty_rect, find, same};
+pub use walking::next_above;

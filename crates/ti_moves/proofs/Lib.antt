@@ -1,2 +1,6 @@
+pub mod CopyLaws
 pub mod Entering
 pub mod Leaving
+pub mod PointsAbove
+pub mod SameRects
+pub mod Teams

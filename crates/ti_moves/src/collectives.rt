@@ -1,28 +1,42 @@
 // What processes do together, up to their arrival.
 
-ghost use Rattle.std.specs.Prelude.{◌≡◌, ℕ, [], ◌∷◌, map};
+ghost use Rattle.std.specs.Prelude.{◌≡◌, ◌<◌, ◌^◌, ℕ, List, [], ◌∷◌, map, slice_index_or};
+ghost use Rattle.std.specs.declared.vec.Vec.{Vec as Row};
+ghost use Rattle.std.specs.declared.alloc.Global.{Global as Heap};
 ghost use Rattle.ti_base.specs.declared.action.Deposit.{Deposit as Given};
+ghost use Rattle.ti_base.specs.declared.action.Deposit.TheVariants as deposit;
+ghost use Rattle.ti_base.specs.Points.{IsPoint};
+ghost use Rattle.ti_base.specs.Rects.{IsRect, IsIn, points_of};
+ghost use Rattle.ti_lang.specs.Program.Types.{ValueType};
 ghost use Rattle.ti_lang.specs.Program.Expressions.{numbered_exps};
 ghost use Rattle.ti_lang.specs.Program.Views.{expression_of};
-ghost use Rattle.ti_lang.specs.Meaning.Asking.{ToBeDone, ValueOf};
+ghost use Rattle.ti_lang.specs.Typing.Kinds.{element_of};
+ghost use Rattle.ti_lang.specs.Typing.Seen.{seen};
+ghost use Rattle.ti_lang.specs.Meaning.Held.{Held as Seen, nothing, thing_of, plain_of, as_type as as_type_spec};
+ghost use Rattle.ti_lang.specs.Meaning.Asking.{Wanted, ToBeDone, ValueOf, Got, followed, gives};
+ghost use Rattle.ti_lang.specs.Meaning.Operands.{same_points};
 ghost use Rattle.ti_lang.specs.Meaning.Processes.{Receiver, Nowhere, TakeAll};
-ghost use Rattle.ti_lang.specs.Meaning.Copies.{counted};
+ghost use Rattle.ti_lang.specs.Meaning.Copies.{counted, element_at as element_at_spec};
 ghost use Rattle.ti_lang.specs.Meaning.Scoping.{type_here};
 ghost use Rattle.ti_lang.specs.Meaning.Moves as move;
 ghost use Rattle.ti_lang.specs.Meaning.Collectives as collectives;
-ghost use Rattle.ti_eval.specs.Comes.{ComesAs};
+ghost use Rattle.ti_eval.specs.Comes.{Comes, ComesAs};
 ghost use Rattle.ti_eval.specs.Envs.{env_of, site_of};
 ghost use Rattle.ti_eval.specs.Frames.{reference};
-ghost use Rattle.ti_moves.specs.declared.moves.Meeting.{Meeting as Met};
 ghost use Rattle.ti_moves.specs.declared.collectives.Arrival.{Arrival as Arriving};
 ghost use Rattle.ti_moves.specs.declared.collectives.Exchange.{Exchange as Exchanging};
 ghost use Rattle.ti_moves.specs.Moves.{wait_of};
+ghost use Rattle.ti_moves.specs.Arriving.{last_of, broadcast_left, move_of_exchange, exchange_over, exchange_named};
 
+use crate::copies::element_at;
 use crate::moves::Meeting;
 use std::alloc::Global;
-use ti_base::{Deposit, Id, Place};
-use ti_eval::{Env, Stop, Told};
+use ti_base::{Action, CollKind, Deposit, FaultKind, Id, Place, Point, Rect, Value};
+use ti_eval::{Env, Held, Stop, Team, Told, as_type, asked, evaluate, evaluate_all, type_of};
 use ti_lang::program::Expr;
+use ti_lang::typing::Seen as Kind;
+use ti_rect::rect::is_empty;
+use ti_rect::rect_make;
 
 /// An arrival, with what is given.
 #[derive(Clone, Copy)]
@@ -38,6 +52,92 @@ pub struct Exchange {
     pub grid: Id,
 }
 
+// ---- broadcasts
+
+// The number of a process, or else the fault.
+fn root_among<'a>(
+    procs: u32,
+    at: Place,
+    h: &Held,
+    answers: &'a [Told],
+) -> Result<(u32, &'a [Told]), Stop>
+    ensures { Comes result (collectives.root_among procs at h.now answers.now) }
+{
+    let n = h.whole();
+    if 0 <= n && n < i64::from(procs) {
+        Ok((n as u32, answers))
+    } else {
+        Err(Stop::Fails(FaultKind::BadRoot, at))
+    }
+}
+
+// A value is given.
+#[tactic(auto, using(ti_eval::proofs::Steps::steps))]
+fn one_from<'a>(got: Result<(Held, &'a [Told]), Stop>) -> Result<(Deposit, &'a [Told]), Stop>
+    ensures { (m : Got Seen) → Comes got.entry m → Comes result (followed m (λ h. gives (deposit.One (plain_of h)))) }
+{
+    match got {
+        Ok((h, answers)) => Ok((Deposit::One(h.value()), answers)),
+        Err(stop) => Err(stop),
+    }
+}
+
+// The root gives its value, and no other process does.
+fn root_gives<'a>(
+    alloc: Global,
+    env: &Env,
+    root: u32,
+    value: &Expr,
+    answers: &'a [Told],
+) -> Result<(Deposit, &'a [Told]), Stop>
+    ensures { Comes result (collectives.root_deposit (env_of env.now) root (expression_of value.now) answers.now) }
+{
+    if env.team.number == root {
+        one_from(evaluate(alloc, env, value, answers))
+    } else {
+        Ok((Deposit::Nothing, answers))
+    }
+}
+
+// An arrival, behind what is given.
+#[tactic(auto, using(ti_eval::proofs::Steps::steps))]
+fn arrival_from<'a>(
+    meeting: Meeting,
+    got: Result<(Deposit, &'a [Told]), Stop>,
+) -> Result<(Arrival, &'a [Told]), Stop>
+    ensures { (wanted : Wanted) (receiver : Receiver) (m : Got Given) → Comes got.entry m → ComesAs (λ (a : Arriving). move.Meets (wait_of a.meeting wanted receiver) a.deposit []) result (followed m (λ given. gives (move.Meets (wait_of meeting wanted receiver) given []))) }
+{
+    match got {
+        Ok((deposit, answers)) => Ok((Arrival { meeting, deposit }, answers)),
+        Err(stop) => Err(stop),
+    }
+}
+
+// A broadcast, behind the value that tells its root.
+#[tactic(auto, using(ti_eval::proofs::Steps::steps))]
+fn broadcast_behind<'a>(
+    alloc: Global,
+    env: &Env,
+    at: Place,
+    value: &Expr,
+    h: &Held,
+    answers: &'a [Told],
+) -> Result<(Arrival, &'a [Told]), Stop>
+    ensures { (wanted : Wanted) (receiver : Receiver) → ComesAs (λ (a : Arriving). move.Meets (wait_of a.meeting wanted receiver) a.deposit []) result (broadcast_left (env_of env.now) wanted receiver at (expression_of value.now) h.now answers.now) }
+{
+    match root_among(env.team.procs, at, h, answers) {
+        Ok((root, answers)) => {
+            let meeting = Meeting {
+                place: at,
+                kind: CollKind::Broadcast,
+                arg: Some(root),
+            };
+            arrival_from(meeting, root_gives(alloc, env, root, value, answers))
+        }
+        Err(stop) => Err(stop),
+    }
+}
+
 /// `broadcast e from p`, whose departure gives the root's value.
 pub fn broadcasts<'a>(
     alloc: Global,
@@ -49,7 +149,145 @@ pub fn broadcasts<'a>(
 ) -> Result<(Arrival, &'a [Told]), Stop>
     ensures { (receiver : Receiver) → ComesAs (λ (a : Arriving). move.Meets (wait_of a.meeting (ValueOf (type_here (env_of env.now) (expression_of value.now))) receiver) a.deposit []) result (collectives.broadcasts (env_of env.now) receiver at (expression_of value.now) (expression_of root.now) answers.now) }
 {
-    Err(Stop::Memory)
+    match evaluate(alloc, env, root, answers) {
+        Ok((h, answers)) => broadcast_behind(alloc, env, at, value, &h, answers),
+        Err(stop) => Err(stop),
+    }
+}
+
+// ---- exchanges
+
+// The element of the last of so many processes.
+fn last_element(procs: u32) -> Point
+    requires { procs < 2 ^ 31 }
+    ensures value { result ≡ last_of procs }
+    ensures form { IsPoint result }
+{
+    Point {
+        dim: 1,
+        x1: procs as i32 - 1,
+        x2: 0,
+        x3: 0,
+    }
+}
+
+// One element for each process.
+fn team(procs: u32) -> Rect
+    requires { procs < 2 ^ 31 }
+    ensures value { result ≡ collectives.team procs }
+    ensures form { IsRect result }
+    ensures first { 0 < procs → IsIn result (element_at_spec 0) }
+{
+    match rect_make(&element_at(0), &last_element(procs), &element_at(1)) {
+        Ok(r) => r,
+        Err(_) => unreachable!(),
+    }
+}
+
+// Whether a rectangular domain has one element for each process. That of a team of none is empty, as those
+// of other dimensions can be.
+fn is_of_team(r: &Rect, procs: u32) -> bool
+    requires form { IsRect r.now }
+    requires small { procs < 2 ^ 31 }
+    ensures { result ≡ same_points (points_of r.now) (points_of (collectives.team procs)) }
+{
+    if procs == 0 {
+        is_empty(r)
+    } else {
+        *r == team(procs)
+    }
+}
+
+// A value as that of an element.
+fn as_element<'p>(t: Kind<'p>, h: Held) -> Held
+    ensures { result ≡ as_type_spec (element_of (seen t.entry)) h }
+{
+    match t {
+        Kind::Grid {
+            elem,
+            any_dim: _,
+            dim: _,
+            local: _,
+        } => as_type(elem, h),
+        _ => h,
+    }
+}
+
+// What is given: the first of the values, as that of an element.
+fn given<'p>(t: Kind<'p>, hs: Vec<Held>) -> Value
+    ensures { result ≡ plain_of (as_type_spec (element_of (seen t.entry)) (slice_index_or hs.items 0 nothing)) }
+{
+    let mut hs = hs;
+    let first = if hs.is_empty() {
+        Held::truth(false)
+    } else {
+        hs.swap_remove(0)
+    };
+    as_element(t, first).value()
+}
+
+// The arrival, if the grid has the domain of the team.
+#[tactic(auto, using(ti_eval::proofs::Steps::steps))]
+fn exchange_from<'a>(
+    team: Team,
+    at: Place,
+    grid: Id,
+    value: Value,
+    got: Result<(Held, &'a [Told]), Stop>,
+) -> Result<(Exchange, &'a [Told]), Stop>
+    ensures { (t : ValueType) (m : Got Seen) → Comes got.entry m → ComesAs (move_of_exchange at t team.procs) result (followed m (exchange_over at (record { thing = grid; type = t }) team.procs value)) }
+{
+    match got {
+        Ok((d, answers)) => if is_of_team(&d.rect(), team.procs) {
+            let meeting = Meeting {
+                place: at,
+                kind: CollKind::Exchange,
+                arg: None,
+            };
+            let deposit = Deposit::One(value);
+            let arrival = Arrival { meeting, deposit };
+            Ok((Exchange { arrival, grid }, answers))
+        } else {
+            Err(Stop::Fails(FaultKind::ExchangeDomain, at))
+        },
+        Err(stop) => Err(stop),
+    }
+}
+
+// An exchange into a grid, unless this isn't there.
+fn exchange_of<'a>(
+    team: Team,
+    at: Place,
+    grid: Option<Id>,
+    value: Value,
+    answers: &'a [Told],
+) -> Result<(Exchange, &'a [Told]), Stop>
+    ensures { (t : ValueType) → ComesAs (move_of_exchange at t team.procs) result (exchange_named at t grid team.procs value answers.now) }
+{
+    match grid {
+        Some(grid) => {
+            let got = asked(at, Action::DomainOf { grid }, answers);
+            exchange_from(team, at, grid, value, got)
+        }
+        None => Err(Stop::Fails(FaultKind::NullRef, at)),
+    }
+}
+
+// An exchange, behind its grid, which has this type in the text, and the values of its arguments.
+#[tactic(auto, using(ti_eval::proofs::Steps::steps))]
+fn exchange_behind<'a, 'p>(
+    team: Team,
+    at: Place,
+    t: Kind<'p>,
+    h: &Held,
+    got: Result<(Vec<Held>, &'a [Told]), Stop>,
+) -> Result<(Exchange, &'a [Told]), Stop>
+    ensures { (m : Got (List Seen)) → ComesAs (λ (v : Row Seen Heap). v.items) got.entry m → ComesAs (move_of_exchange at (seen t.entry) team.procs) result (followed m (λ hs. exchange_named at (seen t.entry) (thing_of h.now) team.procs (plain_of (as_type_spec (element_of (seen t.entry)) (slice_index_or hs 0 nothing))))) }
+{
+    match got {
+        Ok((hs, answers)) => exchange_of(team, at, h.thing(), given(t, hs), answers),
+        Err(stop) => Err(stop),
+    }
 }
 
 /// `a.exchange(e)`, at its place.
@@ -63,10 +301,20 @@ pub fn exchanges<'a>(
 ) -> Result<(Exchange, &'a [Told]), Stop>
     ensures { ComesAs (λ (x : Exchanging). move.Meets (wait_of x.arrival.meeting ToBeDone Nowhere) x.arrival.deposit (TakeAll at (reference (site_of env.now) (expression_of receiver.now) x.grid) (counted 0 env.now.team.procs) ∷ [])) result (collectives.exchanges (env_of env.now) at (expression_of receiver.now) (numbered_exps (map expression_of args.now)) answers.now) }
 {
-    Err(Stop::Memory)
+    match evaluate(alloc, env, receiver, answers) {
+        Ok((h, answers)) => {
+            let t = type_of(env, receiver);
+            let got = evaluate_all(alloc, env, args, answers);
+            exchange_behind(env.team, at, t, &h, got)
+        }
+        Err(stop) => Err(stop),
+    }
 }
 
+// ---- regions
+
 /// `r.delete()`: the number of the region.
+#[tactic(auto, using(ti_eval::proofs::Steps::steps))]
 pub fn deletes<'a>(
     alloc: Global,
     env: &Env,
@@ -76,5 +324,8 @@ pub fn deletes<'a>(
 ) -> Result<(u32, &'a [Told]), Stop>
     ensures { ComesAs (λ (region : ℕ). move.Deletes at region) result (collectives.deletes (env_of env.now) at (expression_of receiver.now) answers.now) }
 {
-    Err(Stop::Memory)
+    match evaluate(alloc, env, receiver, answers) {
+        Ok((h, answers)) => Ok((h.region(), answers)),
+        Err(stop) => Err(stop),
+    }
 }

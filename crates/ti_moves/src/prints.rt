@@ -1,16 +1,47 @@
 // Prints.
 
-ghost use Rattle.std.specs.Prelude.{◌≡◌, []};
+ghost use Rattle.std.specs.Prelude.{Some, []};
 ghost use Rattle.ti_lang.specs.Program.Views.{printed_of};
+ghost use Rattle.ti_lang.specs.Meaning.Held.{Held as Seen, plain_of};
+ghost use Rattle.ti_lang.specs.Meaning.Asking.{Got, followed};
+ghost use Rattle.ti_lang.specs.Meaning.Scoping.{Env as Where};
 ghost use Rattle.ti_lang.specs.Meaning.Moves as move;
 ghost use Rattle.ti_lang.specs.Meaning.Statements as statements;
-ghost use Rattle.ti_eval.specs.Comes.{ComesAs};
+ghost use Rattle.ti_eval.specs.Comes.{Comes, ComesAs};
 ghost use Rattle.ti_eval.specs.Envs.{env_of};
 
+use crate::actions::perform;
 use std::alloc::Global;
-use ti_base::Place;
-use ti_eval::{Env, Stop, Told};
+use ti_base::{Action, Place, Value};
+use ti_eval::{Env, Held, Stop, Told, evaluate};
 use ti_lang::program::Printed;
+
+// A line.
+fn prints<'a>(
+    at: Place,
+    literal: Option<u32>,
+    value: Option<Value>,
+    answers: &'a [Told],
+) -> Result<((), &'a [Told]), Stop>
+    ensures { (env : Where) → ComesAs (λ done. move.Goes env.variables []) result (statements.prints env at literal value answers.now) }
+{
+    perform(at, Action::Print { literal, value }, answers)
+}
+
+// A line that ends with a value.
+#[tactic(auto, using(ti_eval::proofs::Steps::steps))]
+fn line_from<'a>(
+    at: Place,
+    literal: Option<u32>,
+    got: Result<(Held, &'a [Told]), Stop>,
+) -> Result<((), &'a [Told]), Stop>
+    ensures { (env : Where) (m : Got Seen) → Comes got.entry m → ComesAs (λ done. move.Goes env.variables []) result (followed m (λ h. statements.prints env at literal (Some (plain_of h)))) }
+{
+    match got {
+        Ok((h, answers)) => prints(at, literal, Some(h.value()), answers),
+        Err(stop) => Err(stop),
+    }
+}
 
 /// A print: first its value, then the line.
 pub fn printed<'a>(
@@ -22,5 +53,12 @@ pub fn printed<'a>(
 ) -> Result<((), &'a [Told]), Stop>
     ensures { ComesAs (λ done. move.Goes (env_of env.now).variables []) result (statements.printed (env_of env.now) at (printed_of what.now) answers.now) }
 {
-    Err(Stop::Memory)
+    match what {
+        Printed::Nothing => prints(at, None, None, answers),
+        Printed::Text(literal) => prints(at, Some(*literal), None, answers),
+        Printed::Value(x) => line_from(at, None, evaluate(alloc, env, x, answers)),
+        Printed::TextAndValue(literal, x) => {
+            line_from(at, Some(*literal), evaluate(alloc, env, x, answers))
+        }
+    }
 }

@@ -1,0 +1,14 @@
+use Rattle.std.proofs.Common.{◌∙◌}
+use Rattle.ti_base.specs.Rects.{made}
+use Rattle.ti_lang.specs.Meaning.Copies.{element_at}
+use Rattle.ti_moves.proofs.Teams.{first_spanned}
+use Rattle.ti_moves.proofs.collectives.team.Goals as goal
+
+pub returns-clause-value : goal.returns-clause-value
+returns-clause-value c =
+    c.in-Ok.ensures.value ∙ (λ i. made (c.element_at.ensures.value i) (c.last_element.ensures.value i) (c.element_at-2.ensures.value i))
+
+pub returns-clause-first : goal.returns-clause-first
+returns-clause-first c = λ some.
+    (c.in-Ok.ensures.points (element_at 0)).1
+    (first_spanned c.args.procs _ _ _ c.element_at.ensures.value c.last_element.ensures.value c.element_at-2.ensures.value some)
