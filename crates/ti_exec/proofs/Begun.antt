@@ -1,5 +1,5 @@
 -- The steps at what is left of a statement.
-use Rattle.std.proofs.Common.{◌≡◌, ◌∙◌, ap, sym, refl, subst, ℕ, zero, suc, ◌+◌, ◌-◌, ◌<◌, ◌≤◌, Bool, true, false, cond, List, [], ◌∷◌, ◌++◌, map, drop, length, reverse, Option, Some, None, arith, drop_of_length-le}
+use Rattle.std.proofs.Common.{◌≡◌, ◌∙◌, ap, sym, refl, subst, ℕ, suc, ◌+◌, ◌-◌, ◌<◌, ◌≤◌, Bool, true, false, cond, List, [], ◌∷◌, ◌++◌, map, length, reverse, Option, Some, arith, drop_of_length-le}
 use Rattle.std.proofs.lemmas.Bool.{lt-ltb, le-ltb}
 use Rattle.ti_base.specs.declared.place.Place.{Place}
 use Rattle.ti_base.specs.declared.point.Point.{Point}
@@ -16,7 +16,7 @@ use Rattle.ti_lang.specs.Program.Statements as s
 use Rattle.ti_lang.specs.Meaning.Held.{Held, Plain, point_of, truth_of}
 use Rattle.ti_lang.specs.Meaning.Asking.{Got, Gives, Asks, Fails, followed, gives, Reference}
 use Rattle.ti_lang.specs.Meaning.Copies.{counted, copied, taken}
-use Rattle.ti_lang.specs.Meaning.Moves.{Move, Turns, Goes}
+use Rattle.ti_lang.specs.Meaning.Moves.{Move, Goes}
 use Rattle.ti_lang.specs.Meaning.Performing.{condition, before_turn, declared_in}
 use Rattle.ti_lang.specs.Meaning.Processes.{Process, Frame, Variable, Work, Do, End, Before, Behind, CopyAll, TakeAll}
 use Rattle.ti_lang.specs.Meaning.Scoping.{Env, env_of, without}
@@ -126,7 +126,7 @@ pub before_there : (c : NumberedProgram) (w : Walker) → 0 < length w.top.level
 before_there c w h =
     step_there c w todo.Before _ h refl
     ∙ ap (λ (env : Env). valued (walking c w todo.Before) (before_turn env (loop_of (here c w.top)) w.answers.items) (goes_before c w))
-      (env_at_end (walking c w todo.Before) (top_of c w (left_in c w.team.procs w.top todo.Before)) (here c w.top) (rest c w.team.procs w.top))
+    (env_at_end (walking c w todo.Before) (top_of c w (left_in c w.team.procs w.top todo.Before)) (here c w.top) (rest c w.team.procs w.top))
 
 decided_by : (c : NumberedProgram) (w : Walker) (b : Bool) (got : Got Held) → truth_in got ≡ Some b
     → valued (walking c w todo.Before) (followed got (λ h. gives (turn_if c w (truth_of h)))) (goes_before c w) ≡ turning c w b
@@ -185,8 +185,8 @@ each_done c w v d last h e = step_there c w (todo.Each v d last) _ h (ap (λ ps.
 
 each_there : (c : NumberedProgram) (w : Walker) (v : ℕ) (d : Held) (last : Option Point) (p : Point) (ps : List Point) → 0 < length w.top.levels.items → points_above d last ≡ p ∷ ps
     → step (walking c w (todo.Each v d last))
-      ≡ ticks (walking c w (todo.Each v d last)) (place_of (here c w.top))
-        (To (spends (done_with c w (vars w) (Do (part_of (here c w.top) part.Body) ∷ Behind (foreach_of (here c w.top) v (p ∷ ps)) ∷ rest c w.team.procs w.top))))
+    ≡ ticks (walking c w (todo.Each v d last)) (place_of (here c w.top))
+    (To (spends (done_with c w (vars w) (Do (part_of (here c w.top) part.Body) ∷ Behind (foreach_of (here c w.top) v (p ∷ ps)) ∷ rest c w.team.procs w.top))))
 each_there c w v d last p ps h e = step_there c w (todo.Each v d last) _ h (ap (λ qs. Before (foreach_of (here c w.top) v qs) ∷ []) e)
 
 pub each_fails : (c : NumberedProgram) (w : Walker) (v : ℕ) (d : Held) (last : Option Point) (p : Point) (ps : List Point) (x : NumberedStm) (at : Place) → 0 < length w.top.levels.items → points_above d last ≡ p ∷ ps
@@ -230,8 +230,8 @@ copy_done c w to from d last h e =
 
 pub copy_there : (c : NumberedProgram) (w : Walker) (to from : Id) (d : Held) (last : Option Point) (p : Point) (ps : List Point) → 0 < length w.top.levels.items → points_above d last ≡ p ∷ ps
     → step (walking c w (todo.Copying to from d last))
-      ≡ valued (walking c w (todo.Copying to from d last)) (copied (env_in c w) (member_place (here c w.top)) (to_of c w to) (from_of c w from) (p ∷ ps) w.answers.items)
-        (moves (walking c w (todo.Copying to from d last)) (top_of c w (left_in c w.team.procs w.top (todo.Copying to from d last))) (below_of c w) (rest c w.team.procs w.top))
+    ≡ valued (walking c w (todo.Copying to from d last)) (copied (env_in c w) (member_place (here c w.top)) (to_of c w to) (from_of c w from) (p ∷ ps) w.answers.items)
+    (moves (walking c w (todo.Copying to from d last)) (top_of c w (left_in c w.team.procs w.top (todo.Copying to from d last))) (below_of c w) (rest c w.team.procs w.top))
 copy_there c w to from d last p ps h e =
     step_there c w (todo.Copying to from d last) _ h
     (ap (λ r. CopyAll (member_place (here c w.top)) (to_of c w to) r (points_above d last) ∷ []) (first_thing (site_of c w.team.procs w.top) (member_args (here c w.top)) from)
@@ -281,8 +281,8 @@ take_done c w grid next h e =
 
 pub take_there : (c : NumberedProgram) (w : Walker) (grid : Id) (next : ℕ) → 0 < length w.top.levels.items → next < w.team.procs
     → step (walking c w (todo.Taking grid next))
-      ≡ valued (walking c w (todo.Taking grid next)) (taken (env_in c w) (member_place (here c w.top)) (to_of c w grid) (next ∷ counted (next + 1) (w.team.procs - (next + 1))) w.answers.items)
-        (moves (walking c w (todo.Taking grid next)) (top_of c w (left_in c w.team.procs w.top (todo.Taking grid next))) (below_of c w) (rest c w.team.procs w.top))
+    ≡ valued (walking c w (todo.Taking grid next)) (taken (env_in c w) (member_place (here c w.top)) (to_of c w grid) (next ∷ counted (next + 1) (w.team.procs - (next + 1))) w.answers.items)
+    (moves (walking c w (todo.Taking grid next)) (top_of c w (left_in c w.team.procs w.top (todo.Taking grid next))) (below_of c w) (rest c w.team.procs w.top))
 take_there c w grid next h e =
     step_there c w (todo.Taking grid next) _ h
     (ap (λ is. TakeAll (member_place (here c w.top)) (to_of c w grid) is ∷ []) (counted_by next (w.team.procs - next) (w.team.procs - (next + 1)) (omega arith)))

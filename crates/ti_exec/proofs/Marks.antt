@@ -1,10 +1,9 @@
 -- The marks of loops in the work that is left.
-use Rattle.std.proofs.Common.{◌≡◌, ◌∙◌, ap, sym, subst, refl, ℕ, ◌+◌, ◌<◌, Bool, true, false, cond, ◌||◌, List, [], ◌∷◌, ◌++◌, map, drop, reverse, length, arith}
+use Rattle.std.proofs.Common.{◌≡◌, ◌∙◌, ap, sym, subst, refl, ℕ, ◌<◌, Bool, true, false, cond, ◌||◌, List, [], ◌∷◌, ◌++◌, map, drop, reverse, length, arith}
 use Rattle.std.specs.List.{list_any}
 use Rattle.std.proofs.lemmas.List.{reverse-append}
 use Rattle.std.proofs.lemmas.List.Folds.{list_any-append}
 use Rattle.std.proofs.Math.Bool.{or_comm}
-use Rattle.ti_base.specs.declared.value.Id.{Id}
 use Rattle.ti_lang.specs.Program.Classes.{NumberedProgram}
 use Rattle.ti_lang.specs.Program.Statements.{NumberedStm, NumberedStms}
 use Rattle.ti_lang.specs.Program.Statements as s
@@ -13,7 +12,7 @@ use Rattle.ti_lang.specs.Meaning.Moves.{Breaks, Continues}
 use Rattle.ti_lang.specs.Meaning.Performing.{declared_in}
 use Rattle.ti_lang.specs.Meaning.Processes.{Variable, Work, Do, End, Before, Behind, Receive, CopyAll, TakeAll}
 use Rattle.ti_lang.specs.Meaning.Scoping.{without}
-use Rattle.ti_lang.specs.Meaning.Steps.{To, going, moves}
+use Rattle.ti_lang.specs.Meaning.Steps.{To, moves}
 use Rattle.ti_eval.specs.declared.frame.Todo.{Todo}
 use Rattle.ti_eval.specs.declared.frame.Todo.TheVariants as todo
 use Rattle.ti_eval.specs.declared.frame.Level.{Level}
@@ -232,12 +231,12 @@ left_past c procs old f t past x h i p e =
 -- a jump with a mark to go to, and one without
 pub breaks_out : (c : NumberedProgram) (w : Walker) (ws : List Work) → in_loop w.top.levels.items ≡ true
     → moves (process_of c w) (top_of c w ws) (below_of c w) (rest c w.team.procs w.top) Breaks
-      ≡ To (done_with c w (variables_at_mark (rest c w.team.procs w.top) (slots_of w.top.variables.slots.items)) (past_mark (rest c w.team.procs w.top)))
+    ≡ To (done_with c w (variables_at_mark (rest c w.team.procs w.top) (slots_of w.top.variables.slots.items)) (past_mark (rest c w.team.procs w.top)))
 breaks_out c w ws h = rw (marked_rest (site_of c w.team.procs w.top) (body_of c w.top) w.top.levels.items ∙ h) refl
 
 pub continues_on : (c : NumberedProgram) (w : Walker) (ws : List Work) → in_loop w.top.levels.items ≡ true
     → moves (process_of c w) (top_of c w ws) (below_of c w) (rest c w.team.procs w.top) Continues
-      ≡ To (done_with c w (variables_at_mark (rest c w.team.procs w.top) (slots_of w.top.variables.slots.items)) (from_mark (rest c w.team.procs w.top)))
+    ≡ To (done_with c w (variables_at_mark (rest c w.team.procs w.top) (slots_of w.top.variables.slots.items)) (from_mark (rest c w.team.procs w.top)))
 continues_on c w ws h = rw (marked_rest (site_of c w.team.procs w.top) (body_of c w.top) w.top.levels.items ∙ h) refl
 
 pub breaks_nowhere : (c : NumberedProgram) (w : Walker) (ws : List Work) → in_loop w.top.levels.items ≡ false

@@ -5,8 +5,7 @@ use Rattle.std.proofs.lemmas.List.{reverse-append}
 use Rattle.ti_lang.specs.Program.Classes.{NumberedProgram}
 use Rattle.ti_lang.specs.Program.Statements.{NumberedStm, NumberedStms}
 use Rattle.ti_lang.specs.Program.Statements as s
-use Rattle.ti_lang.specs.Meaning.Processes.{Work, Do, End}
-use Rattle.ti_eval.specs.declared.frame.Todo.{Todo}
+use Rattle.ti_lang.specs.Meaning.Processes.{Do, End}
 use Rattle.ti_eval.specs.declared.frame.Todo.TheVariants as todo
 use Rattle.ti_eval.specs.declared.frame.Level.{Level}
 use Rattle.ti_eval.specs.declared.frame.Part.TheVariants as part

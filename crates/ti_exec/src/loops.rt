@@ -148,11 +148,14 @@ impl Walker {
                 }
                 self.spent += 1;
                 let point = Held::plain(Value::Pt(p));
-                self.enter(Part::Body, Todo::Turn {
-                    variable,
-                    domain,
-                    point,
-                })?;
+                self.enter(
+                    Part::Body,
+                    Todo::Turn {
+                        variable,
+                        domain,
+                        point,
+                    },
+                )?;
                 Ok(Turn::Went)
             }
             None => {

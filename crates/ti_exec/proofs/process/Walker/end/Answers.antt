@@ -1,10 +1,9 @@
-use Rattle.std.proofs.Common.{◌≡◌, ◌∙◌, ap}
+use Rattle.std.proofs.Common.{◌∙◌, ap}
 use Rattle.ti_lang.specs.Program.Views.{program_of}
 use Rattle.ti_lang.specs.Meaning.Performing.{declared_in}
 use Rattle.ti_lang.specs.Meaning.Scoping.{without}
-use Rattle.ti_eval.specs.Frames.{slots_of}
 use Rattle.ti_eval.specs.declared.frame.Todo.TheVariants.{Inside}
-use Rattle.ti_exec.specs.States.{here, left_in}
+use Rattle.ti_exec.specs.States.{left_in}
 use Rattle.ti_exec.specs.Walking.{done_with}
 use Rattle.ti_exec.proofs.Begun.{vars, went_out, ended}
 use Rattle.ti_exec.proofs.process.Walker.end.Goals as goal

@@ -8,4 +8,4 @@ pub returns : goal.returns
 returns c =
     let w = c.args.self.now in
     λ p. went p w c.done.new.self (left.Turn c.args.variable c.args.domain c.args.point) _ _ _ (turn_done p w c.args.variable c.args.domain c.args.point c.requires)
-      (ap (λ q. left_in p w.team.procs w.top (left.Each c.args.variable c.args.domain (Some q))) c.point-2.ensures.value) (c.done.ensures p)
+    (ap (λ q. left_in p w.team.procs w.top (left.Each c.args.variable c.args.domain (Some q))) c.point-2.ensures.value) (c.done.ensures p)
