@@ -1,9 +1,12 @@
 pub mod Advances
 pub mod Asked
 pub mod Beginnings
+pub mod Begun
 pub mod Few
 pub mod Fieldless
 pub mod Formed
+pub mod Marks
+pub mod Settling
 pub mod Spots
 pub mod Standings
 pub mod Works

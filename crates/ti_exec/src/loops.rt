@@ -1,22 +1,315 @@
-// What is left of statements.
+// The work that is left of a statement that has begun.
 
-ghost use Rattle.std.specs.Prelude.{◌<◌, length, IfOk};
+ghost use Rattle.std.specs.Prelude.{◌≡◌, ◌<◌, IfOk, OnOk, length, [], ◌∷◌};
+ghost use Rattle.ti_lang.specs.Program.Classes.{NumberedProgram};
 ghost use Rattle.ti_lang.specs.Program.Views.{program_of};
-ghost use Rattle.ti_exec.specs.States.{IsTurn, IsSettled, IsBegun};
+ghost use Rattle.ti_lang.specs.Meaning.Processes.{End};
+ghost use Rattle.ti_lang.specs.Meaning.Performing.{condition as condition_spec};
+ghost use Rattle.ti_eval.specs.declared.frame.Todo.{Todo as What};
+ghost use Rattle.ti_eval.specs.declared.frame.Todo.TheVariants as left;
+ghost use Rattle.ti_eval.specs.Frames.{Site, condition_in, work_of, end_of_for, member_place as member_place_spec};
+ghost use Rattle.ti_moves.specs.Receiving.{stm_seen};
+ghost use Rattle.ti_exec.specs.declared.process.Mode.TheVariants.{Walks};
+ghost use Rattle.ti_exec.specs.declared.process.Turn.TheVariants.{Went};
+ghost use Rattle.ti_exec.specs.States.{site_of, here, env_in, IsStep, IsTurn, IsSettled, IsBegun, IsAtHand};
+ghost use Rattle.ti_exec.specs.Walking.{walking, turning, Decides, IsTurnAt};
 
-use crate::process::{Turn, Walker};
+use crate::process::{Mode, Turn, Walker};
 use std::alloc::Global;
-use ti_base::Memory;
-use ti_lang::program::Parts;
+use ti_base::{FaultKind, Id, Memory, Place, Point, Value};
+use ti_eval::{Held, Part, Stop, Todo};
+use ti_lang::program::{Expr, Parts, Stmt};
+use ti_moves::{condition, copy_element, has_update, is_for, loop_place, next_point, take_element};
+
+// The place of the member that a statement calls.
+fn member_place(x: Option<&Stmt>) -> Place
+    ensures { result ≡ member_place_spec (stm_seen x.entry) }
+{
+    match x {
+        Some(s) => match s {
+            Stmt::Call(e) => match e {
+                Expr::Member { place, .. } => *place,
+                _ => Place { line: 0, col: 0 },
+            },
+            _ => Place { line: 0, col: 0 },
+        },
+        None => Place { line: 0, col: 0 },
+    }
+}
+
+/// What is left of a statement behind the turns of a loop.
+pub(crate) fn behind_loop(x: Option<&Stmt>) -> Todo
+    ensures { (site : Site) → work_of site (stm_seen x.entry) result ≡ end_of_for (stm_seen x.entry) }
+{
+    if is_for(x) {
+        Todo::Ending
+    } else {
+        Todo::Inside
+    }
+}
 
 impl Walker {
-    // The step at what is left of the innermost statement.
+    // The end of a block or a `for`: what it declared leaves.
+    #[tactic(auto, using(crate::proofs::Begun::begun))]
+    fn end(&mut self, c: &Parts)
+        requires { 0 < length self.old.top.levels.items }
+        ensures { (t : What) → work_of (site_of (program_of c.now) self.old.team.procs self.old.top) (here (program_of c.now) self.old.top) t ≡ End (here (program_of c.now) self.old.top) ∷ [] → IsTurnAt (program_of c.now) self.old t Went self.new }
+    {
+        let x = self.top.stands(c);
+        self.top.variables.leave(x);
+        self.done(Todo::Inside);
+    }
+
+    // A turn of a `while` or a `for`, or what comes behind the last one.
+    #[tactic(auto, using(crate::proofs::Begun::begun))]
+    fn turn(&mut self, c: &Parts, again: bool) -> Result<Turn, Memory>
+        requires { 0 < length self.old.top.levels.items }
+        ensures { IfOk result (λ r. IsStep (program_of c.now) (walking (program_of c.now) self.old left.Before) (turning (program_of c.now) self.old again) r self.new) }
+    {
+        let x = self.top.stands(c);
+        if !again {
+            self.done(behind_loop(x));
+            return Ok(Turn::Went);
+        }
+        if self.spent >= self.fuel {
+            self.mode = Mode::Walks(Todo::Before);
+            return Ok(Turn::Fails(FaultKind::Fuel, loop_place(x)));
+        }
+        self.spent += 1;
+        self.enter(Part::Body, Todo::Behind)?;
+        Ok(Turn::Went)
+    }
+
+    // Whether the condition of a `while` or a `for` is true.
+    #[tactic(auto, using(crate::proofs::Begun::begun))]
+    fn again(&self, alloc: Global, c: &Parts) -> Result<bool, Stop>
+        requires { 0 < length self.now.top.levels.items }
+        ensures { Decides result (condition_spec (env_in (program_of c.now) self.now) (condition_in (here (program_of c.now) self.now.top)) self.now.answers.items) }
+    {
+        let x = self.top.stands(c);
+        let env = self.env(c);
+        match condition(alloc, &env, x, &self.answers) {
+            Ok((h, _)) => Ok(h.is_true()),
+            Err(stop) => Err(stop),
+        }
+    }
+
+    // The next turn of a `while` or a `for`, if its condition is true.
+    #[tactic(auto, using(crate::proofs::Begun::begun))]
+    fn before(&mut self, alloc: Global, c: &Parts) -> Result<Turn, Memory>
+        requires { 0 < length self.old.top.levels.items }
+        ensures { IfOk result (λ r. IsTurnAt (program_of c.now) self.old left.Before r self.new) }
+    {
+        match self.again(alloc, c) {
+            Ok(again) => Ok(self.turn(c, again)?),
+            Err(stop) => {
+                self.mode = Mode::Walks(Todo::Before);
+                Ok(self.stops(stop)?)
+            }
+        }
+    }
+
+    // The end of a turn of a `while` or a `for`.
+    #[tactic(auto, using(crate::proofs::Begun::begun))]
+    fn behind(&mut self, c: &Parts) -> Result<(), Memory>
+        requires { 0 < length self.old.top.levels.items }
+        ensures { OnOk result (IsTurnAt (program_of c.now) self.old left.Behind Went self.new) }
+    {
+        if has_update(self.top.stands(c)) {
+            self.enter(Part::Update, Todo::Before)?;
+        } else {
+            self.done(Todo::Before);
+        }
+        Ok(())
+    }
+
+    // The next turn of a `foreach`, if a point is left.
+    #[tactic(auto, using(crate::proofs::Begun::begun))]
+    fn each(
+        &mut self,
+        c: &Parts,
+        variable: u32,
+        domain: Held,
+        last: Option<Point>,
+    ) -> Result<Turn, Memory>
+        requires { 0 < length self.old.top.levels.items }
+        ensures { IfOk result (λ r. IsTurnAt (program_of c.now) self.old (left.Each variable domain last) r self.new) }
+    {
+        match next_point(&domain, last) {
+            Some(p) => {
+                if self.spent >= self.fuel {
+                    let at = loop_place(self.top.stands(c));
+                    self.mode = Mode::Walks(Todo::Each {
+                        variable,
+                        domain,
+                        last,
+                    });
+                    return Ok(Turn::Fails(FaultKind::Fuel, at));
+                }
+                self.spent += 1;
+                let point = Held::plain(Value::Pt(p));
+                self.enter(
+                    Part::Body,
+                    Todo::Turn {
+                        variable,
+                        domain,
+                        point,
+                    },
+                )?;
+                Ok(Turn::Went)
+            }
+            None => {
+                self.done(Todo::Inside);
+                Ok(Turn::Went)
+            }
+        }
+    }
+
+    // The end of a turn of a `foreach`.
+    #[tactic(auto, using(crate::proofs::Begun::begun))]
+    fn turned(&mut self, variable: u32, domain: Held, point: Held)
+        requires { 0 < length self.old.top.levels.items }
+        ensures { (c : NumberedProgram) → IsTurnAt c self.old (left.Turn variable domain point) Went self.new }
+    {
+        let last = Some(point.point());
+        self.done(Todo::Each {
+            variable,
+            domain,
+            last,
+        });
+    }
+
+    // A copy of a grid at its next point, if one is left.
+    #[tactic(auto, using(crate::proofs::Begun::begun))]
+    fn copying(
+        &mut self,
+        c: &Parts,
+        to: Id,
+        from: Id,
+        domain: Held,
+        last: Option<Point>,
+    ) -> Result<Turn, Memory>
+        requires { 0 < length self.old.top.levels.items }
+        ensures { IfOk result (λ r. IsTurnAt (program_of c.now) self.old (left.Copying to from domain last) r self.new) }
+    {
+        match next_point(&domain, last) {
+            Some(p) => {
+                let at = member_place(self.top.stands(c));
+                match copy_element(at, to, from, p, &self.answers) {
+                    Ok(_) => {
+                        self.done(Todo::Copying {
+                            to,
+                            from,
+                            domain,
+                            last: Some(p),
+                        });
+                        Ok(Turn::Went)
+                    }
+                    Err(stop) => {
+                        self.mode = Mode::Walks(Todo::Copying {
+                            to,
+                            from,
+                            domain,
+                            last,
+                        });
+                        Ok(self.stops(stop)?)
+                    }
+                }
+            }
+            None => {
+                self.done(Todo::Inside);
+                Ok(Turn::Went)
+            }
+        }
+    }
+
+    // An exchange, with the value of the next process, if one is left.
+    #[tactic(auto, using(crate::proofs::Begun::begun))]
+    fn taking(&mut self, c: &Parts, grid: Id, next: u32) -> Result<Turn, Memory>
+        requires { 0 < length self.old.top.levels.items }
+        ensures { IfOk result (λ r. IsTurnAt (program_of c.now) self.old (left.Taking grid next) r self.new) }
+    {
+        if next >= self.team.procs {
+            self.done(Todo::Inside);
+            return Ok(Turn::Went);
+        }
+        let at = member_place(self.top.stands(c));
+        match take_element(at, grid, next, &self.answers) {
+            Ok(_) => {
+                self.done(Todo::Taking {
+                    grid,
+                    next: next + 1,
+                });
+                Ok(Turn::Went)
+            }
+            Err(stop) => {
+                self.mode = Mode::Walks(Todo::Taking { grid, next });
+                Ok(self.stops(stop)?)
+            }
+        }
+    }
+
+    // What is left of a statement that has begun.
+    #[tactic(auto, using(crate::proofs::Begun::begun))]
+    fn rest(&mut self, alloc: Global, c: &Parts, todo: Todo) -> Result<Turn, Memory>
+        requires inner { 0 < length self.old.top.levels.items }
+        requires settled { IsAtHand (here (program_of c.now) self.old.top) (length self.old.top.levels.items) todo }
+        requires begun { IsBegun (Walks todo) }
+        ensures { IfOk result (λ r. IsTurnAt (program_of c.now) self.old todo r self.new) }
+    {
+        match todo {
+            Todo::Here => unreachable!(),
+            Todo::Inside => unreachable!(),
+            Todo::From(_) => {
+                self.end(c);
+                Ok(Turn::Went)
+            }
+            Todo::Ending => {
+                self.end(c);
+                Ok(Turn::Went)
+            }
+            Todo::Before => Ok(self.before(alloc, c)?),
+            Todo::Behind => {
+                self.behind(c)?;
+                Ok(Turn::Went)
+            }
+            Todo::Each {
+                variable,
+                domain,
+                last,
+            } => Ok(self.each(c, variable, domain, last)?),
+            Todo::Turn {
+                variable,
+                domain,
+                point,
+            } => {
+                self.turned(variable, domain, point);
+                Ok(Turn::Went)
+            }
+            Todo::Copying {
+                to,
+                from,
+                domain,
+                last,
+            } => Ok(self.copying(c, to, from, domain, last)?),
+            Todo::Taking { grid, next } => Ok(self.taking(c, grid, next)?),
+        }
+    }
+
+    /// One step at what is left of a statement that has begun.
+    #[tactic(auto, using(crate::proofs::Begun::begun))]
     pub(crate) fn at_rest(&mut self, alloc: Global, c: &Parts) -> Result<Turn, Memory>
         requires inner { 0 < length self.old.top.levels.items }
         requires settled { IsSettled (program_of c.now) self.old }
         requires begun { IsBegun self.old.mode }
-        ensures { IfOk result (λ t. IsTurn (program_of c.now) self.old t self.new) }
+        ensures { IfOk result (λ r. IsTurn (program_of c.now) self.old r self.new) }
     {
-        Err(Memory)
+        match std::mem::replace(&mut self.mode, Mode::Walks(Todo::Inside)) {
+            Mode::Walks(todo) => Ok(self.rest(alloc, c, todo)?),
+            Mode::Receives(_) => unreachable!(),
+            Mode::Waits(_, _) => unreachable!(),
+            Mode::Expects(_) => unreachable!(),
+            Mode::Ended => unreachable!(),
+        }
     }
 }

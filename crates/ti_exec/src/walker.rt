@@ -1,16 +1,23 @@
-// What a process does next.
+// How a process gets to the work at hand.
 
-ghost use Rattle.std.specs.Prelude.{◌≡◌, ◌<◌, length, OnOk};
+ghost use Rattle.std.specs.Prelude.{◌≡◌, ◌<◌, ℕ, IsTrue, IfSome, OnOk, None, length, map, ◌∷◌};
+ghost use Rattle.ti_lang.specs.Program.Classes.{NumberedProgram};
 ghost use Rattle.ti_lang.specs.Program.Views.{program_of};
-ghost use Rattle.ti_eval.specs.Frames.{method_seen};
+ghost use Rattle.ti_lang.specs.Meaning.Processes.{Do};
+ghost use Rattle.ti_eval.specs.declared.frame.Todo.TheVariants.{Inside, From};
+ghost use Rattle.ti_eval.specs.Frames.{slots_of, list_in, method_seen};
+ghost use Rattle.ti_eval.specs.Places.{part_of};
 ghost use Rattle.ti_moves.specs.Moves.{method_at};
 ghost use Rattle.ti_moves.specs.Receiving.{stm_seen};
-ghost use Rattle.ti_exec.specs.States.{process_of, here, IsSettled};
+ghost use Rattle.ti_exec.specs.declared.process.Mode.TheVariants.{Walks};
+ghost use Rattle.ti_exec.specs.States.{here, left_in, process_of, IsSettled};
+ghost use Rattle.ti_exec.specs.Walking.{done_with};
 
-use crate::process::{Call, Walker};
+use crate::process::{Call, Mode, Walker};
 use ti_base::Memory;
+use ti_eval::{Level, Part, Todo};
 use ti_lang::program::{Method, Parts, Stmt};
-use ti_moves::statement_at;
+use ti_moves::{count, statement_at};
 
 impl Call {
     // Its method.
@@ -35,14 +42,112 @@ impl Call {
             None => None,
         }
     }
+
+    // How many statements the list of its innermost block has.
+    #[tactic(auto, using(crate::proofs::Settling::settling))]
+    fn list_len(&self, c: &Parts) -> usize
+        ensures { result ≡ length (list_in (here (program_of c.now) self.now)) }
+    {
+        match self.method_in(c) {
+            Some(m) => count(&m.body, &self.levels),
+            None => count(&[], &self.levels),
+        }
+    }
+}
+
+// Nothing is left of the innermost statement.
+fn is_done(mode: &Mode) -> bool
+    ensures yes { IsTrue result → mode.now ≡ Walks Inside }
+    ensures no { mode.now ≡ Walks Inside → IsTrue result }
+{
+    match mode {
+        Mode::Walks(todo) => match todo {
+            Todo::Inside => true,
+            _ => false,
+        },
+        _ => false,
+    }
+}
+
+// The number of the statement from which on those of a list are left.
+fn item_next(mode: &Mode) -> Option<usize>
+    ensures some { IfSome result (λ n. mode.now ≡ Walks (From n)) }
+    ensures none { (n : ℕ) → mode.now ≡ Walks (From n) → result ≡ None → ⊥ }
+{
+    match mode {
+        Mode::Walks(todo) => match todo {
+            Todo::From(n) => Some(*n),
+            _ => None,
+        },
+        _ => None,
+    }
 }
 
 impl Walker {
-    // What the process does next is at hand.
+    /// The current work is done, and this is left of the innermost statement.
+    pub(crate) fn done(&mut self, todo: Todo)
+        ensures { (c : NumberedProgram) → process_of c self.new ≡ done_with c self.old (slots_of self.old.top.variables.slots.items) (left_in c self.old.team.procs self.old.top todo) }
+    {
+        self.answers.clear();
+        self.mode = Mode::Walks(todo);
+    }
+
+    /// The current work is done, a part of the innermost statement comes next, and behind it this is left.
+    #[tactic(auto, using(crate::proofs::Works::lefts))]
+    pub(crate) fn enter(&mut self, inner: Part, todo: Todo) -> Result<(), Memory>
+        ensures { OnOk result ((c : NumberedProgram) → process_of c self.new ≡ done_with c self.old (slots_of self.old.top.variables.slots.items) (Do (part_of (here c self.old.top) inner) ∷ left_in c self.old.team.procs self.old.top todo)) }
+    {
+        self.top.levels.push(Level { todo, inner })?;
+        self.answers.clear();
+        self.mode = Mode::Walks(Todo::Here);
+        Ok(())
+    }
+
+    // The statements of which nothing is left are left.
+    #[tactic(auto, using(crate::proofs::Works::lefts))]
+    fn pop_done(&mut self)
+        ensures same { (c : NumberedProgram) → process_of c self.new ≡ process_of c self.old }
+        ensures settled { self.new.mode ≡ Walks Inside → length self.new.top.levels.items ≡ 0 }
+    {
+        'pop: while is_done(&self.mode) {
+            match self.top.levels.pop() {
+                Some(level) => {
+                    let Level { todo, inner: _ } = level;
+                    self.mode = Mode::Walks(todo);
+                }
+                None => return,
+            }
+        }
+    }
+
+    // The next statement of a list is entered, if one is left.
+    #[tactic(auto, using(crate::proofs::Settling::settling))]
+    fn enter_item(&mut self, c: &Parts) -> Result<(), Memory>
+        requires { self.old.mode ≡ Walks Inside → length self.old.top.levels.items ≡ 0 }
+        ensures same { OnOk result (process_of (program_of c.now) self.new ≡ process_of (program_of c.now) self.old) }
+        ensures settled { OnOk result (IsSettled (program_of c.now) self.new) }
+    {
+        match item_next(&self.mode) {
+            Some(n) => {
+                if n < self.top.list_len(c) {
+                    self.top.levels.push(Level {
+                        todo: Todo::From(n + 1),
+                        inner: Part::Item(n),
+                    })?;
+                    self.mode = Mode::Walks(Todo::Here);
+                }
+                Ok(())
+            }
+            None => Ok(()),
+        }
+    }
+
+    /// Gets to the work at hand, for which nothing changes that the process stands for.
     pub(crate) fn settle(&mut self, c: &Parts) -> Result<(), Memory>
         ensures same { OnOk result (process_of (program_of c.now) self.new ≡ process_of (program_of c.now) self.old) }
         ensures settled { OnOk result (IsSettled (program_of c.now) self.new) }
     {
-        Err(Memory)
+        self.pop_done();
+        Ok(self.enter_item(c)?)
     }
 }

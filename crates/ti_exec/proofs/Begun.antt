@@ -1,0 +1,322 @@
+-- The steps at what is left of a statement.
+use Rattle.std.proofs.Common.{◌≡◌, ◌∙◌, ap, sym, refl, subst, ℕ, suc, ◌+◌, ◌-◌, ◌<◌, ◌≤◌, Bool, true, false, cond, List, [], ◌∷◌, ◌++◌, map, length, reverse, Option, Some, arith, drop_of_length-le}
+use Rattle.std.proofs.lemmas.Bool.{lt-ltb, le-ltb}
+use Rattle.ti_base.specs.declared.place.Place.{Place}
+use Rattle.ti_base.specs.declared.point.Point.{Point}
+use Rattle.ti_base.specs.declared.value.Id.{Id}
+use Rattle.ti_base.specs.declared.value.Value.TheVariants.{Pt}
+use Rattle.ti_base.specs.declared.fault.FaultKind.TheVariants.{Fuel}
+use Rattle.ti_base.specs.declared.entry.Answer.{Answer}
+use Rattle.ti_lang.specs.Program.Classes.{NumberedProgram}
+use Rattle.ti_lang.specs.Program.Types.{ValueType}
+use Rattle.ti_lang.specs.Program.Expressions as e
+use Rattle.ti_lang.specs.Program.Expressions.{NumberedExps}
+use Rattle.ti_lang.specs.Program.Statements.{NumberedStm}
+use Rattle.ti_lang.specs.Program.Statements as s
+use Rattle.ti_lang.specs.Meaning.Held.{Held, Plain, point_of, truth_of}
+use Rattle.ti_lang.specs.Meaning.Asking.{Got, Gives, Asks, Fails, followed, gives, Reference}
+use Rattle.ti_lang.specs.Meaning.Copies.{counted, copied, taken}
+use Rattle.ti_lang.specs.Meaning.Moves.{Move, Goes}
+use Rattle.ti_lang.specs.Meaning.Performing.{condition, before_turn, declared_in}
+use Rattle.ti_lang.specs.Meaning.Processes.{Process, Frame, Variable, Work, Do, End, Before, Behind, CopyAll, TakeAll}
+use Rattle.ti_lang.specs.Meaning.Scoping.{Env, env_of, without}
+use Rattle.ti_lang.specs.Meaning.Statements.{maybe_do}
+use Rattle.ti_lang.specs.Meaning.Steps.{Step, To, Faults, step, works, moves, valued, ticks, spends}
+use Rattle.ti_eval.specs.declared.stop.Stop.{Stop}
+use Rattle.ti_eval.specs.declared.frame.Todo.{Todo}
+use Rattle.ti_eval.specs.declared.frame.Todo.TheVariants as todo
+use Rattle.ti_eval.specs.declared.frame.Part.TheVariants as part
+use Rattle.ti_eval.specs.Comes.{Stops}
+use Rattle.ti_eval.specs.Places.{part_of}
+use Rattle.ti_eval.specs.Frames.{Site, slots_of, list_in, work_of, place_of, condition_in, update_in, loop_of, foreach_of, end_of_for, points_above, reference, first_reference, member_place, member_receiver, member_args}
+use Rattle.ti_eval.proofs.Steps.{then_stops}
+use Rattle.ti_exec.specs.declared.process.Mode.{Mode}
+use Rattle.ti_exec.specs.declared.process.Mode.TheVariants as mode
+use Rattle.ti_exec.specs.declared.process.Turn.{Turn}
+use Rattle.ti_exec.specs.declared.process.Turn.TheVariants as turn
+use Rattle.ti_exec.specs.declared.process.Walker.{Walker}
+use Rattle.ti_exec.specs.States.{IsStep, IsTurn, process_of, going_on, top_of, below_of, site_of, body_of, here, left_in, rest, env_in}
+use Rattle.ti_exec.specs.Walking.{walking, IsTurnAt, done_with, turn_if, turning, truth_in}
+use Rattle.ti_exec.proofs.Works.{left_within, left_inside}
+
+-- ---- in general
+
+-- the variables in scope
+abbrev pub vars : Walker → List Variable
+vars w = slots_of w.top.variables.slots.items
+
+-- the step at this work, behind which the rest is left
+abbrev pub works_there : NumberedProgram → Walker → Todo → List Work → Step
+works_there c w t ws = works (walking c w t) (top_of c w (left_in c w.team.procs w.top t)) (below_of c w) (ws ++ rest c w.team.procs w.top)
+
+pub left_here : (c : NumberedProgram) (w : Walker) (t : Todo) → 0 < length w.top.levels.items
+    → left_in c w.team.procs w.top t ≡ work_of (site_of c w.team.procs w.top) (here c w.top) t ++ rest c w.team.procs w.top
+left_here c w t h = left_within _ _ w.top.levels.items t h
+
+pub step_there : (c : NumberedProgram) (w : Walker) (t : Todo) (ws : List Work) → 0 < length w.top.levels.items → work_of (site_of c w.team.procs w.top) (here c w.top) t ≡ ws
+    → step (walking c w t) ≡ works_there c w t ws
+step_there c w t ws h e =
+    ap (works (walking c w t) (top_of c w (left_in c w.team.procs w.top t)) (below_of c w)) (left_here c w t h ∙ ap (λ us. us ++ rest c w.team.procs w.top) e)
+
+pub step_is : (c : NumberedProgram) (p : Process) (s z : Step) (r : Turn) (new : Walker) → s ≡ z → IsStep c p z r new → IsStep c p s r new
+step_is c p s z r new e h = subst (λ (y : Step). IsStep c p y r new) (sym e) h
+
+-- a silent step to what is left then
+pub went : (c : NumberedProgram) (old new : Walker) (t : Todo) (variables : List Variable) (ws us : List Work) → step (walking c old t) ≡ To (done_with c old variables ws) → us ≡ ws
+    → process_of c new ≡ done_with c old variables us → IsTurnAt c old t turn.Went new
+went c old new t variables ws us s l e = s ∙ ap To (ap (done_with c old variables) (sym l) ∙ sym e)
+
+-- a silent step behind the innermost statement
+pub went_out : (c : NumberedProgram) (old new : Walker) (t : Todo) (variables : List Variable) → step (walking c old t) ≡ To (done_with c old variables (rest c old.team.procs old.top))
+    → process_of c new ≡ done_with c old variables (left_in c old.team.procs old.top todo.Inside) → IsTurnAt c old t turn.Went new
+went_out c old new t variables s e =
+    went c old new t variables (rest c old.team.procs old.top) (left_in c old.team.procs old.top todo.Inside) s (left_inside (site_of c old.team.procs old.top) (body_of c old.top) (reverse old.top.levels.items)) e
+
+-- the mode of the process
+pub turn_in_mode : (c : NumberedProgram) (old new : Walker) (t : Todo) (r : Turn) → old.mode ≡ mode.Walks t → IsTurnAt c old t r new → IsTurn c old r new
+turn_in_mode c old new t r m h = subst (λ (n : Mode). IsStep c (going_on c old n old.answers.items) (step (going_on c old n old.answers.items)) r new) (sym m) h
+
+-- a tick is left, or none
+ticked : (p : Process) (at : Place) (after : Step) → p.spent < p.setting.fuel → ticks p at after ≡ after
+ticked p at after h = rw (lt-ltb p.spent p.setting.fuel h) refl
+
+unticked : (p : Process) (at : Place) (after : Step) → p.setting.fuel ≤ p.spent → ticks p at after ≡ Faults Fuel at
+unticked p at after h = rw (le-ltb p.spent p.setting.fuel h) refl
+
+-- ---- the ends of blocks
+
+pub block_done : (site : Site) (x : NumberedStm) (n : ℕ) → length (list_in x) ≤ n → work_of site x (todo.From n) ≡ End x ∷ []
+block_done site x n h = ap (λ xs. map Do xs ++ End x ∷ []) (drop_of_length-le (list_in x) h)
+
+pub ended : (c : NumberedProgram) (w : Walker) (t : Todo) → 0 < length w.top.levels.items → work_of (site_of c w.team.procs w.top) (here c w.top) t ≡ End (here c w.top) ∷ []
+    → step (walking c w t) ≡ To (done_with c w (without (declared_in (here c w.top)) (vars w)) (rest c w.team.procs w.top))
+ended c w t h e = step_there c w t _ h e
+
+-- ---- `while` and `for`
+
+env_at_end : (p : Process) (f : Frame) (x : NumberedStm) (ws : List Work) → env_of p f (end_of_for x ++ ws) ≡ env_of p f ws
+env_at_end p f (s.For at first c update body) ws = refl
+env_at_end p f s.Empty ws = refl
+env_at_end p f (s.Declare at type variable value) ws = refl
+env_at_end p f (s.Assign at target value) ws = refl
+env_at_end p f (s.Update at op target y) ws = refl
+env_at_end p f (s.Step at op target) ws = refl
+env_at_end p f (s.Call y) ws = refl
+env_at_end p f (s.Print at what) ws = refl
+env_at_end p f (s.Barrier at) ws = refl
+env_at_end p f (s.If at c y) ws = refl
+env_at_end p f (s.IfElse at c y z) ws = refl
+env_at_end p f (s.While at c body) ws = refl
+env_at_end p f (s.Foreach at variable domain body) ws = refl
+env_at_end p f (s.Block body) ws = refl
+env_at_end p f (s.Break at) ws = refl
+env_at_end p f (s.Continue at) ws = refl
+env_at_end p f (s.Return at value) ws = refl
+
+-- what a `while` or a `for` comes to before a turn
+abbrev pub condition_got : NumberedProgram → Walker → Got Move
+condition_got c w = followed (condition (env_in c w) (condition_in (here c w.top)) w.answers.items) (λ h. gives (turn_if c w (truth_of h)))
+
+-- where it goes on then
+abbrev pub goes_before : NumberedProgram → Walker → Move → Step
+goes_before c w = moves (walking c w todo.Before) (top_of c w (left_in c w.team.procs w.top todo.Before)) (below_of c w) (end_of_for (here c w.top) ++ rest c w.team.procs w.top)
+
+pub before_there : (c : NumberedProgram) (w : Walker) → 0 < length w.top.levels.items
+    → step (walking c w todo.Before) ≡ valued (walking c w todo.Before) (condition_got c w) (goes_before c w)
+before_there c w h =
+    step_there c w todo.Before _ h refl
+    ∙ ap (λ (env : Env). valued (walking c w todo.Before) (before_turn env (loop_of (here c w.top)) w.answers.items) (goes_before c w))
+    (env_at_end (walking c w todo.Before) (top_of c w (left_in c w.team.procs w.top todo.Before)) (here c w.top) (rest c w.team.procs w.top))
+
+decided_by : (c : NumberedProgram) (w : Walker) (b : Bool) (got : Got Held) → truth_in got ≡ Some b
+    → valued (walking c w todo.Before) (followed got (λ h. gives (turn_if c w (truth_of h)))) (goes_before c w) ≡ turning c w b
+decided_by c w b (Gives h more) e = let f : truth_of h ≡ b = cc in ap (turning c w) f
+decided_by c w b (Asks q) e = cc
+decided_by c w b (Fails kind at) e = cc
+
+pub same_condition : (e f : Env) (x y : NumberedStm) (ts bs : List Answer) → e ≡ f → x ≡ y → ts ≡ bs → condition e (condition_in x) ts ≡ condition f (condition_in y) bs
+same_condition e f x y ts bs i j k = ap (λ (z : Env). condition z (condition_in x) ts) i ∙ ap (λ (z : NumberedStm). condition f (condition_in z) ts) j ∙ ap (condition f (condition_in y)) k
+
+condition_stops : (c : NumberedProgram) (w : Walker) (stop : Stop) → Stops stop (condition (env_in c w) (condition_in (here c w.top)) w.answers.items) → Stops stop (condition_got c w)
+condition_stops c w stop h = then_stops stop (condition (env_in c w) (condition_in (here c w.top)) w.answers.items) (λ h. gives (turn_if c w (truth_of h))) h
+
+-- a condition that is known
+pub decided : (c : NumberedProgram) (w : Walker) (b : Bool) → 0 < length w.top.levels.items → truth_in (condition (env_in c w) (condition_in (here c w.top)) w.answers.items) ≡ Some b
+    → step (walking c w todo.Before) ≡ turning c w b
+decided c w b h e = before_there c w h ∙ decided_by c w b (condition (env_in c w) (condition_in (here c w.top)) w.answers.items) e
+
+-- one that isn't known yet
+pub undecided : (c : NumberedProgram) (w new : Walker) (stop : Stop) (r : Turn) → 0 < length w.top.levels.items → Stops stop (condition (env_in c w) (condition_in (here c w.top)) w.answers.items)
+    → (Stops stop (condition_got c w) → IsStep c (walking c w todo.Before) (valued (walking c w todo.Before) (condition_got c w) (goes_before c w)) r new) → IsTurnAt c w todo.Before r new
+undecided c w new stop r h e g = step_is c (walking c w todo.Before) _ _ r new (before_there c w h) (g (condition_stops c w stop e))
+
+-- behind a loop what is left of it
+pub left_behind : (c : NumberedProgram) (w : Walker) (t : Todo) → 0 < length w.top.levels.items → work_of (site_of c w.team.procs w.top) (here c w.top) t ≡ end_of_for (here c w.top)
+    → left_in c w.team.procs w.top t ≡ end_of_for (here c w.top) ++ rest c w.team.procs w.top
+left_behind c w t h e = left_here c w t h ∙ ap (λ us. us ++ rest c w.team.procs w.top) e
+
+-- the end of a turn, with its update and without one
+behind_there : (c : NumberedProgram) (w : Walker) (us : List Work) → 0 < length w.top.levels.items → maybe_do (update_in (here c w.top)) ≡ us
+    → step (walking c w todo.Behind) ≡ To (done_with c w (vars w) ((us ++ Before (loop_of (here c w.top)) ∷ []) ++ (end_of_for (here c w.top) ++ rest c w.team.procs w.top)))
+behind_there c w us h u =
+    step_there c w todo.Behind _ h refl
+    ∙ ap (λ xs. To (done_with c w (vars w) ((xs ++ Before (loop_of (here c w.top)) ∷ []) ++ (end_of_for (here c w.top) ++ rest c w.team.procs w.top)))) u
+
+update_there : (x y : NumberedStm) (b d : Bool) → x ≡ y → b ≡ d → maybe_do (update_in x) ≡ cond b (Do (part_of x part.Update) ∷ []) [] → maybe_do (update_in y) ≡ cond d (Do (part_of y part.Update) ∷ []) []
+update_there x y b d i t u =
+    subst (λ (z : NumberedStm). maybe_do (update_in z) ≡ cond d (Do (part_of z part.Update) ∷ []) []) i (u ∙ ap (λ (k : Bool). cond k (Do (part_of x part.Update) ∷ []) []) t)
+
+pub updates : (c : NumberedProgram) (w : Walker) (x : NumberedStm) (b : Bool) → 0 < length w.top.levels.items → x ≡ here c w.top → b ≡ true
+    → maybe_do (update_in x) ≡ cond b (Do (part_of x part.Update) ∷ []) []
+    → step (walking c w todo.Behind) ≡ To (done_with c w (vars w) (Do (part_of (here c w.top) part.Update) ∷ left_in c w.team.procs w.top todo.Before))
+updates c w x b h i t u =
+    behind_there c w _ h (update_there x (here c w.top) b true i t u) ∙ ap (λ us. To (done_with c w (vars w) (Do (part_of (here c w.top) part.Update) ∷ us))) (sym (left_here c w todo.Before h))
+
+pub turns_again : (c : NumberedProgram) (w : Walker) (x : NumberedStm) (b : Bool) → 0 < length w.top.levels.items → x ≡ here c w.top → b ≡ false
+    → maybe_do (update_in x) ≡ cond b (Do (part_of x part.Update) ∷ []) [] → step (walking c w todo.Behind) ≡ To (done_with c w (vars w) (left_in c w.team.procs w.top todo.Before))
+turns_again c w x b h i t u =
+    behind_there c w _ h (update_there x (here c w.top) b false i t u) ∙ ap (λ us. To (done_with c w (vars w) us)) (sym (left_here c w todo.Before h))
+
+-- ---- `foreach`
+
+pub each_done : (c : NumberedProgram) (w : Walker) (v : ℕ) (d : Held) (last : Option Point) → 0 < length w.top.levels.items → points_above d last ≡ []
+    → step (walking c w (todo.Each v d last)) ≡ To (done_with c w (vars w) (rest c w.team.procs w.top))
+each_done c w v d last h e = step_there c w (todo.Each v d last) _ h (ap (λ ps. Before (foreach_of (here c w.top) v ps) ∷ []) e)
+
+each_there : (c : NumberedProgram) (w : Walker) (v : ℕ) (d : Held) (last : Option Point) (p : Point) (ps : List Point) → 0 < length w.top.levels.items → points_above d last ≡ p ∷ ps
+    → step (walking c w (todo.Each v d last))
+    ≡ ticks (walking c w (todo.Each v d last)) (place_of (here c w.top))
+    (To (spends (done_with c w (vars w) (Do (part_of (here c w.top) part.Body) ∷ Behind (foreach_of (here c w.top) v (p ∷ ps)) ∷ rest c w.team.procs w.top))))
+each_there c w v d last p ps h e = step_there c w (todo.Each v d last) _ h (ap (λ qs. Before (foreach_of (here c w.top) v qs) ∷ []) e)
+
+pub each_fails : (c : NumberedProgram) (w : Walker) (v : ℕ) (d : Held) (last : Option Point) (p : Point) (ps : List Point) (x : NumberedStm) (at : Place) → 0 < length w.top.levels.items → points_above d last ≡ p ∷ ps
+    → w.fuel ≤ w.spent → x ≡ here c w.top → at ≡ place_of x → step (walking c w (todo.Each v d last)) ≡ Faults Fuel at
+each_fails c w v d last p ps x at h e f i a =
+    each_there c w v d last p ps h e ∙ unticked (walking c w (todo.Each v d last)) (place_of (here c w.top)) _ f ∙ ap (Faults Fuel) (sym (a ∙ ap place_of i))
+
+pub each_turns : (c : NumberedProgram) (w new : Walker) (v : ℕ) (d point : Held) (last : Option Point) (p : Point) → 0 < length w.top.levels.items → points_above d last ≡ p ∷ points_above d (Some p)
+    → w.spent < w.fuel → point ≡ Plain (Pt p)
+    → process_of c new ≡ done_with c (record w { spent = w.spent + 1 }) (vars w) (Do (part_of (here c w.top) part.Body) ∷ left_in c w.team.procs w.top (todo.Turn v d point))
+    → IsTurnAt c w (todo.Each v d last) turn.Went new
+each_turns c w new v d point last p h e f i n =
+    let l : left_in c w.team.procs w.top (todo.Turn v d point) ≡ Behind (foreach_of (here c w.top) v (p ∷ points_above d (Some p))) ∷ rest c w.team.procs w.top =
+    ap (λ q. left_in c w.team.procs w.top (todo.Turn v d q)) i ∙ left_here c w (todo.Turn v d (Plain (Pt p))) h in
+    each_there c w v d last p _ h e
+    ∙ ticked (walking c w (todo.Each v d last)) (place_of (here c w.top)) _ f
+    ∙ ap To (sym (n ∙ ap (λ us. done_with c (record w { spent = w.spent + 1 }) (vars w) (Do (part_of (here c w.top) part.Body) ∷ us)) l))
+
+pub turn_done : (c : NumberedProgram) (w : Walker) (v : ℕ) (d point : Held) → 0 < length w.top.levels.items
+    → step (walking c w (todo.Turn v d point)) ≡ To (done_with c w (vars w) (left_in c w.team.procs w.top (todo.Each v d (Some (point_of point)))))
+turn_done c w v d point h =
+    step_there c w (todo.Turn v d point) _ h refl ∙ ap (λ us. To (done_with c w (vars w) us)) (sym (left_here c w (todo.Each v d (Some (point_of point))) h))
+
+-- ---- copies and exchanges
+
+first_thing : (site : Site) (xs : NumberedExps) (id : Id) → first_reference site xs id ≡ record { thing = id; type = (first_reference site xs id).type }
+first_thing site e.NoExp id = refl
+first_thing site (e.MoreExp x xs) id = refl
+
+-- the references of a copy
+abbrev pub to_of : NumberedProgram → Walker → Id → Reference
+to_of c w id = record { thing = id; type = (reference (site_of c w.team.procs w.top) (member_receiver (here c w.top)) id).type }
+
+abbrev pub from_of : NumberedProgram → Walker → Id → Reference
+from_of c w id = record { thing = id; type = (first_reference (site_of c w.team.procs w.top) (member_args (here c w.top)) id).type }
+
+pub copy_done : (c : NumberedProgram) (w : Walker) (to from : Id) (d : Held) (last : Option Point) → 0 < length w.top.levels.items → points_above d last ≡ []
+    → step (walking c w (todo.Copying to from d last)) ≡ To (done_with c w (vars w) (rest c w.team.procs w.top))
+copy_done c w to from d last h e =
+    step_there c w (todo.Copying to from d last) _ h (ap (λ ps. CopyAll (member_place (here c w.top)) (to_of c w to) (first_reference (site_of c w.team.procs w.top) (member_args (here c w.top)) from) ps ∷ []) e)
+
+pub copy_there : (c : NumberedProgram) (w : Walker) (to from : Id) (d : Held) (last : Option Point) (p : Point) (ps : List Point) → 0 < length w.top.levels.items → points_above d last ≡ p ∷ ps
+    → step (walking c w (todo.Copying to from d last))
+    ≡ valued (walking c w (todo.Copying to from d last)) (copied (env_in c w) (member_place (here c w.top)) (to_of c w to) (from_of c w from) (p ∷ ps) w.answers.items)
+    (moves (walking c w (todo.Copying to from d last)) (top_of c w (left_in c w.team.procs w.top (todo.Copying to from d last))) (below_of c w) (rest c w.team.procs w.top))
+copy_there c w to from d last p ps h e =
+    step_there c w (todo.Copying to from d last) _ h
+    (ap (λ r. CopyAll (member_place (here c w.top)) (to_of c w to) r (points_above d last) ∷ []) (first_thing (site_of c w.team.procs w.top) (member_args (here c w.top)) from)
+    ∙ ap (λ qs. CopyAll (member_place (here c w.top)) (to_of c w to) (from_of c w from) qs ∷ []) e)
+
+pub copy_left : (c : NumberedProgram) (w : Walker) (to from : Id) (d : Held) (last : Option Point) → 0 < length w.top.levels.items
+    → left_in c w.team.procs w.top (todo.Copying to from d last) ≡ CopyAll (member_place (here c w.top)) (to_of c w to) (from_of c w from) (points_above d last) ∷ rest c w.team.procs w.top
+copy_left c w to from d last h =
+    left_here c w (todo.Copying to from d last) h
+    ∙ ap (λ r. CopyAll (member_place (here c w.top)) (to_of c w to) r (points_above d last) ∷ rest c w.team.procs w.top) (first_thing (site_of c w.team.procs w.top) (member_args (here c w.top)) from)
+
+pub copy_went : (c : NumberedProgram) (w new : Walker) (to from : Id) (d : Held) (last : Option Point) (p : Point) (x : NumberedStm) (at : Place) (ts more : List Answer) → 0 < length w.top.levels.items
+    → points_above d last ≡ p ∷ points_above d (Some p) → x ≡ here c w.top → at ≡ member_place x → ts ≡ w.answers.items
+    → ((env : Env) (t u : ValueType) (ps : List Point) → copied env at (record { thing = to; type = t }) (record { thing = from; type = u }) (p ∷ ps) ts ≡ Gives (Goes env.variables (CopyAll at (record { thing = to; type = t }) (record { thing = from; type = u }) ps ∷ [])) more)
+    → process_of c new ≡ done_with c w (vars w) (left_in c w.team.procs w.top (todo.Copying to from d (Some p))) → IsTurnAt c w (todo.Copying to from d last) turn.Went new
+copy_went c w new to from d last p x at ts more h e i a b k n =
+    let env : Env = env_in c w in
+    let qs : List Point = points_above d (Some p) in
+    let g : copied env (member_place (here c w.top)) (to_of c w to) (from_of c w from) (p ∷ qs) w.answers.items ≡ Gives (Goes env.variables (CopyAll (member_place (here c w.top)) (to_of c w to) (from_of c w from) qs ∷ [])) more =
+    subst (λ (z : Place). copied env z (to_of c w to) (from_of c w from) (p ∷ qs) w.answers.items ≡ Gives (Goes env.variables (CopyAll z (to_of c w to) (from_of c w from) qs ∷ [])) more) (a ∙ ap member_place i)
+    (subst (λ (bs : List Answer). copied env at (to_of c w to) (from_of c w from) (p ∷ qs) bs ≡ Gives (Goes env.variables (CopyAll at (to_of c w to) (from_of c w from) qs ∷ [])) more) b (k env _ _ qs)) in
+    copy_there c w to from d last p qs h e
+    ∙ ap (λ got. valued (walking c w (todo.Copying to from d last)) got (moves (walking c w (todo.Copying to from d last)) (top_of c w (left_in c w.team.procs w.top (todo.Copying to from d last))) (below_of c w) (rest c w.team.procs w.top))) g
+    ∙ ap To (ap (done_with c w (vars w)) (sym (copy_left c w to from d (Some p) h)) ∙ sym n)
+
+pub copy_stops : (c : NumberedProgram) (w new : Walker) (to from : Id) (d : Held) (last : Option Point) (p : Point) (x : NumberedStm) (at : Place) (ts : List Answer) (stop : Stop) (r : Turn) → 0 < length w.top.levels.items
+    → points_above d last ≡ p ∷ points_above d (Some p) → x ≡ here c w.top → at ≡ member_place x → ts ≡ w.answers.items
+    → ((env : Env) (t u : ValueType) (ps : List Point) → Stops stop (copied env at (record { thing = to; type = t }) (record { thing = from; type = u }) (p ∷ ps) ts))
+    → ((got : Got Move) (go : Move → Step) → Stops stop got → IsStep c (walking c w (todo.Copying to from d last)) (valued (walking c w (todo.Copying to from d last)) got go) r new)
+    → IsTurnAt c w (todo.Copying to from d last) r new
+copy_stops c w new to from d last p x at ts stop r h e i a b k g =
+    let env : Env = env_in c w in
+    let qs : List Point = points_above d (Some p) in
+    let s : Stops stop (copied env (member_place (here c w.top)) (to_of c w to) (from_of c w from) (p ∷ qs) w.answers.items) =
+    subst (λ (z : Place). Stops stop (copied env z (to_of c w to) (from_of c w from) (p ∷ qs) w.answers.items)) (a ∙ ap member_place i)
+    (subst (λ (bs : List Answer). Stops stop (copied env at (to_of c w to) (from_of c w from) (p ∷ qs) bs)) b (k env _ _ qs)) in
+    step_is c (walking c w (todo.Copying to from d last)) _ _ r new (copy_there c w to from d last p qs h e) (g _ _ s)
+
+counted_by : (i n m : ℕ) → n ≡ suc m → counted i n ≡ i ∷ counted (i + 1) m
+counted_by i n m e = ap (counted i) e
+
+pub take_done : (c : NumberedProgram) (w : Walker) (grid : Id) (next : ℕ) → 0 < length w.top.levels.items → w.team.procs ≤ next
+    → step (walking c w (todo.Taking grid next)) ≡ To (done_with c w (vars w) (rest c w.team.procs w.top))
+take_done c w grid next h e =
+    let z : w.team.procs - next ≡ 0 = omega arith in
+    step_there c w (todo.Taking grid next) _ h (ap (λ n. TakeAll (member_place (here c w.top)) (to_of c w grid) (counted next n) ∷ []) z)
+
+pub take_there : (c : NumberedProgram) (w : Walker) (grid : Id) (next : ℕ) → 0 < length w.top.levels.items → next < w.team.procs
+    → step (walking c w (todo.Taking grid next))
+    ≡ valued (walking c w (todo.Taking grid next)) (taken (env_in c w) (member_place (here c w.top)) (to_of c w grid) (next ∷ counted (next + 1) (w.team.procs - (next + 1))) w.answers.items)
+    (moves (walking c w (todo.Taking grid next)) (top_of c w (left_in c w.team.procs w.top (todo.Taking grid next))) (below_of c w) (rest c w.team.procs w.top))
+take_there c w grid next h e =
+    step_there c w (todo.Taking grid next) _ h
+    (ap (λ is. TakeAll (member_place (here c w.top)) (to_of c w grid) is ∷ []) (counted_by next (w.team.procs - next) (w.team.procs - (next + 1)) (omega arith)))
+
+pub take_left : (c : NumberedProgram) (w : Walker) (grid : Id) (next : ℕ) → 0 < length w.top.levels.items
+    → left_in c w.team.procs w.top (todo.Taking grid next) ≡ TakeAll (member_place (here c w.top)) (to_of c w grid) (counted next (w.team.procs - next)) ∷ rest c w.team.procs w.top
+take_left c w grid next h = left_here c w (todo.Taking grid next) h
+
+pub take_went : (c : NumberedProgram) (w new : Walker) (grid : Id) (next : ℕ) (x : NumberedStm) (at : Place) (ts more : List Answer) → 0 < length w.top.levels.items
+    → next < w.team.procs → x ≡ here c w.top → at ≡ member_place x → ts ≡ w.answers.items
+    → ((env : Env) (t : ValueType) (is : List ℕ) → taken env at (record { thing = grid; type = t }) (next ∷ is) ts ≡ Gives (Goes env.variables (TakeAll at (record { thing = grid; type = t }) is ∷ [])) more)
+    → process_of c new ≡ done_with c w (vars w) (left_in c w.team.procs w.top (todo.Taking grid (next + 1))) → IsTurnAt c w (todo.Taking grid next) turn.Went new
+take_went c w new grid next x at ts more h e i a b k n =
+    let env : Env = env_in c w in
+    let is : List ℕ = counted (next + 1) (w.team.procs - (next + 1)) in
+    let g : taken env (member_place (here c w.top)) (to_of c w grid) (next ∷ is) w.answers.items ≡ Gives (Goes env.variables (TakeAll (member_place (here c w.top)) (to_of c w grid) is ∷ [])) more =
+    subst (λ (z : Place). taken env z (to_of c w grid) (next ∷ is) w.answers.items ≡ Gives (Goes env.variables (TakeAll z (to_of c w grid) is ∷ [])) more) (a ∙ ap member_place i)
+    (subst (λ (bs : List Answer). taken env at (to_of c w grid) (next ∷ is) bs ≡ Gives (Goes env.variables (TakeAll at (to_of c w grid) is ∷ [])) more) b (k env _ is)) in
+    take_there c w grid next h e
+    ∙ ap (λ got. valued (walking c w (todo.Taking grid next)) got (moves (walking c w (todo.Taking grid next)) (top_of c w (left_in c w.team.procs w.top (todo.Taking grid next))) (below_of c w) (rest c w.team.procs w.top))) g
+    ∙ ap To (ap (done_with c w (vars w)) (sym (take_left c w grid (next + 1) h)) ∙ sym n)
+
+pub take_stops : (c : NumberedProgram) (w new : Walker) (grid : Id) (next : ℕ) (x : NumberedStm) (at : Place) (ts : List Answer) (stop : Stop) (r : Turn) → 0 < length w.top.levels.items
+    → next < w.team.procs → x ≡ here c w.top → at ≡ member_place x → ts ≡ w.answers.items
+    → ((env : Env) (t : ValueType) (is : List ℕ) → Stops stop (taken env at (record { thing = grid; type = t }) (next ∷ is) ts))
+    → ((got : Got Move) (go : Move → Step) → Stops stop got → IsStep c (walking c w (todo.Taking grid next)) (valued (walking c w (todo.Taking grid next)) got go) r new)
+    → IsTurnAt c w (todo.Taking grid next) r new
+take_stops c w new grid next x at ts stop r h e i a b k g =
+    let env : Env = env_in c w in
+    let is : List ℕ = counted (next + 1) (w.team.procs - (next + 1)) in
+    let s : Stops stop (taken env (member_place (here c w.top)) (to_of c w grid) (next ∷ is) w.answers.items) =
+    subst (λ (z : Place). Stops stop (taken env z (to_of c w grid) (next ∷ is) w.answers.items)) (a ∙ ap member_place i)
+    (subst (λ (bs : List Answer). Stops stop (taken env at (to_of c w grid) (next ∷ is) bs)) b (k env (to_of c w grid).type is)) in
+    let go : Move → Step = moves (walking c w (todo.Taking grid next)) (top_of c w (left_in c w.team.procs w.top (todo.Taking grid next))) (below_of c w) (rest c w.team.procs w.top) in
+    step_is c (walking c w (todo.Taking grid next)) _ _ r new (take_there c w grid next h e) (g (taken env (member_place (here c w.top)) (to_of c w grid) (next ∷ is) w.answers.items) go s)
+
+pub ruleset begun = (block_done, turn_in_mode)

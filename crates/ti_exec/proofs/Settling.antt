@@ -1,0 +1,73 @@
+-- How a process gets to the work at hand.
+use Rattle.std.proofs.Common.{◌≡◌, ◌∙◌, ap, sym, refl, ℕ, ◌+◌, ◌<◌, List, [], ◌∷◌, ◌++◌, map, reverse, drop, length, slice_get, unwrap_or, add-one, drop-cons}
+use Rattle.std.proofs.lemmas.Option.{unwrap_or-slice_get}
+use Rattle.std.proofs.lemmas.List.{reverse-append}
+use Rattle.ti_lang.specs.Program.Classes.{NumberedProgram}
+use Rattle.ti_lang.specs.Program.Statements.{NumberedStm, NumberedStms}
+use Rattle.ti_lang.specs.Program.Statements as s
+use Rattle.ti_lang.specs.Meaning.Processes.{Do, End}
+use Rattle.ti_eval.specs.declared.frame.Todo.TheVariants as todo
+use Rattle.ti_eval.specs.declared.frame.Level.{Level}
+use Rattle.ti_eval.specs.declared.frame.Part.TheVariants as part
+use Rattle.ti_eval.specs.Places.{list_of, part_of, inside}
+use Rattle.ti_eval.specs.Frames.{Site, list_in, left_of}
+use Rattle.ti_exec.specs.declared.process.Call.{Call}
+use Rattle.ti_exec.specs.declared.process.Mode.{Mode}
+use Rattle.ti_exec.specs.declared.process.Mode.TheVariants as mode
+use Rattle.ti_exec.specs.States.{AtHandIn}
+
+-- ---- the next statement of a list
+
+part_item : (x : NumberedStm) (n : ℕ) → part_of x (part.Item n) ≡ unwrap_or (slice_get (list_in x) n) s.Empty
+part_item (s.Block body) n = refl
+part_item s.Empty n = refl
+part_item (s.Declare at type variable value) n = refl
+part_item (s.Assign at target value) n = refl
+part_item (s.Update at op target y) n = refl
+part_item (s.Step at op target) n = refl
+part_item (s.Call y) n = refl
+part_item (s.Print at what) n = refl
+part_item (s.Barrier at) n = refl
+part_item (s.If at e y) n = refl
+part_item (s.IfElse at e y z) n = refl
+part_item (s.While at e body) n = refl
+part_item (s.For at first e update body) n = refl
+part_item (s.Foreach at variable domain body) n = refl
+part_item (s.Break at) n = refl
+part_item (s.Continue at) n = refl
+part_item (s.Return at value) n = refl
+
+drop_at : (xs : List NumberedStm) (n : ℕ) → n < length xs → map Do (drop n xs) ≡ Do (unwrap_or (slice_get xs n) s.Empty) ∷ map Do (drop (n + 1) xs)
+drop_at xs n h = ap (map Do) (drop-cons xs n s.Empty h) ∙ rw (add-one, unwrap_or-slice_get xs n s.Empty) refl
+
+next_left : (site : Site) (body : NumberedStms) (ls : List Level) (n : ℕ) → n < length (list_in (inside body ls))
+    → Do (part_of (inside body ls) (part.Item n)) ∷ left_of site body ls (todo.From (n + 1)) ≡ left_of site body ls (todo.From n)
+next_left site body [] n h = sym (drop_at (list_of body) n h)
+next_left site body (l ∷ ls) n h =
+    let x : NumberedStm = inside body (l ∷ ls) in
+    let e : Do (part_of x (part.Item n)) ∷ map Do (drop (n + 1) (list_in x)) ≡ map Do (drop n (list_in x)) = ap (λ y. Do y ∷ map Do (drop (n + 1) (list_in x))) (part_item x n) ∙ sym (drop_at (list_in x) n h) in
+    ap (λ ws. (ws ++ End x ∷ []) ++ left_of site body ls l.todo) e
+
+pub next_item : (site : Site) (body : NumberedStms) (xs : List Level) (n : ℕ) → n < length (list_in (inside body (reverse xs)))
+    → left_of site body (reverse (xs ++ record { todo = todo.From (n + 1); inner = part.Item n } ∷ [])) todo.Here ≡ left_of site body (reverse xs) (todo.From n)
+next_item site body xs n h = rw reverse-append (next_left site body (reverse xs) n h)
+
+-- ---- what is at hand
+
+pub not_in_list : (c : NumberedProgram) (f : Call) (m : Mode) → ((n : ℕ) → m ≡ mode.Walks (todo.From n) → ⊥) → (m ≡ mode.Walks todo.Inside → length f.levels.items ≡ 0) → AtHandIn c f m
+not_in_list c f (mode.Walks (todo.From n)) other done = absurd (other n refl)
+not_in_list c f (mode.Walks todo.Inside) other done = done refl
+not_in_list c f (mode.Walks todo.Here) other done = tt
+not_in_list c f (mode.Walks todo.Ending) other done = tt
+not_in_list c f (mode.Walks todo.Before) other done = tt
+not_in_list c f (mode.Walks todo.Behind) other done = tt
+not_in_list c f (mode.Walks (todo.Each variable domain last)) other done = tt
+not_in_list c f (mode.Walks (todo.Turn variable domain point)) other done = tt
+not_in_list c f (mode.Walks (todo.Copying to from domain last)) other done = tt
+not_in_list c f (mode.Walks (todo.Taking grid next)) other done = tt
+not_in_list c f (mode.Receives h) other done = tt
+not_in_list c f (mode.Waits meeting t) other done = tt
+not_in_list c f (mode.Expects meeting) other done = tt
+not_in_list c f mode.Ended other done = tt
+
+pub ruleset settling = (next_item, not_in_list)

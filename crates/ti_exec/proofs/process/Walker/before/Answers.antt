@@ -1,0 +1,14 @@
+use Rattle.ti_lang.specs.Program.Views.{program_of}
+use Rattle.ti_exec.proofs.Begun.{step_is, decided, undecided, condition_got, goes_before}
+use Rattle.ti_exec.proofs.process.Walker.before.Goals as goal
+
+pub returns-in_ok-turn-in-Ok : goal.returns-in_ok-turn-in-Ok
+returns-in_ok-turn-in-Ok c =
+    let p = program_of c.args.c.now in
+    step_is p _ _ _ _ _ (decided p c.args.self.now c.in-Ok.again c.requires c.in-Ok.ensures) c.in_ok-turn-in-Ok.ensures
+
+pub returns-in_ok-stops-in-Err : goal.returns-in_ok-stops-in-Err
+returns-in_ok-stops-in-Err c =
+    let p = program_of c.args.c.now in
+    let w = c.args.self.now in
+    undecided p w _ c.in-Err.stop _ c.requires c.in-Err.ensures (c.in_ok-stops-in-Err.ensures p (condition_got p w) (goes_before p w))

@@ -1,0 +1,19 @@
+use Rattle.ti_lang.specs.Program.Views.{program_of}
+use Rattle.ti_eval.specs.declared.frame.Todo.TheVariants as left
+use Rattle.ti_exec.proofs.Begun.{went_out, take_done, take_went, take_stops}
+use Rattle.ti_exec.proofs.process.Walker.taking.Goals as goal
+
+pub returns-then-next-self : goal.returns-then-next-self
+returns-then-next-self c =
+    let p = program_of c.args.c.now in
+    went_out p c.args.self.now c.done.new.self (left.Taking c.args.grid c.args.next) _ (take_done p c.args.self.now c.args.grid c.args.next c.requires c.if-next-self.true) (c.done.ensures p)
+
+pub returns-in-Ok : goal.returns-in-Ok
+returns-in-Ok c =
+    let p = program_of c.args.c.now in
+    take_went p c.args.self.now c.done-in-Ok.new.self c.args.grid c.args.next _ _ _ _ c.requires c.if-next-self.false c.stands.ensures c.member_place-at.ensures c.deref.ensures.value c.in-Ok.ensures (c.done-in-Ok.ensures p)
+
+pub returns-in_ok-stops-in-Err : goal.returns-in_ok-stops-in-Err
+returns-in_ok-stops-in-Err c =
+    let p = program_of c.args.c.now in
+    take_stops p c.args.self.now _ c.args.grid c.args.next _ _ _ c.in-Err.stop _ c.requires c.if-next-self.false c.stands.ensures c.member_place-at.ensures c.deref.ensures.value c.in-Err.ensures (c.in_ok-stops-in-Err.ensures p)
