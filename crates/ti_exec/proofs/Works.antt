@@ -13,13 +13,12 @@ use Rattle.ti_lang.specs.Meaning.Held.{Held}
 use Rattle.ti_lang.specs.Meaning.Moves.{Calls, Returns}
 use Rattle.ti_lang.specs.Meaning.Processes.{Process, Variable, Receiver, Work, Do, Receive, all_before, frame_of as entered}
 use Rattle.ti_lang.specs.Meaning.Steps.{Step, To, Faults, step, steps, runs, works, moves, spends, entering}
+use Rattle.ti_eval.specs.declared.frame.Slot.{Slot}
 use Rattle.ti_eval.specs.declared.frame.Todo.{Todo}
 use Rattle.ti_eval.specs.declared.frame.Todo.TheVariants as todo
 use Rattle.ti_eval.specs.declared.frame.Level.{Level}
 use Rattle.ti_eval.specs.Frames.{Site, slots_of, work_of, work_of_body, left_of, rest_of}
 use Rattle.ti_eval.specs.Places.{inside, part_of, list_of}
-use Rattle.std.specs.declared.vec.Vec.{Vec}
-use Rattle.std.specs.declared.alloc.Global.{Global}
 use Rattle.ti_moves.specs.declared.moves.Move as moves
 use Rattle.ti_moves.specs.Moves.{method_at, move_of}
 use Rattle.ti_moves.specs.Receiving.{receiver_of}
@@ -29,7 +28,7 @@ use Rattle.ti_exec.specs.declared.process.Mode.{Mode}
 use Rattle.ti_exec.specs.declared.process.Mode.TheVariants as mode
 use Rattle.ti_exec.specs.declared.process.Turn.{Turn}
 use Rattle.ti_exec.specs.declared.process.Walker.{Walker}
-use Rattle.ti_exec.specs.States.{IsStep, IsTurn, IsMoved, IsAtHand, AtHandIn, IsSettled, IsWalking, site_of, body_of, env_in, process_of, top_of, below_of, left_in, rest, here, frames_below, frames_in, wait_in}
+use Rattle.ti_exec.specs.States.{IsStep, IsTurn, IsMoved, IsAtHand, AtHandIn, IsSettled, IsWalking, site_of, body_of, env_in, process_of, going_on, top_of, below_of, left_in, rest, here, frames_below, frames_in, wait_in}
 
 -- ---- what is left
 
@@ -138,10 +137,11 @@ deeper c w ws left at m this vs receiver h d =
     rw (lt-ltb w.spent w.fuel h, e) refl
 
 -- a call has begun
-pub begun_at : (c : NumberedProgram) (w : Walker) (ws : List Work) (b : Below) (f : Call) (got : Vec _ Global) → b.calls.items ≡ w.below.calls.items ++ w.top ∷ [] → f.levels.items ≡ [] → got.items ≡ []
-    → spends (entering (process_of c w) (top_of c w ws) (below_of c w) (rest c w.team.procs w.top) (entered (method_at c f.method) f.this (slots_of f.variables.slots.items) (receiver_of (here c w.top))))
-    ≡ process_of c (record { team = w.team; fuel = w.fuel; spent = w.spent + 1; below = b; top = f; mode = mode.Walks (todo.From 0); answers = got })
-begun_at c w ws b f got eb el ea = rw (eb, el, ea, reverse-append, all_left) refl
+pub begun_at : (c : NumberedProgram) (w : Walker) (ws : List Work) (b : Below) (f : Call) (method : ℕ) (this : Option Id) (ps : List Slot) → b.calls.items ≡ w.below.calls.items ++ w.top ∷ []
+    → f.method ≡ method → f.this ≡ this → f.variables.slots.items ≡ ps → f.levels.items ≡ []
+    → spends (entering (process_of c w) (top_of c w ws) (below_of c w) (rest c w.team.procs w.top) (entered (method_at c method) this (slots_of ps) (receiver_of (here c w.top))))
+    ≡ going_on c (record w { spent = w.spent + 1; below = b; top = f }) (mode.Walks (todo.From 0)) []
+begun_at c w ws b f method this ps below m t v l = rw (below, m, t, v, l, reverse-append, all_left) refl
 
 -- ---- moves
 

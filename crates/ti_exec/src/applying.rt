@@ -10,7 +10,7 @@ ghost use Rattle.ti_lang.specs.Meaning.Steps as steps;
 ghost use Rattle.ti_eval.specs.Frames.{slots_of};
 ghost use Rattle.ti_moves.specs.Moves.{method_at, move_of, works_of};
 ghost use Rattle.ti_moves.specs.Receiving.{receiver_of};
-ghost use Rattle.ti_exec.specs.States.{IsStep, IsMoved, process_of, top_of, below_of, site_of, here, rest, env_in};
+ghost use Rattle.ti_exec.specs.States.{IsStep, IsMoved, process_of, going_on, top_of, below_of, site_of, here, rest, env_in};
 
 use crate::process::{Call, Mode, Turn, Variables, Walker};
 use std::alloc::Global;
@@ -24,24 +24,28 @@ use ti_moves::{Left, Meeting, Move};
 const MOST_FRAMES: usize = 200;
 
 impl Walker {
+    // The current work is done, and the process goes on so.
+    pub(crate) fn proceeds(&mut self, mode: Mode)
+        ensures { (c : NumberedProgram) → process_of c self.new ≡ going_on c self.old mode [] }
+    {
+        self.answers.clear();
+        self.mode = mode;
+    }
+
     // The current work is done, and this is left of the innermost statement.
     #[tactic(auto, using(crate::proofs::Works::lefts))]
     fn goes(&mut self, left: Left) -> Result<(), Memory>
         requires { 0 < length self.old.top.levels.items }
         ensures { OnOk result ((c : NumberedProgram) (ws : List Work) → process_of c self.new ≡ steps.going (process_of c self.old) (top_of c self.old ws) (below_of c self.old) (slots_of self.old.top.variables.slots.items) (works_of (site_of c self.old.team.procs self.old.top) (here c self.old.top) left ++ rest c self.old.team.procs self.old.top)) }
     {
-        self.answers.clear();
         match left {
-            Left::Of(todo) => {
-                self.mode = Mode::Walks(todo);
-                Ok(())
-            }
+            Left::Of(todo) => self.proceeds(Mode::Walks(todo)),
             Left::Part(inner, todo) => {
                 self.top.levels.push(Level { todo, inner })?;
-                self.mode = Mode::Walks(Todo::Here);
-                Ok(())
+                self.proceeds(Mode::Walks(Todo::Here));
             }
         }
+        Ok(())
     }
 
     // A call begins, with its parameters.
@@ -71,8 +75,7 @@ impl Walker {
         let caller = mem::replace(&mut self.top, call);
         self.below.push(caller)?;
         self.spent += 1;
-        self.answers.clear();
-        self.mode = Mode::Walks(Todo::From(0));
+        self.proceeds(Mode::Walks(Todo::From(0)));
         Ok(Turn::Went)
     }
 
@@ -81,17 +84,14 @@ impl Walker {
     pub(crate) fn returns(&mut self, value: Option<Held>) -> Turn
         ensures { (c : NumberedProgram) (ws left : List Work) → IsStep c (process_of c self.old) (steps.moves (process_of c self.old) (top_of c self.old ws) (below_of c self.old) left (move.Returns value)) result self.new }
     {
-        self.answers.clear();
         match self.below.pop() {
-            None => {
-                self.mode = Mode::Ended;
-            }
+            None => self.proceeds(Mode::Ended),
             Some(call) => {
                 self.top = call;
-                self.mode = match value {
-                    Some(h) => Mode::Receives(h),
-                    None => Mode::Walks(Todo::Inside),
-                };
+                match value {
+                    Some(h) => self.proceeds(Mode::Receives(h)),
+                    None => self.proceeds(Mode::Walks(Todo::Inside)),
+                }
             }
         }
         Turn::Went

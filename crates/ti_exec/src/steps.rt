@@ -89,8 +89,7 @@ impl Walker {
         ensures { IfOk result (λ t. IsTurn (program_of c.now) self.old t self.new) }
     {
         if self.top.levels.is_empty() {
-            self.answers.clear();
-            self.mode = Mode::Walks(Todo::Inside);
+            self.proceeds(Mode::Walks(Todo::Inside));
             return Ok(Turn::Went);
         }
         match &self.mode {

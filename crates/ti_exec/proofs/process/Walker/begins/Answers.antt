@@ -1,4 +1,4 @@
-use Rattle.std.proofs.Common.{◌∙◌, ◌<◌, ◌≤◌, ◌+◌, [], ◌∷◌, ◌++◌, ap, refl, length, arith}
+use Rattle.std.proofs.Common.{◌∙◌, ◌<◌, ◌≤◌, ◌+◌, [], ◌∷◌, ◌++◌, ap, sym, refl, length, arith}
 use Rattle.ti_lang.specs.Meaning.Steps.{To}
 use Rattle.ti_exec.specs.declared.process.Call.{Call}
 use Rattle.ti_exec.proofs.Works.{too_deep, deeper, begun_at}
@@ -14,6 +14,7 @@ returns c = λ p ws.
     let w = c.args.self.now in
     let d : length w.below.calls.items + 1 < 200 = omega arith in
     let below = c.in_ok-push.ensures ∙ ap (λ (f : Call). w.below.calls.items ++ f ∷ []) c.replace-caller.ensures.value in
-    let call : Call = record { method = c.args.method; this = c.args.this; variables = c.in_ok-of.field-0; levels = c.new.result } in
-    let begun = begun_at p w ws c.push.new.self call c.clear.new.self below c.new.ensures.items c.clear.ensures.items in
-    deeper p w ws _ c.args.at _ _ _ _ c.if-self.false d ∙ ap To (rw (c.replace-caller.ensures.after, ← c.in_ok-of.ensures) begun)
+    let call = c.replace-caller.ensures.after in
+    let begun = begun_at p w ws c.push.new.self c.replace-caller.new.dest c.args.method c.args.this c.args.parameters.items below
+    (ap (λ (f : Call). f.method) call) (ap (λ (f : Call). f.this) call) (ap (λ (f : Call). f.variables.slots.items) call ∙ c.in_ok-of.ensures) (ap (λ (f : Call). f.levels.items) call ∙ c.new.ensures.items) in
+    deeper p w ws _ c.args.at _ _ _ _ c.if-self.false d ∙ ap To (begun ∙ sym (c.proceeds.ensures p))
