@@ -67,7 +67,13 @@ const STATEMENTS: &[Walk] = &[
     },
     Walk {
         text: "int single k = broadcast 7 from 1; println(k); k = broadcast 8 from 0; println(k);",
-        answers: &[Given::Done, Given::Int(7), Given::Done, Given::Done, Given::Int(8)],
+        answers: &[
+            Given::Done,
+            Given::Int(7),
+            Given::Done,
+            Given::Done,
+            Given::Int(8),
+        ],
         asks: "arrive Broadcast 1; depart; print Int(7); arrive Broadcast 0 Int(8); depart; print Int(8); end 1:145",
     },
     Walk {
@@ -82,7 +88,13 @@ const STATEMENTS: &[Walk] = &[
     },
     Walk {
         text: "int [1d] a = new int [0:2]; a[1] = 5; a[1] += 2; println(a[1]);",
-        answers: &[Given::Grid(0), Given::Done, Given::Int(5), Given::Done, Given::Int(7)],
+        answers: &[
+            Given::Grid(0),
+            Given::Done,
+            Given::Int(5),
+            Given::Done,
+            Given::Int(7),
+        ],
         asks: "make a grid; put Int(5) at 1 of 0; get at 1 of 0; put Int(7) at 1 of 0; get at 1 of 0; print Int(7); end 1:126",
     },
     Walk {
@@ -100,7 +112,15 @@ const STATEMENTS: &[Walk] = &[
     },
     Walk {
         text: "int [1d] a = new int [0:1]; a.exchange(Ti.thisProc());",
-        answers: &[Given::Grid(0), Given::Line(0, 1), Given::Done, Given::Done, Given::Int(0), Given::Done, Given::Int(1)],
+        answers: &[
+            Given::Grid(0),
+            Given::Line(0, 1),
+            Given::Done,
+            Given::Done,
+            Given::Int(0),
+            Given::Done,
+            Given::Int(1),
+        ],
         asks: "make a grid; domain of 0; arrive Exchange Int(0); depart; take 0; put Int(0) at 0 of 0; take 1; put Int(1) at 1 of 0; end 1:117",
     },
     Walk {
@@ -129,7 +149,14 @@ const TEXTS: &[Walk] = &[
     },
     Walk {
         text: "class C { int v; int twice() { return v + v; } } class Main { public static single void main(String[] args) { C c = new C(); c.v = 4; c.v++; int y = c.twice(); println(y); c = null; c.v = 1; } }",
-        answers: &[Given::Object(0), Given::Done, Given::Int(4), Given::Done, Given::Int(5), Given::Int(5)],
+        answers: &[
+            Given::Object(0),
+            Given::Done,
+            Given::Int(4),
+            Given::Done,
+            Given::Int(5),
+            Given::Int(5),
+        ],
         asks: "make an object; put Int(4) in 0 of 0; get 0 of 0; put Int(5) in 0 of 0; get 0 of 0; get 0 of 0; print Int(10); nullRef 1:187",
     },
     Walk {
@@ -143,7 +170,11 @@ fn say(text: &mut String, piece: String) -> Result<(), AllocError> {
     text.push_str(piece.as_str())
 }
 
-fn shown_print(alloc: Global, literal: Option<u32>, value: Option<Value>) -> Result<String, AllocError> {
+fn shown_print(
+    alloc: Global,
+    literal: Option<u32>,
+    value: Option<Value>,
+) -> Result<String, AllocError> {
     match (literal, value) {
         (None, None) => format!(in alloc; "print"),
         (Some(n), None) => format!(in alloc; "print text {n}"),
