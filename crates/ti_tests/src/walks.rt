@@ -124,9 +124,9 @@ const STATEMENTS: &[Walk] = &[
         asks: "make a grid; domain of 0; arrive Exchange Int(0); depart; take 0; put Int(0) at 0 of 0; take 1; put Int(1) at 1 of 0; end 1:117",
     },
     Walk {
-        text: "SharedRegion r = new SharedRegion(); r.delete();",
+        text: "SharedRegion single r = new SharedRegion(); r.delete();",
         answers: &[Given::Done, Given::Region(1)],
-        asks: "arrive MakeRegion; depart; arrive DeleteRegion 1 count 0; depart; end 1:111",
+        asks: "arrive MakeRegion; depart; arrive DeleteRegion 1 count 0; depart; end 1:118",
     },
     Walk {
         text: "int x = 3; x = x / 0;",
