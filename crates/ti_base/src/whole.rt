@@ -4,7 +4,7 @@ ghost use Rattle.std.specs.Int.{Width};
 ghost use Rattle.ti_base.specs.WholeNumbers as whole;
 
 /// A division by 0.
-#[derive(Clone, Copy, Debug, PartialEq, Eq)]
+#[derive(Clone, Copy, PartialEq, Eq)]
 pub struct DivZero;
 
 /// What is left of a number in the bits of a width: the one number of that width that differs from it
