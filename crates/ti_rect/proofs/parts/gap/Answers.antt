@@ -1,10 +1,23 @@
-use Rattle.std.proofs.Common.{arith}
-use Rattle.std.proofs.lemmas.Int.{ints}
+use Rattle.std.proofs.Common.{FitsSigned, ◌↔◌, ◌+◌, ◌*◌, pos, ◌+ℤ◌, to_z, of_z, ap, ◌∙◌, subst, rules}
+use Rattle.std.proofs.lemmas.Int.{to_z-of_z}
+use Rattle.std.specs.Int.{w32, w64}
+use Rattle.ti_base.specs.Ranges.{IsOn}
+use Rattle.ti_rect.specs.Axes.{range}
+use Rattle.ti_rect.specs.Parts.{IsBetween}
+use Rattle.ti_rect.proofs.ReadBack.{widened}
 use Rattle.ti_rect.proofs.parts.gap.Goals as goal
 
 pub returns-clause-same : goal.returns-clause-same
 returns-clause-same c = λ x.
-    let h = c.between.ensures.same x in (
-      λ o. let k = h.0 o in (k.0, let l = k.1 in omega (arith, ints), let l = k.2 in omega (arith, ints)),
-      λ k. h.1 (k.0, let l = k.1 in omega (arith, ints), let l = k.2 in omega (arith, ints)),
-    )
+    let a = range c.args.a in
+    let s = range c.between.result in
+    let low = c.args.c.low in
+    let step = c.args.c.step in
+    let t = c.args.t in
+    let fits : FitsSigned w32 low = search rules in
+    let fits_here : FitsSigned w32 c.above-here.result = search rules in
+    let fits_next : FitsSigned w32 c.above-next.result = search rules in
+    let here = widened c.above-here.result c.from.result fits_here c.from.ensures ∙ c.above-here.ensures ∙ ap (λ z. z +ℤ pos (t * step)) (to_z-of_z w32 low fits) in
+    let next = widened c.above-next.result c.from-2.result fits_next c.from-2.ensures ∙ c.above-next.ensures ∙ ap (λ z. z +ℤ pos ((t + 1) * step)) (to_z-of_z w32 low fits) in
+    subst (λ y. IsOn s x ↔ IsBetween a y (low +ℤ pos ((t + 1) * step)) x) here
+    (subst (λ z. IsOn s x ↔ IsBetween a (to_z w64 (of_z w64 c.from.result)) z x) next (c.between.ensures.same x))
