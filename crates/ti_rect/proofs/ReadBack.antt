@@ -9,7 +9,7 @@ use Rattle.std.specs.Int.Signed.{lt_z, le_z}
 pub through : (a b c : ℤ) → a ≤ℤ b → b ≤ℤ c → a ≤ℤ c
 through a b c h k = omega (arith, ints)
 
-pub below : (a b c : ℤ) → a ≤ℤ b → b <ℤ c → a ≤ℤ c
+pub below : (a b c : ℤ) → a ≤ℤ b → b <ℤ c → a <ℤ c
 below a b c h k = omega (arith, ints)
 
 pub passed : (x y : ℤ) → x ≤ℤ y → y <ℤ x → ⊥
@@ -52,6 +52,9 @@ pub back_order : (a b : ℤ) → FitsSigned w32 a → FitsSigned w32 b → a ≤
 back_order a b f g h = subst (λ x. x ≤ℤ to_z w32 (of_z w32 b)) (sym (to_z-of_z w32 a f)) (subst (λ y. a ≤ℤ y) (sym (to_z-of_z w32 b g)) h)
 
 -- a test has not both answers
+pub never : true ≡ false → ⊥
+never e = cc
+
 pub clash : (t : Bool) → t ≡ true → t ≡ false → ⊥
 clash true e f = let c : true ≡ false = f in cc
 clash false e f = let c : false ≡ true = e in cc
