@@ -200,7 +200,7 @@ module _ (s : Setting) (es : List Entry) (w : IsRun s es) (agree : ArrivalsAgree
       (sym (ap (λ (z : Option Arrival). where_some z (λ (b : Arrival). departs s.program (history_of es) i b.kind b.arg)) last) ∙ o)
 
   -- the last arrival, by its kind
-  by_kind : (i : ℕ) (kind : CollKind) → last_kind i (history_of es) ≡ Some kind → (n : ℕ) × (a : Arrival) × (arrivals i (history_of es) ≡ suc n) × (arrival_at i (suc n) (history_of es) ≡ Some a) × (a.kind ≡ kind)
+  pub by_kind : (i : ℕ) (kind : CollKind) → last_kind i (history_of es) ≡ Some kind → (n : ℕ) × (a : Arrival) × (arrivals i (history_of es) ≡ suc n) × (arrival_at i (suc n) (history_of es) ≡ Some a) × (a.kind ≡ kind)
   by_kind i kind z = by (last_arrival i (history_of es)) refl z
     where
       none_kind : (k : CollKind) → ◌≡◌ {A = Option CollKind} None (Some k) → ⊥

@@ -104,7 +104,7 @@ departs_told program h i coll.Broadcast (Some root) r z = sent h i (arrivals i h
 departs_told program h i coll.MakeRegion arg r z = sym (answer_same _ _ z) ∙ ap (λ k. Val (v.Region k)) (made_all i h)
 departs_told program h i coll.DeleteRegion arg r z = leaves_done program h (arrivals i h) arg r z
 
-told_now : (program : NumberedProgram) (h : History) (i : ℕ) (r : Answer) → heap_answer program h i act.Depart ≡ Answers r → Told h i (arrivals i h) r
+pub told_now : (program : NumberedProgram) (h : History) (i : ℕ) (r : Answer) → heap_answer program h i act.Depart ≡ Answers r → Told h i (arrivals i h) r
 told_now program h i r z = by (last_arrival i h) refl z
   where
     by : (o : Option Arrival) → last_arrival i h ≡ o → where_some o (λ (a : Arrival). departs program h i a.kind a.arg) ≡ Answers r → Told h i (arrivals i h) r
@@ -153,7 +153,7 @@ depart_is _ k = absurd (true_false (sym k))
 
 -- ---- the answers to departures
 
-said : (program : NumberedProgram) (h : History) (e : Entry) → IsAnswered program (e ∷ h) → heap_answer program h e.proc e.act ≡ Answers e.answer
+pub said : (program : NumberedProgram) (h : History) (e : Entry) → IsAnswered program (e ∷ h) → heap_answer program h e.proc e.act ≡ Answers e.answer
 said program h e (heap.more w k) = k
 
 pub left_one : (i : ℕ) (p : Process) (wanted : Asked) (go : _) (c l : ℕ) (at : _) → step p ≡ At (asking at act.Depart wanted) go → c ≡ l + waiting p.wait → c ≡ suc l
@@ -260,7 +260,7 @@ arrival_is _ x h = absurd (none_arrival x h)
     none_arrival : (b : Arrival) → ◌≡◌ {A = Option Arrival} None (Some b) → ⊥
     none_arrival b h = cc
 
-extended : (s : Setting) (es all : List Entry) (e : Entry) (i k : ℕ) (a : aligned.Arrival) → all ≡ es ++ e ∷ [] → ArrivesAt s es i k a → ArrivesAt s all i k a
+unfoldable pub extended : (s : Setting) (es all : List Entry) (e : Entry) (i k : ℕ) (a : aligned.Arrival) → all ≡ es ++ e ∷ [] → ArrivesAt s es i k a → ArrivesAt s all i k a
 extended s es all e i k a z x = record {
   before = x.before;
   rest = x.rest ++ e ∷ [];

@@ -1,8 +1,10 @@
 -- Types of runs: what each process of a run holds, where what is there is as the types say.
-use Rattle.std.specs.Prelude.{◌≡◌, ◌⊎◌, ℕ, ◌+◌, List, [], ◌∷◌, ◌++◌, Option, Some, None, suc}
+use Rattle.std.specs.Prelude.{◌≡◌, ◌⊎◌, ℕ, suc, Bool, true, false, List, [], ◌∷◌, ◌++◌, Option, Some, None}
 use Rattle.ti_base.specs.declared.value.Value.{Value}
 use Rattle.ti_base.specs.declared.action.Action.{Action}
 use Rattle.ti_base.specs.declared.action.Action.TheVariants as act
+use Rattle.ti_base.specs.declared.action.CollKind.{CollKind}
+use Rattle.ti_base.specs.declared.action.CollKind.TheVariants as coll
 use Rattle.ti_base.specs.declared.entry.Answer.{Answer}
 use Rattle.ti_base.specs.declared.entry.Entry.{Entry}
 use Rattle.ti_lang.specs.Program.Types.{ValueType}
@@ -129,10 +131,16 @@ pub record GivesAt (s : Setting) (es : List Entry) (i k : ℕ) (type : ValueType
 abbrev pub GivesLast : Setting → List Entry → ℕ → ValueType → Type 0
 GivesLast s es i type = (k : ℕ) × (arrivals i es ≡ suc k) × GivesAt s es i k type
 
+-- a collective at which values are handed in
+abbrev pub hands_in : CollKind → Bool
+hands_in coll.Broadcast = true
+hands_in coll.Exchange = true
+hands_in kind = false
+
 -- All that is there in a run is as the types say: cells, processes, and what was handed in at collectives.
 pub record RunFits (s : Setting) (es : List Entry) : Type 0 where
   pub elements : Elements
   pub heap : HeapFits s.program elements (history_of es)
   pub processes : (i : ℕ) (pr : Process) → World s es i pr → ProcessFits (things_of elements (history_of es)) (GivesLast s es i) pr
-  pub deposits : (i k : ℕ) (a : rounds.Arrival) (value : Value) → arrival_at i (suc k) (history_of es) ≡ Some a → value_in a.deposit ≡ Some value
+  pub deposits : (i k : ℕ) (a : rounds.Arrival) (value : Value) → arrival_at i (suc k) (history_of es) ≡ Some a → hands_in a.kind ≡ true → value_in a.deposit ≡ Some value
       → (type : ValueType) × GivesAt s es i k type × IsOf (things_of elements (history_of es)) type (Plain value)
