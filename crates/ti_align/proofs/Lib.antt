@@ -17,6 +17,7 @@ pub mod Given
 pub mod Running
 pub mod Aligning
 pub mod Rounds
+pub mod Giving
 pub mod Possible
 pub mod Checked
 pub mod EveryRun
