@@ -45,6 +45,7 @@ use Rattle.ti_align.specs.Typed.{ProgramFits, ProcessFits, ActionFits, StepFits,
 use Rattle.ti_align.proofs.Vars.{true_false, and_left, and_right}
 use Rattle.ti_align.proofs.Ways.{Asked, asking, Meeting, Way, last_from}
 use Rattle.ti_align.proofs.Ways as way
+use Rattle.ti_align.proofs.Fitting.{FineMethods}
 use Rattle.ti_align.proofs.Entries.{got_both, arrivals_both, own, other}
 use Rattle.ti_align.proofs.Balance.{step_waits}
 use Rattle.ti_align.proofs.Given.{Stands, ActsFine, step_fine}
@@ -52,6 +53,7 @@ use Rattle.ti_align.proofs.Given as given_facts
 use Rattle.ti_align.proofs.Arrived.{is_own, more_own, more_other, back, Comes, before, now, comes, last_kind, made}
 use Rattle.ti_align.proofs.Running.{after_more, at_action}
 use Rattle.ti_align.proofs.Rounds.{RoundAnswer, Told, told_now, said, acts_as, arrive_answered, arrival_is, extended, alike}
+use Rattle.ti_align.proofs.Giving.{given_same, gives_more, gives_now}
 use Rattle.ti_align.proofs.Possible.{by_kind}
 use Rattle.ti_align.proofs.Aligning.{way_next}
 use Rattle.ti_align.proofs.Computing.{of_stays}
@@ -95,10 +97,6 @@ waits_there s es i p q r x y w z =
 
 -- ---- what was handed in
 
-pub gives_more : (s : Setting) (es all : List Entry) (e : Entry) (i k : ℕ) (a : ValueType) → all ≡ es ++ e ∷ [] → GivesAt s es i k a → GivesAt s all i k a
-unfolding extended
-gives_more s es all e i k a z g = record { arrival = g.arrival; arrives = extended s es all e i k g.arrival z g.arrives; gives = g.gives }
-
 arrivals_now : (es : List Entry) (e : Entry) (i : ℕ) → arrivals i (es ++ e ∷ []) ≡ arrivals i (e ∷ history_of es)
 arrivals_now es e i = sym (back i (es ++ e ∷ [])) ∙ ap (arrivals i) (history_grows es e)
 
@@ -107,32 +105,10 @@ last_more : (s : Setting) (es : List Entry) (e : Entry) (i : ℕ) → is_own i e
 last_more s es e i k a g = (g.0, arrivals_now es e i ∙ more_other i e (history_of es) k ∙ back i es ∙ g.1, gives_more s es (es ++ e ∷ []) e i g.0 a refl g.2)
 
 -- an arrival now
-pub gives_now : (s : Setting) (es : List Entry) (e : Entry) (t : CanTake s es e.proc e) (kind : CollKind) (arg : Option ℕ) (d : Deposit) (a : ValueType) → e.act ≡ act.Arrive kind arg d → given_by t.is_next.0 ≡ Some a
-    → GivesAt s (es ++ e ∷ []) e.proc (arrivals e.proc es) a
-gives_now s es e t kind arg d a z g =
-    let n : t.next ≡ next.Act e.place (act.Arrive kind arg d) = acts_as s es e.proc t.next e t.entry (arrive_answered e (ap is_arrival z)) ∙ ap (next.Act e.place) z in
-    record {
-      arrival = record { place = e.place; kind = kind; arg = arg; single = single_part t.is_next.0 };
-      arrives = record {
-        before = es;
-        rest = [];
-        deposit = d;
-        answer = e.answer;
-        split = ap (λ (b : Action). es ++ record { proc = e.proc; place = e.place; act = b; answer = e.answer } ∷ []) z;
-        count = refl;
-        process = t.process;
-        world = t.world;
-        settled = t.is_next.0;
-        settles = subst (Settles t.process t.is_next.0) n t.is_next.1;
-        single = refl;
-      };
-      gives = g;
-    }
-
 last_now : (s : Setting) (es : List Entry) (e : Entry) (t : CanTake s es e.proc e) (kind : CollKind) (arg : Option ℕ) (d : Deposit) (a : ValueType) → e.act ≡ act.Arrive kind arg d → given_by t.is_next.0 ≡ Some a
     → GivesLast s (es ++ e ∷ []) e.proc a
 last_now s es e t kind arg d a z g =
-    (arrivals e.proc es, arrivals_now es e e.proc ∙ more_own e.proc e (history_of es) (ap₂ (λ x y. x && y) (eq-eqb e.proc e.proc refl) (ap is_arrival z)) ∙ ap suc (back e.proc es), gives_now s es e t kind arg d a z g)
+    (arrivals e.proc es, arrivals_now es e e.proc ∙ more_own e.proc e (history_of es) (ap₂ (λ x y. x && y) (eq-eqb e.proc e.proc refl) (ap is_arrival z)) ∙ ap suc (back e.proc es), gives_now s es (es ++ e ∷ []) e e.proc kind arg d a t refl z g)
 
 -- what holds of the types of a round
 round_with : (G H : ValueType → Type 0) (kind : CollKind) (a : ValueType) → (G a → H a) → IsOfRound G kind a → IsOfRound H kind a
@@ -215,14 +191,13 @@ kind_here i h a kind x y = some_kind _ _ (sym y ∙ ap (option_map (λ (a : roun
     some_kind k l z = cc
 
 module _ (s : Setting)
-    (fits : ProgramFits s.program)
+    (fits : ProgramFits s.program) (fine : FineMethods s.program s.program.methods)
     (stays : (w u : Things) (G : ValueType → Type 0) (p : Process) → Grows w u → ProcessFits w G p → ProcessFits u G p)
     (other_round : (w : Things) (G H : ValueType → Type 0) (p : Process) → ((a : ValueType) → G a → H a) → ProcessFits w G p → ProcessFits w H p)
     (begin_fits : (w : Things) (G : ValueType → Type 0) (i : ℕ) → ProcessFits w G (begin s i))
     (step_fits : (w : Things) (G H : ValueType → Type 0) (i : ℕ) (last : Option CollKind) (p : Process) → Stands s i last p → ProcessFits w G p → StepFits w G H p (step p))
     (reaches_fits : (w : Things) (G : ValueType → Type 0) (i : ℕ) (last : Option CollKind) (p q : Process) → Stands s i last p → Reaches p q → ProcessFits w G p → ProcessFits w G q) where
-  module _ (es : List Entry) (e : Entry) (ran : IsRun s es) (agree : ArrivalsAgree s es)
-      (given_same : (i j k : ℕ) (a b : ValueType) → GivesAt s es i k a → GivesAt s es j k b → a ≡ b) (t : CanTake s es e.proc e) (fit : RunFits s es) where
+  module _ (es : List Entry) (e : Entry) (ran : IsRun s es) (agree : ArrivalsAgree s es) (t : CanTake s es e.proc e) (fit : RunFits s es) where
     abbrev h : History
     h = history_of es
 
@@ -351,7 +326,7 @@ module _ (s : Setting)
           let other_here : arrival_at who (suc g.0) h ≡ Some b = subst (λ n. arrival_at who n h ≡ Some b) n lb in
           let like = alike s es ran agree i who g.0 a b here other_here in
           let d = fit.deposits who g.0 b x other_here (ap hands_in (sym like.0) ∙ k) lx in
-          of_stays w after type (Plain x) grown_here (subst (λ z. IsOf w z (Plain x)) (given_same who i g.0 d.0 type d.1 g.2) d.2)
+          of_stays w after type (Plain x) grown_here (subst (λ z. IsOf w z (Plain x)) (given_same s fine es ran who i g.0 d.0 type d.1 g.2) d.2)
 
       departs_fit : e.act ≡ act.Depart → (wait : Wait) → q.wait ≡ Some wait → (type : ValueType) → IsOfRound (GivesLast s es i) wait.kind type → WantsOf wait.kind wait.wanted → (wait.wanted ≡ ToBeDone) ⊎ IsOf after type (told e.answer)
       departs_fit z wait wz type g k =
@@ -403,7 +378,7 @@ module _ (s : Setting)
           let is : act.Arrive kind arg d ≡ act.Arrive x.kind x.arg x.deposit = arrival_is (act.Arrive kind arg d) x l in
           let kind_is : kind ≡ x.kind = (parts kind x.kind arg x.arg d x.deposit is).0 in
           let d_is : d ≡ x.deposit = (parts kind x.kind arg x.arg d x.deposit is).1 in
-          (y.0, subst (λ k. GivesAt s all i k y.0) c (gives_now s es e t kind arg d y.0 z (round_in _ kind y.0 (ap hands_in kind_is ∙ m) y.2)), of_stays w after y.0 (Plain value) grown_here (value_fits w y.0 d value y.1 (ap value_in d_is ∙ n)))
+          (y.0, subst (λ k. GivesAt s all i k y.0) c (gives_now s es all e i kind arg d y.0 t refl z (round_in _ kind y.0 (ap hands_in kind_is ∙ m) y.2)), of_stays w after y.0 (Plain value) grown_here (value_fits w y.0 d value y.1 (ap value_in d_is ∙ n)))
         where
           parts : (k l : CollKind) (a b : Option ℕ) (d f : Deposit) → act.Arrive k a d ≡ act.Arrive l b f → (k ≡ l) × (d ≡ f)
           parts k l a b d f z = (cc, cc)
@@ -444,8 +419,7 @@ module _ (s : Setting)
       no_arrival b h = cc
 
   -- in every run
-  pub run_holds : (given_same : (es : List Entry) → IsRun s es → (i j k : ℕ) (a b : ValueType) → GivesAt s es i k a → GivesAt s es j k b → a ≡ b)
-      → (agree : (es : List Entry) → IsRun s es → ArrivalsAgree s es) → (es : List Entry) → IsRun s es → RunFits s es
-  run_holds same agree es run.none = begin_holds
-  run_holds same agree whole (run.more {es = es} {i = i} {e = e} r t z) =
-      subst (RunFits s) (sym z) (entry_holds es e r (agree es r) (same es r) (subst (λ j. CanTake s es j e) (sym (taker s es i e t)) t) (run_holds same agree es r))
+  pub run_holds : (agree : (es : List Entry) → IsRun s es → ArrivalsAgree s es) → (es : List Entry) → IsRun s es → RunFits s es
+  run_holds agree es run.none = begin_holds
+  run_holds agree whole (run.more {es = es} {i = i} {e = e} r t z) =
+      subst (RunFits s) (sym z) (entry_holds es e r (agree es r) (subst (λ j. CanTake s es j e) (sym (taker s es i e t)) t) (run_holds agree es r))

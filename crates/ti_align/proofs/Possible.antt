@@ -159,6 +159,10 @@ root_value procs root kind arg d k a f =
 exchange_value : (procs i : ℕ) (kind : CollKind) (arg : Option ℕ) (d : Deposit) → kind ≡ coll.Exchange → ArrivalFine procs i kind arg d → HasValue d
 exchange_value procs i kind arg d k f = subst (λ c. ArrivalFine procs i c arg d) k f
 
+-- what actions of the heap name is there, so that they are possible
+abbrev pub ThingsThere : Setting → List Entry → Type 0
+ThingsThere s es = (i : ℕ) (p : Process) (at : Place) (a : Action) → World s es i p → IsNext p (next.Act at a) → is_of_heap a ≡ true → heap_answer s.program (history_of es) i a ≡ Impossible → ⊥
+
 module _ (s : Setting) (es : List Entry) (w : IsRun s es) (agree : ArrivalsAgree s es) where
   come_to : (i n : ℕ) → arrivals i es ≡ suc n → (a : Arrival) × (arrival_at i (suc n) (history_of es) ≡ Some a)
   come_to i n c = there i n (history_of es) (less _ n (back i es ∙ c))
@@ -236,11 +240,7 @@ module _ (s : Setting) (es : List Entry) (w : IsRun s es) (agree : ArrivalsAgree
       later : (aw ah ai bi d x n : ℕ) → aw ≡ ah → ai ≡ bi → bi ≡ d + x → x ≡ 0 → d ≤ ah → ai ≡ suc n → n < aw
       later aw ah ai bi d x n p q r t u v = omega arith
 
-  -- what the action names is there, so that it is possible
-  abbrev pub ThingsThere : Type 0
-  ThingsThere = (i : ℕ) (p : Process) (at : Place) (a : Action) → World s es i p → IsNext p (next.Act at a) → is_of_heap a ≡ true → heap_answer s.program (history_of es) i a ≡ Impossible → ⊥
-
-  pub never : ThingsThere → (i : ℕ) (p : Process) → World s es i p → (at : Place) (a : Action) → IsNext p (next.Act at a) → IsReady s es i (next.Act at a) → is_delete a ≡ false → heap_answer s.program (history_of es) i a ≡ Impossible → ⊥
+  pub never : ThingsThere s es → (i : ℕ) (p : Process) → World s es i p → (at : Place) (a : Action) → IsNext p (next.Act at a) → IsReady s es i (next.Act at a) → is_delete a ≡ false → heap_answer s.program (history_of es) i a ≡ Impossible → ⊥
   never there i p v at act.Depart n r k o = depart_possible i p v at n r o
   never there i p v at (act.Take who) n r k o = take_possible i who p v at n o
   never there i p v at (act.Print literal value) n r k o = answered _ o
