@@ -27,4 +27,8 @@ pub mod Operating
 pub mod Evaluating
 pub mod Heaping
 pub mod Storing
+pub mod Performed
+pub mod Working
+pub mod Stated
+pub mod Framed
 pub mod Holding

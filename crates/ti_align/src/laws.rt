@@ -19,6 +19,7 @@ ghost use Rattle.ti_align.specs.Stopping.{NoneWaits};
 ghost use Rattle.ti_align.specs.Things.{Things, IsOf};
 ghost use Rattle.ti_align.specs.Sound.{IsThere, Sound};
 ghost use Rattle.ti_align.specs.Fitting.{EnvFits, FieldsFit, IsWritten};
+ghost use Rattle.ti_align.specs.Work.{VariablesFit, scope_over, MethodsFit, ThisFits, WorksFit, MoveFits};
 ghost use Rattle.ti_align.specs.Heap.{Elements, things_of, FieldsStorable, HeapFits, KeepsTypes};
 
 use ti_rules::Checked;
@@ -56,4 +57,12 @@ pub fn expressions_fit()
 pub fn heap_fits()
     ensures { (p : NumberedProgram) (elements : Elements) (h : History) (i : ℕ) (a : Action) (wanted : Wanted) → FieldsStorable p → IsAnswered p h → HeapFits p elements h
         → IsThere p (things_of elements h) a wanted → KeepsTypes p elements h i a wanted }
+{}
+
+/// What is to be done next in a frame that fits the types comes to a move that fits them, whatever
+/// fitting answers it gets: variables keep to their types, and so do parameters, results and deposits.
+pub fn work_fits()
+    ensures { (p : Process) (f : Frame) (left : List Work) (w : Things) (x : Work) → VariablesFit w f.variables → ThisFits w f.method f.this → FieldsFit p.setting.program
+        → FieldsStorable p.setting.program → MethodsFit p.setting.program p.setting.program.methods → WorksFit p.setting.program f.method (method_scope f.method) w (x ∷ left)
+        → Sound p.setting.program (λ u move. MoveFits p.setting.program f.method (scope_over p.setting.program (method_scope f.method) left) u move) w (performed (env_of p f left) x) }
 {}
