@@ -30,3 +30,4 @@ pub mod Performed
 pub mod Working
 pub mod Stated
 pub mod Framed
+pub mod Staying
