@@ -31,3 +31,5 @@ pub mod Working
 pub mod Stated
 pub mod Framed
 pub mod Staying
+pub mod Pending
+pub mod Kept
