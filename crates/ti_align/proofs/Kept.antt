@@ -29,7 +29,7 @@ use Rattle.ti_align.specs.Things.{Things, Grows, IsOf}
 use Rattle.ti_align.specs.Sound.{FitsAsked, Sound}
 use Rattle.ti_align.specs.Sound as sound
 use Rattle.ti_align.specs.Work.{VariablesFit, scope_over, ReceiverFits, MethodFits, MethodsFit, ThisFits, DepositFits, given_type, taken_type, TakesOf, taken_behind, IsOfRound, WantsOf, WorksFit, IsAwaited, MoveFits}
-use Rattle.ti_align.specs.Typed.{ProgramFits, HandsOn, FramesFit, given_in, given_by, WorkSound, TakesFirst, WaitFits, NextFits, ProcessFits, ActionFits, StepFits}
+use Rattle.ti_align.specs.Typed.{ProgramFits, HandsOn, FramesFit, given_first, given_in, given_by, WorkSound, TakesFirst, WaitFits, NextFits, ProcessFits, ActionFits, StepFits}
 use Rattle.ti_align.proofs.Computing.{grows_not, same_sound}
 use Rattle.ti_align.proofs.Operating.{none_some, some_same}
 use Rattle.ti_align.proofs.Asks.{Of}
@@ -106,3 +106,124 @@ module _ (performs : Performs) where
       by None k = (tt, tt)
       by (Some m) k = between w G (begin s i) 0 (frame_of m None [] Nowhere ∷ []) fine
           ((tt, (λ class c id z. absurd (none_some id z)), body_fits s.program m w (method_scope m) (numbered_stms m.body) (k m refl)), tt, tt) (body_first G (numbered_stms m.body))
+
+  -- ---- moves
+
+  -- what is known of a frame whose first piece of work is done: it and the frames below it fit, where this work is left
+  record Top (w : Things) (pr : Process) (f : Frame) (fs : List Frame) (left : List Work) : Type 0 where
+    program : ProgramFits pr.setting.program
+    variables : VariablesFit w f.variables
+    this : ThisFits w f.method f.this
+    works : WorksFit pr.setting.program f.method (method_scope f.method) w left
+    hands : HandsOn pr.setting.program f fs
+    below : FramesFit pr.setting.program w fs
+    free : NoTakes left
+    others : AllFree fs
+
+  if_fits : (w : Things) (G H : ValueType → Type 0) (pr : Process) (b : Bool) (x y : Step) → StepFits w G H pr x → StepFits w G H pr y → StepFits w G H pr (if b then x else y)
+  if_fits w G H pr true x y j k = j
+  if_fits w G H pr false x y j k = k
+
+  ticks_fit : (w : Things) (G H : ValueType → Type 0) (pr : Process) (at : Place) (after : Step) → StepFits w G H pr after → StepFits w G H pr (ticks pr at after)
+  ticks_fit w G H pr at after k = if_fits w G H pr (nat_lt pr.spent pr.setting.fuel) after (Faults Fuel at) k tt
+
+  jump_fits : (w : Things) (G H : ValueType → Type 0) (pr : Process) (b : Bool) (x y : Process) → ProcessFits w G x → ProcessFits w G y → StepFits w G H pr (To (if b then x else y))
+  jump_fits w G H pr true x y j k = j
+  jump_fits w G H pr false x y j k = k
+
+  module _ (w : Things) (G H : ValueType → Type 0) (pr : Process) (f : Frame) (fs : List Frame) where
+    abbrev p : NumberedProgram
+    p = pr.setting.program
+
+    abbrev s : List Work → ScopeContents
+    s left = scope_over p (method_scope f.method) left
+
+    -- with other variables and other work left
+    abbrev frame_with : List Variable → List Work → Frame
+    frame_with vs xs = record f { variables = vs; left = xs }
+
+    frames_with : (left : List Work) → Top w pr f fs left → (vs : List Variable) (xs : List Work) → VariablesFit w vs → WorksFit p f.method (method_scope f.method) w xs → FramesFit p w (frame_with vs xs ∷ fs)
+    frames_with left top vs xs v k = ((v, top.this, k), hands_in p (frame_with vs xs) fs (hands_out p f fs top.hands), top.below)
+
+    goes_fits : (left : List Work) → Top w pr f fs left → (n : ℕ) (vs : List Variable) (xs : List Work) → VariablesFit w vs → WorksFit p f.method (method_scope f.method) w xs → TakesFirst G xs
+        → ProcessFits w G (record pr { spent = n; frames = frame_with vs xs ∷ fs; wait = None; answers = [] })
+    goes_fits left top n vs xs v k i = between w G pr n (frame_with vs xs ∷ fs) top.program (frames_with left top vs xs v k) i
+
+    -- the work of a move before what is left
+    both_fit : (x : Work) (left : List Work) → Top w pr f fs left → TakesFirst G (x ∷ left) → (n : ℕ) (vs : List Variable) (xs : List Work) → VariablesFit w vs → WorksFit p f.method (s left) w xs → TakesOf (taken_type x) xs
+        → ProcessFits w G (record pr { spent = n; frames = frame_with vs (xs ++ left) ∷ fs; wait = None; answers = [] })
+    both_fit x left top i n vs xs v k o =
+        goes_fits left top n vs (xs ++ left) v (works_both p f.method w (method_scope f.method) xs left k top.works)
+        (taken_first G (taken_type x) (xs ++ left) (taken_is G x left i) (takes_both (taken_type x) xs left o top.free))
+
+    returns_fit : (left : List Work) → Top w pr f fs left → (v : Option Held) → Given w (result_type f.method) v → ProcessFits w G (record pr { frames = handed f.receiver v fs; wait = None; answers = [] })
+    returns_fit left top v o =
+        between w G pr pr.spent (handed f.receiver v fs) top.program (handed_fits p w f.receiver (result_type f.method) v fs top.below (hands_out p f fs top.hands) o) (handed_first G f.receiver v fs (free_first G fs top.others))
+
+    -- an arrival, behind which this work is left
+    arrives_fit : (left xs : List Work) → Top w pr f fs left → (wait : Wait) (given : Deposit) (type : ValueType) → WorksFit p f.method (method_scope f.method) w xs → DepositFits w type given → IsOfRound (λ u. given_by pr ≡ Some u) wait.kind type
+        → IsAwaited p f.method (s xs) wait.wanted wait.receiver type → WantsOf wait.kind wait.wanted → TakesOf (taken_behind wait.kind type) xs → StepFits w G H pr (arrives pr (record f { left = xs } ∷ fs) wait given)
+    arrives_fit left xs top wait given type k d r a o i =
+        ticks_fit w G H pr wait.place _ (tt, (type, d, r, λ z u g answer. (frames_stay p w u (record f { left = xs } ∷ fs) g (frames_with left top f.variables xs top.variables k), ((type, a, z, o, i), refl))))
+
+    moves_fit : (x : Work) (left : List Work) → Top w pr f fs left → TakesFirst G (x ∷ left) → given_by pr ≡ given_type p (s left) x → (move : Move) → FitsFrame p f left x w move → StepFits w G H pr (moves pr f fs left move)
+    moves_fit x left top i e (Goes vs xs) k = both_fit x left top i pr.spent vs xs k.0 k.1 k.2
+    moves_fit x left top i e (Turns at vs xs) k = ticks_fit w G H pr at _ (both_fit x left top i (pr.spent + 1) vs xs k.0 k.1 k.2)
+    moves_fit x left top i e Breaks k =
+        jump_fits w G H pr (has_mark left) _ _
+        (goes_fits left top pr.spent (variables_at_mark left f.variables) (past_mark left) (mark_fits w left f.variables top.variables) (past_fits p f.method w (method_scope f.method) left top.works) (none_first G (past_mark left) (free_past left top.free)))
+        (goes_fits left top pr.spent f.variables left top.variables top.works (none_first G left top.free))
+    moves_fit x left top i e Continues k =
+        jump_fits w G H pr (has_mark left) _ _
+        (goes_fits left top pr.spent (variables_at_mark left f.variables) (from_mark left) (mark_fits w left f.variables top.variables) (from_fits p f.method w (method_scope f.method) left top.works) (none_first G (from_mark left) (free_mark left top.free)))
+        (goes_fits left top pr.spent f.variables left top.variables top.works (none_first G left top.free))
+    moves_fit x left top i e (Calls at method this parameters receiver) k =
+        ticks_fit w G H pr at _ (if_fits w G H pr (nat_lt (length (f ∷ fs)) most_frames) _ (Faults Depth at)
+        (between w G pr (pr.spent + 1) (frame_of method this parameters receiver ∷ record f { left = left } ∷ fs) top.program
+        ((k.2, k.1, body_fits p method w (method_scope method) (numbered_stms method.body) k.0), k.3, frames_with left top f.variables left top.variables top.works)
+        (body_first G (numbered_stms method.body))) tt)
+    moves_fit x left top i e (Returns None) k = returns_fit left top None tt
+    moves_fit x left top i e (Returns (Some h)) k = returns_fit left top (Some h) k
+    moves_fit x left top i e (Meets wait given behind) k =
+        arrives_fit left (behind ++ left) top wait given k.0.0 (works_both p f.method w (method_scope f.method) behind left k.1 top.works) k.0.2
+        (subst (λ o. IsOfRound (λ u. o ≡ Some u) wait.kind k.0.0) (sym e) k.0.3) (subst (λ y. IsAwaited p f.method y wait.wanted wait.receiver k.0.0) (scope_both p (method_scope f.method) behind left) k.0.1) k.0.4
+        (takes_both (taken_behind wait.kind k.0.0) behind left k.0.5 top.free)
+    moves_fit x left top i e (Deletes at region) k = arrives_fit left left top (deleting at region) (deposit.Count (named_in region (f ∷ fs))) t.Void top.works tt tt tt refl (takes_free None left top.free)
+
+    -- ---- answers
+
+    -- an answer to the first piece of work that is left
+    next_asked : (q : Process) (x : Work) (left : List Work) (u : Things) (wait : Option Wait) (gs : List Frame) → wait ≡ None → gs ≡ f ∷ fs → f.left ≡ x ∷ left → WorkSound u q f (x ∷ left) → TakesFirst G (x ∷ left) → NextFits u G q wait gs
+    next_asked q x left u wait gs z y e k i =
+        subst (λ o. NextFits u G q o gs) (sym z) (subst (λ hs. NextFits u G q None hs) (sym y) (subst (λ xs. WorkSound u q f xs × TakesFirst G xs) (sym e) (k, i)))
+
+    acts_fit : (q : Request) (a : Action) (go : Answer → Process) → TakenAs G a q.wanted → ((u : Things) → Grows w u → (r : Answer) → FitsAsked p u a q.wanted r → ProcessFits u G (go r)) → ActionFits w G H pr q a go
+    acts_fit q (act.Arrive kind arg given) go t k = absurd t
+    acts_fit q act.Depart go t k = absurd t
+    acts_fit q (act.Take who) go t k = (t.0, t.2, λ u g r o. k u g r (λ type z. subst (λ y. IsOf u y (told r)) (same t.0 type (sym t.1 ∙ z)) o))
+      where
+        same : (x y : ValueType) → ValueOf x ≡ ValueOf y → x ≡ y
+        same x y z = cc
+    acts_fit q _ go t k = k
+
+    first_fits : (x : Work) (left : List Work) → pr.wait ≡ None → pr.frames ≡ f ∷ fs → f.left ≡ x ∷ left → Top w pr f fs left → FramesFit p w pr.frames → WorkSound w pr f (x ∷ left) → TakesFirst G (x ∷ left)
+        → StepFits w G H pr (valued pr (performed (env_of pr f left) x pr.answers) (moves pr f fs left))
+    first_fits x left z y e top all sure i = by (λ rest. performed (env_of pr f left) x (pr.answers ++ rest)) sure (λ rest. refl)
+      where
+        given_here : given_by pr ≡ given_type p (s left) x
+        given_here = ap (given_in p) y ∙ ap (given_first p f) e
+
+        now : (m : Asking Move) → ((rest : List Answer) → m rest ≡ performed (env_of pr f left) x (pr.answers ++ rest)) → performed (env_of pr f left) x pr.answers ≡ m []
+        now m j = ap (performed (env_of pr f left) x) (sym (append-nil pr.answers)) ∙ sym (j [])
+
+        fits_when : (g : Got Move) → performed (env_of pr f left) x pr.answers ≡ g → StepFits w G H pr (valued pr g (moves pr f fs left)) → StepFits w G H pr (valued pr (performed (env_of pr f left) x pr.answers) (moves pr f fs left))
+        fits_when g j k = subst (λ g. StepFits w G H pr (valued pr g (moves pr f fs left))) (sym j) k
+
+        by : (m : Asking Move) → Sound p (λ u move. FitsFrame p f left x u move) w m → ((rest : List Answer) → m rest ≡ performed (env_of pr f left) x (pr.answers ++ rest))
+            → StepFits w G H pr (valued pr (performed (env_of pr f left) x pr.answers) (moves pr f fs left))
+        by m (sound.value move h k) j = fits_when (Gives move []) (now m j ∙ k []) (moves_fit x left top i given_here move h)
+        by m (sound.fault kind at k) j = fits_when (Fails kind at) (now m j ∙ k []) tt
+        by m (sound.asks q k there h) j =
+            fits_when (Asks q) (now m j ∙ k) (ticks_fit w G H pr q.place _ (there, acts_fit q q.action _ (subst (Of (TakesAs G)) (now m j ∙ k) (takes_as G (env_of pr f left) x left pr.answers i))
+            (λ u g r o. (frames_stay p w u pr.frames g all, next_asked (spends (answered pr r)) x left u pr.wait pr.frames z y e
+            (same_sound p (λ u move. FitsFrame p f left x u move) u (λ rest. m (r ∷ rest)) _ (λ rest. j (r ∷ rest) ∙ ap (performed (env_of pr f left) x) (sym (append_assoc pr.answers (r ∷ []) rest))) (h u g r o)) i))))
