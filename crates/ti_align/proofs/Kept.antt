@@ -33,7 +33,7 @@ use Rattle.ti_align.specs.Typed.{ProgramFits, HandsOn, FramesFit, given_first, g
 use Rattle.ti_align.proofs.Computing.{grows_not, same_sound}
 use Rattle.ti_align.proofs.Operating.{none_some, some_same}
 use Rattle.ti_align.proofs.Asks.{Of}
-use Rattle.ti_align.proofs.Given.{NoTakes, AllFree, TopFine, WaitFine, Stands, tail_free, free_mark, free_past, step_fine}
+use Rattle.ti_align.proofs.Given.{NoTakes, LeftFine, AllFree, TopFine, WaitFine, Stands, tail_free, free_mark, free_past, step_fine}
 use Rattle.ti_align.proofs.Staying.{frames_stay}
 use Rattle.ti_align.proofs.Pending.{scope_both, mark_fits, works_both, body_fits, past_fits, from_fits, takes_free, takes_both, taken_first, none_first, body_first, taken_is, behind_is, FirstOf, free_first, handed_first, TakenAs, TakesAs, takes_as}
 
@@ -227,3 +227,55 @@ module _ (performs : Performs) where
             fits_when (Asks q) (now m j ∙ k) (ticks_fit w G H pr q.place _ (there, acts_fit q q.action _ (subst (Of (TakesAs G)) (now m j ∙ k) (takes_as G (env_of pr f left) x left pr.answers i))
             (λ u g r o. (frames_stay p w u pr.frames g all, next_asked (spends (answered pr r)) x left u pr.wait pr.frames z y e
             (same_sound p (λ u move. FitsFrame p f left x u move) u (λ rest. m (r ∷ rest)) _ (λ rest. j (r ∷ rest) ∙ ap (performed (env_of pr f left) x) (sym (append_assoc pr.answers (r ∷ []) rest))) (h u g r o)) i))))
+
+  -- ---- steps
+
+  module _ (w : Things) (G H : ValueType → Type 0) (pr : Process) (last : Option CollKind) (n : ℕ) (fine : ProgramFits pr.setting.program) where
+    works_fit : (f : Frame) (fs : List Frame) (xs : List Work) → pr.wait ≡ None → pr.frames ≡ f ∷ fs → f.left ≡ xs → LeftFine n last xs → AllFree fs → FramesFit pr.setting.program w pr.frames
+        → FramesFit pr.setting.program w (f ∷ fs) → WorksFit pr.setting.program f.method (method_scope f.method) w xs → WorkSound w pr f xs → TakesFirst G xs → StepFits w G H pr (works pr f fs xs)
+    works_fit f fs [] z y e free others all k l sure i =
+        returns_fit w G H pr f fs [] (record { program = fine; variables = k.0.0; this = k.0.1; works = tt; hands = k.1; below = k.2; free = tt; others = others }) None tt
+    works_fit f fs (x ∷ left) z y e free others all k l sure i =
+        first_fits w G H pr f fs x left z y e (record { program = fine; variables = k.0.0; this = k.0.1; works = l.1; hands = k.1; below = k.2; free = tail_free n last x left free; others = others }) all sure i
+
+    runs_fit : (fs : List Frame) → pr.wait ≡ None → pr.frames ≡ fs → TopFine n last fs → FramesFit pr.setting.program w fs → NextFits w G pr None fs → StepFits w G H pr (runs pr fs)
+    runs_fit [] z y free k i = tt
+    runs_fit (f ∷ fs) z y free k i = works_fit f fs f.left z y refl free.0 free.1 (subst (FramesFit pr.setting.program w) (sym y) k) k k.0.2 i.0 i.1
+
+    -- what a departure gives goes to its receiver
+    told_fits : (u : Things) (f : Frame) (fs : List Frame) (receiver : Receiver) (wanted : Wanted) (type : ValueType) (r : Answer) → IsAwaited pr.setting.program f.method (scope_over pr.setting.program (method_scope f.method) f.left) wanted receiver type
+        → (wanted ≡ ToBeDone) ⊎ IsOf u type (told r) → FramesFit pr.setting.program u (f ∷ fs) → FramesFit pr.setting.program u (handed receiver (value_asked wanted r) (f ∷ fs))
+    told_fits u f fs receiver ToBeDone type r a o k = k
+    told_fits u f fs receiver (ValueOf x) type r a (inl z) k = absurd (never z)
+      where
+        never : ValueOf x ≡ ToBeDone → ⊥
+        never z = cc
+    told_fits u f fs receiver (ValueOf x) type r a (inr o) k = handed_fits pr.setting.program u receiver type (Some (told r)) (f ∷ fs) k a o
+    told_fits u f fs receiver (NewThing x) type r a (inl z) k = absurd (never z)
+      where
+        never : NewThing x ≡ ToBeDone → ⊥
+        never z = cc
+    told_fits u f fs receiver (NewThing x) type r a (inr o) k = handed_fits pr.setting.program u receiver type (Some (told r)) (f ∷ fs) k a o
+
+    departs_fit : (wait : Wait) (fs : List Frame) → pr.wait ≡ Some wait → pr.frames ≡ fs → FramesFit pr.setting.program w fs → WaitFits pr.setting.program G wait fs → StepFits w G H pr (departs pr wait)
+    departs_fit wait [] z y k i = absurd i
+    departs_fit wait (f ∷ fs) z y k i =
+        ticks_fit w G H pr wait.place _ (tt, (wait, i.0, z, i.2, i.3, λ u g r o.
+        subst (λ gs. ProcessFits u G (record pr { spent = pr.spent + 1; frames = handed wait.receiver (value_asked wait.wanted r) gs; wait = None; answers = [] })) (sym y)
+        (between u G pr (pr.spent + 1) (handed wait.receiver (value_asked wait.wanted r) (f ∷ fs)) fine (told_fits u f fs wait.receiver wait.wanted i.0 r i.1 o (frames_stay pr.setting.program w u (f ∷ fs) g k))
+        (handed_first G wait.receiver (value_asked wait.wanted r) (f ∷ fs) (taken_first G (taken_behind wait.kind i.0) f.left (λ type q. behind_is G wait.kind i.0 type i.2 q) i.4)))))
+
+    steps_fit : (wait : Option Wait) → pr.wait ≡ wait → WaitFine n last wait pr.frames → FramesFit pr.setting.program w pr.frames → NextFits w G pr wait pr.frames → StepFits w G H pr (steps pr wait)
+    steps_fit None z free k i = runs_fit pr.frames z refl free k i
+    steps_fit (Some wait) z free k i = departs_fit wait pr.frames z refl k i.0
+
+  -- a process that fits has a step that does, wherever takes stand first alone
+  pub step_fits : (w : Things) (G H : ValueType → Type 0) (s : Setting) (i : ℕ) (last : Option CollKind) (pr : Process) → ProgramFits pr.setting.program → Stands s i last pr → ProcessFits w G pr → StepFits w G H pr (step pr)
+  step_fits w G H s i last pr fine stands k = steps_fit w G H pr last s.procs fine pr.wait refl stands.2 k.0 k.1
+
+  -- silent steps lead from it to others that fit
+  pub reaches_fits : (w : Things) (G : ValueType → Type 0) (s : Setting) (i : ℕ) (last : Option CollKind) (pr q : Process) → ProgramFits s.program → Stands s i last pr → Reaches pr q → ProcessFits w G pr → ProcessFits w G q × Stands s i last q
+  reaches_fits w G s i last pr q fine stands here k = (k, stands)
+  reaches_fits w G s i last pr r fine stands (later {q = q} e rest) k =
+      let after = subst (StepFits w G G pr) e (step_fits w G G s i last pr (subst (λ (k : Setting). ProgramFits k.program) (sym stands.0) fine) stands k) in
+      reaches_fits w G s i last q r fine (step_fine s i last pr (To q) stands e) rest after
