@@ -6,7 +6,6 @@ use Rattle.ti_base.specs.declared.fault.FaultKind.TheVariants.{Depth, Fuel}
 use Rattle.ti_base.specs.declared.action.Action.{Action}
 use Rattle.ti_base.specs.declared.action.Action.TheVariants as act
 use Rattle.ti_base.specs.declared.action.CollKind.{CollKind}
-use Rattle.ti_base.specs.declared.action.CollKind.TheVariants as coll
 use Rattle.ti_base.specs.declared.action.Deposit.{Deposit}
 use Rattle.ti_base.specs.declared.action.Deposit.TheVariants as deposit
 use Rattle.ti_base.specs.declared.entry.Answer.{Answer}
@@ -17,20 +16,20 @@ use Rattle.ti_lang.specs.Program.Classes.{NumberedMethod, NumberedProgram}
 use Rattle.ti_lang.specs.Program.Scope.{ScopeContents, method_scope}
 use Rattle.ti_lang.specs.Typing.Declared.{result_type}
 use Rattle.ti_lang.specs.Meaning.Held.{Held}
-use Rattle.ti_lang.specs.Meaning.Asking.{Wanted, ToBeDone, ValueOf, NewThing, Request, request, Asking, Got, Gives, Asks, Fails, told}
-use Rattle.ti_lang.specs.Meaning.Processes.{Setting, Variable, Receiver, Nowhere, Work, Receive, Frame, frame_of, first_frames, Wait, Process, all_before, begin}
+use Rattle.ti_lang.specs.Meaning.Asking.{Wanted, ToBeDone, ValueOf, NewThing, Request, Asking, Got, Gives, Asks, Fails, told}
+use Rattle.ti_lang.specs.Meaning.Processes.{Setting, Variable, Receiver, Nowhere, Work, Receive, Frame, frame_of, Wait, Process, begin}
 use Rattle.ti_lang.specs.Meaning.Scoping.{env_of}
 use Rattle.ti_lang.specs.Meaning.Moves.{Move, Goes, Turns, Breaks, Continues, Calls, Returns, Meets, Deletes}
 use Rattle.ti_lang.specs.Meaning.Performing.{performed}
 use Rattle.ti_lang.specs.Meaning.Jumps.{has_mark, from_mark, past_mark, variables_at_mark}
-use Rattle.ti_lang.specs.Meaning.Steps.{Step, To, At, Ends, Faults, spends, ticks, asks, answered, valued, going, handed, most_frames, entering, named_in, arrives, deleting, value_asked, departs, moves, works, runs, steps, step}
+use Rattle.ti_lang.specs.Meaning.Steps.{Step, To, Faults, spends, ticks, answered, valued, handed, most_frames, named_in, arrives, deleting, value_asked, departs, moves, works, runs, steps, step}
 use Rattle.ti_lang.specs.Meaning.NextStep.{Reaches, here, later}
 use Rattle.ti_align.specs.Things.{Things, Grows, IsOf}
 use Rattle.ti_align.specs.Sound.{FitsAsked, Sound}
 use Rattle.ti_align.specs.Sound as sound
 use Rattle.ti_align.specs.Work.{VariablesFit, scope_over, ReceiverFits, MethodFits, MethodsFit, ThisFits, DepositFits, given_type, taken_type, TakesOf, taken_behind, IsOfRound, WantsOf, WorksFit, IsAwaited, MoveFits}
 use Rattle.ti_align.specs.Typed.{ProgramFits, HandsOn, FramesFit, given_first, given_in, given_by, WorkSound, TakesFirst, WaitFits, NextFits, ProcessFits, ActionFits, StepFits}
-use Rattle.ti_align.proofs.Computing.{grows_not, same_sound}
+use Rattle.ti_align.proofs.Computing.{same_sound}
 use Rattle.ti_align.proofs.Operating.{none_some, some_same}
 use Rattle.ti_align.proofs.Asks.{Of}
 use Rattle.ti_align.proofs.Given.{NoTakes, LeftFine, AllFree, TopFine, WaitFine, Stands, tail_free, free_mark, free_past, step_fine}
@@ -64,11 +63,11 @@ hands_in p f [] k = tt
 hands_in p f (g ∷ fs) k = k
 
 -- a value of the type, if there is one
-abbrev Given : Things → ValueType → Option Held → Type 0
-Given w type None = Unit {0}
-Given w type (Some h) = IsOf w type h
+abbrev MaybeOf : Things → ValueType → Option Held → Type 0
+MaybeOf w type None = Unit {0}
+MaybeOf w type (Some h) = IsOf w type h
 
-handed_fits : (p : NumberedProgram) (w : Things) (r : Receiver) (type : ValueType) (v : Option Held) (fs : List Frame) → FramesFit p w fs → Hands p r type fs → Given w type v → FramesFit p w (handed r v fs)
+handed_fits : (p : NumberedProgram) (w : Things) (r : Receiver) (type : ValueType) (v : Option Held) (fs : List Frame) → FramesFit p w fs → Hands p r type fs → MaybeOf w type v → FramesFit p w (handed r v fs)
 handed_fits p w r type None fs k i o = k
 handed_fits p w r type (Some h) [] k i o = tt
 handed_fits p w r type (Some h) (g ∷ fs) k i o =
@@ -88,7 +87,9 @@ module _ (performs : Performs) where
   next_begun w G pr [] fine z k i = tt
   next_begun w G pr (f ∷ fs) fine z k i = (work_begun w pr f f.left fine z k.0.0 k.0.1 k.0.2, i)
 
-  between : (w : Things) (G : ValueType → Type 0) (pr : Process) (n : ℕ) (fs : List Frame) → ProgramFits pr.setting.program → FramesFit pr.setting.program w fs → FirstOf G fs → ProcessFits w G (record pr { spent = n; frames = fs; wait = None; answers = [] })
+  -- a process that has spent so many ticks, and goes on in these frames
+  between : (w : Things) (G : ValueType → Type 0) (pr : Process) (n : ℕ) (fs : List Frame) → ProgramFits pr.setting.program → FramesFit pr.setting.program w fs → FirstOf G fs
+      → ProcessFits w G (record pr { spent = n; frames = fs; wait = None; answers = [] })
   between w G pr n fs fine k i = (k, next_begun w G (record pr { spent = n; frames = fs; wait = None; answers = [] }) fs fine refl k i)
 
   -- ---- the first process
@@ -156,7 +157,7 @@ module _ (performs : Performs) where
         goes_fits left top n vs (xs ++ left) v (works_both p f.method w (method_scope f.method) xs left k top.works)
         (taken_first G (taken_type x) (xs ++ left) (taken_is G x left i) (takes_both (taken_type x) xs left o top.free))
 
-    returns_fit : (left : List Work) → Top w pr f fs left → (v : Option Held) → Given w (result_type f.method) v → ProcessFits w G (record pr { frames = handed f.receiver v fs; wait = None; answers = [] })
+    returns_fit : (left : List Work) → Top w pr f fs left → (v : Option Held) → MaybeOf w (result_type f.method) v → ProcessFits w G (record pr { frames = handed f.receiver v fs; wait = None; answers = [] })
     returns_fit left top v o =
         between w G pr pr.spent (handed f.receiver v fs) top.program (handed_fits p w f.receiver (result_type f.method) v fs top.below (hands_out p f fs top.hands) o) (handed_first G f.receiver v fs (free_first G fs top.others))
 
@@ -224,9 +225,15 @@ module _ (performs : Performs) where
         by m (sound.value move h k) j = fits_when (Gives move []) (now m j ∙ k []) (moves_fit x left top i given_here move h)
         by m (sound.fault kind at k) j = fits_when (Fails kind at) (now m j ∙ k []) tt
         by m (sound.asks q k there h) j =
-            fits_when (Asks q) (now m j ∙ k) (ticks_fit w G H pr q.place _ (there, acts_fit q q.action _ (subst (Of (TakesAs G)) (now m j ∙ k) (takes_as G (env_of pr f left) x left pr.answers i))
-            (λ u g r o. (frames_stay p w u pr.frames g all, next_asked (spends (answered pr r)) x left u pr.wait pr.frames z y e
-            (same_sound p (λ u move. FitsFrame p f left x u move) u (λ rest. m (r ∷ rest)) _ (λ rest. j (r ∷ rest) ∙ ap (performed (env_of pr f left) x) (sym (append_assoc pr.answers (r ∷ []) rest))) (h u g r o)) i))))
+            fits_when (Asks q) (now m j ∙ k) (ticks_fit w G H pr q.place _ (
+              there,
+              acts_fit q q.action _ (subst (Of (TakesAs G)) (now m j ∙ k) (takes_as G (env_of pr f left) x left pr.answers i))
+                  (λ u g r o. (
+                    frames_stay p w u pr.frames g all,
+                    next_asked (spends (answered pr r)) x left u pr.wait pr.frames z y e
+                        (same_sound p (λ u move. FitsFrame p f left x u move) u (λ rest. m (r ∷ rest)) _ (λ rest. j (r ∷ rest) ∙ ap (performed (env_of pr f left) x) (sym (append_assoc pr.answers (r ∷ []) rest))) (h u g r o)) i,
+                  )),
+            ))
 
   -- ---- steps
 
@@ -260,21 +267,33 @@ module _ (performs : Performs) where
     departs_fit : (wait : Wait) (fs : List Frame) → pr.wait ≡ Some wait → pr.frames ≡ fs → FramesFit pr.setting.program w fs → WaitFits pr.setting.program G wait fs → StepFits w G H pr (departs pr wait)
     departs_fit wait [] z y k i = absurd i
     departs_fit wait (f ∷ fs) z y k i =
-        ticks_fit w G H pr wait.place _ (tt, (wait, i.0, z, i.2, i.3, λ u g r o.
-        subst (λ gs. ProcessFits u G (record pr { spent = pr.spent + 1; frames = handed wait.receiver (value_asked wait.wanted r) gs; wait = None; answers = [] })) (sym y)
-        (between u G pr (pr.spent + 1) (handed wait.receiver (value_asked wait.wanted r) (f ∷ fs)) fine (told_fits u f fs wait.receiver wait.wanted i.0 r i.1 o (frames_stay pr.setting.program w u (f ∷ fs) g k))
-        (handed_first G wait.receiver (value_asked wait.wanted r) (f ∷ fs) (taken_first G (taken_behind wait.kind i.0) f.left (λ type q. behind_is G wait.kind i.0 type i.2 q) i.4)))))
+        ticks_fit w G H pr wait.place _ (
+          tt,
+          (
+            wait,
+            i.0,
+            z,
+            i.2,
+            i.3,
+            λ u g r o.
+                subst (λ gs. ProcessFits u G (record pr { spent = pr.spent + 1; frames = handed wait.receiver (value_asked wait.wanted r) gs; wait = None; answers = [] })) (sym y)
+                (between u G pr (pr.spent + 1) (handed wait.receiver (value_asked wait.wanted r) (f ∷ fs)) fine (told_fits u f fs wait.receiver wait.wanted i.0 r i.1 o (frames_stay pr.setting.program w u (f ∷ fs) g k))
+                (handed_first G wait.receiver (value_asked wait.wanted r) (f ∷ fs) (taken_first G (taken_behind wait.kind i.0) f.left (λ type q. behind_is G wait.kind i.0 type i.2 q) i.4))),
+          ),
+        )
 
     steps_fit : (wait : Option Wait) → pr.wait ≡ wait → WaitFine n last wait pr.frames → FramesFit pr.setting.program w pr.frames → NextFits w G pr wait pr.frames → StepFits w G H pr (steps pr wait)
     steps_fit None z free k i = runs_fit pr.frames z refl free k i
     steps_fit (Some wait) z free k i = departs_fit wait pr.frames z refl k i.0
 
   -- a process that fits has a step that does, wherever takes stand first alone
-  pub step_fits : (w : Things) (G H : ValueType → Type 0) (s : Setting) (i : ℕ) (last : Option CollKind) (pr : Process) → ProgramFits pr.setting.program → Stands s i last pr → ProcessFits w G pr → StepFits w G H pr (step pr)
+  pub step_fits : (w : Things) (G H : ValueType → Type 0) (s : Setting) (i : ℕ) (last : Option CollKind) (pr : Process) → ProgramFits pr.setting.program → Stands s i last pr
+      → ProcessFits w G pr → StepFits w G H pr (step pr)
   step_fits w G H s i last pr fine stands k = steps_fit w G H pr last s.procs fine pr.wait refl stands.2 k.0 k.1
 
   -- silent steps lead from it to others that fit
-  pub reaches_fits : (w : Things) (G : ValueType → Type 0) (s : Setting) (i : ℕ) (last : Option CollKind) (pr q : Process) → ProgramFits s.program → Stands s i last pr → Reaches pr q → ProcessFits w G pr → ProcessFits w G q × Stands s i last q
+  pub reaches_fits : (w : Things) (G : ValueType → Type 0) (s : Setting) (i : ℕ) (last : Option CollKind) (pr q : Process) → ProgramFits s.program → Stands s i last pr → Reaches pr q
+      → ProcessFits w G pr → ProcessFits w G q × Stands s i last q
   reaches_fits w G s i last pr q fine stands here k = (k, stands)
   reaches_fits w G s i last pr r fine stands (later {q = q} e rest) k =
       let after = subst (StepFits w G G pr) e (step_fits w G G s i last pr (subst (λ (k : Setting). ProgramFits k.program) (sym stands.0) fine) stands k) in

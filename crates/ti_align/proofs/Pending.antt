@@ -1,42 +1,31 @@
 -- Work that is left, from a piece of it on, behind what it came to, and from the mark of a loop on; and the values that are left to be taken.
-use Rattle.std.proofs.Common.{◌≡◌, ◌⊎◌, ℕ, zero, suc, ◌+◌, nat_lt, length, slice_get, Bool, true, false, inl, inr, if◌then◌else◌, Option, Some, None, List, [], ◌∷◌, ◌++◌, refl, ap, sym, ◌∙◌, subst, append_assoc, append-nil}
-use Rattle.std.specs.Option.{option_map_or}
+use Rattle.std.proofs.Common.{◌≡◌, ℕ, Option, Some, None, List, [], ◌∷◌, ◌++◌, refl, ap, sym, subst}
 use Rattle.ti_base.specs.declared.place.Place.{Place}
-use Rattle.ti_base.specs.declared.fault.FaultKind.TheVariants.{Depth, Fuel}
 use Rattle.ti_base.specs.declared.action.Action.{Action}
 use Rattle.ti_base.specs.declared.action.Action.TheVariants as act
 use Rattle.ti_base.specs.declared.action.CollKind.{CollKind}
 use Rattle.ti_base.specs.declared.action.CollKind.TheVariants as coll
-use Rattle.ti_base.specs.declared.action.Deposit.{Deposit}
-use Rattle.ti_base.specs.declared.action.Deposit.TheVariants as deposit
 use Rattle.ti_base.specs.declared.entry.Answer.{Answer}
 use Rattle.ti_lang.specs.Program.Types.{ValueType}
-use Rattle.ti_lang.specs.Program.Types as t
-use Rattle.ti_lang.specs.Program.Statements.{NumberedStms, Nil, Cons, numbered_stms}
+use Rattle.ti_lang.specs.Program.Statements.{NumberedStms, Nil, Cons}
 use Rattle.ti_lang.specs.Program.Classes.{NumberedMethod, NumberedProgram}
-use Rattle.ti_lang.specs.Program.Scope.{ScopeContents, method_scope}
-use Rattle.ti_lang.specs.Typing.Declared.{result_type}
+use Rattle.ti_lang.specs.Program.Scope.{ScopeContents}
 use Rattle.ti_lang.specs.Typing.Kinds.{element_of}
 use Rattle.ti_lang.specs.Meaning.Held.{Held}
-use Rattle.ti_lang.specs.Meaning.Asking.{Wanted, ToBeDone, ValueOf, NewThing, Reference, Request, Asking, Got, Gives, Asks, Fails, told}
-use Rattle.ti_lang.specs.Meaning.Processes.{Setting, Variable, Receiver, Nowhere, Work, Do, End, Before, Behind, Receive, CopyAll, TakeAll, Frame, frame_of, first_frames, Wait, Process, all_before, begin}
-use Rattle.ti_lang.specs.Meaning.Scoping.{Env, env_of, without}
+use Rattle.ti_lang.specs.Meaning.Asking.{Wanted, ValueOf, Reference, Request}
+use Rattle.ti_lang.specs.Meaning.Processes.{Variable, Receiver, Work, Do, End, Before, Behind, Receive, CopyAll, TakeAll, Frame, all_before}
+use Rattle.ti_lang.specs.Meaning.Scoping.{Env, without}
 use Rattle.ti_lang.specs.Meaning.Copies.{taken}
-use Rattle.ti_lang.specs.Meaning.Moves.{Move, Goes, Turns, Breaks, Continues, Calls, Returns, Meets, Deletes}
 use Rattle.ti_lang.specs.Meaning.Performing.{declared_in, performed}
-use Rattle.ti_lang.specs.Meaning.Jumps.{has_mark, from_mark, past_mark, variables_at_mark}
-use Rattle.ti_lang.specs.Meaning.Steps.{Step, To, At, Ends, Faults, spends, ticks, answered, valued, handed, most_frames, named_in, arrives, deleting, value_asked, moves, works, runs, steps, step}
-use Rattle.ti_lang.specs.Meaning.NextStep.{Reaches, here, later}
-use Rattle.ti_align.specs.Things.{Things, Grows, IsOf}
-use Rattle.ti_align.specs.Sound.{FitsAsked, Sound, value, fault, asks}
-use Rattle.ti_align.specs.Work.{VariablesFit, scope_inside, scope_over, ReceiverFits, StmFits, StmsFit, MethodFits, MethodsFit, ThisFits, DepositFits, given_type, taken_type, TakesOf, taken_behind, IsOfRound, WantsOf, WorkFits, WorksFit, IsAwaited, MoveFits}
-use Rattle.ti_align.specs.Typed.{ProgramFits, HandsOn, FramesFit, given_in, given_by, WorkSound, TakesFirst, WaitFits, NextFits, ProcessFits, ActionFits, StepFits}
-use Rattle.ti_align.proofs.Computing.{grows_not, same_sound}
+use Rattle.ti_lang.specs.Meaning.Jumps.{from_mark, past_mark, variables_at_mark}
+use Rattle.ti_lang.specs.Meaning.Steps.{handed}
+use Rattle.ti_align.specs.Things.{Things}
+use Rattle.ti_align.specs.Work.{VariablesFit, scope_inside, scope_over, StmFits, StmsFit, taken_type, TakesOf, taken_behind, IsOfRound, WorkFits, WorksFit}
+use Rattle.ti_align.specs.Typed.{TakesFirst}
 use Rattle.ti_align.proofs.Operating.{none_some, some_same}
 use Rattle.ti_align.proofs.Storing.{without_fits}
 use Rattle.ti_align.proofs.Asks.{Each, Of, performed_asks}
-use Rattle.ti_align.proofs.Given.{NoTakes, LeftFine, AllFree, TopFine, WaitFine, Stands, tail_free, free_mark, free_past, step_fine}
-use Rattle.ti_align.proofs.Staying.{frames_stay}
+use Rattle.ti_align.proofs.Given.{NoTakes, AllFree}
 
 -- ---- work
 

@@ -1,5 +1,5 @@
 -- What fits the types stays so while what is there grows.
-use Rattle.std.proofs.Common.{◌≡◌, ℕ, Option, Some, None, List, [], ◌∷◌, ◌++◌}
+use Rattle.std.proofs.Common.{Option, Some, None, List, [], ◌∷◌, ◌++◌}
 use Rattle.ti_base.specs.declared.value.Id.{Id}
 use Rattle.ti_base.specs.declared.action.Action.{Action}
 use Rattle.ti_base.specs.declared.action.Action.TheVariants as act
@@ -7,7 +7,6 @@ use Rattle.ti_base.specs.declared.action.CollKind.{CollKind}
 use Rattle.ti_base.specs.declared.action.CollKind.TheVariants as coll
 use Rattle.ti_base.specs.declared.action.Deposit.{Deposit}
 use Rattle.ti_base.specs.declared.action.Deposit.TheVariants as deposit
-use Rattle.ti_base.specs.declared.entry.Answer.{Answer}
 use Rattle.ti_lang.specs.Program.Types.{ValueType}
 use Rattle.ti_lang.specs.Program.Classes.{NumberedMethod, NumberedProgram}
 use Rattle.ti_lang.specs.Program.Scope.{ScopeContents, method_scope}
@@ -19,7 +18,7 @@ use Rattle.ti_lang.specs.Meaning.Processes.{Work, Do, End, Before, Behind, Recei
 use Rattle.ti_lang.specs.Meaning.Scoping.{env_of}
 use Rattle.ti_lang.specs.Meaning.Moves.{Move, Goes, Turns, Breaks, Continues, Calls, Returns, Meets, Deletes}
 use Rattle.ti_lang.specs.Meaning.Performing.{performed}
-use Rattle.ti_align.specs.Things.{Things, Grows, IsOf}
+use Rattle.ti_align.specs.Things.{Things, Grows}
 use Rattle.ti_align.specs.Sound.{IsThere, Sound, value, fault, asks}
 use Rattle.ti_align.specs.Work.{scope_over, ThisFits, DepositFits, given_type, taken_type, IsOfRound, WorkFits, WorksFit, MoveFits}
 use Rattle.ti_align.specs.Typed.{FrameFits, FramesFit, WorkSound, TakesFirst, WaitFits, NextFits, ProcessFits}
