@@ -58,6 +58,13 @@ use Rattle.ti_align.proofs.Possible.{by_kind}
 use Rattle.ti_align.proofs.Aligning.{way_next}
 use Rattle.ti_align.proofs.Computing.{of_stays}
 use Rattle.ti_align.proofs.Heaping.{keeps_types}
+use Rattle.ti_align.proofs.Staying.{stays, other_round}
+use Rattle.ti_align.proofs.Kept.{Performs, begin_fits, step_fits, reaches_fits}
+use Rattle.ti_align.proofs.Framed.{frame_fine}
+
+-- what is done next in a frame that fits
+performs : Performs
+performs pr f left w x fine vars this k = frame_fine pr f left w x vars this fine.fields fine.storable fine.methods k
 
 -- ---- who waits
 
@@ -191,12 +198,7 @@ kind_here i h a kind x y = some_kind _ _ (sym y ∙ ap (option_map (λ (a : roun
     some_kind k l z = cc
 
 module _ (s : Setting)
-    (fits : ProgramFits s.program) (fine : FineMethods s.program s.program.methods)
-    (stays : (w u : Things) (G : ValueType → Type 0) (p : Process) → Grows w u → ProcessFits w G p → ProcessFits u G p)
-    (other_round : (w : Things) (G H : ValueType → Type 0) (p : Process) → ((a : ValueType) → G a → H a) → ProcessFits w G p → ProcessFits w H p)
-    (begin_fits : (w : Things) (G : ValueType → Type 0) (i : ℕ) → ProcessFits w G (begin s i))
-    (step_fits : (w : Things) (G H : ValueType → Type 0) (i : ℕ) (last : Option CollKind) (p : Process) → Stands s i last p → ProcessFits w G p → StepFits w G H p (step p))
-    (reaches_fits : (w : Things) (G : ValueType → Type 0) (i : ℕ) (last : Option CollKind) (p q : Process) → Stands s i last p → Reaches p q → ProcessFits w G p → ProcessFits w G q) where
+    (fits : ProgramFits s.program) (fine : FineMethods s.program s.program.methods) where
   module _ (es : List Entry) (e : Entry) (ran : IsRun s es) (agree : ArrivalsAgree s es) (t : CanTake s es e.proc e) (fit : RunFits s es) where
     abbrev h : History
     h = history_of es
@@ -225,7 +227,7 @@ module _ (s : Setting)
     q_fits : ProcessFits w (GivesLast s es i) q
     q_fits =
         let k = way_next s es i t.process t.process ran t.world here in
-        reaches_fits w (GivesLast s es i) i _ t.process q (given_facts.stands s i t.process k.0 k.1) t.is_next.1.reaches (fit.processes i t.process t.world)
+        (reaches_fits performs w (GivesLast s es i) s i _ t.process q fits (given_facts.stands s i t.process k.0 k.1) t.is_next.1.reaches (fit.processes i t.process t.world)).0
 
     -- where what the action names is there
     module _ (wanted : Wanted) (there : IsThere s.program w e.act wanted) where
@@ -297,7 +299,7 @@ module _ (s : Setting)
     -- an answer
     module _ (is : is_answered e ≡ true) (asked : Asked) (go : Answer → Process) (stands : step q ≡ At (asking e.place e.act asked) go) where
       step_here : StepFits w (GivesLast s es i) (GivesLast s all i) q (At (asking e.place e.act asked) go)
-      step_here = subst (StepFits w (GivesLast s es i) (GivesLast s all i) q) stands (step_fits w (GivesLast s es i) (GivesLast s all i) i (last_kind i h) q q_stands q_fits)
+      step_here = subst (StepFits w (GivesLast s es i) (GivesLast s all i) q) stands (step_fits performs w (GivesLast s es i) (GivesLast s all i) s i (last_kind i h) q (subst (λ (x : Setting). ProgramFits x.program) (sym q_stands.0) fits) q_stands q_fits)
 
       there : IsThere s.program w e.act asked.1
       there = subst (λ (x : Setting). IsThere x.program w e.act asked.1) q_stands.0 step_here.0
@@ -408,7 +410,7 @@ module _ (s : Setting)
   begin_holds = record {
     elements = λ id. None;
     heap = record { cells = λ cell value z. absurd (none_written cell value z); blocks = λ block type z. absurd (no_type type z) };
-    processes = λ i p x. subst (ProcessFits (things_of (λ id. None) []) (GivesLast s [] i)) (after_same (begin s i) (begin s i) p [] none x) (begin_fits (things_of (λ id. None) []) (GivesLast s [] i) i);
+    processes = λ i p x. subst (ProcessFits (things_of (λ id. None) []) (GivesLast s [] i)) (after_same (begin s i) (begin s i) p [] none x) (begin_fits performs (things_of (λ id. None) []) (GivesLast s [] i) s i fits);
     deposits = λ i k a value z. absurd (no_arrival a z);
   }
     where

@@ -31,4 +31,7 @@ pub mod Performed
 pub mod Working
 pub mod Stated
 pub mod Framed
+pub mod Staying
+pub mod Pending
+pub mod Kept
 pub mod Holding

@@ -83,7 +83,7 @@ TakesFirst G left = Unit {0}
 
 -- what a process that waits is given, or takes behind the collective, suits the frame in which it waits
 abbrev pub WaitFits : NumberedProgram → (ValueType → Type 0) → Wait → List Frame → Type 0
-WaitFits p G wait [] = Unit {0}
+WaitFits p G wait [] = ⊥
 WaitFits p G wait (f ∷ fs) =
     (type : ValueType) × IsAwaited p f.method (scope_over p (method_scope f.method) f.left) wait.wanted wait.receiver type
     × IsOfRound G wait.kind type × WantsOf wait.kind wait.wanted × TakesOf (taken_behind wait.kind type) f.left
