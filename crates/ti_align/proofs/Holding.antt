@@ -22,7 +22,7 @@ use Rattle.ti_lang.specs.Meaning.Held.{Plain}
 use Rattle.ti_lang.specs.Meaning.Asking.{Wanted, ToBeDone, told, Request}
 use Rattle.ti_lang.specs.Meaning.Processes.{Setting, Wait, Process, begin}
 use Rattle.ti_lang.specs.Meaning.Steps.{Step, To, At, step}
-use Rattle.ti_lang.specs.Meaning.NextStep.{Reaches, here, Settles, After, none, more}
+use Rattle.ti_lang.specs.Meaning.NextStep.{Reaches, here, Settles, IsNext, After, none, more}
 use Rattle.ti_lang.specs.Meaning.Histories.{History, history_of, is_end, is_fault, is_arrival, is_departure, is_answered, entries_of, answers_of, arrivals}
 use Rattle.ti_lang.specs.Meaning.RegionsOf.{is_made, is_region}
 use Rattle.ti_lang.specs.Meaning.HeapOf.{last_written}
@@ -41,7 +41,7 @@ use Rattle.ti_align.specs.Things.{Things, Grows, IsOf}
 use Rattle.ti_align.specs.Sound.{IsThere, FitsAsked}
 use Rattle.ti_align.specs.Work.{DepositFits, IsOfRound, WantsOf}
 use Rattle.ti_align.specs.Heap.{Elements, things_of, HeapFits, elements_behind, is_of_heap, KeepsTypes}
-use Rattle.ti_align.specs.Typed.{ProgramFits, ProcessFits, ActionFits, StepFits, given_by, GivesAt, GivesLast, hands_in, RunFits}
+use Rattle.ti_align.specs.Typed.{ProgramFits, ProcessFits, ActionFits, StepFits, given_by, GivesAt, GivesLast, hands_in, RunFits, RunTyped}
 use Rattle.ti_align.proofs.Vars.{true_false, and_left, and_right}
 use Rattle.ti_align.proofs.Ways.{Asked, asking, Meeting, Way, last_from}
 use Rattle.ti_align.proofs.Ways as way
@@ -54,7 +54,7 @@ use Rattle.ti_align.proofs.Arrived.{is_own, more_own, more_other, back, Comes, b
 use Rattle.ti_align.proofs.Running.{after_more, at_action}
 use Rattle.ti_align.proofs.Rounds.{RoundAnswer, Told, told_now, said, acts_as, arrive_answered, arrival_is, extended, alike}
 use Rattle.ti_align.proofs.Giving.{given_same, gives_more, gives_now}
-use Rattle.ti_align.proofs.Possible.{by_kind}
+use Rattle.ti_align.proofs.Possible.{ThingsThere, by_kind}
 use Rattle.ti_align.proofs.Aligning.{way_next}
 use Rattle.ti_align.proofs.Computing.{of_stays}
 use Rattle.ti_align.proofs.Heaping.{keeps_types}
@@ -425,3 +425,27 @@ module _ (s : Setting)
   run_holds agree es run.none = begin_holds
   run_holds agree whole (run.more {es = es} {i = i} {e = e} r t z) =
       subst (RunFits s) (sym z) (entry_holds es e r (agree es r) (subst (λ j. CanTake s es j e) (sym (taker s es i e t)) t) (run_holds agree es r))
+
+  -- ---- what is named
+
+  next_there : (es : List Entry) → IsRun s es → (fit : RunFits s es) → (i : ℕ) (p : Process) (at : Place) (a : Action) → World s es i p → IsNext p (next.Act at a) → (wanted : Wanted) × IsThere s.program (things_of fit.elements (history_of es)) a wanted
+  next_there es r fit i p at a x n =
+      let q = n.0 in
+      let w = things_of fit.elements (history_of es) in
+      let k = way_next s es i p p r x here in
+      let stand = given_facts.stands s i p k.0 k.1 in
+      let reached = reaches_fits performs w (GivesLast s es i) s i _ p q fits stand n.1.reaches (fit.processes i p x) in
+      let acts = at_action (step q) at a n.1.stands in
+      let same = reached.1.0 in
+      let step_here = subst (StepFits w (GivesLast s es i) (GivesLast s es i) q) acts.2 (step_fits performs w (GivesLast s es i) (GivesLast s es i) s i _ q (subst (λ (y : Setting). ProgramFits y.program) (sym same) fits) reached.1 reached.0) in
+      (acts.0.1, subst (λ (y : Setting). IsThere y.program w a acts.0.1) same step_here.0)
+
+  pub run_typed : ((es : List Entry) → IsRun s es → ArrivalsAgree s es) → (es : List Entry) → IsRun s es → RunTyped s es
+  run_typed agree es r = let fit = run_holds agree es r in record { fits = fit; there = next_there es r fit }
+
+  -- so the heap answers it
+  pub things_there : ((es : List Entry) → IsRun s es → ArrivalsAgree s es) → (es : List Entry) → IsRun s es → ThingsThere s es
+  things_there agree es r i p at a x n of o =
+      let typed = run_typed agree es r in
+      let named = typed.there i p at a x n in
+      (keeps_types s.program typed.fits.elements (history_of es) i a named.0 fits.storable (run_answered s es r) typed.fits.heap named.1).possible of o
