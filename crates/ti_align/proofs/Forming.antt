@@ -1,5 +1,5 @@
 -- Types of expressions are formed: they have one to three dimensions, wherever they have any, and elements that may be there.
-use Rattle.std.proofs.Common.{◌≡◌, ℕ, suc, ◌+◌, ◌-◌, ◌<◌, ◌==◌, nat_lt, ◌⊎◌, inl, inr, Bool, true, false, not, ◌&&◌, if◌then◌else◌, length, find, is_some, slice_get, option_map, option_and_then, Option, Some, None, List, [], ◌∷◌, ◌++◌, refl, ap, ap₂, sym, ◌∙◌, subst, arith}
+use Rattle.std.proofs.Common.{◌≡◌, ℕ, suc, ◌+◌, ◌-◌, ◌<◌, ◌==◌, nat_lt, ◌⊎◌, inl, inr, Bool, true, false, not, ◌&&◌, if◌then◌else◌, length, slice_get, option_map, option_and_then, Option, Some, None, List, [], ◌∷◌, ◌++◌, refl, ap, ap₂, sym, ◌∙◌, subst, arith}
 use Rattle.std.specs.Option.{option_or}
 use Rattle.std.proofs.lemmas.Bool.{lt-ltb, ltb-true}
 use Rattle.ti_syntax.specs.declared.tree.exprs.UnaryOperator.{UnaryOperator}
@@ -18,7 +18,7 @@ use Rattle.ti_lang.specs.Typing.Fits.{casts}
 use Rattle.ti_lang.specs.Typing.Operators.{wider, whole_type, truth_type, point_type, rect_type, same_dim, domain_type, unary_type, binary_type}
 use Rattle.ti_lang.specs.Typing.BuiltIn.{BuiltIn, Size, Min, Max, Contains, Domain, Restrict, Translate, Slice, Copy, Exchange, Delete, same_grids, can_copy, can_exchange, has_local_elements, member_type}
 use Rattle.ti_lang.specs.Typing.Declared.{in_scope, declared_type, variable_type, field_type, named_field_type}
-use Rattle.ti_lang.specs.Typing.Expressions.{plain, operand, both, joined, one, all_ints, point_literal, all_points, range_of_points, rect_literal, index_type, select_type, called, range_count, known, operands, bound, bounds, operand_type}
+use Rattle.ti_lang.specs.Typing.Expressions.{plain, operand, both, joined, one, all_ints, point_literal, all_points, range_of_points, rect_literal, index_type, select_type, called, range_count, operands, bound, bounds, operand_type}
 use Rattle.ti_lang.specs.Typing.TextTypes.{how_many}
 use Rattle.ti_lang.specs.Meaning.HeapAnswers.{is_dim}
 use Rattle.ti_align.specs.Things.{IsStorable, DimsFine}
@@ -26,7 +26,7 @@ use Rattle.ti_align.specs.Work.{has_dims}
 use Rattle.ti_align.proofs.Vars.{true_false, and_left, and_right}
 use Rattle.ti_align.proofs.Operating.{none_some, some_same, where_some}
 use Rattle.ti_align.proofs.Evaluating.{and_then, mapped, both_there, joined_there, one_there, no_call, named_field, member_there}
-use Rattle.ti_align.proofs.Meant.{storable, formed, among, means, ExpMeant, ExpsMeant, RangeMeant, RangesMeant, FieldsMeant}
+use Rattle.ti_align.proofs.Meant.{storable, formed, among, means, ExpMeant, RangeMeant, RangesMeant, FieldsMeant}
 
 -- ---- what formed types are
 

@@ -30,3 +30,11 @@ pub mod Performed
 pub mod Working
 pub mod Stated
 pub mod Framed
+pub mod Meant
+pub mod Forming
+pub mod Written
+pub mod Stating
+pub mod Spelled
+pub mod Naming
+pub mod Numbered
+pub mod Programs

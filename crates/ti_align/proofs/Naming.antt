@@ -1,12 +1,11 @@
 -- What the numbers of a text say of its program: what each name means, and that each foreach variable has a number of its own.
-use Rattle.std.proofs.Common.{◌≡◌, ◌⊎◌, inl, inr, ℕ, suc, zero, ◌+◌, ◌<◌, ◌≤◌, nat_lt, ◌==◌, Bool, true, false, not, ◌&&◌, ◌||◌, cond, if◌then◌else◌, length, find, position, slice_get, is_some, is_none, option_map, option_and_then, Option, Some, None, List, [], ◌∷◌, ◌++◌, get_or, bytes_eq, refl, ap, ap₂, sym, ◌∙◌, subst, arith, eqb-true, eq-eqb}
-use Rattle.std.specs.List.{list_any, position_or_len}
+use Rattle.std.proofs.Common.{◌≡◌, ◌⊎◌, inl, inr, ℕ, ◌+◌, ◌<◌, ◌≤◌, nat_lt, ◌==◌, Bool, true, false, not, ◌&&◌, ◌||◌, cond, if◌then◌else◌, length, find, position, slice_get, is_some, is_none, option_and_then, Option, Some, None, List, [], ◌∷◌, ◌++◌, get_or, bytes_eq, refl, ap, ap₂, sym, ◌∙◌, subst, arith, eqb-true, eq-eqb}
+use Rattle.std.specs.List.{position_or_len}
 use Rattle.std.specs.Option.{option_map_or}
 use Rattle.std.specs.Map.{lookup}
 use Rattle.std.proofs.lemmas.Bool.{ltb-true}
 use Rattle.std.proofs.lemmas.List.Folds.{find_at}
 use Rattle.std.proofs.lemmas.Option.{cond_some, slice_get_cases}
-use Rattle.ti_base.specs.declared.place.Place.{Place}
 use Rattle.ti_syntax.specs.declared.tree.types.Base.{Base}
 use Rattle.ti_syntax.specs.declared.tree.types.Base.TheVariants as base
 use Rattle.ti_syntax.specs.declared.tree.types.Qualifier.{Qualifier}
@@ -14,30 +13,27 @@ use Rattle.ti_syntax.specs.Trees.Types.{GridTree, TypeTree}
 use Rattle.ti_syntax.specs.Trees.Expressions.{Exp, Exps, RangeTree, RangeTrees, ranges_tree}
 use Rattle.ti_syntax.specs.Trees.Statements.{DimsTree, InitTree, PrintTree, Stm, MaybeStm, Stms, stms}
 use Rattle.ti_syntax.specs.Trees.Statements as s
-use Rattle.ti_syntax.specs.Trees.Classes.{FieldTree, ParamTree, ParamsTree, MemberTree, FieldMember, MethodMember, ClassTree, TextTree}
-use Rattle.ti_syntax.specs.Trees.Classes as tree
+use Rattle.ti_syntax.specs.Trees.Classes.{TextTree}
 use Rattle.ti_lang.specs.Program.Types.{ValueType, NumberedType, Declaration, VariableUse}
 use Rattle.ti_lang.specs.Program.Types as t
 use Rattle.ti_lang.specs.Program.Expressions.{NumberedExp, NumberedExps, NumberedRange, NumberedRanges, numbered_ranges}
-use Rattle.ti_lang.specs.Program.Statements.{NumberedDims, NumberedInit, NumberedPrint, NumberedStm, MaybeNumbered, NumberedStms, numbered_stms}
-use Rattle.ti_lang.specs.Program.Classes.{NumberedField, NumberedClass, NumberedParam, NumberedParams, NumberedMethod, NumberedProgram}
-use Rattle.ti_lang.specs.Program.Classes as c
-use Rattle.ti_lang.specs.Program.Scope.{ScopeVariable, this_of, parameters_from, parameters, method_scope}
+use Rattle.ti_lang.specs.Program.Statements.{NumberedDims, NumberedInit, NumberedPrint, NumberedStm, MaybeNumbered}
+use Rattle.ti_lang.specs.Program.Classes.{NumberedMethod, NumberedProgram}
+use Rattle.ti_lang.specs.Program.Scope.{this_of, method_scope}
 use Rattle.ti_lang.specs.Members as members
 use Rattle.ti_lang.specs.Members.{only_if, class_named, fields_in, fields_of, field_named, OwnMethod, methods_in, methods_from, methods_of, method_named, is_static}
-use Rattle.ti_lang.specs.Scopes.{class_type, base_type, grid_type, value_type, has_local, has_single, Known, Site, with_variable, declares, typed_as, past_variable, past, past_maybe, past_all, behind, behind_maybe, behind_params, method_site, body_site, variable_named, own_field_named, own_method_named, static_method_named}
+use Rattle.ti_lang.specs.Scopes.{class_type, base_type, grid_type, value_type, has_local, Known, Site, with_variable, declares, typed_as, past_variable, past, past_maybe, past_all, behind, behind_maybe, own_field_named, own_method_named}
 use Rattle.ti_lang.specs.Typing.Kinds.{is_void}
-use Rattle.ti_lang.specs.Typing.Declared.{in_scope, fields_of_class, field_type, is_static_method}
+use Rattle.ti_lang.specs.Typing.Declared.{in_scope, field_type, is_static_method}
 use Rattle.ti_lang.specs.Typing.Expressions.{range_count}
 use Rattle.ti_lang.specs.Typing.TextTypes.{how_many}
 use Rattle.ti_lang.specs.Numbering as number
 use Rattle.ti_lang.specs.Numbering.{IsKnownBase, NumbersType, NumbersExp, NumbersExps, NumbersRange, NumbersRanges, NumbersMaybe, NumbersDims, NumbersInit, NumbersPrint, NumbersStm, NumbersMaybeStm, NumbersStms, NumbersFields, NumbersClasses, NumbersParamList, NumbersParams, NumbersMethod, NumbersMethods, Numbers, IsNumbered}
 use Rattle.ti_lang.specs.Meaning.HeapAnswers.{is_dim}
 use Rattle.ti_align.specs.Work.{is_form_of_call}
-use Rattle.ti_align.proofs.Vars.{true_false, false_true, not_true, and_left, and_right}
+use Rattle.ti_align.proofs.Vars.{true_false, not_true, and_left, and_right}
 use Rattle.ti_align.proofs.Operating.{none_some, some_same}
-use Rattle.ti_align.proofs.Evaluating.{mapped}
-use Rattle.ti_align.proofs.Meant.{storable, formed, among, means, covers, serves, is_place, ExpMeant, ExpsMeant, RangeMeant, RangesMeant, OptionMeant, DimsMeant, InitMeant, PrintMeant, TargetMeant, StmMeant, MaybeMeant, StmsMeant, MethodsMeant, FieldsMeant}
+use Rattle.ti_align.proofs.Meant.{storable, formed, among, means, covers, serves, is_place, ExpMeant, ExpsMeant, RangeMeant, RangesMeant, OptionMeant, DimsMeant, InitMeant, PrintMeant, TargetMeant}
 use Rattle.ti_align.proofs.Spelled as fine
 use Rattle.ti_align.proofs.Spelled.{base_formed, base_storable, grids_formed, FieldFine, TypeFine, tree_count, ranges_count, is_target_tree, is_call_tree, ExpFine, ExpsFine, RangeFine, RangesFine, OptionFine, InitFine, PrintFine, TargetFine, StmFine, MaybeFine, StmsFine, ParamsFine, MethodFine, MembersFine, TextFine, spelled_fine}
 

@@ -1,25 +1,22 @@
 -- What the numbers of a text say of the statements, the methods and the fields of its program.
-use Rattle.std.proofs.Common.{◌≡◌, ℕ, suc, zero, ◌+◌, ◌<◌, ◌≤◌, ◌==◌, Bool, true, false, not, ◌&&◌, cond, if◌then◌else◌, length, find, slice_get, is_some, is_none, option_map, Option, Some, None, List, [], ◌∷◌, ◌++◌, bytes_eq, refl, ap, ap₂, sym, ◌∙◌, subst, arith}
+use Rattle.std.proofs.Common.{◌≡◌, ℕ, suc, zero, ◌+◌, ◌≤◌, ◌==◌, true, ◌&&◌, cond, if◌then◌else◌, length, find, slice_get, is_some, is_none, option_map, Option, Some, None, List, [], ◌∷◌, ◌++◌, bytes_eq, refl, ap, ap₂, sym, ◌∙◌, subst, arith}
 use Rattle.std.specs.Option.{option_map_or}
 use Rattle.ti_syntax.specs.Trees.Statements.{Stm, MaybeStm, Stms, stms}
 use Rattle.ti_syntax.specs.Trees.Classes.{FieldTree, ParamTree, ParamsTree, MemberTree, FieldMember, MethodMember, ClassTree, TextTree}
-use Rattle.ti_syntax.specs.Trees.Classes as tree
 use Rattle.ti_lang.specs.Program.Types.{ValueType, NumberedType}
 use Rattle.ti_lang.specs.Program.Types as t
 use Rattle.ti_lang.specs.Program.Statements.{NumberedStm, MaybeNumbered, NumberedStms, numbered_stms}
 use Rattle.ti_lang.specs.Program.Classes.{NumberedField, NumberedClass, NumberedParam, NumberedParams, NumberedMethod, NumberedProgram}
-use Rattle.ti_lang.specs.Program.Classes as c
-use Rattle.ti_lang.specs.Program.Scope.{ScopeVariable, this_of, parameters_from, parameters, method_scope}
+use Rattle.ti_lang.specs.Program.Scope.{ScopeVariable, parameters_from, parameters}
 use Rattle.ti_lang.specs.Members.{class_named, fields_in, fields_of, field_named, OwnMethod, methods_in, methods_from, methods_of, is_single, is_static, name_number}
 use Rattle.ti_lang.specs.Scopes.{Site, declares, typed_as, past, past_maybe, behind, behind_maybe, behind_params, method_site, body_site}
-use Rattle.ti_lang.specs.Typing.Declared.{in_scope, fields_of_class, field_type, is_static_method}
+use Rattle.ti_lang.specs.Typing.Declared.{fields_of_class, field_type, is_static_method}
 use Rattle.ti_lang.specs.Numbering as number
 use Rattle.ti_lang.specs.Numbering.{NumbersType, NumbersStm, NumbersMaybeStm, NumbersStms, NumbersFields, NumbersClasses, NumbersParamList, NumbersParams, NumbersMethod, NumbersMethods, Numbers, IsNumbered}
-use Rattle.ti_align.proofs.Vars.{true_false}
 use Rattle.ti_align.proofs.Operating.{none_some, some_same}
 use Rattle.ti_align.proofs.Evaluating.{mapped}
 use Rattle.ti_align.proofs.Meant.{storable, formed, StmMeant, MaybeMeant, StmsMeant, MethodsMeant, FieldsMeant}
-use Rattle.ti_align.proofs.Spelled.{FieldFine, StmFine, MaybeFine, StmsFine, ParamsFine, MethodFine, MemberFine, MembersFine, TextFine, spelled_fine}
+use Rattle.ti_align.proofs.Spelled.{FieldFine, StmFine, MaybeFine, StmsFine, ParamsFine, MethodFine, MembersFine, TextFine, spelled_fine}
 use Rattle.ti_align.proofs.Naming.{position_there, other_number, field_value, typed_means, TextFits, SiteMeans, SiteFits, declares_means, foreach_fits, past_fits, past_maybe_fits, behind_fits, behind_maybe_fits, exp_meant, option_meant, init_meant, print_meant, target_meant, call_meant}
 
 -- ---- statements
@@ -45,20 +42,18 @@ module _ (p : NumberedProgram) (m : NumberedMethod) where
     stm_meant turns site k x y (number.while h i) f = (exp_meant p m turns site k.known _ _ h f.0, stm_meant turns site k _ _ i f.1)
     stm_meant turns site k x y (number.for {first = first} {update = update} {f = w} h c u i) f =
         let inside = behind_maybe site first in
-        let j = behind_maybe_fits p m turns site first w h f.0 k in
-        (
+        let j = behind_maybe_fits p m turns site first w h f.0 k in (
           maybe_meant turns site k first w h f.0,
           option_meant p m turns inside j.known _ _ c f.1,
           maybe_meant turns inside j update _ u f.2,
           stm_meant turns (past_maybe inside update) (past_maybe_fits p m turns inside update j) _ _ i f.3,
         )
-    stm_meant turns site k x y (number.foreach {name = name} fresh room h i) f =
-        (
-          exp_meant p m turns site k.known _ _ h f.0,
-          k.below site.variables (omega arith),
-          k.fresh site.variables (omega arith),
-          stm_meant (site.variables ∷ turns) (declares site name t.Foreach) (foreach_fits p m turns site name k) _ _ i f.1,
-        )
+    stm_meant turns site k x y (number.foreach {name = name} fresh room h i) f = (
+      exp_meant p m turns site k.known _ _ h f.0,
+      k.below site.variables (omega arith),
+      k.fresh site.variables (omega arith),
+      stm_meant (site.variables ∷ turns) (declares site name t.Foreach) (foreach_fits p m turns site name k) _ _ i f.1,
+    )
 
     maybe_meant : (turns : List ℕ) (site : Site) → SiteFits p m turns site → (x : MaybeStm) (y : MaybeNumbered) → NumbersMaybeStm site x y → MaybeFine x → MaybeMeant p m turns y
     maybe_meant turns site k x y number.no_stm f = tt

@@ -1,9 +1,8 @@
 -- A checked program fits its types.
-use Rattle.std.proofs.Common.{◌≡◌, ℕ, List, [], ◌∷◌, ◌++◌, flat_map}
+use Rattle.std.proofs.Common.{◌≡◌, List, [], ◌∷◌, ◌++◌, flat_map}
 use Rattle.std.proofs.Math.Logic.{∥∥₁_elim}
 use Rattle.ti_lang.specs.Program.Statements.{numbered_stms}
 use Rattle.ti_lang.specs.Program.Classes.{NumberedMethod, NumberedProgram}
-use Rattle.ti_lang.specs.Program.Scope.{method_scope}
 use Rattle.ti_rules.specs.Standing.{around_method, standing_in_method}
 use Rattle.ti_rules.specs.Broken.Statements.{standing_refusals}
 use Rattle.ti_rules.specs.TypeRules.{class_refusals, head_refusals, end_refusals, method_refusals}
@@ -38,11 +37,10 @@ method_fits p f m k h =
 
 methods_fit : (p : NumberedProgram) → FieldsMeant p → (ms : List NumberedMethod) → MethodsMeant p ms → flat_map (method_refusals p) ms ≡ [] → MethodsFit p ms
 methods_fit p f [] k h = tt
-methods_fit p f (m ∷ ms) k h =
-    (
-      method_fits p f m k.0 (nil_left (method_refusals p m) (flat_map (method_refusals p) ms) h),
-      methods_fit p f ms k.1 (nil_right (method_refusals p m) (flat_map (method_refusals p) ms) h),
-    )
+methods_fit p f (m ∷ ms) k h = (
+  method_fits p f m k.0 (nil_left (method_refusals p m) (flat_map (method_refusals p) ms) h),
+  methods_fit p f ms k.1 (nil_right (method_refusals p m) (flat_map (method_refusals p) ms) h),
+)
 
 -- a checked program fits its types
 pub checked_fits : (p : NumberedProgram) → IsChecked p → ProgramFits p

@@ -1,6 +1,5 @@
 -- What the grammar says of the trees of a text: the dimensions of types and literals, and what targets and calls are.
-use Rattle.std.proofs.Common.{◌≡◌, ◌⊎◌, inl, inr, ℕ, suc, ◌+◌, ◌≤◌, Bool, true, false, ◌&&◌, length, Option, Some, None, List, [], ◌∷◌, ◌++◌, refl, ap, ap₂, sym, ◌∙◌, subst, arith}
-use Rattle.ti_base.specs.Points.{IsDim}
+use Rattle.std.proofs.Common.{◌≡◌, ◌⊎◌, inl, inr, ℕ, suc, ◌+◌, ◌≤◌, Bool, true, false, ◌&&◌, length, Option, Some, None, List, [], ◌∷◌, refl, ap₂, arith}
 use Rattle.ti_syntax.specs.declared.token.Token.{Token}
 use Rattle.ti_syntax.specs.declared.tree.types.Base.{Base}
 use Rattle.ti_syntax.specs.declared.tree.types.Base.TheVariants as base
@@ -11,7 +10,7 @@ use Rattle.ti_syntax.specs.Trees.Statements.{DimsTree, InitTree, PrintTree, Stm,
 use Rattle.ti_syntax.specs.Trees.Statements as s
 use Rattle.ti_syntax.specs.Trees.Classes.{FieldTree, ParamTree, ParamsTree, MemberTree, FieldMember, MethodMember, ClassTree, TextTree}
 use Rattle.ti_syntax.specs.Trees.Classes as c
-use Rattle.ti_syntax.specs.Spelling.{Spells, IsSpelled}
+use Rattle.ti_syntax.specs.Spelling.{IsSpelled}
 use Rattle.ti_syntax.specs.Spelling.Types as ty
 use Rattle.ti_syntax.specs.Spelling.Types.{Arity, arity, Based, Gridded, FieldType, field_type, WideType, CastType, cast_type}
 use Rattle.ti_syntax.specs.Spelling.Expressions as x
@@ -21,7 +20,6 @@ use Rattle.ti_syntax.specs.Spelling.Statements.{Start, start, Region, Dims, Init
 use Rattle.ti_syntax.specs.Spelling.Classes as k
 use Rattle.ti_syntax.specs.Spelling.Classes.{ParamList, Parameters, Method, Member, Members, Class, AllClasses}
 use Rattle.ti_lang.specs.Meaning.HeapAnswers.{is_dim}
-use Rattle.ti_align.proofs.Vars.{true_false}
 use Rattle.ti_align.proofs.Forming.{dim_is}
 
 -- ---- types

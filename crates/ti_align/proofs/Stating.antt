@@ -1,6 +1,5 @@
 -- Statements in which no rule is broken fit the types.
-use Rattle.std.proofs.Common.{◌≡◌, ℕ, Bool, true, false, not, ◌&&◌, if◌then◌else◌, flat_map, is_some, is_none, option_and_then, Option, Some, None, List, [], ◌∷◌, ◌++◌, refl, ap, sym, ◌∙◌, subst}
-use Rattle.std.specs.Option.{option_map_or}
+use Rattle.std.proofs.Common.{◌≡◌, ℕ, Bool, true, false, not, if◌then◌else◌, flat_map, is_some, is_none, option_and_then, Option, Some, None, List, [], ◌∷◌, ◌++◌, refl, ap, sym, ◌∙◌, subst}
 use Rattle.ti_base.specs.declared.place.Place.{Place}
 use Rattle.ti_syntax.specs.declared.tree.exprs.BinaryOperator.{BinaryOperator}
 use Rattle.ti_syntax.specs.declared.tree.stmts.StepOperator.{StepOperator}
@@ -16,9 +15,7 @@ use Rattle.ti_lang.specs.Typing.Fits.{fits}
 use Rattle.ti_lang.specs.Typing.Declared.{in_scope, result_type}
 use Rattle.ti_lang.specs.Typing.Expressions.{operand_type}
 use Rattle.ti_lang.specs.Meaning.Processes.{Updated}
-use Rattle.ti_lang.specs.Meaning.Statements.{one_more}
 use Rattle.ti_rules.specs.declared.rule.Rule.TheVariants.{Y3, Y6}
-use Rattle.ti_rules.specs.declared.refusal.Refusal.{Refusal}
 use Rattle.ti_rules.specs.First.{refused_if}
 use Rattle.ti_rules.specs.InitialTypes.{value_type, initial_type}
 use Rattle.ti_rules.specs.Standing.{Around, Standing, scope_of, stands, in_loop, in_foreach, inside, inside_maybe, inside_all}
@@ -87,8 +84,7 @@ module _ (p : NumberedProgram) (fields : FieldsMeant p) (m : NumberedMethod) (s 
   domain_fits at number domain k apart fresh h =
       let rule = λ (type : ValueType). mistaken at (is_some (domain_dim type)) false in
       let q = inner_fits p fields m s turns around domain k (nil_left (inner_refusals p s domain) (judged (operand_type p s domain) rule) h) in
-      let n = there_is (domain_dim q.0) (not_mistaken at _ false (judged_at (operand_type p s domain) rule q.0 q.1.1 (nil_right (inner_refusals p s domain) (judged (operand_type p s domain) rule) h))) in
-      (
+      let n = there_is (domain_dim q.0) (not_mistaken at _ false (judged_at (operand_type p s domain) rule q.0 q.1.1 (nil_right (inner_refusals p s domain) (judged (operand_type p s domain) rule) h))) in (
         n.0,
         ((q.0, q.1, n.1), subst (λ o. is_none o ≡ true) (sym (around.others number apart)) fresh, dims_are n.0 (dim_in q.0 n.0 n.1 (exp_formed p fields m s turns around domain k q.0 q.1.1))),
       )
@@ -110,7 +106,11 @@ module _ (p : NumberedProgram) (fields : FieldsMeant p) where
   abbrev Stands : Around → List ℕ → Type 0
   Stands a turns = Surrounds a.method (scope_of a) turns
 
-  declare_fits : (a : Around) (turns : List ℕ) → Stands a turns → (at : Place) (type : NumberedType) (variable : ℕ) (value : NumberedInit) → StmMeant p a.method turns (st.Declare at type variable value) → Clean p (inside p a (st.Declare at type variable value)) → StmFits p a.method (scope_of a) (st.Declare at type variable value)
+  -- where names mean something and no rule is broken in it, a statement fits
+  abbrev FitsThere : Around → List ℕ → NumberedStm → Type 0
+  FitsThere a turns x = StmMeant p a.method turns x → Clean p (inside p a x) → StmFits p a.method (scope_of a) x
+
+  declare_fits : (a : Around) (turns : List ℕ) → Stands a turns → (at : Place) (type : NumberedType) (variable : ℕ) (value : NumberedInit) → FitsThere a turns (st.Declare at type variable value)
   declare_fits a turns around at type variable value k h =
       let s = scope_of a in
       let rule = λ (u : ValueType). misfit at u type.type in
@@ -119,7 +119,7 @@ module _ (p : NumberedProgram) (fields : FieldsMeant p) where
       let q = init_fits p fields a.method s turns around value k (nil_right words (initial_refusals p s value) (nil_left (words ++ initial_refusals p s value) (judged (initial_type p s value) rule) r)) in
       (q.0, q.1, no_misfit at q.0 type.type (judged_at (initial_type p s value) rule q.0 q.2 (nil_right (words ++ initial_refusals p s value) (judged (initial_type p s value) rule) r)))
 
-  assign_fits : (a : Around) (turns : List ℕ) → Stands a turns → (at : Place) (target : NumberedExp) (value : NumberedInit) → StmMeant p a.method turns (st.Assign at target value) → Clean p (inside p a (st.Assign at target value)) → StmFits p a.method (scope_of a) (st.Assign at target value)
+  assign_fits : (a : Around) (turns : List ℕ) → Stands a turns → (at : Place) (target : NumberedExp) (value : NumberedInit) → FitsThere a turns (st.Assign at target value)
   assign_fits a turns around at target value k h =
       let s = scope_of a in
       let rule = λ (u type : ValueType). write_refusals p s at target (misfit at type u) in
@@ -131,7 +131,7 @@ module _ (p : NumberedProgram) (fields : FieldsMeant p) where
       let w = both_at (operand_type p s target) (initial_type p s value) rule g.0 q.0 g.1.1 q.2 (nil_right (exp_refusals p s target ++ initial_refusals p s value) judge r) in
       (q.0, q.1, assigned_fits p fields a.method s turns around at target g.0 q.0 g.1 w)
 
-  update_fits : (a : Around) (turns : List ℕ) → Stands a turns → (at : Place) (op : BinaryOperator) (target x : NumberedExp) → StmMeant p a.method turns (st.Update at op target x) → Clean p (inside p a (st.Update at op target x)) → StmFits p a.method (scope_of a) (st.Update at op target x)
+  update_fits : (a : Around) (turns : List ℕ) → Stands a turns → (at : Place) (op : BinaryOperator) (target x : NumberedExp) → FitsThere a turns (st.Update at op target x)
   update_fits a turns around at op target x k h =
       let s = scope_of a in
       let rule = λ (u type : ValueType). write_refusals p s at target (update_refusals at op u type) in
@@ -143,7 +143,7 @@ module _ (p : NumberedProgram) (fields : FieldsMeant p) where
       let w = both_at (operand_type p s target) (value_type p s x) rule g.0 q.0 g.1.1 q.2 (nil_right (exp_refusals p s target ++ value_refusals p s x) judge r) in
       (q.0, q.1, updated_fits p fields a.method s turns around at op target g.0 q.0 g.1 w)
 
-  step_fits : (a : Around) (turns : List ℕ) → Stands a turns → (at : Place) (op : StepOperator) (target : NumberedExp) → StmMeant p a.method turns (st.Step at op target) → Clean p (inside p a (st.Step at op target)) → StmFits p a.method (scope_of a) (st.Step at op target)
+  step_fits : (a : Around) (turns : List ℕ) → Stands a turns → (at : Place) (op : StepOperator) (target : NumberedExp) → FitsThere a turns (st.Step at op target)
   step_fits a turns around at op target k h =
       let s = scope_of a in
       let rule = λ (u : ValueType). write_refusals p s at target (update_refusals at (operator_of op) u t.Int) in
@@ -154,7 +154,7 @@ module _ (p : NumberedProgram) (fields : FieldsMeant p) where
       subst (λ o. ReceiverFits p a.method s (Updated at o target) t.Int) (same_step op) (updated_fits p fields a.method s turns around at (operator_of op) target g.0 t.Int g.1 w)
 
   mutual
-    pub stm_fits : (a : Around) (turns : List ℕ) → Stands a turns → (x : NumberedStm) → StmMeant p a.method turns x → Clean p (inside p a x) → StmFits p a.method (scope_of a) x
+    pub stm_fits : (a : Around) (turns : List ℕ) → Stands a turns → (x : NumberedStm) → FitsThere a turns x
     stm_fits a turns around st.Empty k h = tt
     stm_fits a turns around (st.Declare at type variable value) k h = declare_fits a turns around at type variable value k h
     stm_fits a turns around (st.Assign at target value) k h = assign_fits a turns around at target value k h
@@ -174,8 +174,7 @@ module _ (p : NumberedProgram) (fields : FieldsMeant p) where
         (condition_fits p fields a.method (scope_of a) turns around c k.0 (own p a (st.If at c x) (inside p a x) h), stm_fits a turns around x k.1 (within p a (st.If at c x) (inside p a x) h))
     stm_fits a turns around (st.IfElse at c x y) k h =
         let both = inside p a x ++ inside p a y in
-        let r = within p a (st.IfElse at c x y) both h in
-        (
+        let r = within p a (st.IfElse at c x y) both h in (
           condition_fits p fields a.method (scope_of a) turns around c k.0 (own p a (st.IfElse at c x y) both h),
           stm_fits a turns around x k.1 (each_left (standing_refusals p) (inside p a x) (inside p a y) r),
           stm_fits a turns around y k.2 (each_right (standing_refusals p) (inside p a x) (inside p a y) r),
@@ -188,8 +187,7 @@ module _ (p : NumberedProgram) (fields : FieldsMeant p) where
         let rest = inside_maybe p a update ++ inside p b body in
         let all = inside_maybe p a first ++ rest in
         let r = within p a (st.For at first c update body) all h in
-        let q = each_right (standing_refusals p) (inside_maybe p a first) rest r in
-        (
+        let q = each_right (standing_refusals p) (inside_maybe p a first) rest r in (
           maybe_fits a turns around first k.0 (each_left (standing_refusals p) (inside_maybe p a first) rest r),
           maybe_condition_fits p fields a.method (scope_of a) turns around c k.1 (own p a (st.For at first c update body) all h),
           maybe_fits a turns around update k.2 (each_left (standing_refusals p) (inside_maybe p a update) (inside p b body) q),

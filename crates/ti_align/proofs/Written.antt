@@ -1,5 +1,5 @@
 -- Expressions, right sides and targets in which no rule is broken have types, and are written so that they fit these.
-use Rattle.std.proofs.Common.{◌≡◌, ℕ, ◌+◌, ◌==◌, Bool, true, false, not, ◌&&◌, ◌||◌, if◌then◌else◌, length, map, flat_map, find, is_some, is_none, slice_get, option_map, option_and_then, Option, Some, None, List, [], ◌∷◌, ◌++◌, refl, ap, ap₂, sym, ◌∙◌, subst, eqb-true, eq-eqb}
+use Rattle.std.proofs.Common.{◌≡◌, ℕ, ◌==◌, Bool, true, false, not, ◌&&◌, ◌||◌, if◌then◌else◌, length, map, flat_map, find, is_some, is_none, slice_get, option_map, option_and_then, Option, Some, None, List, [], ◌∷◌, ◌++◌, refl, ap, ap₂, sym, ◌∙◌, subst, eqb-true}
 use Rattle.std.specs.Option.{option_or, option_map_or}
 use Rattle.std.proofs.lemmas.List.Folds.{find-append}
 use Rattle.ti_base.specs.declared.place.Place.{Place}
@@ -23,7 +23,7 @@ use Rattle.ti_lang.specs.Typing.Expressions.{plain, operand, both, is_int, all_i
 use Rattle.ti_lang.specs.Typing.Alike.{one_dim}
 use Rattle.ti_lang.specs.Meaning.HeapAnswers.{is_dim}
 use Rattle.ti_lang.specs.Meaning.Zeros.{zero_of_type}
-use Rattle.ti_lang.specs.Meaning.Processes.{Receiver, Assigned, Updated}
+use Rattle.ti_lang.specs.Meaning.Processes.{Assigned, Updated}
 use Rattle.ti_lang.specs.Meaning.Statements.{one_more}
 use Rattle.ti_rules.specs.declared.rule.Rule.TheVariants.{Y1, Y2, Y6, Q2}
 use Rattle.ti_rules.specs.declared.refusal.Refusal.{Refusal}
@@ -43,11 +43,11 @@ use Rattle.ti_rules.specs.Broken.Statements.{narrows, result_refusals, update_re
 use Rattle.ti_rules.proofs.Sound.Refused.{nil_left, nil_right, not_refused, not_mistaken, no_misfit, there_is, operand_there}
 use Rattle.ti_rules.proofs.Sound.Expressions.{has_type}
 use Rattle.ti_align.specs.Fitting.{IsWritten, AreWritten, IsRangeWritten, AreRangesWritten}
-use Rattle.ti_align.specs.Work.{has_dims, may_use, uses_of, domain_written, IsInner, IsWhole, WholeFits, IsTarget, ReceiverFits, RegionFits, InitFits}
-use Rattle.ti_align.proofs.Vars.{true_false, false_true, or_false, or_right, and_left, and_right}
+use Rattle.ti_align.specs.Work.{may_use, uses_of, domain_written, IsInner, IsWhole, WholeFits, ReceiverFits, RegionFits, InitFits}
+use Rattle.ti_align.proofs.Vars.{true_false, or_false, and_left, and_right}
 use Rattle.ti_align.proofs.Operating.{none_some, some_same}
 use Rattle.ti_align.proofs.Evaluating.{and_then, mapped, both_there}
-use Rattle.ti_align.proofs.Meant.{storable, formed, among, means, covers, serves, is_place, ExpMeant, ExpsMeant, RangeMeant, RangesMeant, OptionMeant, DimsMeant, InitMeant, TargetMeant, FieldsMeant}
+use Rattle.ti_align.proofs.Meant.{storable, formed, among, means, covers, is_place, ExpMeant, ExpsMeant, RangeMeant, RangesMeant, OptionMeant, DimsMeant, InitMeant, TargetMeant, FieldsMeant}
 use Rattle.ti_align.proofs.Forming.{dims_are, formed_dims, formed_fine, storable_is, storable_something, Surrounds, variable_formed, field_formed, exp_formed, selected}
 
 -- ---- lists of refusals
@@ -74,9 +74,10 @@ write_fine p s at target value h = by (is_coordinate p s target) h
       where
         never : refused Y1 at ≡ [] → ⊥
         never h = cc
-    by false h =
-        (not_refused (is_foreach_variable target) Y2 at (nil_left (refused_if (is_foreach_variable target) Y2 at) (refused_if (is_hidden_local p s target) Q2 at) (nil_left (refused_if (is_foreach_variable target) Y2 at ++ refused_if (is_hidden_local p s target) Q2 at) value h)),
-        nil_right (refused_if (is_foreach_variable target) Y2 at ++ refused_if (is_hidden_local p s target) Q2 at) value h)
+    by false h = (
+      not_refused (is_foreach_variable target) Y2 at (nil_left (refused_if (is_foreach_variable target) Y2 at) (refused_if (is_hidden_local p s target) Q2 at) (nil_left (refused_if (is_foreach_variable target) Y2 at ++ refused_if (is_hidden_local p s target) Q2 at) value h)),
+      nil_right (refused_if (is_foreach_variable target) Y2 at ++ refused_if (is_hidden_local p s target) Q2 at) value h,
+    )
 
 result_fine : (at : Place) (r u : ValueType) → result_refusals at r u ≡ [] → (narrows r u || fits r u) ≡ true
 result_fine at r u h = by (narrows r u) h
@@ -106,6 +107,14 @@ none_is : {A : Type 0} (o : Option A) → is_none o ≡ true → o ≡ None
 none_is None h = refl
 none_is (Some a) h = absurd (true_false (sym h))
 
+-- the variable of a foreach
+abbrev turn_variable : ℕ → Bool → ℕ → ScopeVariable
+turn_variable number is_single n = record { number = number; type = t.Pt n; is_single = is_single }
+
+-- the variable of a number among those of a scope and one of a foreach
+abbrev found_with : ScopeContents → ScopeVariable → ℕ → Option ScopeVariable
+found_with s new k = find (λ (v : ScopeVariable). v.number == k) (s.variables ++ new ∷ [])
+
 -- in the body of one foreach more
 surrounds_point : (m : NumberedMethod) (s : ScopeContents) (turns : List ℕ) → Surrounds m s turns → (number : ℕ) → among turns number ≡ false → is_none (in_scope (method_scope m) number) ≡ true
     → (is_single : Bool) (n : ℕ) → is_dim n ≡ true → Surrounds m (record s { variables = with_point s.variables number is_single (Some n) }) (number ∷ turns)
@@ -115,24 +124,24 @@ surrounds_point m s turns around number apart fresh is_single n dim = record {
   others = λ k h. all_of k (or_false (number == k) (among turns k) h);
 }
   where
-    found : (k : ℕ) → find (λ (v : ScopeVariable). v.number == k) (s.variables ++ record { number = number; type = t.Pt n; is_single = is_single } ∷ []) ≡ option_or (in_scope s k) (if number == k then Some (record { number = number; type = t.Pt n; is_single = is_single }) else None)
-    found k = find-append (λ (v : ScopeVariable). v.number == k) s.variables (record { number = number; type = t.Pt n; is_single = is_single } ∷ [])
+    found : (k : ℕ) → found_with s (turn_variable number is_single n) k ≡ option_or (in_scope s k) (if number == k then Some (turn_variable number is_single n) else None)
+    found k = find-append (λ (v : ScopeVariable). v.number == k) s.variables (turn_variable number is_single n ∷ [])
 
     none_yet : (k : ℕ) → number ≡ k → in_scope s k ≡ None
     none_yet k i = subst (λ j. in_scope s j ≡ None) i (around.others number apart ∙ none_is (in_scope (method_scope m) number) fresh)
 
     one_of : (k : ℕ) (b : Bool) → (number == k) ≡ b → (b || among turns k) ≡ true
-        → (v : ScopeVariable) × (j : ℕ) × (find (λ (v : ScopeVariable). v.number == k) (s.variables ++ record { number = number; type = t.Pt n; is_single = is_single } ∷ []) ≡ Some v) × (v.type ≡ t.Pt j) × (is_dim j ≡ true)
+        → (v : ScopeVariable) × (j : ℕ) × (found_with s (turn_variable number is_single n) k ≡ Some v) × (v.type ≡ t.Pt j) × (is_dim j ≡ true)
     one_of k true i h =
-        (record { number = number; type = t.Pt n; is_single = is_single }, n, found k ∙ ap₂ (λ (o : Option ScopeVariable) (b : Bool). option_or o (if b then Some (record { number = number; type = t.Pt n; is_single = is_single }) else None)) (none_yet k (eqb-true number k i)) i, refl, dim)
+        (turn_variable number is_single n, n, found k ∙ ap₂ (λ (o : Option ScopeVariable) (b : Bool). option_or o (if b then Some (turn_variable number is_single n) else None)) (none_yet k (eqb-true number k i)) i, refl, dim)
     one_of k false i h =
         let q = around.turning k h in
-        (q.0, q.1, found k ∙ ap (λ (o : Option ScopeVariable). option_or o (if number == k then Some (record { number = number; type = t.Pt n; is_single = is_single }) else None)) q.2, q.3, q.4)
+        (q.0, q.1, found k ∙ ap (λ (o : Option ScopeVariable). option_or o (if number == k then Some (turn_variable number is_single n) else None)) q.2, q.3, q.4)
 
     all_of : (k : ℕ) → ((number == k) ≡ false) × (among turns k ≡ false)
-        → find (λ (v : ScopeVariable). v.number == k) (s.variables ++ record { number = number; type = t.Pt n; is_single = is_single } ∷ []) ≡ in_scope (method_scope m) k
+        → found_with s (turn_variable number is_single n) k ≡ in_scope (method_scope m) k
     all_of k q =
-        found k ∙ ap (λ (b : Bool). option_or (in_scope s k) (if b then Some (record { number = number; type = t.Pt n; is_single = is_single }) else None)) q.0 ∙ or_none (in_scope s k) ∙ around.others k q.1
+        found k ∙ ap (λ (b : Bool). option_or (in_scope s k) (if b then Some (turn_variable number is_single n) else None)) q.0 ∙ or_none (in_scope s k) ∙ around.others k q.1
 
 -- ---- expressions
 
@@ -249,9 +258,11 @@ module _ (p : NumberedProgram) (fields : FieldsMeant p) (m : NumberedMethod) (s 
   -- a whole expression
   whole_written : (x : NumberedExp) → ExpMeant p m turns x → IsWhole p m s x
   whole_written (e.Call at method args) k = all_written args k.1
-  whole_written (e.OwnCall at method args) k =
-      (all_written args k.1, λ called is class this. around.this ∙ covering (this_of called) (this_of m) class
-          (sym (ap (λ (o : Option NumberedMethod). option_map_or (λ (called : NumberedMethod). covers (this_of called) (this_of m)) o false) is) ∙ k.0) this)
+  whole_written (e.OwnCall at method args) k = (
+    all_written args k.1,
+    λ called is class this. around.this ∙ covering (this_of called) (this_of m) class
+        (sym (ap (λ (o : Option NumberedMethod). option_map_or (λ (called : NumberedMethod). covers (this_of called) (this_of m)) o false) is) ∙ k.0) this,
+  )
   whole_written x k = written x k
 
   pub whole_fits : (x : NumberedExp) → ExpMeant p m turns x → exp_refusals p s x ≡ [] → (type : ValueType) × WholeFits p m s x type
@@ -296,8 +307,7 @@ module _ (p : NumberedProgram) (fields : FieldsMeant p) (m : NumberedMethod) (s 
   spread_fits at (st.Domain x) k h = let q = inner_fits x k h in (Over q.0, ap (option_map Over) q.1.1, λ n i. (q.1.0, q.1.1 ∙ i))
   spread_fits at (st.Ranges ranges) k h =
       let rs = numbered_ranges ranges in
-      let q = bounds_there at rs k.1 (nil_left (flat_map (refusals_at p s) (parts_of_ranges rs)) (bounds_misplaced p s rs) h) (nil_right (flat_map (refusals_at p s) (parts_of_ranges rs)) (bounds_misplaced p s rs) h) in
-      (
+      let q = bounds_there at rs k.1 (nil_left (flat_map (refusals_at p s) (parts_of_ranges rs)) (bounds_misplaced p s rs) h) (nil_right (flat_map (refusals_at p s) (parts_of_ranges rs)) (bounds_misplaced p s rs) h) in (
         Ranged (range_count rs) q.0,
         ap (option_map (Ranged (range_count rs))) q.1,
         λ n i. ((dims_are (range_count rs) k.0, ranges_written rs k.1), operand_plain (option_and_then (rect_literal (range_count rs)) (bounds p s rs)) (t.Rc n) (ap (option_and_then (rect_literal (range_count rs))) q.1 ∙ i) refl),
@@ -322,6 +332,9 @@ module _ (p : NumberedProgram) (fields : FieldsMeant p) (m : NumberedMethod) (s 
   where_is true a h = refl
   where_is false a h = absurd (true_false (sym h))
 
+  both_typed : {A B : Type 0} (o : Option A) (q : Option B) (f : A → B → Option ValueType) (a : A) (b : B) (type : ValueType) → o ≡ Some a → q ≡ Some b → f a b ≡ Some type → both o q f ≡ Some type
+  both_typed o q f a b type g h k = ap₂ (λ x y. both x y f) g h ∙ k
+
   -- a right side
   pub init_fits : (value : NumberedInit) → InitMeant p m turns value → initial_refusals p s value ≡ [] → (type : ValueType) × InitFits p m s value type × (initial_type p s value ≡ Some type)
   init_fits (st.Value x) k h = value_fits x k h
@@ -330,8 +343,7 @@ module _ (p : NumberedProgram) (fields : FieldsMeant p) (m : NumberedMethod) (s 
       let rule = λ (r : ValueType). mistaken at (is_region r) false in
       let q = region_fits region k.0 (nil_left (region_refusals p s region) (judged (region_type p s region) rule) h) in
       let i = not_mistaken at (is_region q.0) false (judged_at (region_type p s region) rule q.0 q.1 (nil_right (region_refusals p s region) (judged (region_type p s region) rule) h)) in
-      let c = there_is (slice_get p.classes class) k.1 in
-      (
+      let c = there_is (slice_get p.classes class) k.1 in (
         t.Class class true,
         (refl, q.2 i, (_, ap (option_map (λ (c : NumberedClass). map (λ (f : NumberedField). zero_of_type f.ty.type) c.fields)) c.1)),
         ap (option_and_then (object_type class)) q.1 ∙ ap (λ b. where_true b (t.Class class true)) i,
@@ -344,11 +356,10 @@ module _ (p : NumberedProgram) (fields : FieldsMeant p) (m : NumberedMethod) (s 
       let q = region_fits region k.0 (nil_left (region_refusals p s region) (type_word_refusals false element) words) in
       let d = spread_fits dims_at dims k.2 (nil_right (region_refusals p s region ++ type_word_refusals false element) (dims_refusals p s dims) parts) in
       let i = both_at (region_type p s region) (spread p s dims) rule q.0 d.0 q.1 d.1 (nil_right ((region_refusals p s region ++ type_word_refusals false element) ++ dims_refusals p s dims) own h) in
-      let g = grid_there element.type q.0 d.0 (not_mistaken at _ _ i) in
-      (
+      let g = grid_there element.type q.0 d.0 (not_mistaken at _ _ i) in (
         t.Grid element.type g.0 true,
-        (g.0, refl, q.2 g.1, d.2 g.0 g.2, storable_is element.type k.1),
-        ap₂ (λ x y. both x y (new_grid_type element.type)) q.1 d.1 ∙ g.3,
+        (g.0, refl {a = t.Grid element.type g.0 true}, q.2 g.1, d.2 g.0 g.2, storable_is element.type k.1),
+        both_typed (region_type p s region) (spread p s dims) (new_grid_type element.type) q.0 d.0 (t.Grid element.type g.0 true) q.1 d.1 g.3,
       )
   init_fits (st.Broadcast at x root) k h =
       let rule = λ (u r : ValueType). mistaken at (is_some (broadcast_type u r)) false in
@@ -356,11 +367,10 @@ module _ (p : NumberedProgram) (fields : FieldsMeant p) (m : NumberedMethod) (s 
       let parts = nil_left (inner_refusals p s x ++ inner_refusals p s root) own h in
       let q = inner_fits x k.0 (nil_left (inner_refusals p s x) (inner_refusals p s root) parts) in
       let r = inner_fits root k.1 (nil_right (inner_refusals p s x) (inner_refusals p s root) parts) in
-      let i = where_is (can_broadcast q.0 && is_int r.0) (as_global q.0) (not_mistaken at _ false (both_at (operand_type p s x) (operand_type p s root) rule q.0 r.0 q.1.1 r.1.1 (nil_right (inner_refusals p s x ++ inner_refusals p s root) own h))) in
-      (
+      let i = where_is (can_broadcast q.0 && is_int r.0) (as_global q.0) (not_mistaken at _ false (both_at (operand_type p s x) (operand_type p s root) rule q.0 r.0 q.1.1 r.1.1 (nil_right (inner_refusals p s x ++ inner_refusals p s root) own h))) in (
         as_global q.0,
-        (q.0, refl, q.1, (r.1.0, r.1.1 ∙ ap Some (int_is r.0 (and_right (can_broadcast q.0) (is_int r.0) i))), and_left (can_broadcast q.0) (is_int r.0) i),
-        ap₂ (λ x y. both x y broadcast_type) q.1.1 r.1.1 ∙ ap (λ b. where_true b (as_global q.0)) i,
+        (q.0, refl {a = as_global q.0}, q.1, (r.1.0, r.1.1 ∙ ap Some (int_is r.0 (and_right (can_broadcast q.0) (is_int r.0) i))), and_left (can_broadcast q.0) (is_int r.0) i),
+        both_typed (operand_type p s x) (operand_type p s root) broadcast_type q.0 r.0 (as_global q.0) q.1.1 r.1.1 (ap (λ b. where_true b (as_global q.0)) i),
       )
 
   -- ---- targets
