@@ -1,9 +1,8 @@
 -- In every run all that is there is as the types say: each entry keeps it so.
-use Rattle.std.proofs.Common.{◌≡◌, ℕ, suc, ◌+◌, ◌==◌, Bool, true, false, not, ◌&&◌, ◌||◌, ◌⊎◌, inl, inr, filter, map, Option, Some, None, List, [], ◌∷◌, ◌++◌, refl, ap, ap₂, sym, ◌∙◌, subst, arith, append-nil, eqb-true, eq-eqb}
+use Rattle.std.proofs.Common.{◌≡◌, ℕ, suc, ◌==◌, Bool, true, false, not, ◌&&◌, ◌||◌, ◌⊎◌, inl, inr, filter, map, Option, Some, None, List, [], ◌∷◌, ◌++◌, refl, ap, ap₂, sym, ◌∙◌, subst, arith, append-nil, eqb-true, eq-eqb}
 use Rattle.std.specs.Option.{option_map, option_and_then}
 use Rattle.ti_base.specs.declared.place.Place.{Place}
 use Rattle.ti_base.specs.declared.value.Value.{Value}
-use Rattle.ti_base.specs.declared.value.Value.TheVariants as v
 use Rattle.ti_base.specs.declared.action.Action.{Action}
 use Rattle.ti_base.specs.declared.action.Action.TheVariants as act
 use Rattle.ti_base.specs.declared.action.CollKind.{CollKind}
@@ -11,48 +10,44 @@ use Rattle.ti_base.specs.declared.action.CollKind.TheVariants as coll
 use Rattle.ti_base.specs.declared.action.Deposit.{Deposit}
 use Rattle.ti_base.specs.declared.action.Deposit.TheVariants as deposit
 use Rattle.ti_base.specs.declared.entry.Answer.{Answer}
-use Rattle.ti_base.specs.declared.entry.Answer.TheVariants.{Done, Val}
+use Rattle.ti_base.specs.declared.entry.Answer.TheVariants.{Val}
 use Rattle.ti_base.specs.declared.entry.Entry.{Entry}
 use Rattle.ti_base.specs.declared.entry.Next.TheVariants as next
 use Rattle.ti_base.specs.Cells.{Cell}
 use Rattle.ti_lang.specs.Program.Types.{ValueType}
 use Rattle.ti_lang.specs.Program.Types as types
-use Rattle.ti_lang.specs.Program.Classes.{NumberedProgram}
 use Rattle.ti_lang.specs.Meaning.Held.{Plain}
-use Rattle.ti_lang.specs.Meaning.Asking.{Wanted, ToBeDone, told, Request}
+use Rattle.ti_lang.specs.Meaning.Asking.{Wanted, ToBeDone, told}
 use Rattle.ti_lang.specs.Meaning.Processes.{Setting, Wait, Process, begin}
-use Rattle.ti_lang.specs.Meaning.Steps.{Step, To, At, step}
-use Rattle.ti_lang.specs.Meaning.NextStep.{Reaches, here, Settles, IsNext, After, none, more}
+use Rattle.ti_lang.specs.Meaning.Steps.{To, At, step}
+use Rattle.ti_lang.specs.Meaning.NextStep.{Reaches, here, IsNext, After, none}
 use Rattle.ti_lang.specs.Meaning.Histories.{History, history_of, is_end, is_fault, is_arrival, is_departure, is_answered, entries_of, answers_of, arrivals}
 use Rattle.ti_lang.specs.Meaning.RegionsOf.{is_made, is_region}
 use Rattle.ti_lang.specs.Meaning.HeapOf.{last_written}
 use Rattle.ti_lang.specs.Meaning.RoundsOf as rounds
 use Rattle.ti_lang.specs.Meaning.RoundsOf.{arrival_in, arrival_at, last_arrival, value_in, given}
-use Rattle.ti_lang.specs.Meaning.HeapAnswers.{Outcome, Answers, Impossible, answers_value, heap_answer, IsAnswered}
-use Rattle.ti_lang.specs.Meaning.HeapAnswers as heap
+use Rattle.ti_lang.specs.Meaning.HeapAnswers.{Answers, Impossible, answers_value, heap_answer, IsAnswered}
 use Rattle.ti_lang.specs.Meaning.Runs.{World, CanTake, IsRun}
 use Rattle.ti_lang.specs.Meaning.Runs as run
 use Rattle.ti_lang.proofs.MeaningLaws.Steps.{after_same}
 use Rattle.ti_lang.proofs.MeaningLaws.Running.{taker, history_grows, run_answered}
-use Rattle.ti_align.specs.SinglePart.{single_part}
-use Rattle.ti_align.specs.Alignment.{ArrivalsAgree, ArrivesAt}
-use Rattle.ti_align.specs.Alignment as aligned
+use Rattle.ti_align.specs.Alignment.{ArrivalsAgree}
 use Rattle.ti_align.specs.Things.{Things, Grows, IsOf}
 use Rattle.ti_align.specs.Sound.{IsThere, FitsAsked}
 use Rattle.ti_align.specs.Work.{DepositFits, IsOfRound, WantsOf}
 use Rattle.ti_align.specs.Heap.{Elements, things_of, HeapFits, elements_behind, is_of_heap, KeepsTypes}
 use Rattle.ti_align.specs.Typed.{ProgramFits, ProcessFits, ActionFits, StepFits, given_by, GivesAt, GivesLast, hands_in, RunFits, RunTyped}
-use Rattle.ti_align.proofs.Vars.{true_false, and_left, and_right}
+use Rattle.ti_align.proofs.Vars.{true_false, and_left}
 use Rattle.ti_align.proofs.Ways.{Asked, asking, Meeting, Way, last_from}
 use Rattle.ti_align.proofs.Ways as way
 use Rattle.ti_align.proofs.Fitting.{FineMethods}
-use Rattle.ti_align.proofs.Entries.{got_both, arrivals_both, own, other}
+use Rattle.ti_align.proofs.Entries.{got_both, own, other}
 use Rattle.ti_align.proofs.Balance.{step_waits}
 use Rattle.ti_align.proofs.Given.{Stands, ActsFine, step_fine}
 use Rattle.ti_align.proofs.Given as given_facts
 use Rattle.ti_align.proofs.Arrived.{is_own, more_own, more_other, back, Comes, before, now, comes, last_kind, made}
 use Rattle.ti_align.proofs.Running.{after_more, at_action}
-use Rattle.ti_align.proofs.Rounds.{RoundAnswer, Told, told_now, said, acts_as, arrive_answered, arrival_is, extended, alike}
+use Rattle.ti_align.proofs.Rounds.{RoundAnswer, told_now, said, acts_as, arrival_is, alike}
 use Rattle.ti_align.proofs.Giving.{given_same, gives_more, gives_now}
 use Rattle.ti_align.proofs.Possible.{ThingsThere, by_kind}
 use Rattle.ti_align.proofs.Aligning.{way_next}

@@ -10,13 +10,12 @@ use Rattle.ti_base.specs.declared.entry.Entry.{Entry}
 use Rattle.ti_base.specs.declared.entry.Next.TheVariants as next
 use Rattle.ti_base.specs.declared.place.Place.{Place}
 use Rattle.ti_lang.specs.Program.Types.{ValueType}
-use Rattle.ti_lang.specs.Program.Types as t
 use Rattle.ti_lang.specs.Program.Classes.{NumberedProgram}
 use Rattle.ti_lang.specs.Program.Scope.{method_scope}
 use Rattle.ti_lang.specs.Typing.Declared.{result_type}
 use Rattle.ti_lang.specs.Typing.Kinds.{element_of}
 use Rattle.ti_lang.specs.Meaning.Held.{Plain}
-use Rattle.ti_lang.specs.Meaning.Asking.{Wanted, ToBeDone, ValueOf, Request, told}
+use Rattle.ti_lang.specs.Meaning.Asking.{Wanted, ToBeDone, Request, told}
 use Rattle.ti_lang.specs.Meaning.Processes.{Setting, Frame, Work, TakeAll, Wait, Process}
 use Rattle.ti_lang.specs.Meaning.Scoping.{env_of}
 use Rattle.ti_lang.specs.Meaning.Performing.{performed}
