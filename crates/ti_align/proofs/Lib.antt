@@ -34,6 +34,7 @@ pub mod Pending
 pub mod Kept
 pub mod Meant
 pub mod Forming
+pub mod Forms
 pub mod Written
 pub mod Stating
 pub mod Spelled

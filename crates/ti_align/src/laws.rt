@@ -17,9 +17,10 @@ ghost use Rattle.ti_lang.specs.Meaning.HeapAnswers.{IsAnswered};
 ghost use Rattle.ti_align.specs.Alignment.{ArrivalsAgree, NoneAfterEnd, OfEveryRun};
 ghost use Rattle.ti_align.specs.Stopping.{NoneWaits};
 ghost use Rattle.ti_align.specs.Things.{Things, IsOf};
+ghost use Rattle.ti_align.specs.Literals.{LiteralsFit};
 ghost use Rattle.ti_align.specs.Sound.{IsThere, Sound};
 ghost use Rattle.ti_align.specs.Fitting.{EnvFits, FieldsFit, IsWritten};
-ghost use Rattle.ti_align.specs.Work.{VariablesFit, scope_over, MethodsFit, ThisFits, given_type, taken_type, WorksFit, MoveFits};
+ghost use Rattle.ti_align.specs.Work.{VariablesFit, scope_over, MethodsFit, ThisFits, HasNumber, given_type, taken_type, WorksFit, MoveFits};
 ghost use Rattle.ti_align.specs.Typed.{RunTyped};
 ghost use Rattle.ti_align.specs.Heap.{Elements, things_of, FieldsStorable, HeapFits, KeepsTypes};
 
@@ -42,7 +43,7 @@ pub fn none_after_end(c: &Checked)
 /// process can take an entry, all have their end, or some process has come to the delete of a region
 /// that isn't there. The third part of alignment, but for such deletes.
 pub fn none_waits(c: &Checked)
-    ensures { OfEveryRun NoneWaits (program_of c.now.program.parts) }
+    ensures { LiteralsFit (program_of c.now.program.parts) → OfEveryRun NoneWaits (program_of c.now.program.parts) }
 {}
 
 /// In every run of a checked program all that is there is as the types say: each field, each element
@@ -51,7 +52,7 @@ pub fn none_waits(c: &Checked)
 /// object of a class with that field, a grid of these elements and dimensions, a region that was made
 /// or none.
 pub fn run_typed(c: &Checked)
-    ensures { OfEveryRun RunTyped (program_of c.now.program.parts) }
+    ensures { LiteralsFit (program_of c.now.program.parts) → OfEveryRun RunTyped (program_of c.now.program.parts) }
 {}
 
 /// What an expression comes to inside another is a value of the type that the rules give it, and all
@@ -72,7 +73,7 @@ pub fn heap_fits()
 /// What is to be done next in a frame that fits the types comes to a move that fits them, whatever
 /// fitting answers it gets: variables keep to their types, and so do parameters, results and deposits.
 pub fn work_fits()
-    ensures { (p : Process) (f : Frame) (left : List Work) (w : Things) (x : Work) → VariablesFit w f.variables → ThisFits w f.method f.this → FieldsFit p.setting.program
+    ensures { (p : Process) (f : Frame) (left : List Work) (w : Things) (x : Work) → HasNumber p → VariablesFit w f.variables → ThisFits w f.method f.this → FieldsFit p.setting.program
         → FieldsStorable p.setting.program → MethodsFit p.setting.program p.setting.program.methods → WorksFit p.setting.program f.method (method_scope f.method) w (x ∷ left)
         → Sound p.setting.program (λ u move. MoveFits p.setting.program f.method (given_type p.setting.program (scope_over p.setting.program (method_scope f.method) left) x) (taken_type x) (scope_over p.setting.program (method_scope f.method) left) u move) w (performed (env_of p f left) x) }
 {}

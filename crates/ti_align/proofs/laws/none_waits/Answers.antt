@@ -3,4 +3,4 @@ use Rattle.ti_align.proofs.EveryRun as every
 use Rattle.ti_align.proofs.laws.none_waits.Goals as goal
 
 pub returns : goal.returns
-returns c = every.none_waits (program_of c.args.c.now.program.parts) (record { numbered = c.args.c.now.program.numbered; unbroken = c.args.c.now.unbroken })
+returns c l = every.none_waits (program_of c.args.c.now.program.parts) (record { numbered = c.args.c.now.program.numbered; unbroken = c.args.c.now.unbroken }) l
