@@ -17,13 +17,13 @@ ghost use Rattle.ti_lang.specs.Meaning.HeapAnswers.{IsAnswered};
 ghost use Rattle.ti_align.specs.Alignment.{ArrivalsAgree, NoneAfterEnd, OfEveryRun};
 ghost use Rattle.ti_align.specs.Stopping.{NoneWaits};
 ghost use Rattle.ti_align.specs.Things.{Things, IsOf};
-ghost use Rattle.ti_align.specs.Literals.{LiteralsFit};
 ghost use Rattle.ti_align.specs.Sound.{IsThere, Sound};
 ghost use Rattle.ti_align.specs.Fitting.{EnvFits, FieldsFit, IsWritten};
 ghost use Rattle.ti_align.specs.Work.{VariablesFit, scope_over, MethodsFit, ThisFits, HasNumber, given_type, taken_type, WorksFit, MoveFits};
 ghost use Rattle.ti_align.specs.Typed.{RunTyped};
 ghost use Rattle.ti_align.specs.Heap.{Elements, things_of, FieldsStorable, HeapFits, KeepsTypes};
 
+use crate::reading::literals_fit;
 use ti_rules::Checked;
 
 /// In every run of a checked program, for every n, the nth arrivals of any two processes are at the
@@ -43,8 +43,10 @@ pub fn none_after_end(c: &Checked)
 /// process can take an entry, all have their end, or some process has come to the delete of a region
 /// that isn't there. The third part of alignment, but for such deletes.
 pub fn none_waits(c: &Checked)
-    ensures { LiteralsFit (program_of c.now.program.parts) → OfEveryRun NoneWaits (program_of c.now.program.parts) }
-{}
+    ensures { OfEveryRun NoneWaits (program_of c.now.program.parts) }
+{
+    literals_fit(c.program());
+}
 
 /// In every run of a checked program all that is there is as the types say: each field, each element
 /// and each variable holds a value of its type, what is handed in at a broadcast or an exchange is of
@@ -52,8 +54,10 @@ pub fn none_waits(c: &Checked)
 /// object of a class with that field, a grid of these elements and dimensions, a region that was made
 /// or none.
 pub fn run_typed(c: &Checked)
-    ensures { LiteralsFit (program_of c.now.program.parts) → OfEveryRun RunTyped (program_of c.now.program.parts) }
-{}
+    ensures { OfEveryRun RunTyped (program_of c.now.program.parts) }
+{
+    literals_fit(c.program());
+}
 
 /// What an expression comes to inside another is a value of the type that the rules give it, and all
 /// that it asks for is there, whatever fitting answers it gets: where the variables that are used

@@ -2,6 +2,7 @@
 #![tactic(auto)]
 
 mod laws;
+mod reading;
 
 pub use laws::{
     arrivals_agree, expressions_fit, heap_fits, none_after_end, none_waits, run_typed, work_fits,
