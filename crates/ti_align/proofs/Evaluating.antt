@@ -396,6 +396,16 @@ module _ (p : NumberedProgram) (w : Things) where
   point_is : (n : ℕ) (h : Held) → IsOf w (t.Pt n) h → IsPointOf n (point_of h)
   point_is n h k = subst (IsPointOf n) (sym (ap point_of k.1)) k.2
 
+  int_is : (h : Held) → IsOf w t.Int h → Fits w32 (int_of h)
+  int_is h k = subst (λ z. Fits w32 (int_of z)) (sym k.1) k.2
+
+  -- two numbers
+  int_args : (hs : List Held) → AllOfTypes w (t.Int ∷ t.Int ∷ []) hs → Fits w32 (int_of (slice_index_or hs 0 nothing)) × Fits w32 (int_of (slice_index_or hs 1 nothing))
+  int_args [] a = absurd a
+  int_args (x ∷ []) a = absurd a.1
+  int_args (x ∷ y ∷ []) a = (int_is x a.0, int_is y a.1.0)
+  int_args (x ∷ y ∷ z ∷ hs) a = absurd a.1.1
+
   as_local : (element : ValueType) (n : ℕ) (l : Bool) (m : Asking Held) → Sound p (λ u k. IsOf u (t.Grid element n true) k) w m → Sound p (λ u k. IsOf u (t.Grid element n l) k) w m
   as_local element n l m k = weaker p _ _ w m k (λ u g h q. q)
 
@@ -425,7 +435,7 @@ module _ (p : NumberedProgram) (w : Things) where
   member_fine at wanted through Slice (t.Grid x n l) r (t.Int ∷ t.Int ∷ []) h hs e z k a =
       let q = where_some (nat_lt 1 n) (t.Grid x (n - 1) l) r e in
       subst (λ o. Sound p (λ u k. IsOf u o k) w (member at wanted (Some Slice) through h hs)) q.1
-      (as_local x (n - 1) l _ (viewed_fine p w at wanted (how.Slice (int_of (slice_index_or hs 0 nothing)) (int_of (slice_index_or hs 1 nothing))) through h x n (grid_in w x n l h k) (ltb-true 1 n q.0)))
+      (as_local x (n - 1) l _ (viewed_fine p w at wanted (how.Slice (int_of (slice_index_or hs 0 nothing)) (int_of (slice_index_or hs 1 nothing))) through h x n (grid_in w x n l h k) (let two = int_args hs a in (ltb-true 1 n q.0, two.0, two.1))))
   member_fine at wanted through Restrict (t.Grid x n l) r (t.Rc m ∷ []) h [] e z k a = absurd a
   member_fine at wanted through Restrict (t.Grid x n l) r (t.Rc m ∷ []) h (c ∷ d ∷ hs) e z k a = absurd a.1
   member_fine at wanted through Translate (t.Grid x n l) r (t.Pt m ∷ []) h [] e z k a = absurd a

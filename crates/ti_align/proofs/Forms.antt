@@ -440,7 +440,7 @@ bounds_form n b h d p =
 pub suits_is : (how : ViewHow) (n : ℕ) (r : Rect) → SuitsView how n → HasDims n r → suits how r ≡ true
 suits_is (Restrict s) n r k d = eq-eqb s.dim r.dim (k.dim_is ∙ sym d.0)
 suits_is (Translate by) n r k d = eq-eqb by.dim r.dim (k.dim_is ∙ sym d.0)
-suits_is (Slice c j) n r k d = lt-ltb 1 r.dim (subst (λ m. 1 < m) (sym d.0) k)
+suits_is (Slice c j) n r k d = lt-ltb 1 r.dim (subst (λ m. 1 < m) (sym d.0) k.0)
 
 is_view : (how : ViewHow) (n : ℕ) → SuitsView how n → IsView how
 is_view (Restrict s) n k = k.form

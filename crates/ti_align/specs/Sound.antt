@@ -1,5 +1,6 @@
 -- Computations that ask only for what is there, and come to what they should, whatever fitting answers they get.
 use Rattle.std.specs.Prelude.{◌≡◌, ℕ, ◌<◌, ◌-◌, true, List, [], ◌∷◌, Some}
+use Rattle.std.specs.Int.{w32}
 use Rattle.ti_base.specs.declared.place.Place.{Place}
 use Rattle.ti_base.specs.declared.value.Id.{Id}
 use Rattle.ti_base.specs.declared.fault.FaultKind.{FaultKind}
@@ -9,6 +10,7 @@ use Rattle.ti_base.specs.declared.action.ViewHow.{ViewHow}
 use Rattle.ti_base.specs.declared.action.ViewHow.TheVariants.{Restrict, Translate, Slice}
 use Rattle.ti_base.specs.declared.entry.Answer.{Answer}
 use Rattle.ti_base.specs.declared.value.Zero.{Zero}
+use Rattle.ti_base.specs.WholeNumbers.{Fits}
 use Rattle.ti_base.specs.Points.{IsDim}
 use Rattle.ti_lang.specs.Program.Types.{ValueType}
 use Rattle.ti_lang.specs.Program.Types as t
@@ -22,11 +24,11 @@ use Rattle.ti_align.specs.Things.{Things, Grows, IsStorable, IsGridOf, IsPlaced,
 
 -- ---- what is asked for
 
--- how a view is taken of a grid of so many dimensions
+-- how a view is taken of a grid of so many dimensions: what it says is in its form
 abbrev pub SuitsView : ViewHow → ℕ → Type 0
 SuitsView (Restrict r) n = IsRectOf n r
 SuitsView (Translate by) n = IsPointOf n by
-SuitsView (Slice k j) n = 1 < n
+SuitsView (Slice k j) n = (1 < n) × Fits w32 k × Fits w32 j
 
 -- the dimensions of the view
 abbrev pub dims_viewed : ViewHow → ℕ → ℕ
