@@ -4,6 +4,7 @@ use Rattle.std.specs.List.{list_any}
 use Rattle.ti_base.specs.declared.place.Place.{Place}
 use Rattle.ti_base.specs.declared.value.Id.{Id}
 use Rattle.ti_base.specs.declared.action.Action.TheVariants as act
+use Rattle.ti_base.specs.declared.value.Value.{Value}
 use Rattle.ti_lang.specs.Program.Types.{ValueType, Declaration, VariableUse}
 use Rattle.ti_lang.specs.Program.Types as t
 use Rattle.ti_lang.specs.Program.Expressions.{NumberedExp, place_of_numbered}
@@ -26,8 +27,8 @@ use Rattle.ti_lang.specs.Meaning.Evaluation.{eval, eval_numbers}
 use Rattle.ti_lang.specs.Meaning.Targets.{Target, InVariable, InPart, located, held_in, stored, into}
 use Rattle.ti_rules.specs.Broken.Targets.{is_foreach_use}
 use Rattle.ti_rules.specs.Broken.Statements.{narrows}
-use Rattle.ti_lang.specs.Meaning.Answers.{IsPointOf}
-use Rattle.ti_align.specs.Things.{Things, Grows, IsStorable, IsGridOf, IsOf, DimsFine}
+use Rattle.ti_lang.specs.Meaning.Answers.{IsPointOf, HasForm}
+use Rattle.ti_align.specs.Things.{Things, Grows, NamesNothing, IsStorable, IsGridOf, IsOf, DimsFine}
 use Rattle.ti_align.specs.Sound.{IsFieldOf, Sound}
 use Rattle.ti_align.specs.Fitting.{EnvFits, FieldsFit}
 use Rattle.ti_align.specs.Heap.{FieldsStorable}
@@ -99,6 +100,20 @@ plain_is w (t.Dm n) h s k = absurd s
 plain_is w t.Region h s k = absurd s
 plain_is w t.Null h s k = absurd s
 plain_is w t.Void h s k = absurd s
+
+-- a value of a type that names nothing has the form of the type
+pub has_form : (w : Things) (type : ValueType) (value : Value) → NamesNothing type → IsOf w type (Plain value) → HasForm type value
+has_form w t.Int value n k = subst (HasForm t.Int) (sym (ap plain_of k.1)) k.2
+has_form w t.Long value n k = subst (HasForm t.Long) (sym (ap plain_of k.1)) k.2
+has_form w t.Boolean value n k = subst (HasForm t.Boolean) (sym (ap plain_of k.1)) tt
+has_form w (t.Pt m) value n k = subst (HasForm (t.Pt m)) (sym (ap plain_of k.1)) k.2
+has_form w (t.Rc m) value n k = subst (HasForm (t.Rc m)) (sym (ap plain_of k.1)) k.2
+has_form w t.Region value n k = absurd n
+has_form w (t.Dm m) value n k = absurd n
+has_form w (t.Class c l) value n k = absurd n
+has_form w (t.Grid x m l) value n k = absurd n
+has_form w t.Null value n k = absurd n
+has_form w t.Void value n k = absurd n
 
 -- ---- variables
 

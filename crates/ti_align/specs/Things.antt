@@ -76,6 +76,15 @@ IsOf w (t.Grid element n is_local) h = (o : Option Id) × (h ≡ Plain (v.Grid o
 IsOf w t.Null h = h ≡ Plain (v.Obj None)
 IsOf w t.Void h = Unit {0}
 
+-- a type whose values name no thing and no region
+abbrev pub NamesNothing : ValueType → Type 0
+NamesNothing t.Int = Unit {0}
+NamesNothing t.Long = Unit {0}
+NamesNothing t.Boolean = Unit {0}
+NamesNothing (t.Pt n) = Unit {0}
+NamesNothing (t.Rc n) = Unit {0}
+NamesNothing type = ⊥
+
 -- one to three dimensions, wherever there are any
 abbrev pub DimsFine : ValueType → Type 0
 DimsFine (t.Pt n) = IsDim n
