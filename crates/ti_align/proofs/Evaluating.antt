@@ -1,5 +1,5 @@
 -- What a typed expression comes to is a value of its type, and all that it asks for is there.
-use Rattle.std.proofs.Common.{w32, ◌≡◌, ℕ, ℤ, pos, suc, pred, ◌+◌, ◌-◌, ◌^◌, ◌<◌, ◌≤◌, nat_lt, ◌==◌, int_le, ◌⊎◌, inl, inr, Bool, true, false, not, ◌&&◌, cond, if◌then◌else◌, length, find, position, slice_get, slice_index_or, unwrap_or, option_map, option_and_then, Option, Some, None, List, [], ◌∷◌, ◌++◌, refl, ap, ap₂, sym, ◌∙◌, subst, arith, eqb-true, eq-eqb}
+use Rattle.std.proofs.Common.{w32, ◌≡◌, ℕ, ℤ, pos, suc, pred, ◌+◌, ◌-◌, ◌^◌, ◌<◌, ◌≤◌, nat_lt, ◌==◌, int_le, ◌⊎◌, inl, inr, Bool, true, false, not, ◌&&◌, cond, if◌then◌else◌, length, find, position, slice_get, slice_index_or, unwrap_or, option_map, option_and_then, Option, Some, None, List, [], ◌∷◌, ◌++◌, refl, ap, ap₂, sym, ◌∙◌, subst, arith, eqb-true}
 use Rattle.std.specs.List.{list_all, position_or_len}
 use Rattle.std.specs.Option.{option_map_or}
 use Rattle.std.proofs.lemmas.Bool.{lt-ltb, ltb-true, leb-true}
@@ -40,17 +40,16 @@ use Rattle.ti_lang.specs.Typing.Expressions.{Typed, plain, operand, both, joined
 use Rattle.ti_lang.specs.Typing.Expressions as typing
 use Rattle.ti_lang.specs.Typing.TextTypes.{operator_type, used_type, how_many, field_seen, element_seen, sliced, built_in_type, member_seen}
 use Rattle.ti_lang.specs.Typing.Called.{member_called}
-use Rattle.ti_lang.specs.Meaning.Held.{Held, Plain, zero_of, nothing, thing_of, point_of, rect_of, int_of, is_dim, where_dim}
+use Rattle.ti_lang.specs.Meaning.Held.{Held, Plain, zero_of, nothing, thing_of, point_of, rect_of, int_of, where_dim}
 use Rattle.ti_lang.specs.Meaning.Asking.{ValueOf, NewThing, Reference, request_through, Asking, found_or, needed}
 use Rattle.ti_lang.specs.Meaning.Literals.{coordinates_of, numbers_in, point_of_numbers}
-use Rattle.ti_lang.specs.Meaning.Literals as literal
 use Rattle.ti_lang.specs.Meaning.Conversions.{most_points, converted}
 use Rattle.ti_lang.specs.Meaning.Parts.{Field, Element, fetched, domain_asked, domain_of, viewed, indexed}
 use Rattle.ti_lang.specs.Meaning.MemberForms.{greatest_size, sized, extreme, member}
 use Rattle.ti_lang.specs.Meaning.Answers.{IsPointOf, IsRectOf}
 use Rattle.ti_lang.specs.Meaning.Scoping.{Env, type_of, field_selected}
 use Rattle.ti_lang.specs.Meaning.Evaluation.{eval, eval_all, eval_numbers, eval_range, eval_ranges}
-use Rattle.ti_align.specs.Things.{Things, Grows, IsDomainOf, IsGridOf, IsOf, DimsFine}
+use Rattle.ti_align.specs.Things.{Things, Grows, IsGridOf, IsOf, DimsFine}
 use Rattle.ti_align.specs.Sound.{Sound, SuitsView, dims_viewed}
 use Rattle.ti_align.specs.Fitting.{EnvFits, FieldsFit, IsWritten, AreWritten, IsRangeWritten, AreRangesWritten}
 use Rattle.ti_align.proofs.Vars.{true_false, and_left, and_right}

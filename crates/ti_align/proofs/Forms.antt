@@ -1,9 +1,9 @@
 -- Values in the forms of their types: numbers within their ranges, points, rectangular domains, lists of points.
-use Rattle.std.proofs.Common.{lit<, ◌≡◌, ◌⊎◌, inl, inr, ⊎_elim, ℕ, zero, suc, ◌+◌, ◌-◌, ◌*◌, ◌/◌, ◌%◌, ◌^◌, ◌<◌, ◌≤◌, nat_le, ◌==◌, ℤ, pos, negsuc, neg_ℤ, ◌+ℤ◌, ◌-ℤ◌, ◌≤ℤ◌, ◌<ℤ◌, unsigned_abs, Bool, true, false, not, ◌&&◌, ◌||◌, if◌then◌else◌, length, take, filter, slice_get, slice_index_or, Option, Some, None, List, [], ◌∷◌, ◌++◌, refl, ap, ap₂, sym, ◌∙◌, subst, arith, eq-eqb}
+use Rattle.std.proofs.Common.{lit<, ◌≡◌, inl, inr, ⊎_elim, ℕ, zero, suc, ◌-◌, ◌*◌, ◌%◌, ◌^◌, ◌<◌, ◌≤◌, nat_le, ◌==◌, ℤ, pos, negsuc, neg_ℤ, ◌+ℤ◌, ◌-ℤ◌, ◌≤ℤ◌, ◌<ℤ◌, unsigned_abs, Bool, true, false, not, ◌&&◌, ◌||◌, if◌then◌else◌, length, take, filter, slice_get, slice_index_or, Option, Some, None, List, [], ◌∷◌, ◌++◌, refl, ap, ap₂, sym, ◌∙◌, subst, arith, eq-eqb}
 use Rattle.std.specs.Int.{Width, w32, w64, int_wrap}
 use Rattle.std.specs.Int.RustNames.{int_lt, int_le}
 use Rattle.std.specs.List.{list_all}
-use Rattle.std.proofs.lemmas.Bool.{le-leb, lt-leb, leb-true, lt-ltb, eqb-true}
+use Rattle.std.proofs.lemmas.Bool.{le-leb, lt-leb, leb-true, lt-ltb}
 use Rattle.std.proofs.lemmas.Int.{ints}
 use Rattle.std.proofs.Math.Nat.{mod-le, div-le_self}
 use Rattle.ti_base.specs.declared.point.Point.{Point}
@@ -13,8 +13,8 @@ use Rattle.ti_base.specs.declared.action.ViewHow.{ViewHow}
 use Rattle.ti_base.specs.declared.action.ViewHow.TheVariants.{Restrict, Translate, Slice}
 use Rattle.ti_base.specs.WholeNumbers.{Fits, wrap, sum, difference, remainder, rounded_down}
 use Rattle.ti_base.specs.Points.{IsDim, IsPoint, HasCoordinates, pt_sum, pt_difference, moved}
-use Rattle.ti_base.specs.PointSets.{AllOf, IsAmong, Rises, IsListOf, meet, minus, union}
-use Rattle.ti_base.specs.Ranges.{Range, IsOn, is_on, IsRange, IsTidy, natural, numbers_from, numbers_on, no_range, last_of, range_of, tidy, unused, both, shifted, is_empty_range}
+use Rattle.ti_base.specs.PointSets.{AllOf, IsAmong, Rises, meet, minus, union}
+use Rattle.ti_base.specs.Ranges.{Range, IsOn, is_on, IsTidy, natural, numbers_from, numbers_on, last_of, range_of, tidy, unused, both, shifted, is_empty_range}
 use Rattle.ti_base.specs.Rects.{IsRect, HasPoints, IsIn, first_range, second_range, third_range, points_of, empty_rect, is_empty, of_ranges, used, made, translated, without}
 use Rattle.ti_base.specs.Rects as rects
 use Rattle.ti_base.specs.Cells.{is_coordinate, are_coordinates, leaves, suits, view_fault, view_domain}

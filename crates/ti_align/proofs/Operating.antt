@@ -1,5 +1,5 @@
 -- Conversions and operators keep to the types that the rules give them.
-use Rattle.std.proofs.Common.{◌≡◌, ℕ, ℤ, ◌≤◌, nat_le, ◌^◌, length, ◌==◌, Bool, true, false, not, ◌&&◌, ◌||◌, if◌then◌else◌, ◌⊎◌, inl, inr, option_map, Option, Some, None, List, [], ◌∷◌, refl, ap, ap₂, sym, ◌∙◌, subst, eqb-true, eq-eqb}
+use Rattle.std.proofs.Common.{◌≡◌, ℕ, ℤ, ◌≤◌, nat_le, ◌^◌, length, ◌==◌, Bool, true, false, not, ◌&&◌, ◌||◌, if◌then◌else◌, ◌⊎◌, inl, inr, option_map, Option, Some, None, List, refl, ap, ap₂, sym, ◌∙◌, subst, eqb-true, eq-eqb}
 use Rattle.std.proofs.lemmas.Bool.{leb-true}
 use Rattle.std.specs.Int.{Width, w32, w64}
 use Rattle.std.specs.Prelude.{bit_and, bit_or, bit_xor}
@@ -37,7 +37,7 @@ use Rattle.ti_align.specs.Things as there
 use Rattle.ti_align.specs.Sound.{Sound}
 use Rattle.ti_align.proofs.Vars.{true_false, and_left, and_right}
 use Rattle.ti_align.proofs.Computing.{sound_then, weaker, sound_value, sound_guarded, sound_tested}
-use Rattle.ti_align.proofs.Forms.{wraps_fit, widens, remainder_fits, rounded_fits, complement_fits, sum_point, difference_point, ArePlaced, KeepsPoints, meet_points_kept, minus_points_kept, union_points_kept, points_placed, meet_form}
+use Rattle.ti_align.proofs.Forms.{wraps_fit, widens, remainder_fits, rounded_fits, complement_fits, sum_point, difference_point, KeepsPoints, meet_points_kept, minus_points_kept, union_points_kept, points_placed, meet_form}
 
 -- ---- tests
 

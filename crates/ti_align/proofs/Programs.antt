@@ -13,7 +13,7 @@ use Rattle.ti_align.specs.Literals.{LiteralsFit}
 use Rattle.ti_align.specs.Work.{MethodFits, MethodsFit}
 use Rattle.ti_align.specs.Heap.{FieldsStorable}
 use Rattle.ti_align.specs.Typed.{ProgramFits}
-use Rattle.ti_align.proofs.Vars.{and_left, and_right}
+use Rattle.ti_align.proofs.Vars.{and_right}
 use Rattle.ti_align.proofs.Meant.{storable, formed, StmsMeant, MethodsMeant, FieldsMeant, methods_prop, fields_prop}
 use Rattle.ti_align.proofs.Forming.{formed_fine, storable_is}
 use Rattle.ti_align.proofs.Written.{surrounds_method}

@@ -3,7 +3,7 @@ use Rattle.std.proofs.Common.{◌≡◌, ℕ, zero, suc, ◌+◌, ◌<◌, ◌^�
 use Rattle.ti_base.specs.declared.place.Place.{Place}
 use Rattle.ti_base.specs.declared.fault.FaultKind.TheVariants as faults
 use Rattle.ti_base.specs.declared.point.Point.{Point}
-use Rattle.ti_base.specs.Rects.{points_of, meet}
+use Rattle.ti_base.specs.Rects.{meet}
 use Rattle.ti_lang.specs.Program.Types.{ValueType}
 use Rattle.ti_lang.specs.Program.Types as t
 use Rattle.ti_lang.specs.Program.Expressions.{NumberedExp, NumberedExps}
@@ -40,7 +40,6 @@ use Rattle.ti_align.specs.Fitting.{IsWritten}
 use Rattle.ti_align.specs.Work.{uses_of, is_form_of_call, WholeFits, StmFits, given_type, taken_type, AreCounted, WorkFits}
 use Rattle.ti_align.proofs.Vars.{true_false, and_left, and_right}
 use Rattle.ti_align.proofs.Computing
-use Rattle.ti_align.specs.Things
 use Rattle.ti_align.proofs.Computing.{grows_not, grows_then, grid_stays, of_stays, sound_then, sound_value, sound_guarded}
 use Rattle.ti_align.proofs.Operating.{none_some, some_same, where_some, type_same, seen_same, converted_fine}
 use Rattle.ti_align.proofs.Forms.{natural_fits, one_fits, natural_from, points_placed, meet_form}
