@@ -35,6 +35,7 @@ pub mod Steps
 pub mod Kept
 pub mod Meant
 pub mod Forming
+pub mod Forms
 pub mod Written
 pub mod Stating
 pub mod Spelled

@@ -1,5 +1,5 @@
 -- Types of runs: what each process of a run holds, where what is there is as the types say.
-use Rattle.std.specs.Prelude.{◌≡◌, ℕ, suc, Bool, true, false, List, [], ◌∷◌, ◌++◌, Option, Some, None}
+use Rattle.std.specs.Prelude.{◌≡◌, ◌<◌, ℕ, suc, Bool, true, false, List, [], ◌∷◌, ◌++◌, Option, Some, None}
 use Rattle.ti_base.specs.declared.value.Value.{Value}
 use Rattle.ti_base.specs.declared.action.Action.{Action}
 use Rattle.ti_base.specs.declared.action.CollKind.{CollKind}
@@ -119,11 +119,11 @@ hands_in kind = false
 pub record RunFits (s : Setting) (es : List Entry) : Type 0 where
   pub elements : Elements
   pub heap : HeapFits s.program elements (history_of es)
-  pub processes : (i : ℕ) (pr : Process) → World s es i pr → ProcessFits (things_of elements (history_of es)) (GivesLast s es i) pr
+  pub processes : (i : ℕ) (pr : Process) → i < s.procs → World s es i pr → ProcessFits (things_of elements (history_of es)) (GivesLast s es i) pr
   pub deposits : (i k : ℕ) (a : rounds.Arrival) (value : Value) → arrival_at i (suc k) (history_of es) ≡ Some a → hands_in a.kind ≡ true → value_in a.deposit ≡ Some value
       → (type : ValueType) × GivesAt s es i k type × IsOf (things_of elements (history_of es)) type (Plain value)
 
 -- The same, and what each process names in the action that it has next is there.
 pub record RunTyped (s : Setting) (es : List Entry) : Type 0 where
   pub fits : RunFits s es
-  pub there : (i : ℕ) (pr : Process) (at : Place) (a : Action) → World s es i pr → IsNext pr (next.Act at a) → (wanted : Wanted) × IsThere s.program (things_of fits.elements (history_of es)) a wanted
+  pub there : (i : ℕ) (pr : Process) (at : Place) (a : Action) → i < s.procs → World s es i pr → IsNext pr (next.Act at a) → (wanted : Wanted) × IsThere s.program (things_of fits.elements (history_of es)) a wanted
