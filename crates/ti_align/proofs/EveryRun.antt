@@ -6,7 +6,7 @@ use Rattle.ti_lang.specs.Meaning.Processes.{Setting}
 use Rattle.ti_lang.specs.Meaning.Runs.{IsRun}
 use Rattle.ti_rules.specs.ProgramRefusals.{IsChecked}
 use Rattle.ti_align.specs.Alignment.{ArrivalsAgree, NoneAfterEnd, OfEveryRun}
-use Rattle.ti_align.specs.Stopping.{NoneWaits}
+use Rattle.ti_align.specs.Stopping.{NoneWaits, RoundsBalance}
 use Rattle.ti_align.specs.Literals.{LiteralsFit}
 use Rattle.ti_align.specs.Typed.{RunTyped}
 use Rattle.ti_align.proofs.Aligning as aligning
@@ -37,3 +37,6 @@ none_waits p c l procs fuel es a b d e w =
     let s : Setting = record { program = p; procs = procs; fuel = fuel } in
     let agree : (ds : List Entry) → IsRun s ds → ArrivalsAgree s ds = λ ds r. arrivals_agree p c procs fuel ds a b d e r in
     stopping.none_waits s es w (agree es w) (holding.things_there s (checked_fits p c l) (checked_fine p c) b agree es w) (none_after_end p c procs fuel es a b d e w)
+
+pub rounds_balance : (p : NumberedProgram) → OfEveryRun RoundsBalance p
+rounds_balance p procs fuel es a b d e w = stopping.rounds_balance (record { program = p; procs = procs; fuel = fuel }) es w

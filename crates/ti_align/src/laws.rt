@@ -18,7 +18,7 @@ ghost use Rattle.ti_lang.specs.Meaning.Performing.{performed};
 ghost use Rattle.ti_lang.specs.Meaning.Histories.{History};
 ghost use Rattle.ti_lang.specs.Meaning.HeapAnswers.{IsAnswered};
 ghost use Rattle.ti_align.specs.Alignment.{ArrivalsAgree, NoneAfterEnd, OfEveryRun};
-ghost use Rattle.ti_align.specs.Stopping.{NoneWaits};
+ghost use Rattle.ti_align.specs.Stopping.{NoneWaits, RoundsBalance};
 ghost use Rattle.ti_align.specs.Things.{Things, IsOf, NamesNothing};
 ghost use Rattle.ti_align.specs.Sound.{IsThere, Sound};
 ghost use Rattle.ti_align.specs.Fitting.{EnvFits, FieldsFit, IsWritten};
@@ -50,6 +50,12 @@ pub fn none_waits(c: &Checked)
 {
     literals_fit(c.program());
 }
+
+/// In every run of a checked program a process has left each round that it reached, but for the round
+/// that it leaves next.
+pub fn rounds_balance(c: &Checked)
+    ensures { OfEveryRun RoundsBalance (program_of c.now.program.parts) }
+{}
 
 /// In every run of a checked program all that is there is as the types say: each field, each element
 /// and each variable holds a value of its type, in the form of this type, what is handed in at a
