@@ -36,7 +36,8 @@ use Rattle.ti_align.specs.Things.{Things, Grows, IsOf}
 use Rattle.ti_align.specs.Sound.{IsThere, FitsAsked}
 use Rattle.ti_align.specs.Work.{DepositFits, IsOfRound, WantsOf}
 use Rattle.ti_align.specs.Heap.{Elements, things_of, HeapFits, elements_behind, is_of_heap, KeepsTypes}
-use Rattle.ti_align.specs.Typed.{ProgramFits, ProcessFits, ActionFits, StepFits, given_by, GivesAt, GivesLast, hands_in, RunFits, RunTyped}
+use Rattle.ti_align.specs.Typed.{ProgramFits, ProcessFits, given_by, GivesAt, GivesLast, hands_in, RunFits, RunTyped}
+use Rattle.ti_align.proofs.Steps.{ActionFits, StepFits}
 use Rattle.ti_align.proofs.Vars.{true_false, and_left}
 use Rattle.ti_align.proofs.Ways.{Asked, asking, Meeting, Way, last_from}
 use Rattle.ti_align.proofs.Ways as way

@@ -29,7 +29,8 @@ use Rattle.ti_align.specs.Things.{Things, Grows, IsOf}
 use Rattle.ti_align.specs.Sound.{FitsAsked, Sound}
 use Rattle.ti_align.specs.Sound as sound
 use Rattle.ti_align.specs.Work.{VariablesFit, scope_over, ReceiverFits, MethodFits, MethodsFit, ThisFits, HasNumber, DepositFits, given_type, taken_type, TakesOf, taken_behind, IsOfRound, WantsOf, WorksFit, IsAwaited, MoveFits}
-use Rattle.ti_align.specs.Typed.{ProgramFits, HandsOn, FramesFit, given_first, given_in, given_by, WorkSound, TakesFirst, WaitFits, NextFits, ProcessFits, ActionFits, StepFits}
+use Rattle.ti_align.specs.Typed.{ProgramFits, HandsOn, FramesFit, given_first, given_in, given_by, WorkSound, TakesFirst, WaitFits, NextFits, ProcessFits}
+use Rattle.ti_align.proofs.Steps.{ActionFits, StepFits}
 use Rattle.ti_align.proofs.Computing.{same_sound}
 use Rattle.ti_align.proofs.Operating.{none_some, some_same}
 use Rattle.ti_align.proofs.Asks.{Of}

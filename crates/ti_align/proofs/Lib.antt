@@ -31,6 +31,7 @@ pub mod Stated
 pub mod Framed
 pub mod Staying
 pub mod Pending
+pub mod Steps
 pub mod Kept
 pub mod Meant
 pub mod Forming
