@@ -59,12 +59,14 @@ InInit (st.NewObject at region class) = InOption region
 InInit (st.NewGrid at region element dims_at dims) = InOption region × InDims dims
 InInit (st.Broadcast at x root) = InExp x × InExp root
 
+-- what is printed
 abbrev pub InPrint : NumberedPrint → Type 0
 InPrint (st.Expression x) = InExp x
 InPrint (st.TextAndExpression literal x) = InExp x
 InPrint what = Unit {0}
 
 abbrev mutual
+  -- a statement, with all that stands in it
   pub InStm : NumberedStm → Type 0
   InStm (st.Declare at type variable value) = InInit value
   InStm (st.Assign at target value) = InExp target × InInit value
@@ -91,6 +93,7 @@ abbrev mutual
 
 -- ---- programs
 
+-- the statements of all of these methods
 abbrev pub InMethods : List NumberedMethod → Type 0
 InMethods [] = Unit {0}
 InMethods (m ∷ ms) = InStms (numbered_stms m.body) × InMethods ms
