@@ -6,7 +6,8 @@ use Rattle.ti_lang.specs.Meaning.Processes.{Setting}
 use Rattle.ti_lang.specs.Meaning.Runs.{IsRun}
 use Rattle.ti_rules.specs.ProgramRefusals.{IsChecked}
 use Rattle.ti_align.specs.Alignment.{ArrivalsAgree, NoneAfterEnd, OfEveryRun}
-use Rattle.ti_align.specs.Stopping.{NoneWaits, RoundsBalance}
+use Rattle.ti_align.specs.Stopping.{NoneWaits, NoneImpossible, RoundsBalance}
+use Rattle.ti_align.proofs.Possible.{never}
 use Rattle.ti_align.specs.Literals.{LiteralsFit}
 use Rattle.ti_align.specs.Typed.{RunTyped}
 use Rattle.ti_align.proofs.Aligning as aligning
@@ -40,3 +41,9 @@ none_waits p c l procs fuel es a b d e w =
 
 pub rounds_balance : (p : NumberedProgram) → OfEveryRun RoundsBalance p
 rounds_balance p procs fuel es a b d e w = stopping.rounds_balance (record { program = p; procs = procs; fuel = fuel }) es w
+
+pub none_impossible : (p : NumberedProgram) → IsChecked p → LiteralsFit p → OfEveryRun NoneImpossible p
+none_impossible p c l procs fuel es a b d e w i q at x within v n r k o =
+    let s : Setting = record { program = p; procs = procs; fuel = fuel } in
+    let agree : (ds : List Entry) → IsRun s ds → ArrivalsAgree s ds = λ ds r. arrivals_agree p c procs fuel ds a b d e r in
+    never s es w (agree es w) (holding.things_there s (checked_fits p c l) (checked_fine p c) b agree es w) i within q v at x n r k o

@@ -18,7 +18,7 @@ ghost use Rattle.ti_lang.specs.Meaning.Performing.{performed};
 ghost use Rattle.ti_lang.specs.Meaning.Histories.{History};
 ghost use Rattle.ti_lang.specs.Meaning.HeapAnswers.{IsAnswered};
 ghost use Rattle.ti_align.specs.Alignment.{ArrivalsAgree, NoneAfterEnd, OfEveryRun};
-ghost use Rattle.ti_align.specs.Stopping.{NoneWaits, RoundsBalance};
+ghost use Rattle.ti_align.specs.Stopping.{NoneWaits, NoneImpossible, RoundsBalance};
 ghost use Rattle.ti_align.specs.Things.{Things, IsOf, NamesNothing};
 ghost use Rattle.ti_align.specs.Sound.{IsThere, Sound};
 ghost use Rattle.ti_align.specs.Fitting.{EnvFits, FieldsFit, IsWritten};
@@ -50,6 +50,19 @@ pub fn none_waits(c: &Checked)
 {
     literals_fit(c.program());
 }
+
+/// In every run of a checked program each action for which its process needn't wait comes to an answer
+/// or a fault, but for the delete of a region that isn't there.
+pub fn none_impossible(c: &Checked)
+    ensures { OfEveryRun NoneImpossible (program_of c.now.program.parts) }
+{
+    literals_fit(c.program());
+}
+
+/// The fields of a checked program have types with one to three dimensions, wherever they have any.
+pub fn fields_fit(c: &Checked)
+    ensures { FieldsFit (program_of c.now.program.parts) }
+{}
 
 /// In every run of a checked program a process has left each round that it reached, but for the round
 /// that it leaves next.
