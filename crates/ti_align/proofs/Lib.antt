@@ -28,3 +28,9 @@ pub mod Evaluating
 pub mod Heaping
 pub mod Storing
 pub mod Holding
+pub mod Scoped
+pub mod Found
+pub mod Suited
+pub mod Reaching
+pub mod Leading
+pub mod Keeping
