@@ -34,3 +34,4 @@ pub mod Suited
 pub mod Reaching
 pub mod Leading
 pub mod Keeping
+pub mod Covering
