@@ -35,3 +35,4 @@ pub mod Reaching
 pub mod Leading
 pub mod Keeping
 pub mod Covering
+pub mod References
