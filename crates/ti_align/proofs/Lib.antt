@@ -36,3 +36,4 @@ pub mod Leading
 pub mod Keeping
 pub mod Covering
 pub mod References
+pub mod Suiting
