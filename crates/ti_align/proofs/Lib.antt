@@ -50,5 +50,6 @@ pub mod Keeping
 pub mod Covering
 pub mod References
 pub mod Suiting
+pub mod Using
 pub mod Stopping
 pub mod EveryRun
