@@ -51,5 +51,6 @@ pub mod Covering
 pub mod References
 pub mod Suiting
 pub mod Using
+pub mod Regional
 pub mod Stopping
 pub mod EveryRun
