@@ -52,5 +52,6 @@ pub mod References
 pub mod Suiting
 pub mod Using
 pub mod Regional
+pub mod Handing
 pub mod Stopping
 pub mod EveryRun
