@@ -213,7 +213,7 @@ MoveIsSuch p m (Meets wait given works) =
 MoveIsSuch p m (Deletes at region) = region ≡ 0 → ⊥
 
 -- the method that is called is one of the program
-abbrev OneIsSuch : NumberedProgram → Option NumberedMethod → Type 0
+abbrev pub OneIsSuch : NumberedProgram → Option NumberedMethod → Type 0
 OneIsSuch p None = Unit {0}
 OneIsSuch p (Some m) = StmsAreSuch p m (numbered_stms m.body)
 

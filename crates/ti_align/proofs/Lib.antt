@@ -53,5 +53,6 @@ pub mod Suiting
 pub mod Using
 pub mod Regional
 pub mod Handing
+pub mod Deleting
 pub mod Stopping
 pub mod EveryRun

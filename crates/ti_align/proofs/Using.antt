@@ -140,7 +140,7 @@ works_use : (p : NumberedProgram) (m : NumberedMethod) (names base : Names) (vs 
 works_use p m names base vs [] h k = tt
 works_use p m names base vs (w ∷ left) h k = work_in names (λ v. found v vs) h p m base w k.0
 
-frames_use : (p : NumberedProgram) (fs : List Frame) → FramesStand p fs → FramesUse fs
+pub frames_use : (p : NumberedProgram) (fs : List Frame) → FramesStand p fs → FramesUse fs
 frames_use p [] k = tt
 frames_use p (f ∷ fs) k = works_use p f.method k.0.0 k.0.1 f.variables f.left k.0.2 k.0.4
 
