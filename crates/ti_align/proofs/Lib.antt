@@ -54,5 +54,6 @@ pub mod Using
 pub mod Regional
 pub mod Handing
 pub mod Deleting
+pub mod Deleted
 pub mod Stopping
 pub mod EveryRun
