@@ -112,7 +112,7 @@ RunHands s es = (i : ℕ) (p : Process) → World s es i p → Hands s (last_kin
 
 module _ (s : Setting) (stands : ProgramStands s.program) (such : MethodsAreSuch s.program s.program.methods) where
   -- what has come to be the next process
-  world_keeps : (es : List Entry) → IsRun s es → (i : ℕ) (p q : Process) → World s es i p → Reaches p q → Keeps s q
+  pub world_keeps : (es : List Entry) → IsRun s es → (i : ℕ) (p q : Process) → World s es i p → Reaches p q → Keeps s q
   world_keeps es ran i p q x y = let k = way_next s es i p q ran x y in kept s i q k.0 stands k.1
 
   module _ (es : List Entry) (e : Entry) (ran : IsRun s es) (t : CanTake s es e.proc e) (hands : RunHands s es) where

@@ -58,7 +58,7 @@ use Rattle.ti_align.proofs.Kept.{Performs, begin_fits, step_fits, reaches_fits}
 use Rattle.ti_align.proofs.Framed.{frame_fine}
 
 -- what is done next in a frame that fits
-performs : Performs
+pub performs : Performs
 performs pr f left w x fine vars this k = frame_fine pr f left w x vars this fine.fields fine.storable fine.methods k
 
 -- ---- who waits

@@ -55,5 +55,6 @@ pub mod Regional
 pub mod Handing
 pub mod Deleting
 pub mod Deleted
+pub mod Presence
 pub mod Stopping
 pub mod EveryRun
