@@ -48,6 +48,7 @@ pub mod Reaching
 pub mod Leading
 pub mod Keeping
 pub mod Covering
+pub mod Results
 pub mod References
 pub mod Suiting
 pub mod Using

@@ -24,6 +24,8 @@ use Rattle.ti_align.specs.Fitting.{IsWritten}
 use Rattle.ti_align.specs.Work.{may_use, uses_of}
 use Rattle.ti_align.proofs.Vars.{true_false, and_left}
 use Rattle.ti_align.proofs.Operating.{none_some, some_same, where_some}
+use Rattle.ti_align.proofs.Results.{NoneOf, either}
+use Rattle.ti_align.proofs.Results as result
 use Rattle.ti_align.proofs.Evaluating.{and_then, mapped, both_there, no_call, member_there}
 
 -- ---- what is no reference
@@ -31,53 +33,17 @@ use Rattle.ti_align.proofs.Evaluating.{and_then, mapped, both_there, no_call, me
 abbrev Plain : ValueType → Type 0
 Plain r = is_reference r ≡ false
 
-from_or : (a b : Option ValueType) (r : ValueType) → option_or a b ≡ Some r → (a ≡ Some r) ⊎ (b ≡ Some r)
-from_or None b r h = inr h
-from_or (Some x) b r h = inl h
-
-whole_plain : (a u r : ValueType) → whole_type a u ≡ Some r → Plain r
-whole_plain a u r h = subst Plain (where_some (is_whole a && is_whole u) (wider a u) r h).1 (by a u)
-  where
-    by : (a u : ValueType) → Plain (wider a u)
-    by t.Int t.Int = refl
-    by t.Int _ = refl
-    by _ _ = refl
-
-point_plain : (a u r : ValueType) → point_type a u ≡ Some r → Plain r
-point_plain (t.Pt n) (t.Pt m) r h = subst Plain (where_some (n == m) (t.Pt n) r h).1 refl
-point_plain (t.Pt n) _ r h = absurd (none_some r h)
-point_plain _ _ r h = absurd (none_some r h)
-
-rect_plain : (a u r : ValueType) → rect_type a u ≡ Some r → Plain r
-rect_plain (t.Rc n) (t.Rc m) r h = subst Plain (where_some (n == m) (t.Rc n) r h).1 refl
-rect_plain (t.Rc n) _ r h = absurd (none_some r h)
-rect_plain _ _ r h = absurd (none_some r h)
-
-domain_plain : (a u r : ValueType) → domain_type a u ≡ Some r → Plain r
-domain_plain a u r h = subst Plain (mapped t.Dm (same_dim (domain_dim a) (domain_dim u)) r h).2 refl
-
-truth_plain : (a u r : ValueType) → truth_type a u ≡ Some r → Plain r
-truth_plain t.Boolean t.Boolean r h = subst Plain (some_same t.Boolean r h) refl
-truth_plain t.Boolean _ r h = absurd (none_some r h)
-truth_plain _ _ r h = absurd (none_some r h)
+no_references : NoneOf is_reference
+no_references = record { int = refl; long = refl; truth = refl; point = λ n. refl; rect = λ n. refl; domain = λ n. refl }
 
 whole_is : (a : ValueType) → is_whole a ≡ true → Plain a
-whole_is t.Int h = refl
-whole_is t.Long h = refl
-whole_is _ h = absurd (true_false (sym h))
-
-either : {A : Type 0} (a b : Option ValueType) (r : ValueType) → option_or a b ≡ Some r → (a ≡ Some r → A) → (b ≡ Some r → A) → A
-either a b r h f g = elim (from_or a b r h) [ inl x ↦ f x | inr x ↦ g x ]
+whole_is a h = result.whole_is is_reference no_references a h
 
 row_plain : (row : Row) (a u r : ValueType) → row_type row a u ≡ Some r → Plain r
-row_plain Sum a u r h = either (whole_type a u) _ r h (whole_plain a u r) (λ k. either (point_type a u) (domain_type a u) r k (point_plain a u r) (domain_plain a u r))
-row_plain Product a u r h = either (whole_type a u) _ r h (whole_plain a u r) (λ k. either (rect_type a u) (domain_type a u) r k (rect_plain a u r) (domain_plain a u r))
-row_plain Quotient a u r h = whole_plain a u r h
-row_plain Shift a u r h = let q = where_some (is_whole a && is_whole u) a r h in subst Plain q.1 (whole_is a (and_left (is_whole a) _ q.0))
-row_plain Bits a u r h = either (whole_type a u) (truth_type a u) r h (whole_plain a u r) (truth_plain a u r)
-row_plain Logic a u r h = truth_plain a u r h
-row_plain Order a u r h = subst Plain (where_some (are_ordered a u) t.Boolean r h).1 refl
-row_plain Equality a u r h = subst Plain (where_some (are_comparable a u) t.Boolean r h).1 refl
+row_plain row a u r h = result.row_plain is_reference no_references row a u r h
+
+rects_plain : (n : ℕ) (ts : List ValueType) (r : ValueType) → rect_literal n ts ≡ Some r → Plain r
+rects_plain n ts r h = result.rects_plain is_reference no_references n ts r h
 
 -- a left operand that is no reference either
 dim_plain : (a : ValueType) (n : ℕ) → domain_dim a ≡ Some n → Plain a
@@ -169,18 +135,6 @@ unary_plain un.Not _ r h = absurd (none_some r h)
 unary_plain un.Plus a r h = let q = where_some (is_whole a) a r h in (whole_is a q.0, subst Plain q.1 (whole_is a q.0))
 unary_plain un.Minus a r h = let q = where_some (is_whole a) a r h in (whole_is a q.0, subst Plain q.1 (whole_is a q.0))
 unary_plain un.Complement a r h = let q = where_some (is_whole a) a r h in (whole_is a q.0, subst Plain q.1 (whole_is a q.0))
-
-range_plain : (ts : List ValueType) (r : ValueType) → range_of_points ts ≡ Some r → Plain r
-range_plain (t.Pt n ∷ ts) r h = subst Plain (where_some (all_points n ts) (t.Rc n) r h).1 refl
-range_plain _ r h = absurd (none_some r h)
-
-rects_plain : (n : ℕ) (ts : List ValueType) (r : ValueType) → rect_literal n ts ≡ Some r → Plain r
-rects_plain n ts r h = by (all_ints ts) (n == 1) h
-  where
-    by : (a b : Bool) → (if a then Some (t.Rc n) else if b then range_of_points ts else None) ≡ Some r → Plain r
-    by true b h = subst Plain (some_same (t.Rc n) r h) refl
-    by false true h = range_plain ts r h
-    by false false h = absurd (none_some r h)
 
 -- ---- scopes
 

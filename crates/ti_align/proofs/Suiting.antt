@@ -37,9 +37,9 @@ use Rattle.ti_align.proofs.References.{Points, method_points, inside_points, Ali
 
 -- ---- calls
 
--- a method of this result takes so many arguments
-abbrev Takes : NumberedProgram → ScopeContents → NumberedExps → ValueType → NumberedMethod → Type 0
-Takes p s args type c = Enough (parameters_of c.params) args × (result_type c ≡ type)
+-- a method of this result takes arguments of these types
+abbrev pub Takes : NumberedProgram → ScopeContents → NumberedExps → ValueType → NumberedMethod → Type 0
+Takes p s args type c = (ts : List ValueType) × (operands p s args ≡ Some ts) × (takes c.params ts ≡ true) × (result_type c ≡ type)
 
 enough : (p : NumberedProgram) (s : ScopeContents) (n : ℕ) (params : List NumberedParam) (args : NumberedExps) (ts : List ValueType) → operands p s args ≡ Some ts → all_fit ts (types_of params) ≡ true → Enough (parameters_from n params) args
 enough p s n [] args ts z h = tt
@@ -50,20 +50,20 @@ enough p s n (q ∷ params) (e.MoreExp a rest) ts z h =
     let whole : k.0 ∷ j.1 ≡ ts = ap (λ us. us ++ j.1) (sym k.2) ∙ j.4 in
     enough p s (n + 1) params rest j.1 j.3 (and_right (fits k.0 q.ty.type) _ (subst (λ us. all_fit us (types_of (q ∷ params)) ≡ true) (sym whole) h))
 
+params_take : (p : NumberedProgram) (s : ScopeContents) (args : NumberedExps) (n : NumberedParams) (ts : List ValueType) → operands p s args ≡ Some ts → takes n ts ≡ true → Enough (parameters_of n) args
+params_take p s args Words ts j h = absurd (true_false (sym h))
+params_take p s args (Params params) ts j h = enough p s 0 params args ts j h
+
 call_takes : (p : NumberedProgram) (s : ScopeContents) (args : NumberedExps) (o : Option NumberedMethod) (type : ValueType) → (called o (operands p s args)).type ≡ Some type → (c : NumberedMethod) → o ≡ Some c → Takes p s args type c
 call_takes p s args o type z c i = by (operands p s args) refl (ap (λ x. (called x (operands p s args)).type) (sym i) ∙ z)
   where
-    params_take : (n : NumberedParams) (ts : List ValueType) → operands p s args ≡ Some ts → takes n ts ≡ true → Enough (parameters_of n) args
-    params_take Words ts j h = absurd (true_false (sym h))
-    params_take (Params params) ts j h = enough p s 0 params args ts j h
-
     by : (q : Option (List ValueType)) → operands p s args ≡ q → (called (Some c) q).type ≡ Some type → Takes p s args type c
     by None j z = absurd (none_some type z)
-    by (Some ts) j z = let q = where_some (takes c.params ts) (result_type c) type z in (params_take c.params ts j q.0, q.1)
+    by (Some ts) j z = let q = where_some (takes c.params ts) (result_type c) type z in (ts, j, q.0, q.1)
 
 module _ (p : NumberedProgram) (m : NumberedMethod) (s : ScopeContents) (this : s.this_class ≡ this_of m) (points : Points m s) where
   -- a call that has a type
-  abbrev CallTakes : NumberedExp → ValueType → Type 0
+  abbrev pub CallTakes : NumberedExp → ValueType → Type 0
   CallTakes x type = (c : NumberedMethod) → called_method p (this_of m) x ≡ Some c → Takes p s (args_of x) type c
 
   not_behind : (name : ℕ) (x : ValueType) (c : NumberedMethod) → is_object x ≡ false → method_behind p x name ≡ Some c → ⊥
@@ -100,7 +100,7 @@ module _ (p : NumberedProgram) (m : NumberedMethod) (s : ScopeContents) (this : 
       by t.Null f z = absurd (not_behind name x c (no_object t.Null x refl f) i)
       by t.Void f z = absurd (not_behind name x c (no_object t.Void x refl f) i)
 
-  whole_takes : (x : NumberedExp) (type : ValueType) → WholeFits p m s x type → CallTakes x type
+  pub whole_takes : (x : NumberedExp) (type : ValueType) → WholeFits p m s x type → CallTakes x type
   whole_takes (e.Call at method args) type k c i = call_takes p s args (slice_get p.methods method) type k.0 c i
   whole_takes (e.OwnCall at method args) type k c i = call_takes p s args (slice_get p.methods method) type k.0 c i
   whole_takes (e.Member at a name args) type k c i = by (operand_type p s a) refl k.0
@@ -110,8 +110,11 @@ module _ (p : NumberedProgram) (m : NumberedMethod) (s : ScopeContents) (this : 
       by (Some u) j z = member_takes name args u (type_in_text p (this_of m) a) type (in_text p m s this points a k.1.0 u j) z c i
   whole_takes _ type k c i = absurd (none_some c i)
 
+  call_suits : (x : NumberedExp) (type : ValueType) → WholeFits p m s x type → CallSuits p m x
+  call_suits x type k c i = let q = whole_takes x type k c i in params_take p s (args_of x) c.params q.0 q.1 q.2
+
   init_suits : (value : NumberedInit) (type : ValueType) → InitFits p m s value type → InitSuits p m value
-  init_suits (st.Value x) type k = ((λ c i. (whole_takes x type k.0 c i).0), (λ c i. ap is_void (whole_takes x type k.0 c i).1 ∙ k.1))
+  init_suits (st.Value x) type k = (call_suits x type k.0, (λ c i. ap is_void (whole_takes x type k.0 c i).3 ∙ k.1))
   init_suits (st.NewRegion at) type k = tt
   init_suits (st.NewObject at region class) type k = tt
   init_suits (st.NewGrid at region element dims_at dims) type k = tt
@@ -137,7 +140,7 @@ module _ (p : NumberedProgram) where
     stm_suits a f (st.Assign at target value) k h = init_suits p a.method (scope_of a) refl f value k.0 k.1
     stm_suits a f (st.Update at op target x) k h = init_suits p a.method (scope_of a) refl f (st.Value x) k.0 k.1
     stm_suits a f (st.Step at op target) k h = tt
-    stm_suits a f (st.Call x) k h = λ c i. (whole_takes p a.method (scope_of a) refl f x k.0 k.1 c i).0
+    stm_suits a f (st.Call x) k h = call_suits p a.method (scope_of a) refl f x k.0 k.1
     stm_suits a f (st.Print at what) k h = tt
     stm_suits a f (st.Barrier at) k h = tt
     stm_suits a f (st.Break at) k h = tt
