@@ -57,5 +57,6 @@ pub mod Handing
 pub mod Deleting
 pub mod Deleted
 pub mod Presence
+pub mod Regioned
 pub mod Stopping
 pub mod EveryRun
