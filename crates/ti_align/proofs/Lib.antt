@@ -60,3 +60,4 @@ pub mod Presence
 pub mod Regioned
 pub mod Stopping
 pub mod EveryRun
+pub mod Ended
