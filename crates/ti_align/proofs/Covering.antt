@@ -1,5 +1,5 @@
 -- The statements of a program of a text stand in their scope: what a name means is declared before it.
-use Rattle.std.proofs.Common.{◌≡◌, ◌⊎◌, inl, inr, ℕ, zero, suc, ◌+◌, ◌<◌, ◌≤◌, ◌==◌, Bool, true, false, not, ◌&&◌, ◌||◌, cond, if◌then◌else◌, slice_get, is_some, Option, Some, None, List, [], ◌∷◌, ◌++◌, bytes_eq, refl, ap, ap₂, sym, ◌∙◌, subst, arith, eq-eqb}
+use Rattle.std.proofs.Common.{◌≡◌, ◌⊎◌, inl, inr, ℕ, zero, suc, ◌+◌, ◌<◌, ◌≤◌, Bool, true, false, ◌&&◌, ◌||◌, cond, if◌then◌else◌, slice_get, is_some, Option, Some, None, List, [], ◌∷◌, ◌++◌, bytes_eq, refl, ap, ap₂, sym, ◌∙◌, subst, arith, eq-eqb}
 use Rattle.std.proofs.Math.Bool.{Bool-set}
 use Rattle.std.proofs.Math.Logic.{∥∥₁_elim}
 use Rattle.std.specs.Map.{lookup}
@@ -13,7 +13,7 @@ use Rattle.ti_lang.specs.Program.Expressions.{NumberedExp, NumberedExps, Numbere
 use Rattle.ti_lang.specs.Program.Statements.{NumberedDims, NumberedInit, NumberedPrint, NumberedStm, MaybeNumbered, NumberedStms, numbered_stms}
 use Rattle.ti_lang.specs.Program.Classes.{NumberedParam, NumberedParams, NumberedMethod, NumberedProgram}
 use Rattle.ti_lang.specs.Members.{OwnMethod, methods_of}
-use Rattle.ti_lang.specs.Scopes.{Known, Site, with_variable, declares, typed_as, past, past_maybe, past_all, behind, behind_maybe, behind_params, method_site, body_site, variable_named}
+use Rattle.ti_lang.specs.Scopes.{Known, Site, with_variable, declares, typed_as, past, past_maybe, past_all, behind, behind_maybe, behind_params, method_site, body_site}
 use Rattle.ti_lang.specs.Typing.Kinds.{same_truth, same_type}
 use Rattle.ti_lang.specs.MainForm.{IsWords}
 use Rattle.ti_lang.specs.Numbering as number

@@ -1,29 +1,26 @@
 -- In every run a region that a process comes to delete was made.
-use Rattle.std.proofs.Common.{◌≡◌, ℕ, zero, suc, ◌+◌, ◌==◌, nat_lt, length, Bool, true, false, not, ◌&&◌, ◌||◌, ◌⊎◌, inl, inr, if◌then◌else◌, filter, map, option_map, Option, Some, None, List, [], ◌∷◌, ◌++◌, refl, ap, ap₂, sym, ◌∙◌, subst, arith, append-nil, eqb-true, eq-eqb}
-use Rattle.ti_base.specs.declared.place.Place.{Place}
+use Rattle.std.proofs.Common.{◌≡◌, ℕ, zero, suc, ◌+◌, ◌==◌, Bool, true, false, not, ◌&&◌, ◌||◌, if◌then◌else◌, filter, map, option_map, Some, None, List, [], ◌∷◌, ◌++◌, refl, ap, sym, ◌∙◌, subst, arith, append-nil, eqb-true, eq-eqb}
 use Rattle.ti_base.specs.declared.value.Value.TheVariants as v
 use Rattle.ti_base.specs.declared.action.Action.{Action}
 use Rattle.ti_base.specs.declared.action.Action.TheVariants as act
 use Rattle.ti_base.specs.declared.action.CollKind.{CollKind}
 use Rattle.ti_base.specs.declared.action.CollKind.TheVariants as coll
-use Rattle.ti_base.specs.declared.action.Deposit.{Deposit}
 use Rattle.ti_base.specs.declared.entry.Answer.{Answer}
 use Rattle.ti_base.specs.declared.entry.Answer.TheVariants.{Val}
 use Rattle.ti_base.specs.declared.entry.Entry.{Entry}
-use Rattle.ti_lang.specs.Meaning.Held.{Plain}
 use Rattle.ti_lang.specs.Meaning.Asking.{told}
 use Rattle.ti_lang.specs.Meaning.Processes.{Setting, Process, begin}
-use Rattle.ti_lang.specs.Meaning.Steps.{Step, To, At, step}
+use Rattle.ti_lang.specs.Meaning.Steps.{At, step}
 use Rattle.ti_lang.specs.Meaning.NextStep.{Reaches, here, After, none}
-use Rattle.ti_lang.specs.Meaning.Histories.{History, history_of, is_end, is_fault, is_arrival, is_departure, is_answered, entries_of, answers_of, arrivals}
-use Rattle.ti_lang.specs.Meaning.RoundsOf.{Arrival, arrival_in, arrival_at, last_arrival}
+use Rattle.ti_lang.specs.Meaning.Histories.{History, history_of, is_end, is_fault, is_arrival, is_answered, entries_of, answers_of, arrivals}
+use Rattle.ti_lang.specs.Meaning.RoundsOf.{Arrival, arrival_in, arrival_at}
 use Rattle.ti_lang.specs.Meaning.HeapAnswers.{Answers, heap_answer, IsAnswered}
 use Rattle.ti_lang.specs.Meaning.Runs.{World, CanTake, IsRun}
 use Rattle.ti_lang.specs.Meaning.Runs as run
 use Rattle.ti_lang.proofs.MeaningLaws.Steps.{after_same}
 use Rattle.ti_lang.proofs.MeaningLaws.Running.{taker, history_grows, run_answered}
-use Rattle.ti_align.proofs.Vars.{true_false, and_left, and_right}
-use Rattle.ti_align.proofs.Ways.{Asked, asking}
+use Rattle.ti_align.proofs.Vars.{true_false}
+use Rattle.ti_align.proofs.Ways.{asking}
 use Rattle.ti_align.proofs.Entries.{got_both, own, other}
 use Rattle.ti_align.proofs.Operating.{none_some, some_same}
 use Rattle.ti_align.proofs.Arrived.{is_own, more_own, last_kind, kind_after, last_other, last_own, makes, made}

@@ -1,5 +1,5 @@
 -- Steps hand regions on: the region that a process deletes has a number above 0.
-use Rattle.std.proofs.Common.{◌≡◌, ℕ, nat_lt, length, Bool, true, false, if◌then◌else◌, slice_get, Option, Some, None, List, [], ◌∷◌, ◌++◌, refl, ap, sym, ◌∙◌, subst}
+use Rattle.std.proofs.Common.{◌≡◌, ℕ, nat_lt, length, Bool, true, false, if◌then◌else◌, slice_get, Option, Some, None, List, [], ◌∷◌, refl, ap, sym, ◌∙◌, subst}
 use Rattle.std.specs.Option.{option_map_or}
 use Rattle.ti_base.specs.declared.place.Place.{Place}
 use Rattle.ti_base.specs.declared.fault.FaultKind.TheVariants.{Fuel, Depth}
@@ -12,8 +12,8 @@ use Rattle.ti_lang.specs.Program.Statements.{numbered_stms}
 use Rattle.ti_lang.specs.Program.Classes.{NumberedMethod, NumberedProgram}
 use Rattle.ti_lang.specs.Typing.Declared.{result_type}
 use Rattle.ti_lang.specs.Meaning.Held.{Held}
-use Rattle.ti_lang.specs.Meaning.Asking.{Wanted, ToBeDone, ValueOf, NewThing, Request, Got, Gives, Asks, Fails, told}
-use Rattle.ti_lang.specs.Meaning.Processes.{Setting, Variable, Receiver, Nowhere, Work, Frame, frame_of, Wait, Process, begin}
+use Rattle.ti_lang.specs.Meaning.Asking.{Wanted, ToBeDone, ValueOf, NewThing, Got, Gives, Asks, Fails, told}
+use Rattle.ti_lang.specs.Meaning.Processes.{Setting, Receiver, Nowhere, Work, Frame, frame_of, Wait, Process, begin}
 use Rattle.ti_lang.specs.Meaning.Scoping.{env_of}
 use Rattle.ti_lang.specs.Meaning.Moves.{Move, Goes, Turns, Breaks, Continues, Calls, Returns, Meets, Deletes}
 use Rattle.ti_lang.specs.Meaning.Performing.{performed}
@@ -28,7 +28,7 @@ use Rattle.ti_align.proofs.Stepping.{Alone}
 use Rattle.ti_align.proofs.Asks.{work_alone}
 use Rattle.ti_align.proofs.Keeping.{ProgramStands, WaitStands, Keeps, step_keeps}
 use Rattle.ti_align.proofs.Using.{FirstUses, FramesUse, frames_use}
-use Rattle.ti_align.proofs.Regional.{Good, GoodAs, AllGood, mark_good, received_type, ReceiverSuits, StmsAreSuch, WorksAreSuch, such_both, such_before, such_from, such_past, MethodsAreSuch}
+use Rattle.ti_align.proofs.Regional.{Good, GoodAs, AllGood, mark_good, received_type, ReceiverSuits, WorksAreSuch, such_both, such_before, such_from, such_past, MethodsAreSuch}
 use Rattle.ti_align.proofs.Handing.{MoveIsSuch, OneIsSuch, such_at, performed_good}
 
 -- ---- processes

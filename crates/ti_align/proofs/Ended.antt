@@ -1,5 +1,5 @@
 -- In every run of a checked program each region that a process comes to delete was made. So a checked program is aligned.
-use Rattle.std.proofs.Common.{◌≡◌, ◌⊎◌, inl, inr, ℕ, true, false, List, Option, Some}
+use Rattle.std.proofs.Common.{◌≡◌, ◌⊎◌, inl, inr, ℕ, true, List, Option, Some}
 use Rattle.ti_base.specs.declared.place.Place.{Place}
 use Rattle.ti_base.specs.declared.action.Action.TheVariants as act
 use Rattle.ti_base.specs.declared.action.CollKind.TheVariants as coll
@@ -9,9 +9,9 @@ use Rattle.ti_base.specs.declared.entry.Next.TheVariants as next
 use Rattle.ti_lang.specs.Program.Classes.{NumberedProgram}
 use Rattle.ti_lang.specs.Meaning.Processes.{Setting, Process}
 use Rattle.ti_lang.specs.Meaning.NextStep.{IsNext}
-use Rattle.ti_lang.specs.Meaning.Histories.{history_of, has_fault}
+use Rattle.ti_lang.specs.Meaning.Histories.{history_of}
 use Rattle.ti_lang.specs.Meaning.RegionsOf.{is_made}
-use Rattle.ti_lang.specs.Meaning.Runs.{World, CanTake, AllEnded}
+use Rattle.ti_lang.specs.Meaning.Runs.{World, AllEnded}
 use Rattle.ti_rules.specs.ProgramRefusals.{IsChecked}
 use Rattle.ti_align.specs.Alignment.{NoneStuck, OfEveryRun, IsAligned}
 use Rattle.ti_align.specs.Stopping.{DeletesNothing}

@@ -1,13 +1,11 @@
 -- Work hands regions on: variables of their type hold regions with numbers above 0 behind each move, where they did before it.
-use Rattle.std.proofs.Common.{◌≡◌, ℕ, zero, suc, ◌==◌, ◌&&◌, find, cond, Bool, true, false, not, ◌||◌, ◌⊎◌, inl, inr, if◌then◌else◌, pos, option_map, slice_get, Option, Some, None, List, [], ◌∷◌, ◌++◌, refl, ap, sym, ◌∙◌, subst}
+use Rattle.std.proofs.Common.{◌≡◌, ℕ, zero, suc, ◌==◌, ◌&&◌, find, cond, Bool, true, false, ◌⊎◌, inl, inr, if◌then◌else◌, pos, option_map, slice_get, Option, Some, None, List, [], ◌∷◌, ◌++◌, refl, ap, sym, ◌∙◌, subst}
 use Rattle.ti_base.specs.declared.place.Place.{Place}
 use Rattle.ti_base.specs.declared.point.Point.{Point}
 use Rattle.ti_base.specs.declared.fault.FaultKind.TheVariants.{ExchangeDomain}
 use Rattle.ti_base.specs.declared.action.CollKind.{CollKind}
 use Rattle.ti_base.specs.declared.action.CollKind.TheVariants as coll
-use Rattle.ti_base.specs.declared.action.Deposit.{Deposit}
 use Rattle.ti_base.specs.declared.entry.Answer.{Answer}
-use Rattle.ti_syntax.specs.declared.tree.exprs.BinaryOperator.{BinaryOperator}
 use Rattle.ti_lang.specs.Members.{only_if}
 use Rattle.ti_lang.specs.Program.Types.{ValueType, Declaration, VariableUse}
 use Rattle.ti_lang.specs.Program.Types as t
@@ -21,32 +19,30 @@ use Rattle.ti_lang.specs.Typing.BuiltIn.{BuiltIn, Copy, Exchange, Delete}
 use Rattle.ti_lang.specs.Typing.TextTypes.{used_type, type_in_text}
 use Rattle.ti_lang.specs.Typing.Declared.{result_type, instance_method}
 use Rattle.ti_lang.specs.Typing.Called.{called_method, method_behind, member_called}
-use Rattle.ti_lang.specs.Meaning.Held.{Held, truth_of, points_in}
-use Rattle.ti_lang.specs.Meaning.Asking.{Wanted, ToBeDone, ValueOf, Reference, Asking, ◌>>=◌, Got, Gives, Asks, Fails, gives, asked, needed}
+use Rattle.ti_lang.specs.Meaning.Held.{Held, truth_of}
+use Rattle.ti_lang.specs.Meaning.Asking.{Reference, Asking, ◌>>=◌, Got, Gives, Asks, Fails, gives, asked, needed}
 use Rattle.ti_lang.specs.Meaning.Conversions.{converted}
 use Rattle.ti_lang.specs.Meaning.Operators.{operated}
-use Rattle.ti_lang.specs.Meaning.Processes.{Variable, Receiver, Nowhere, Declared, Assigned, Updated, Loop, While, Foreach, Work, Do, End, Before, Behind, Receive, CopyAll, TakeAll, all_before}
-use Rattle.ti_lang.specs.Meaning.Scoping.{Env, value_by, type_of, type_here, declared_type, with_new, without}
+use Rattle.ti_lang.specs.Meaning.Processes.{Variable, Receiver, Nowhere, Declared, Assigned, Updated, Loop, While, Foreach, Work, Do, End, Before, Behind, Receive, CopyAll, TakeAll}
+use Rattle.ti_lang.specs.Meaning.Scoping.{Env, value_by, type_of, declared_type, with_new}
 use Rattle.ti_lang.specs.Meaning.Evaluation.{kept_local, eval, eval_all, eval_numbers}
 use Rattle.ti_lang.specs.Meaning.Targets.{Target, InVariable, InPart, located, held_in, stored, into}
 use Rattle.ti_lang.specs.Meaning.Parts.{Field, Element, domain_asked}
 use Rattle.ti_lang.specs.Meaning.Makers.{new_object, new_grid}
-use Rattle.ti_lang.specs.Meaning.Copies.{copies, copied, counted, taken}
-use Rattle.ti_lang.specs.Meaning.Collectives.{root_among, root_deposit, broadcasts, exchanges, deletes}
-use Rattle.ti_lang.specs.Meaning.Calls.{Call, call_of, call_by, called, parameters_of, bound, maybe_eval, maybe_needed, calling}
+use Rattle.ti_lang.specs.Meaning.Copies.{copies, copied, taken}
+use Rattle.ti_lang.specs.Meaning.Collectives.{root_among, root_deposit, broadcasts, exchanges}
+use Rattle.ti_lang.specs.Meaning.Calls.{Call, call_of, called, parameters_of, bound, maybe_eval, maybe_needed, calling}
 use Rattle.ti_lang.specs.Meaning.Moves.{Move, Goes, Turns, Breaks, Continues, Calls, Returns, Meets, Deletes, receives}
-use Rattle.ti_lang.specs.Meaning.Statements.{made_first, valued_or_called, initialized, member_alone, alone, printed, one_more, declared_as, maybe_do, returns, statement}
+use Rattle.ti_lang.specs.Meaning.Statements.{made_first, valued_or_called, initialized, member_alone, alone, printed, one_more, declared_as, maybe_do, statement}
 use Rattle.ti_lang.specs.Meaning.Performing.{condition, declared_in, performed}
 use Rattle.ti_lang.proofs.MeaningLaws.Falling.{Giving, then_giving, guarded_giving}
 use Rattle.ti_rules.specs.InitialTypes.{is_region}
 use Rattle.ti_align.proofs.Fitting.{giving_followed}
 use Rattle.ti_align.proofs.Vars.{true_false, and_left, and_right}
-use Rattle.ti_align.proofs.Operating.{none_some, some_same}
 use Rattle.ti_align.proofs.Scoped.{Names, KnownAs, ExpScoped, ExpsScoped, InitScoped}
-use Rattle.ti_align.proofs.Found.{found, Holds}
+use Rattle.ti_align.proofs.Found.{found}
 use Rattle.ti_align.proofs.Suited.{args_of}
 use Rattle.ti_align.proofs.Using.{StmUses, WorkUses}
-use Rattle.ti_align.proofs.Reaching.{ReceiverScoped}
 use Rattle.ti_align.proofs.Regional.{Good, GoodAs, good_region, AllGood, find_good, changed_good, without_good, is_region_exp, IsSuch, ArgsAreSuch, target_type, received_type, ReceiverSuits, CallIsSuch, InitIsSuch, DeletesSuch, StmIsSuch, MaybeIsSuch, StmsAreSuch, LoopIsSuch, WorkIsSuch, WorksAreSuch, such_before, MethodsAreSuch}
 
 -- ---- what is given

@@ -4,36 +4,33 @@ use Rattle.ti_base.specs.declared.place.Place.{Place}
 use Rattle.ti_base.specs.declared.fault.FaultKind.TheVariants.{Fuel, Depth, RegionGone}
 use Rattle.ti_base.specs.declared.action.Action.{Action}
 use Rattle.ti_base.specs.declared.action.Action.TheVariants as act
-use Rattle.ti_base.specs.declared.action.CollKind.{CollKind}
 use Rattle.ti_base.specs.declared.action.CollKind.TheVariants as coll
 use Rattle.ti_base.specs.declared.action.Deposit.{Deposit}
-use Rattle.ti_base.specs.declared.entry.Answer.{Answer}
 use Rattle.ti_base.specs.declared.entry.Answer.TheVariants.{Done}
 use Rattle.ti_base.specs.declared.entry.Entry.{Entry}
 use Rattle.ti_base.specs.declared.entry.Next.TheVariants as next
 use Rattle.ti_lang.specs.Program.Types.{ValueType}
 use Rattle.ti_lang.specs.Program.Classes.{NumberedProgram}
 use Rattle.ti_lang.specs.Program.Scope.{method_scope}
-use Rattle.ti_lang.specs.Meaning.Asking.{Asking, Request, Got, Gives, Asks, Fails}
+use Rattle.ti_lang.specs.Meaning.Asking.{Asking, Got, Gives, Asks, Fails}
 use Rattle.ti_lang.specs.Meaning.Processes.{Setting, Work, Frame, Wait, Process}
 use Rattle.ti_lang.specs.Meaning.Scoping.{env_of}
 use Rattle.ti_lang.specs.Meaning.Moves.{Move, Goes, Turns, Breaks, Continues, Calls, Returns, Meets, Deletes}
 use Rattle.ti_lang.specs.Meaning.Performing.{performed}
-use Rattle.ti_lang.specs.Meaning.Jumps.{has_mark}
-use Rattle.ti_lang.specs.Meaning.Steps.{Step, To, At, Ends, Faults, ticks, valued, most_frames, moves, works, runs, steps, step}
-use Rattle.ti_lang.specs.Meaning.NextStep.{Reaches, here, IsNext}
-use Rattle.ti_lang.specs.Meaning.Histories.{History, history_of, is_arrival}
+use Rattle.ti_lang.specs.Meaning.Steps.{Step, At, Faults, ticks, valued, most_frames, moves, works, runs, steps, step}
+use Rattle.ti_lang.specs.Meaning.NextStep.{here, IsNext}
+use Rattle.ti_lang.specs.Meaning.Histories.{history_of, is_arrival}
 use Rattle.ti_lang.specs.Meaning.RegionsOf.{is_made, is_gone}
 use Rattle.ti_lang.specs.Meaning.HeapAnswers.{Outcome, Answers, Impossible, where_some, possible_if, faults_if, heap_answer}
 use Rattle.ti_lang.specs.Meaning.HeapAnswers as heap
-use Rattle.ti_lang.specs.Meaning.Runs.{World, IsRun, AllEnded}
+use Rattle.ti_lang.specs.Meaning.Runs.{World, IsRun}
 use Rattle.ti_lang.proofs.MeaningLaws.Falling.{Giving}
 use Rattle.ti_align.specs.Things.{Things, IsPlaced}
 use Rattle.ti_align.specs.Sound.{Sound}
 use Rattle.ti_align.specs.Sound as sound
 use Rattle.ti_align.specs.Work.{scope_over, given_type, taken_type, MoveFits}
 use Rattle.ti_align.specs.Heap.{things_of}
-use Rattle.ti_align.specs.Typed.{ProgramFits, ProcessFits, NextFits, WorkSound, GivesLast, RunFits}
+use Rattle.ti_align.specs.Typed.{ProgramFits, NextFits, WorkSound, GivesLast, RunFits}
 use Rattle.ti_align.specs.Stopping.{is_delete, DeletesNothing}
 use Rattle.ti_align.proofs.Vars.{true_false}
 use Rattle.ti_align.proofs.Stepping.{Alone}
@@ -46,10 +43,10 @@ use Rattle.ti_align.proofs.Aligning.{way_next}
 use Rattle.ti_align.proofs.Kept.{reaches_fits}
 use Rattle.ti_align.proofs.Holding.{performs}
 use Rattle.ti_align.proofs.Keeping.{ProgramStands, WaitStands, Keeps}
-use Rattle.ti_align.proofs.Using.{FirstUses, FramesUse, frames_use}
+use Rattle.ti_align.proofs.Using.{FirstUses, frames_use}
 use Rattle.ti_align.proofs.Regional.{AllGood, WorksAreSuch, MethodsAreSuch}
 use Rattle.ti_align.proofs.Handing.{MoveIsSuch, performed_good}
-use Rattle.ti_align.proofs.Deleting.{AllSuch, Hands, DeletesSome, ActsSuch, step_such, reaches_hands}
+use Rattle.ti_align.proofs.Deleting.{AllSuch, Hands, step_such, reaches_hands}
 use Rattle.ti_align.proofs.Deleted.{run_hands, world_keeps}
 
 -- ---- what is deleted is placed

@@ -1,5 +1,5 @@
 -- In the text an expression has the class or the grid as its type that the rules give it in a scope, wherever they give it one.
-use Rattle.std.proofs.Common.{◌≡◌, ◌⊎◌, inl, inr, ℕ, ◌-◌, ◌==◌, nat_lt, Bool, true, false, ◌&&◌, if◌then◌else◌, length, find, is_none, slice_get, option_map, option_and_then, unwrap_or, Option, Some, None, List, [], ◌∷◌, ◌++◌, refl, ap, sym, ◌∙◌, subst}
+use Rattle.std.proofs.Common.{◌≡◌, ℕ, ◌-◌, ◌==◌, nat_lt, Bool, true, false, ◌&&◌, if◌then◌else◌, length, is_none, slice_get, option_map, option_and_then, unwrap_or, Option, Some, None, List, [], ◌∷◌, refl, ap, sym, ◌∙◌, subst}
 use Rattle.std.specs.Option.{option_or, option_map_or}
 use Rattle.std.proofs.lemmas.List.Folds.{find-append}
 use Rattle.ti_syntax.specs.declared.tree.exprs.UnaryOperator.{UnaryOperator}
@@ -13,10 +13,10 @@ use Rattle.ti_lang.specs.Program.Expressions as e
 use Rattle.ti_lang.specs.Program.Classes.{NumberedMethod, NumberedProgram}
 use Rattle.ti_lang.specs.Program.Scope.{ScopeVariable, ScopeContents, this_of, method_scope}
 use Rattle.ti_lang.specs.Typing.Kinds.{where_true, is_whole, is_void, is_object, is_reference, as_global, read_through, domain_dim}
-use Rattle.ti_lang.specs.Typing.Operators.{wider, whole_type, truth_type, point_type, rect_type, same_dim, domain_type, are_ordered, are_comparable, Row, Sum, Product, Quotient, Shift, Bits, Logic, Order, Equality, row_of, row_type, unary_type, binary_type}
+use Rattle.ti_lang.specs.Typing.Operators.{wider, whole_type, truth_type, point_type, rect_type, same_dim, domain_type, Row, Sum, Product, Shift, Bits, row_of, row_type, unary_type, binary_type}
 use Rattle.ti_lang.specs.Typing.BuiltIn.{BuiltIn, Size, Min, Max, Contains, Domain, Restrict, Translate, Slice, Copy, Exchange, Delete, built_in, member_type}
-use Rattle.ti_lang.specs.Typing.Declared.{in_scope, declared_type, field_type, named_field_type, instance_method, result_type}
-use Rattle.ti_lang.specs.Typing.Expressions.{Typed, plain, operand, both, all_ints, all_points, point_literal, range_of_points, rect_literal, index_type, select_type, called, range_count, known, operands, bounds, operand_type}
+use Rattle.ti_lang.specs.Typing.Declared.{in_scope, declared_type, field_type, named_field_type}
+use Rattle.ti_lang.specs.Typing.Expressions.{plain, operand, both, all_ints, point_literal, rect_literal, index_type, select_type, called, range_count, operands, bounds, operand_type}
 use Rattle.ti_lang.specs.Typing.TextTypes.{used_type, joined_type, product_type, operator_type, field_seen, element_seen, sliced, built_in_type, member_seen, type_in_text}
 use Rattle.ti_lang.specs.Typing.Fits.{casts}
 use Rattle.ti_rules.specs.Standing.{with_point, variables_inside}

@@ -1,5 +1,5 @@
 -- In a checked program regions come from variables of their type alone, and from where they are made.
-use Rattle.std.proofs.Common.{◌≡◌, ◌⊎◌, inl, inr, ℕ, ◌+◌, ◌==◌, Bool, true, false, not, ◌&&◌, ◌||◌, if◌then◌else◌, length, is_none, slice_get, option_map, option_and_then, Option, Some, None, List, [], ◌∷◌, ◌++◌, refl, ap, ap₂, sym, ◌∙◌, subst}
+use Rattle.std.proofs.Common.{◌≡◌, inl, inr, ℕ, ◌+◌, ◌==◌, Bool, true, false, not, ◌&&◌, ◌||◌, if◌then◌else◌, length, slice_get, option_map, option_and_then, Option, Some, None, List, [], ◌∷◌, ◌++◌, refl, ap, ap₂, sym, ◌∙◌, subst}
 use Rattle.std.proofs.Math.Logic.{∥∥₁_elim}
 use Rattle.ti_base.specs.declared.place.Place.{Place}
 use Rattle.ti_syntax.specs.declared.tree.exprs.BinaryOperator.{BinaryOperator}
@@ -12,32 +12,31 @@ use Rattle.ti_lang.specs.Program.Statements.{NumberedInit, NumberedStm, MaybeNum
 use Rattle.ti_lang.specs.Program.Statements as st
 use Rattle.ti_lang.specs.Program.Classes.{NumberedParam, NumberedParams, Words, Params, NumberedMethod, NumberedProgram}
 use Rattle.ti_lang.specs.Program.Scope.{ScopeVariable, ScopeContents, this_of, method_scope}
-use Rattle.ti_lang.specs.Typing.Kinds.{where_true, same_type, is_whole, is_void, is_object, is_reference, is_null, as_global, read_through, domain_dim}
+use Rattle.ti_lang.specs.Typing.Kinds.{where_true, is_void, is_object, as_global, read_through, domain_dim}
 use Rattle.ti_lang.specs.Typing.Fits.{fits, casts}
 use Rattle.ti_lang.specs.Typing.Operators.{row_of, binary_type, unary_type}
 use Rattle.ti_lang.specs.Typing.BuiltIn.{BuiltIn, Size, Min, Max, Contains, Domain, Restrict, Translate, Slice, Copy, Exchange, Delete, built_in, member_type}
-use Rattle.ti_lang.specs.Typing.Declared.{in_scope, declared_type, variable_type, field_type, named_field_type, result_type, types_of, instance_method}
-use Rattle.ti_lang.specs.Typing.Expressions.{Typed, plain, operand, one, both, joined, all_ints, point_literal, rect_literal, range_count, index_type, select_type, all_fit, takes, called, member_given, member, known, operands, bounds, operand_type, typed}
+use Rattle.ti_lang.specs.Typing.Declared.{declared_type, field_type, named_field_type, result_type, types_of}
+use Rattle.ti_lang.specs.Typing.Expressions.{plain, operand, one, both, all_ints, point_literal, rect_literal, range_count, index_type, select_type, all_fit, takes, called, member, operands, bounds, operand_type}
 use Rattle.ti_lang.specs.Typing.Called.{called_method, method_behind, member_called}
 use Rattle.ti_lang.specs.Typing.TextTypes.{type_in_text}
 use Rattle.ti_lang.specs.Meaning.Calls.{parameters_from, parameters_of}
-use Rattle.ti_lang.specs.Meaning.Processes.{Assigned, Updated}
+use Rattle.ti_lang.specs.Meaning.Processes.{Updated}
 use Rattle.ti_lang.specs.Meaning.Scoping as meant
 use Rattle.ti_lang.specs.Meaning.Statements.{one_more}
 use Rattle.ti_rules.specs.InitialTypes.{can_broadcast, is_region}
 use Rattle.ti_rules.specs.Broken.Statements.{narrows}
-use Rattle.ti_rules.specs.Standing.{Around, variables_inside}
+use Rattle.ti_rules.specs.Standing.{variables_inside}
 use Rattle.ti_rules.specs.ProgramRefusals.{IsChecked}
-use Rattle.ti_align.specs.Work.{IsInner, IsTarget, ReceiverFits, WholeFits, InitFits, StmFits, MaybeFits, StmsFit, MethodsFit}
-use Rattle.ti_align.specs.Typed.{ProgramFits}
+use Rattle.ti_align.specs.Work.{ReceiverFits, WholeFits, InitFits, StmFits, MaybeFits, StmsFit, MethodsFit}
 use Rattle.ti_align.proofs.Vars.{true_false, and_left, and_right}
 use Rattle.ti_align.proofs.Operating.{none_some, some_same, where_some, type_same, or_either}
 use Rattle.ti_align.proofs.Evaluating.{and_then, mapped, both_there, no_call, named_field, member_there, joined_there, one_there}
 use Rattle.ti_align.proofs.Results.{NoneOf, row_plain, unary_plain, rects_plain}
-use Rattle.ti_align.proofs.References.{Points, Alike, no_object, in_text, method_points, inside_points}
+use Rattle.ti_align.proofs.References.{Points, Alike, in_text, method_points, inside_points}
 use Rattle.ti_align.proofs.Suited.{args_of}
-use Rattle.ti_align.proofs.Suiting.{Takes, whole_takes}
-use Rattle.ti_align.proofs.Meant.{storable, formed, among, means, is_place, ExpMeant, ExpsMeant, InitMeant, TargetMeant, StmMeant, MaybeMeant, StmsMeant, MethodsMeant, FieldsMeant, methods_prop}
+use Rattle.ti_align.proofs.Suiting.{whole_takes}
+use Rattle.ti_align.proofs.Meant.{storable, formed, among, means, ExpMeant, ExpsMeant, InitMeant, StmMeant, MaybeMeant, StmsMeant, MethodsMeant, FieldsMeant, methods_prop}
 use Rattle.ti_align.proofs.Forming.{dim_is, Surrounds, field_formed, exp_formed}
 use Rattle.ti_align.proofs.Written.{surrounds_method, surrounds_inside}
 use Rattle.ti_align.proofs.Numbered.{numbered_methods}

@@ -1,11 +1,11 @@
 -- What operators and literals give is a number, a boolean, a point or a domain.
-use Rattle.std.proofs.Common.{◌≡◌, ◌⊎◌, inl, inr, ℕ, ◌==◌, Bool, true, false, ◌&&◌, if◌then◌else◌, option_map, Option, Some, None, List, [], ◌∷◌, refl, sym, subst}
+use Rattle.std.proofs.Common.{◌≡◌, ◌⊎◌, inl, inr, ℕ, ◌==◌, Bool, true, false, ◌&&◌, if◌then◌else◌, Option, Some, None, List, ◌∷◌, sym, subst}
 use Rattle.std.specs.Option.{option_or}
 use Rattle.ti_syntax.specs.declared.tree.exprs.UnaryOperator.{UnaryOperator}
 use Rattle.ti_syntax.specs.declared.tree.exprs.UnaryOperator.TheVariants as un
 use Rattle.ti_lang.specs.Program.Types.{ValueType}
 use Rattle.ti_lang.specs.Program.Types as t
-use Rattle.ti_lang.specs.Typing.Kinds.{where_true, is_whole, domain_dim}
+use Rattle.ti_lang.specs.Typing.Kinds.{is_whole, domain_dim}
 use Rattle.ti_lang.specs.Typing.Operators.{wider, whole_type, truth_type, point_type, rect_type, same_dim, domain_type, are_ordered, are_comparable, Row, Sum, Product, Quotient, Shift, Bits, Logic, Order, Equality, row_type, unary_type}
 use Rattle.ti_lang.specs.Typing.Expressions.{all_ints, all_points, range_of_points, rect_literal}
 use Rattle.ti_align.proofs.Vars.{true_false, and_left}

@@ -1,6 +1,5 @@
 -- In a program in which no rule of types is broken calls are given all their arguments, and methods return what they give.
-use Rattle.std.proofs.Common.{◌≡◌, ◌⊎◌, inl, inr, ℕ, ◌+◌, Bool, true, false, not, ◌&&◌, flat_map, slice_get, Option, Some, None, List, [], ◌∷◌, ◌++◌, refl, ap, sym, ◌∙◌, subst}
-use Rattle.ti_base.specs.declared.place.Place.{Place}
+use Rattle.std.proofs.Common.{◌≡◌, ℕ, ◌+◌, Bool, true, false, not, ◌&&◌, flat_map, slice_get, Option, Some, None, List, [], ◌∷◌, ◌++◌, refl, ap, sym, ◌∙◌, subst}
 use Rattle.ti_lang.specs.Program.Types.{ValueType, VariableUse}
 use Rattle.ti_lang.specs.Program.Types as t
 use Rattle.ti_lang.specs.Program.Expressions.{NumberedExp, NumberedExps}
@@ -12,16 +11,15 @@ use Rattle.ti_lang.specs.Program.Scope.{ScopeContents, this_of, method_scope}
 use Rattle.ti_lang.specs.Typing.Kinds.{is_void, is_object}
 use Rattle.ti_lang.specs.Typing.Fits.{fits}
 use Rattle.ti_lang.specs.Typing.Declared.{result_type, types_of, instance_method}
-use Rattle.ti_lang.specs.Typing.Expressions.{one, joined, all_fit, takes, call_type, called, member_given, member, operand, known, operands, operand_type, typed}
+use Rattle.ti_lang.specs.Typing.Expressions.{one, all_fit, takes, called, member, operands, operand_type}
 use Rattle.ti_lang.specs.Typing.Called.{called_method, method_behind}
 use Rattle.ti_lang.specs.Typing.TextTypes.{type_in_text}
 use Rattle.ti_lang.specs.Meaning.Calls.{parameters_from, parameters_of}
 use Rattle.ti_rules.specs.declared.rule.Rule.TheVariants.{Y6}
-use Rattle.ti_rules.specs.declared.refusal.Refusal.{Refusal}
 use Rattle.ti_rules.specs.First.{refused_if}
 use Rattle.ti_rules.specs.Standing.{Around, scope_of, Standing, stands, in_loop, in_foreach, inside, inside_maybe, inside_all, around_method, standing_in_method}
 use Rattle.ti_rules.specs.Broken.Statements.{statement_refusals, standing_refusals}
-use Rattle.ti_rules.specs.TypeRules.{ends_with_return, head_refusals, end_refusals, method_refusals, class_refusals, type_refusals}
+use Rattle.ti_rules.specs.TypeRules.{ends_with_return, head_refusals, end_refusals, method_refusals, class_refusals}
 use Rattle.ti_rules.specs.ProgramRefusals.{IsChecked}
 use Rattle.ti_rules.proofs.Sound.Refused.{nil_left, nil_right, each_left, each_right, not_refused}
 use Rattle.ti_align.specs.Work.{WholeFits, InitFits, StmFits, MaybeFits, StmsFit, MethodsFit}
@@ -29,7 +27,7 @@ use Rattle.ti_align.proofs.Vars.{true_false, and_right}
 use Rattle.ti_align.proofs.Operating.{none_some, some_same, where_some}
 use Rattle.ti_align.proofs.Evaluating.{joined_there, one_there}
 use Rattle.ti_align.proofs.Scoped.{is_one, StmsScoped}
-use Rattle.ti_align.proofs.Suited.{Enough, args_of, CallSuits, GivesValue, InitSuits, StmSuits, MaybeSuits, StmsSuit}
+use Rattle.ti_align.proofs.Suited.{Enough, args_of, CallSuits, InitSuits, StmSuits, MaybeSuits, StmsSuit}
 use Rattle.ti_align.proofs.Reaching.{MethodStands, MethodsStand}
 use Rattle.ti_align.proofs.Keeping.{ProgramStands}
 use Rattle.ti_align.proofs.Covering.{MethodsScoped, scoped, main_words}
