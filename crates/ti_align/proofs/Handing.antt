@@ -42,6 +42,7 @@ use Rattle.ti_align.proofs.Vars.{true_false, and_left, and_right}
 use Rattle.ti_align.proofs.Scoped.{Names, KnownAs, ExpScoped, ExpsScoped, InitScoped}
 use Rattle.ti_align.proofs.Found.{found}
 use Rattle.ti_align.proofs.Suited.{args_of}
+use Rattle.ti_align.proofs.Leading.{giving_with}
 use Rattle.ti_align.proofs.Using.{StmUses, WorkUses}
 use Rattle.ti_align.proofs.Regional.{Good, GoodAs, good_region, AllGood, find_good, changed_good, without_good, is_region_exp, IsSuch, ArgsAreSuch, target_type, received_type, ReceiverSuits, CallIsSuch, InitIsSuch, DeletesSuch, StmIsSuch, MaybeIsSuch, StmsAreSuch, LoopIsSuch, WorkIsSuch, WorksAreSuch, such_before, MethodsAreSuch}
 
@@ -51,11 +52,6 @@ giving_any : {A : Type 0} (Q : A → Type 0) (g : Got A) → ((a : A) → Q a) �
 giving_any Q (Gives a rest) f = f a
 giving_any Q (Asks q) f = tt
 giving_any Q (Fails kind at) f = tt
-
-giving_with : {A : Type 0} (P Q : A → Type 0) (g : Got A) → ((a : A) → P a → Q a) → Giving P g → Giving Q g
-giving_with P Q (Gives a rest) f h = f a h
-giving_with P Q (Asks q) f h = tt
-giving_with P Q (Fails kind at) f h = tt
 
 -- a value of another type
 no_region : (type : ValueType) (h : Held) → is_region type ≡ false → GoodAs type h

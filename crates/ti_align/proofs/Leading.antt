@@ -69,7 +69,8 @@ into_holds env names (Updated at op target) right rest k =
 
 -- ---- parameters
 
-giving_with : {A : Type 0} (P Q : A → Type 0) (g : Got A) → ((a : A) → P a → Q a) → Giving P g → Giving Q g
+-- what holds of what is given holds otherwise
+pub giving_with : {A : Type 0} (P Q : A → Type 0) (g : Got A) → ((a : A) → P a → Q a) → Giving P g → Giving Q g
 giving_with P Q (Gives a rest) f h = f a h
 giving_with P Q (Asks q) f h = tt
 giving_with P Q (Fails kind at) f h = tt
@@ -232,8 +233,19 @@ module _ (env : Env) (all : MethodsStand env.program env.program.methods) (left 
     exchanges_stand : (at : Place) (x : NumberedExp) (args : NumberedExps) (rest : List Answer) → Giving Moving (exchanges env at x args rest)
     exchanges_stand at x args rest =
         let k : (grid : Reference) → Awaiting env.program env.method env.variables Nowhere (TakeAll at grid (counted 0 env.procs) ∷ left) =
-            λ grid. (names, base, holds, some, tt, (names, base, record { known = λ v z. z; apart = λ v z. refl; base_stays = λ v z. z; within = some },
-            (tt, (next, outer, record { known = known; apart = λ v z. refl; base_stays = stays; within = within }, rest_stands)))) in
+        λ grid. (
+          names,
+          base,
+          holds,
+          some,
+          tt,
+          (
+            names,
+            base,
+            record { known = λ v z. z; apart = λ v z. refl; base_stays = λ v z. z; within = some },
+            (tt, (next, outer, record { known = known; apart = λ v z. refl; base_stays = stays; within = within }, rest_stands)),
+          ),
+        ) in
         then_giving Moving (eval env x rest) _ (λ h u.
         then_giving Moving (eval_all env args u) _ (λ hs w.
         then_giving Moving (needed at (type_of env x) h w) _ (λ grid z.
@@ -242,7 +254,7 @@ module _ (env : Env) (all : MethodsStand env.program env.program.methods) (left 
     copies_stand : (at : Place) (x : NumberedExp) (args : NumberedExps) (rest : List Answer) → Giving Moving (copies env at x args rest)
     copies_stand at x args rest =
         let k : (to from : Reference) (points : List Point) → Standing env.program env.method env.variables (CopyAll at to from points ∷ left) =
-            λ to from points. more_stands (CopyAll at to from points) tt (λ v z. z) (λ v z. refl) in
+        λ to from points. more_stands (CopyAll at to from points) tt (λ v z. z) (λ v z. refl) in
         search (then_giving, k) depth 14
 
     member_stands : (at : Place) (x : NumberedExp) (args : NumberedExps) (other : Asking Move) (o : Option BuiltIn) (rest : List Answer) → Giving Moving (other rest) → Giving Moving (member_alone env at x args other o rest)
@@ -276,10 +288,21 @@ module _ (env : Env) (all : MethodsStand env.program env.program.methods) (left 
 
     -- a turn
     turn_stands : (loop : Loop) (body : NumberedStm) → LoopStands env.program env.method names loop → StmStands env.program env.method names body → Standing env.program env.method env.variables (Do body ∷ Behind loop ∷ left)
-    turn_stands loop body k l =
-        (names, names, holds, λ v z. z,
-        (l, (names, names, record { known = among_with names (declared_alone body); apart = λ v z. refl; base_stays = λ v z. z; within = λ v z. z },
-        (k, (next, outer, record { known = known; apart = λ v z. refl; base_stays = λ v z. some v (stays v z); within = within }, rest_stands)))))
+    turn_stands loop body k l = (
+      names,
+      names,
+      holds,
+      λ v z. z,
+      (
+        l,
+        (
+          names,
+          names,
+          record { known = among_with names (declared_alone body); apart = λ v z. refl; base_stays = λ v z. z; within = λ v z. z },
+          (k, (next, outer, record { known = known; apart = λ v z. refl; base_stays = λ v z. some v (stays v z); within = within }, rest_stands)),
+        ),
+      ),
+    )
 
     tested : (b : Bool) (at : Place) (loop : Loop) (body : NumberedStm) → LoopStands env.program env.method names loop → StmStands env.program env.method names body
         → Moving (if b then Turns at env.variables (Do body ∷ Behind loop ∷ []) else Goes env.variables [])
@@ -287,17 +310,28 @@ module _ (env : Env) (all : MethodsStand env.program env.program.methods) (left 
     tested false at loop body k l = goes_stands
 
     block_stands : (body : NumberedStms) → StmStands env.program env.method names (s.Block body) → Standing env.program env.method env.variables (all_before body (End (s.Block body) ∷ []) ++ left)
-    block_stands body k =
-        (names, base, holds, some, all_stand env.program env.method names base names body (End (s.Block body) ∷ []) left (k.0.0, k.1) some (λ v z. z) (λ after b f.
-        (tt, (next, outer, record { known = λ v z. f v (known v z); apart = λ v z. fresh_apart names (declared_among body) k.0.1 v (known v z); base_stays = stays; within = within }, rest_stands))))
+    block_stands body k = (
+      names,
+      base,
+      holds,
+      some,
+      all_stand env.program env.method names base names body (End (s.Block body) ∷ []) left (k.0.0, k.1) some (λ v z. z) (λ after b f.
+          (tt, (next, outer, record { known = λ v z. f v (known v z); apart = λ v z. fresh_apart names (declared_among body) k.0.1 v (known v z); base_stays = stays; within = within }, rest_stands))),
+    )
 
     for_loop : (at : Place) (first : MaybeNumbered) (c : Option NumberedExp) (update : MaybeNumbered) (body : NumberedStm) → StmStands env.program env.method names (s.For at first c update body)
         → WorksStand env.program env.method (with_all (declared_maybe first) names) base (Before (While at c update body) ∷ End (s.For at first c update body) ∷ left)
     for_loop at first c update body k =
         let inner : Names = with_all (declared_maybe first) names in
-        let more : Among names inner = among_with names (declared_maybe first) in
-        ((k.0.1, (k.0.2, k.1.1), (k.0.3, k.1.2)), (inner, base, record { known = λ v z. z; apart = λ v z. refl; base_stays = λ v z. z; within = λ v z. more v (some v z) },
-        (tt, (next, outer, record { known = λ v z. more v (known v z); apart = λ v z. fresh_apart names (declared_maybe first) k.0.4 v (known v z); base_stays = stays; within = within }, rest_stands))))
+        let more : Among names inner = among_with names (declared_maybe first) in (
+          (k.0.1, (k.0.2, k.1.1), (k.0.3, k.1.2)),
+          (
+            inner,
+            base,
+            record { known = λ v z. z; apart = λ v z. refl; base_stays = λ v z. z; within = λ v z. more v (some v z) },
+            (tt, (next, outer, record { known = λ v z. more v (known v z); apart = λ v z. fresh_apart names (declared_maybe first) k.0.4 v (known v z); base_stays = stays; within = within }, rest_stands)),
+          ),
+        )
 
     for_stands : (at : Place) (first : MaybeNumbered) (c : Option NumberedExp) (update : MaybeNumbered) (body : NumberedStm) → StmStands env.program env.method names (s.For at first c update body)
         → Standing env.program env.method env.variables ((maybe_do first ++ Before (While at c update body) ∷ End (s.For at first c update body) ∷ []) ++ left)
@@ -354,9 +388,13 @@ module _ (env : Env) (all : MethodsStand env.program env.program.methods) (left 
   updates_stand : (at : Place) (c : Option NumberedExp) (update : MaybeNumbered) (body : NumberedStm) → LoopStands env.program env.method base (While at c update body) → Among next base
       → Standing env.program env.method env.variables ((maybe_do update ++ Before (While at c update body) ∷ []) ++ left)
   updates_stand at c NoStm body k known = (base, outer, base_holds, stays, again_stands (While at c NoStm body) k known)
-  updates_stand at c (SomeStm x) body k known =
-      (base, outer, base_holds, stays,
-      (k.1, (base, outer, record { known = among_with base (declared_alone x); apart = λ v z. refl; base_stays = λ v z. z; within = stays }, again_stands (While at c (SomeStm x) body) k known)))
+  updates_stand at c (SomeStm x) body k known = (
+    base,
+    outer,
+    base_holds,
+    stays,
+    (k.1, (base, outer, record { known = among_with base (declared_alone x); apart = λ v z. refl; base_stays = λ v z. z; within = stays }, again_stands (While at c (SomeStm x) body) k known)),
+  )
 
   work_stands : (w : Work) (rest : List Answer) → WorkStands env.program env.method names base w → Among next (behind names base w) → Apart next (leaving w) → Giving Moving (performed env w rest)
   work_stands (Do x) rest k a b = statement_stands x rest k a

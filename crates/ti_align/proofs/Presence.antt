@@ -150,8 +150,8 @@ module _ (s : Setting) (fits : ProgramFits s.program) (stands : ProgramStands s.
       let q_fits = (reaches_fits performs w (GivesLast s es i) s i _ p q fits (given_facts.stands s i p k.0 k.1) n.1.reaches (fit.processes i p x)).0 in
       let own = λ (t : Setting). MethodsAreSuch t.program t.program.methods in
       let placed : StepPlaced w (step q) =
-          steps_placed w q (subst own (sym q_hands.0) such) (GivesLast s es i) q.wait q.frames refl q_fits.1 (subst (λ (t : Setting). WaitStands t.program q.wait q.frames) (sym q_keeps.0) q_keeps.1)
-          (subst (λ (t : Setting). AllSuch t.program q.frames) (sym q_hands.0) q_hands.1) in
+      steps_placed w q (subst own (sym q_hands.0) such) (GivesLast s es i) q.wait q.frames refl q_fits.1 (subst (λ (t : Setting). WaitStands t.program q.wait q.frames) (sym q_keeps.0) q_keeps.1)
+      (subst (λ (t : Setting). AllSuch t.program q.frames) (sym q_hands.0) q_hands.1) in
       let here_placed : StepPlaced w (At (asking at (act.Arrive coll.DeleteRegion arg given) acts.0) acts.1) = subst (StepPlaced w) acts.2 placed in
       (some.0, some.1, not_none some.0 (is_made some.0 (history_of es)) some.2 (here_placed refl some.0 some.1))
     where

@@ -145,9 +145,15 @@ module _ (p : NumberedProgram) (m : NumberedMethod) where
   all_stand names base first Nil works left k b f g = g names b f
   all_stand names base first (Cons x rest) works left k b f g =
       let after : Names = with_all (declared_alone x) names in
-      let more : Among names after = among_with names (declared_alone x) in
-      ((k.0.0, k.1.0), (after, base, record { known = λ v z. z; apart = λ v z. refl; base_stays = λ v z. z; within = λ v z. more v (b v z) },
-      all_stand after base first rest works left (k.0.1, k.1.1) (λ v z. more v (b v z)) (λ v z. more v (f v z)) g))
+      let more : Among names after = among_with names (declared_alone x) in (
+        (k.0.0, k.1.0),
+        (
+          after,
+          base,
+          record { known = λ v z. z; apart = λ v z. refl; base_stays = λ v z. z; within = λ v z. more v (b v z) },
+          all_stand after base first rest works left (k.0.1, k.1.1) (λ v z. more v (b v z)) (λ v z. more v (f v z)) g,
+        ),
+      )
 
 -- ---- results
 

@@ -21,6 +21,7 @@ pub record NoneOf (test : ValueType → Bool) : Type 0 where
   pub rect : (n : ℕ) → test (t.Rc n) ≡ false
   pub domain : (n : ℕ) → test (t.Dm n) ≡ false
 
+-- one of two types
 from_or : (a b : Option ValueType) (r : ValueType) → option_or a b ≡ Some r → (a ≡ Some r) ⊎ (b ≡ Some r)
 from_or None b r h = inr h
 from_or (Some x) b r h = inl h
@@ -28,6 +29,7 @@ from_or (Some x) b r h = inl h
 pub either : {A : Type 0} (a b : Option ValueType) (r : ValueType) → option_or a b ≡ Some r → (a ≡ Some r → A) → (b ≡ Some r → A) → A
 either a b r h f g = elim (from_or a b r h) [ inl x ↦ f x | inr x ↦ g x ]
 
+-- no type that an operator or a literal gives passes it
 module _ (test : ValueType → Bool) (none : NoneOf test) where
   abbrev Plain : ValueType → Type 0
   Plain r = test r ≡ false
