@@ -14,7 +14,7 @@ ghost use Rattle.ti_lang.specs.Meaning.Processes.{Process, Frame, Work};
 ghost use Rattle.ti_lang.specs.Meaning.Performing.{performed};
 ghost use Rattle.ti_lang.specs.Meaning.Histories.{History};
 ghost use Rattle.ti_lang.specs.Meaning.HeapAnswers.{IsAnswered};
-ghost use Rattle.ti_align.specs.Alignment.{ArrivalsAgree, NoneAfterEnd, OfEveryRun};
+ghost use Rattle.ti_align.specs.Alignment.{ArrivalsAgree, NoneAfterEnd, OfEveryRun, IsAligned};
 ghost use Rattle.ti_align.specs.Stopping.{NoneWaits};
 ghost use Rattle.ti_align.specs.Things.{Things, IsOf};
 ghost use Rattle.ti_align.specs.Sound.{IsThere, Sound};
@@ -43,6 +43,13 @@ pub fn none_after_end(c: &Checked)
 /// that isn't there. The third part of alignment, but for such deletes.
 pub fn none_waits(c: &Checked)
     ensures { OfEveryRun NoneWaits (program_of c.now.program.parts) }
+{}
+
+/// A checked program is aligned: in every run all processes meet the same collectives, with the same
+/// single values, none arrives more often than one that has its end, and where there is no fault and
+/// no process can take an entry, all have their end. A region that a process comes to delete was made.
+pub fn aligned(c: &Checked)
+    ensures { IsAligned (program_of c.now.program.parts) }
 {}
 
 /// In every run of a checked program all that is there is as the types say: each field, each element

@@ -4,5 +4,6 @@
 mod laws;
 
 pub use laws::{
-    arrivals_agree, expressions_fit, heap_fits, none_after_end, none_waits, run_typed, work_fits,
+    aligned, arrivals_agree, expressions_fit, heap_fits, none_after_end, none_waits, run_typed,
+    work_fits,
 };
