@@ -89,7 +89,7 @@ ready_fate s es i run agree there l f u p w at a n r = by (heap_answer s.program
       where
         named : (b : Bool) → is_delete a ≡ b → Fate s es i
         named true k = stuck (record { within = l; unended = u; process = p; world = w; place = at; action = a; is_next = n; deletes = k; impossible = z })
-        named false k = absurd (never s es run agree there i p w at a n r k z)
+        named false k = absurd (never s es run agree there i l p w at a n r k z)
 
 earlier : (a d b : ℕ) → a ≡ suc d → b ≤ d → b < a
 earlier a d b h k = omega arith

@@ -2,8 +2,10 @@
 #![tactic(auto)]
 
 mod laws;
+mod reading;
 
 pub use laws::{
     aligned, arrivals_agree, expressions_fit, heap_fits, none_after_end, none_waits, run_typed,
-    work_fits,
+    values_have_forms, work_fits,
 };
+pub use reading::literals_fit;
