@@ -197,7 +197,7 @@ kind_here i h a kind x y = some_kind _ _ (sym y ∙ ap (option_map (λ (a : roun
 module _ (s : Setting)
     (fits : ProgramFits s.program) (fine : FineMethods s.program s.program.methods) (few : s.procs ≤ most_procs) where
   -- what is known of a process of the run
-  known_of : (j : ℕ) → j < s.procs → Known (begin s j)
+  pub known_of : (j : ℕ) → j < s.procs → Known (begin s j)
   known_of j l = (fits, (natural_fits j (below j s.procs l few), natural_fits s.procs (small s.procs few)))
     where
       small : (n : ℕ) → n ≤ most_procs → n < 2 ^ 31

@@ -1,5 +1,5 @@
 -- A region that is deleted is there: so no process waits for ever.
-use Rattle.std.proofs.Common.{◌≡◌, ◌⊎◌, inl, inr, ℕ, nat_lt, length, Bool, true, false, if◌then◌else◌, Option, Some, None, List, [], ◌∷◌, ◌++◌, refl, ap, sym, ◌∙◌, subst, append-nil}
+use Rattle.std.proofs.Common.{◌≡◌, ◌⊎◌, inl, inr, ℕ, ◌<◌, nat_lt, length, Bool, true, false, if◌then◌else◌, Option, Some, None, List, [], ◌∷◌, ◌++◌, refl, ap, sym, ◌∙◌, subst, append-nil}
 use Rattle.ti_base.specs.declared.place.Place.{Place}
 use Rattle.ti_base.specs.declared.fault.FaultKind.TheVariants.{Fuel, Depth, RegionGone}
 use Rattle.ti_base.specs.declared.action.Action.{Action}
@@ -13,7 +13,7 @@ use Rattle.ti_lang.specs.Program.Types.{ValueType}
 use Rattle.ti_lang.specs.Program.Classes.{NumberedProgram}
 use Rattle.ti_lang.specs.Program.Scope.{method_scope}
 use Rattle.ti_lang.specs.Meaning.Asking.{Asking, Got, Gives, Asks, Fails}
-use Rattle.ti_lang.specs.Meaning.Processes.{Setting, Work, Frame, Wait, Process}
+use Rattle.ti_lang.specs.Meaning.Processes.{Setting, Work, Frame, Wait, Process, begin}
 use Rattle.ti_lang.specs.Meaning.Scoping.{env_of}
 use Rattle.ti_lang.specs.Meaning.Moves.{Move, Goes, Turns, Breaks, Continues, Calls, Returns, Meets, Deletes}
 use Rattle.ti_lang.specs.Meaning.Performing.{performed}
@@ -30,7 +30,7 @@ use Rattle.ti_align.specs.Sound.{Sound}
 use Rattle.ti_align.specs.Sound as sound
 use Rattle.ti_align.specs.Work.{scope_over, given_type, taken_type, MoveFits}
 use Rattle.ti_align.specs.Heap.{things_of}
-use Rattle.ti_align.specs.Typed.{ProgramFits, NextFits, WorkSound, GivesLast, RunFits}
+use Rattle.ti_align.specs.Typed.{NextFits, WorkSound, GivesLast, RunFits}
 use Rattle.ti_align.specs.Stopping.{is_delete, DeletesNothing}
 use Rattle.ti_align.proofs.Vars.{true_false}
 use Rattle.ti_align.proofs.Stepping.{Alone}
@@ -40,7 +40,7 @@ use Rattle.ti_align.proofs.Given as given_facts
 use Rattle.ti_align.proofs.Arrived.{last_kind}
 use Rattle.ti_align.proofs.Running.{at_action}
 use Rattle.ti_align.proofs.Aligning.{way_next}
-use Rattle.ti_align.proofs.Kept.{reaches_fits}
+use Rattle.ti_align.proofs.Kept.{Known, reaches_fits}
 use Rattle.ti_align.proofs.Holding.{performs}
 use Rattle.ti_align.proofs.Keeping.{ProgramStands, WaitStands, Keeps}
 use Rattle.ti_align.proofs.Using.{FirstUses, frames_use}
@@ -133,11 +133,11 @@ module _ (w : Things) (q : Process) (methods : MethodsAreSuch q.setting.program 
 
 -- ---- runs
 
-module _ (s : Setting) (fits : ProgramFits s.program) (stands : ProgramStands s.program) (such : MethodsAreSuch s.program s.program.methods) where
+module _ (s : Setting) (known : (j : ℕ) → j < s.procs → Known (begin s j)) (stands : ProgramStands s.program) (such : MethodsAreSuch s.program s.program.methods) where
   -- the region that a process comes to delete was made
-  pub deletes_made : (es : List Entry) → IsRun s es → RunFits s es → (i : ℕ) (p : Process) (at : Place) (arg : Option ℕ) (given : Deposit) → World s es i p → IsNext p (next.Act at (act.Arrive coll.DeleteRegion arg given))
+  pub deletes_made : (es : List Entry) → IsRun s es → RunFits s es → (i : ℕ) (p : Process) (at : Place) (arg : Option ℕ) (given : Deposit) → i < s.procs → World s es i p → IsNext p (next.Act at (act.Arrive coll.DeleteRegion arg given))
       → (n : ℕ) × (arg ≡ Some n) × (is_made n (history_of es) ≡ true)
-  deletes_made es ran fit i p at arg given x n =
+  deletes_made es ran fit i p at arg given l x n =
       let q = n.0 in
       let w = things_of fit.elements (history_of es) in
       let last = last_kind i (history_of es) in
@@ -147,7 +147,7 @@ module _ (s : Setting) (fits : ProgramFits s.program) (stands : ProgramStands s.
       let q_hands : Hands s last q = reaches_hands s last p q stands such keeps (run_hands s stands such es ran i p x) n.1.reaches in
       let acts = at_action (step q) at (act.Arrive coll.DeleteRegion arg given) n.1.stands in
       let some = (step_such s last q (At (asking at (act.Arrive coll.DeleteRegion arg given) acts.0) acts.1) such q_keeps q_hands acts.2).0 refl in
-      let q_fits = (reaches_fits performs w (GivesLast s es i) s i _ p q fits (given_facts.stands s i p k.0 k.1) n.1.reaches (fit.processes i p x)).0 in
+      let q_fits = (reaches_fits performs w (GivesLast s es i) s i _ p q (known i l) (given_facts.stands s i p k.0 k.1) n.1.reaches (fit.processes i p l x)).0 in
       let own = λ (t : Setting). MethodsAreSuch t.program t.program.methods in
       let placed : StepPlaced w (step q) =
       steps_placed w q (subst own (sym q_hands.0) such) (GivesLast s es i) q.wait q.frames refl q_fits.1 (subst (λ (t : Setting). WaitStands t.program q.wait q.frames) (sym q_keeps.0) q_keeps.1)
@@ -176,7 +176,7 @@ module _ (s : Setting) (fits : ProgramFits s.program) (stands : ProgramStands s.
       by : (a : Action) → IsNext d.process (next.Act d.place a) → is_delete a ≡ true → heap_answer s.program (history_of es) i a ≡ Impossible → ⊥
       by (act.Arrive coll.DeleteRegion arg given) n k z =
           let h = history_of es in
-          let made = deletes_made es ran fit i d.process d.place arg given d.world n in
+          let made = deletes_made es ran fit i d.process d.place arg given d.within d.world n in
           faulted (is_gone made.0 h)
           (sym (ap (λ b. possible_if b (faults_if (is_gone made.0 h) RegionGone (Answers Done))) made.2)
           ∙ (sym (ap (λ o. where_some o (λ r. possible_if (is_made r h) (faults_if (is_gone r h) RegionGone (Answers Done)))) made.1) ∙ z))

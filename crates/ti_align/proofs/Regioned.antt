@@ -28,6 +28,7 @@ use Rattle.ti_rules.specs.InitialTypes.{can_broadcast, is_region}
 use Rattle.ti_rules.specs.Broken.Statements.{narrows}
 use Rattle.ti_rules.specs.Standing.{variables_inside}
 use Rattle.ti_rules.specs.ProgramRefusals.{IsChecked}
+use Rattle.ti_align.specs.Literals.{LiteralsFit}
 use Rattle.ti_align.specs.Work.{ReceiverFits, WholeFits, InitFits, StmFits, MaybeFits, StmsFit, MethodsFit}
 use Rattle.ti_align.proofs.Vars.{true_false, and_left, and_right}
 use Rattle.ti_align.proofs.Operating.{none_some, some_same, where_some, type_same, or_either}
@@ -428,5 +429,5 @@ methods_such : (p : NumberedProgram) → FieldsMeant p → (ms : List NumberedMe
 methods_such p g [] k f = tt
 methods_such p g (m ∷ ms) k f = (stms_such p g m (method_scope m) [] (surrounds_method m) (method_points m) (numbered_stms m.body) k.0 f.0, methods_such p g ms k.1 f.1)
 
-pub checked_such : (p : NumberedProgram) → IsChecked p → MethodsAreSuch p p.methods
-checked_such p c = methods_such p (fields_mean p c) p.methods (∥∥₁_elim c.numbered (methods_prop p p.methods) (numbered_methods p)) (checked_fits p c).methods
+pub checked_such : (p : NumberedProgram) → IsChecked p → LiteralsFit p → MethodsAreSuch p p.methods
+checked_such p c l = methods_such p (fields_mean p c) p.methods (∥∥₁_elim c.numbered (methods_prop p p.methods) (numbered_methods p l)) (checked_fits p c l).methods

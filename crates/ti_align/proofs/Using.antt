@@ -8,6 +8,7 @@ use Rattle.ti_lang.specs.Program.Statements as s
 use Rattle.ti_lang.specs.Program.Classes.{NumberedMethod, NumberedProgram}
 use Rattle.ti_lang.specs.Meaning.Processes.{Setting, Variable, Receiver, Nowhere, Declared, Assigned, Updated, While, Foreach, Work, Do, End, Before, Behind, Receive, CopyAll, TakeAll, Frame, Process, begin}
 use Rattle.ti_rules.specs.ProgramRefusals.{IsChecked}
+use Rattle.ti_align.specs.Literals.{LiteralsFit}
 use Rattle.ti_align.specs.Fitting.{IsWritten, AreWritten, IsRangeWritten, AreRangesWritten}
 use Rattle.ti_align.proofs.Ways.{Meeting, Way}
 use Rattle.ti_align.proofs.Scoped.{Names, KnownAs, ExpScoped, ExpsScoped, RangeScoped, RangesScoped, OptionScoped, DimsScoped, InitScoped, PrintScoped, StmScoped}
@@ -148,8 +149,8 @@ pub uses_found : (s : Setting) (i : ℕ) (q : Process) (ms : List Meeting) → P
 uses_found s i q ms g w z = frames_use s.program q.frames (subst (λ x. WaitStands s.program x q.frames) z (kept s i q ms g w).1)
 
 -- the methods of a checked program stand in their scope
-pub checked_stands : (p : NumberedProgram) → IsChecked p → ProgramStands p
-checked_stands p c = program_stands p c (checked_fits p c).methods
+pub checked_stands : (p : NumberedProgram) → IsChecked p → LiteralsFit p → ProgramStands p
+checked_stands p c l = program_stands p c (checked_fits p c l).methods
 
 -- ---- expressions that are written so
 
@@ -178,7 +179,7 @@ module _ (uses : VariableUse → Bool) (names : Names) where
     written_both (e.Select at x name) h k = written_both x h k
     written_both (e.Member at x name args) h k = (written_both x h.0 k.0, all_both args h.1 k.1)
     written_both (e.Index at x parts) h k = (written_both x h.0 k.0, all_both parts h.1 k.1)
-    written_both _ h k = tt
+    written_both _ h k = h
 
     pub all_both : (xs : NumberedExps) → AreWritten uses xs → ExpsScoped names xs → AreWritten both_known xs
     all_both e.NoExp h k = tt

@@ -56,7 +56,9 @@ pub fn none_waits(c: &Checked)
 /// no process can take an entry, all have their end. A region that a process comes to delete was made.
 pub fn aligned(c: &Checked)
     ensures { IsAligned (program_of c.now.program.parts) }
-{}
+{
+    literals_fit(c.program());
+}
 
 /// In every run of a checked program all that is there is as the types say: each field, each element
 /// and each variable holds a value of its type, in the form of this type, what is handed in at a
