@@ -60,7 +60,7 @@ use Rattle.ti_align.proofs.Framed.{frame_fine}
 use Rattle.ti_align.proofs.Forms.{natural_fits}
 
 -- what is done next in a frame that fits
-performs : Performs
+pub performs : Performs
 performs pr f left w x known vars this k = frame_fine pr f left w x known.1 vars this known.0.fields known.0.storable known.0.methods k
 
 -- ---- who waits
@@ -197,7 +197,7 @@ kind_here i h a kind x y = some_kind _ _ (sym y ∙ ap (option_map (λ (a : roun
 module _ (s : Setting)
     (fits : ProgramFits s.program) (fine : FineMethods s.program s.program.methods) (few : s.procs ≤ most_procs) where
   -- what is known of a process of the run
-  known_of : (j : ℕ) → j < s.procs → Known (begin s j)
+  pub known_of : (j : ℕ) → j < s.procs → Known (begin s j)
   known_of j l = (fits, (natural_fits j (below j s.procs l few), natural_fits s.procs (small s.procs few)))
     where
       small : (n : ℕ) → n ≤ most_procs → n < 2 ^ 31

@@ -21,7 +21,7 @@ use Rattle.ti_align.proofs.Stating.{stms_fit}
 use Rattle.ti_align.proofs.Numbered.{numbered_methods, numbered_fields}
 
 -- the fields of a checked program have one to three dimensions, and such types as fields may have
-fields_mean : (p : NumberedProgram) → IsChecked p → FieldsMeant p
+pub fields_mean : (p : NumberedProgram) → IsChecked p → FieldsMeant p
 fields_mean p c = ∥∥₁_elim c.numbered (fields_prop p) (numbered_fields p)
 
 pub fields_fit : (p : NumberedProgram) → IsChecked p → FieldsFit p

@@ -17,7 +17,7 @@ ghost use Rattle.ti_lang.specs.Meaning.Processes.{Process, Frame, Work};
 ghost use Rattle.ti_lang.specs.Meaning.Performing.{performed};
 ghost use Rattle.ti_lang.specs.Meaning.Histories.{History};
 ghost use Rattle.ti_lang.specs.Meaning.HeapAnswers.{IsAnswered};
-ghost use Rattle.ti_align.specs.Alignment.{ArrivalsAgree, NoneAfterEnd, OfEveryRun};
+ghost use Rattle.ti_align.specs.Alignment.{ArrivalsAgree, NoneAfterEnd, OfEveryRun, IsAligned};
 ghost use Rattle.ti_align.specs.Stopping.{NoneWaits, NoneImpossible, RoundsBalance};
 ghost use Rattle.ti_align.specs.Things.{Things, IsOf, NamesNothing};
 ghost use Rattle.ti_align.specs.Sound.{IsThere, Sound};
@@ -47,6 +47,15 @@ pub fn none_after_end(c: &Checked)
 /// that isn't there. The third part of alignment, but for such deletes.
 pub fn none_waits(c: &Checked)
     ensures { OfEveryRun NoneWaits (program_of c.now.program.parts) }
+{
+    literals_fit(c.program());
+}
+
+/// A checked program is aligned: in every run all processes meet the same collectives, with the same
+/// single values, none arrives more often than one that has its end, and where there is no fault and
+/// no process can take an entry, all have their end. A region that a process comes to delete was made.
+pub fn aligned(c: &Checked)
+    ensures { IsAligned (program_of c.now.program.parts) }
 {
     literals_fit(c.program());
 }
