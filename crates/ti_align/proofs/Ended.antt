@@ -15,7 +15,7 @@ use Rattle.ti_lang.specs.Meaning.Runs.{World, AllEnded}
 use Rattle.ti_rules.specs.ProgramRefusals.{IsChecked}
 use Rattle.ti_align.specs.Literals.{LiteralsFit}
 use Rattle.ti_align.specs.Alignment.{NoneStuck, OfEveryRun, IsAligned}
-use Rattle.ti_align.specs.Stopping.{DeletesNothing}
+use Rattle.ti_align.proofs.Stopping.{DeletesNothing}
 use Rattle.ti_align.proofs.Using.{checked_stands}
 use Rattle.ti_align.proofs.Programs.{checked_fits}
 use Rattle.ti_align.proofs.Regioned.{checked_such}

@@ -6,7 +6,8 @@ use Rattle.ti_lang.specs.Meaning.Processes.{Setting}
 use Rattle.ti_lang.specs.Meaning.Runs.{IsRun}
 use Rattle.ti_rules.specs.ProgramRefusals.{IsChecked}
 use Rattle.ti_align.specs.Alignment.{ArrivalsAgree, NoneAfterEnd, OfEveryRun}
-use Rattle.ti_align.specs.Stopping.{NoneWaits, NoneImpossible, RoundsBalance}
+use Rattle.ti_align.specs.Stopping.{NoneImpossible, RoundsBalance}
+use Rattle.ti_align.proofs.Stopping.{NoneWaits}
 use Rattle.ti_align.proofs.Possible.{never}
 use Rattle.ti_align.specs.Literals.{LiteralsFit}
 use Rattle.ti_align.specs.Typed.{RunTyped}

@@ -31,7 +31,8 @@ use Rattle.ti_align.specs.Sound as sound
 use Rattle.ti_align.specs.Work.{scope_over, given_type, taken_type, MoveFits}
 use Rattle.ti_align.specs.Heap.{things_of}
 use Rattle.ti_align.specs.Typed.{NextFits, WorkSound, GivesLast, RunFits}
-use Rattle.ti_align.specs.Stopping.{is_delete, DeletesNothing}
+use Rattle.ti_align.specs.Stopping.{is_delete}
+use Rattle.ti_align.proofs.Stopping.{DeletesNothing}
 use Rattle.ti_align.proofs.Vars.{true_false}
 use Rattle.ti_align.proofs.Stepping.{Alone}
 use Rattle.ti_align.proofs.Asks.{work_alone}

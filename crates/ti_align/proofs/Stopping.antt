@@ -15,16 +15,37 @@ use Rattle.ti_base.specs.declared.entry.Answer.{Answer}
 use Rattle.ti_lang.specs.Meaning.Steps.{At, step}
 use Rattle.ti_lang.specs.Meaning.Histories.{history_of, is_departure, entries_of, arrivals, departures, has_end, has_fault}
 use Rattle.ti_lang.specs.Meaning.HeapAnswers.{Outcome, Answers, Faults, Impossible, heap_answer}
-use Rattle.ti_lang.specs.Meaning.Runs.{World, IsReady, CanTake, IsRun, entry_with, entry_of}
+use Rattle.ti_lang.specs.Meaning.Runs.{AllEnded, World, IsReady, CanTake, IsRun, entry_with, entry_of}
 use Rattle.ti_lang.proofs.MeaningLaws.Total.{next_some}
 use Rattle.ti_align.specs.Alignment.{ArrivalsAgree, NoneAfterEnd}
-use Rattle.ti_align.specs.Stopping.{is_delete, DeletesNothing, NoneWaits, RoundsBalance}
+use Rattle.ti_align.specs.Stopping.{is_delete, RoundsBalance}
 use Rattle.ti_align.proofs.Ways.{Asked, asking, answers_at_departures, waiting}
 use Rattle.ti_align.proofs.Balance.{step_waits, balanced}
 use Rattle.ti_align.proofs.Running.{on_way, at_action}
 use Rattle.ti_align.proofs.Aligning.{way_next}
 use Rattle.ti_align.proofs.Rounds.{left_one}
 use Rattle.ti_align.proofs.Possible.{ThingsThere, never}
+
+-- ---- deletes
+
+-- process i has come to the delete of a region that isn't there: there is neither an answer nor a fault
+pub record DeletesNothing (s : Setting) (es : List Entry) (i : ℕ) : Type 0 where
+  pub within : i < s.procs
+  pub unended : has_end i es ≡ false
+  pub process : Process
+  pub world : World s es i process
+  pub place : Place
+  pub action : Action
+  pub is_next : IsNext process (next.Act place action)
+  pub deletes : is_delete action ≡ true
+  pub impossible : heap_answer s.program (history_of es) i action ≡ Impossible
+
+-- no process waits for ever: where there is no fault and no process can take an entry, all have their end, or some process has
+-- come to the delete of a region that isn't there
+abbrev pub NoneWaits : Setting → List Entry → Type 0
+NoneWaits s es = has_fault es ≡ false → ((i : ℕ) (e : Entry) → CanTake s es i e → ⊥) → AllEnded s es ⊎ ((i : ℕ) × DeletesNothing s es i)
+
+-- ---- fates
 
 -- departures are as many as their answers
 left_count : (i : ℕ) (es : List Entry) → length (answers_at_departures i es) ≡ departures i es

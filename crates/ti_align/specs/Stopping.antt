@@ -1,5 +1,5 @@
--- Where a run stops: what is left for the third part of alignment.
-use Rattle.std.specs.Prelude.{◌≡◌, ◌⊎◌, ℕ, ◌+◌, ◌<◌, Bool, true, false, if◌then◌else◌, List}
+-- What no process of a run comes to, and which rounds it has left.
+use Rattle.std.specs.Prelude.{◌≡◌, ℕ, ◌+◌, ◌<◌, Bool, true, false, if◌then◌else◌, List}
 use Rattle.ti_base.specs.declared.place.Place.{Place}
 use Rattle.ti_base.specs.declared.action.Action.{Action}
 use Rattle.ti_base.specs.declared.action.Action.TheVariants as act
@@ -8,31 +8,14 @@ use Rattle.ti_base.specs.declared.entry.Entry.{Entry}
 use Rattle.ti_base.specs.declared.entry.Next.TheVariants as next
 use Rattle.ti_lang.specs.Meaning.Processes.{Setting, Process}
 use Rattle.ti_lang.specs.Meaning.NextStep.{IsNext}
-use Rattle.ti_lang.specs.Meaning.Histories.{history_of, is_departure, arrivals, departures, has_end, has_fault}
+use Rattle.ti_lang.specs.Meaning.Histories.{history_of, is_departure, arrivals, departures}
 use Rattle.ti_lang.specs.Meaning.HeapAnswers.{Impossible, heap_answer}
-use Rattle.ti_lang.specs.Meaning.Runs.{World, IsReady, CanTake, AllEnded}
+use Rattle.ti_lang.specs.Meaning.Runs.{World, IsReady}
 
 -- an arrival at the delete of a region
 abbrev pub is_delete : Action → Bool
 is_delete (act.Arrive coll.DeleteRegion arg given) = true
 is_delete a = false
-
--- process i has come to the delete of a region that isn't there: there is neither an answer nor a fault
-pub record DeletesNothing (s : Setting) (es : List Entry) (i : ℕ) : Type 0 where
-  pub within : i < s.procs
-  pub unended : has_end i es ≡ false
-  pub process : Process
-  pub world : World s es i process
-  pub place : Place
-  pub action : Action
-  pub is_next : IsNext process (next.Act place action)
-  pub deletes : is_delete action ≡ true
-  pub impossible : heap_answer s.program (history_of es) i action ≡ Impossible
-
--- no process waits for ever: where there is no fault and no process can take an entry, all have their end, or some process has
--- come to the delete of a region that isn't there
-abbrev pub NoneWaits : Setting → List Entry → Type 0
-NoneWaits s es = has_fault es ≡ false → ((i : ℕ) (e : Entry) → CanTake s es i e → ⊥) → AllEnded s es ⊎ ((i : ℕ) × DeletesNothing s es i)
 
 -- a process has left each round that it reached, but for the round that it leaves next
 abbrev pub RoundsBalance : Setting → List Entry → Type 0

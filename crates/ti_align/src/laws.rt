@@ -18,7 +18,7 @@ ghost use Rattle.ti_lang.specs.Meaning.Performing.{performed};
 ghost use Rattle.ti_lang.specs.Meaning.Histories.{History};
 ghost use Rattle.ti_lang.specs.Meaning.HeapAnswers.{IsAnswered};
 ghost use Rattle.ti_align.specs.Alignment.{ArrivalsAgree, NoneAfterEnd, OfEveryRun, IsAligned};
-ghost use Rattle.ti_align.specs.Stopping.{NoneWaits, NoneImpossible, RoundsBalance};
+ghost use Rattle.ti_align.specs.Stopping.{NoneImpossible, RoundsBalance};
 ghost use Rattle.ti_align.specs.Things.{Things, IsOf, NamesNothing};
 ghost use Rattle.ti_align.specs.Sound.{IsThere, Sound};
 ghost use Rattle.ti_align.specs.Fitting.{EnvFits, FieldsFit, IsWritten};
@@ -41,15 +41,6 @@ pub fn arrivals_agree(c: &Checked)
 pub fn none_after_end(c: &Checked)
     ensures { OfEveryRun NoneAfterEnd (program_of c.now.program.parts) }
 {}
-
-/// In every run of a checked program no process waits for ever: where there is no fault and no
-/// process can take an entry, all have their end, or some process has come to the delete of a region
-/// that isn't there. The third part of alignment, but for such deletes.
-pub fn none_waits(c: &Checked)
-    ensures { OfEveryRun NoneWaits (program_of c.now.program.parts) }
-{
-    literals_fit(c.program());
-}
 
 /// A checked program is aligned: in every run all processes meet the same collectives, with the same
 /// single values, none arrives more often than one that has its end, and where there is no fault and

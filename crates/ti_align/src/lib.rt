@@ -5,7 +5,7 @@ mod laws;
 mod reading;
 
 pub use laws::{
-    aligned, arrivals_agree, expressions_fit, fields_fit, heap_fits, none_after_end, none_impossible,
-    none_waits, rounds_balance, run_typed, values_have_forms, work_fits,
+    aligned, arrivals_agree, expressions_fit, fields_fit, heap_fits, none_after_end,
+    none_impossible, rounds_balance, run_typed, values_have_forms, work_fits,
 };
 pub use reading::literals_fit;
