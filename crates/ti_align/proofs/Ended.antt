@@ -1,17 +1,24 @@
 -- In every run of a checked program each region that a process comes to delete was made. So a checked program is aligned.
-use Rattle.std.proofs.Common.{◌≡◌, ◌⊎◌, inl, inr, ℕ, ◌<◌, true, List, Option, Some}
-use Rattle.ti_base.specs.declared.place.Place.{Place}
-use Rattle.ti_base.specs.declared.action.Action.TheVariants as act
-use Rattle.ti_base.specs.declared.action.CollKind.TheVariants as coll
-use Rattle.ti_base.specs.declared.action.Deposit.{Deposit}
+use Rattle.std.proofs.Common.{[], ◌∷◌, sym, ap, ◌∙◌, subst, ◌≡◌, ◌⊎◌, inl, inr, ℕ, true, List}
+use Rattle.ti_base.specs.declared.value.Value.TheVariants as v
+use Rattle.ti_lang.specs.Program.Types as t
+use Rattle.ti_lang.specs.Meaning.Held.{Held, Plain}
+use Rattle.ti_lang.specs.Meaning.Processes.{Variable, Frame}
+use Rattle.ti_lang.specs.Meaning.Histories.{History}
+use Rattle.ti_align.specs.Things.{Things, IsPlaced, IsOf}
+use Rattle.ti_align.specs.Work.{VariablesFit}
+use Rattle.ti_align.specs.Heap.{Elements, things_of}
+use Rattle.ti_align.specs.Typed.{FramesFit}
+use Rattle.ti_align.specs.Stopping.{HoldMade, AllHoldMade, RegionsMade}
+use Rattle.ti_align.proofs.Regional.{AllGood}
+use Rattle.ti_rules.specs.InitialTypes.{is_region}
+use Rattle.ti_align.proofs.Deleting.{AllSuch}
+use Rattle.ti_align.proofs.Deleted.{run_hands}
 use Rattle.ti_base.specs.declared.entry.Entry.{Entry}
-use Rattle.ti_base.specs.declared.entry.Next.TheVariants as next
 use Rattle.ti_lang.specs.Program.Classes.{NumberedProgram}
-use Rattle.ti_lang.specs.Meaning.Processes.{Setting, Process}
-use Rattle.ti_lang.specs.Meaning.NextStep.{IsNext}
+use Rattle.ti_lang.specs.Meaning.Processes.{Setting}
 use Rattle.ti_lang.specs.Meaning.Histories.{history_of}
-use Rattle.ti_lang.specs.Meaning.RegionsOf.{is_made}
-use Rattle.ti_lang.specs.Meaning.Runs.{World, AllEnded}
+use Rattle.ti_lang.specs.Meaning.Runs.{AllEnded}
 use Rattle.ti_rules.specs.ProgramRefusals.{IsChecked}
 use Rattle.ti_align.specs.Literals.{LiteralsFit}
 use Rattle.ti_align.specs.Alignment.{NoneStuck, OfEveryRun, IsAligned}
@@ -24,14 +31,37 @@ use Rattle.ti_align.proofs.Checked.{checked_fine}
 use Rattle.ti_align.proofs.Holding.{known_of}
 use Rattle.ti_align.proofs.EveryRun as every
 
--- the region that a process comes to delete was made
-abbrev pub DeletesMade : Setting → List Entry → Type 0
-DeletesMade s es =
-    (i : ℕ) (p : Process) (at : Place) (arg : Option ℕ) (given : Deposit) → i < s.procs → World s es i p → IsNext p (next.Act at (act.Arrive coll.DeleteRegion arg given)) → (r : ℕ) × (arg ≡ Some r) × (is_made r (history_of es) ≡ true)
+-- ---- regions
 
-pub deletes_made : (p : NumberedProgram) → IsChecked p → LiteralsFit p → OfEveryRun DeletesMade p
-deletes_made p c l procs fuel es a b d e w =
-    presence.deletes_made (record { program = p; procs = procs; fuel = fuel }) (known_of (record { program = p; procs = procs; fuel = fuel }) (checked_fits p c l) (checked_fine p c) b) (checked_stands p c l) (checked_such p c l) es w (every.run_typed p c l procs fuel es a b d e w).fits
+-- a region that is none or was made, and isn't none
+made_held : (w : Things) (h : Held) → (r : ℕ) × (h ≡ Plain (v.Region r)) × (r ≡ 0 → ⊥) → IsOf w t.Region h → (r : ℕ) × (h ≡ Plain (v.Region r)) × (w.is_made r ≡ true)
+made_held w h (r, z, f) (n, y, k) = (r, z, by (subst (IsPlaced w) (same n r (sym y ∙ z)) k))
+  where
+    same : (n r : ℕ) → Plain (v.Region n) ≡ Plain (v.Region r) → n ≡ r
+    same n r z = cc
+
+    by : IsPlaced w r → w.is_made r ≡ true
+    by (inl e) = absurd (f e)
+    by (inr e) = e
+
+variables_made : (elements : Elements) (h : History) (xs : List Variable) → AllGood xs → VariablesFit (things_of elements h) xs → HoldMade h xs
+variables_made elements h [] g k = tt
+variables_made elements h (x ∷ xs) g k =
+    (λ z. made_held (things_of elements h) x.held (g.0 (ap is_region z)) (subst (λ a. IsOf (things_of elements h) a x.held) z k.0), variables_made elements h xs g.1 k.1)
+
+frames_made : (p q : NumberedProgram) (elements : Elements) (h : History) (fs : List Frame) → AllSuch p fs → FramesFit q (things_of elements h) fs → AllHoldMade h fs
+frames_made p q elements h [] g k = tt
+frames_made p q elements h (f ∷ fs) g k = (variables_made elements h f.variables g.0.0 k.0.0, frames_made p q elements h fs g.1 k.2)
+
+pub regions_made : (p : NumberedProgram) → IsChecked p → LiteralsFit p → OfEveryRun RegionsMade p
+regions_made p c l procs fuel es a b d e w =
+    let s : Setting = record { program = p; procs = procs; fuel = fuel } in
+    let fit = (every.run_typed p c l procs fuel es a b d e w).fits in record {
+      held = λ i q within x. frames_made p q.setting.program fit.elements (history_of es) q.frames (run_hands s (checked_stands p c l) (checked_such p c l) es w i q x).1 (fit.processes i q within x).0;
+      deleted = presence.deletes_made s (known_of s (checked_fits p c l) (checked_fine p c) b) (checked_stands p c l) (checked_such p c l) es w fit;
+    }
+
+-- ---- alignment
 
 -- so no process comes to the delete of a region that isn't there
 never_stuck : (p : NumberedProgram) → IsChecked p → LiteralsFit p → OfEveryRun (λ s es. (i : ℕ) → DeletesNothing s es i → ⊥) p

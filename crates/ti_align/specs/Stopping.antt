@@ -1,14 +1,20 @@
--- What no process of a run comes to, and which rounds it has left.
-use Rattle.std.specs.Prelude.{◌≡◌, ℕ, ◌+◌, ◌<◌, Bool, true, false, if◌then◌else◌, List}
+-- What no process of a run comes to, which rounds it has left, and which regions it holds.
+use Rattle.std.specs.Prelude.{◌≡◌, ℕ, ◌+◌, ◌<◌, Bool, true, false, if◌then◌else◌, List, [], ◌∷◌, Option, Some}
 use Rattle.ti_base.specs.declared.place.Place.{Place}
+use Rattle.ti_base.specs.declared.value.Value.TheVariants as v
+use Rattle.ti_base.specs.declared.action.Deposit.{Deposit}
+use Rattle.ti_lang.specs.Program.Types as t
+use Rattle.ti_lang.specs.Meaning.Held.{Plain}
+use Rattle.ti_lang.specs.Meaning.Scoping.{declared_type}
+use Rattle.ti_lang.specs.Meaning.RegionsOf.{is_made}
 use Rattle.ti_base.specs.declared.action.Action.{Action}
 use Rattle.ti_base.specs.declared.action.Action.TheVariants as act
 use Rattle.ti_base.specs.declared.action.CollKind.TheVariants as coll
 use Rattle.ti_base.specs.declared.entry.Entry.{Entry}
 use Rattle.ti_base.specs.declared.entry.Next.TheVariants as next
-use Rattle.ti_lang.specs.Meaning.Processes.{Setting, Process}
+use Rattle.ti_lang.specs.Meaning.Processes.{Setting, Variable, Frame, Process}
 use Rattle.ti_lang.specs.Meaning.NextStep.{IsNext}
-use Rattle.ti_lang.specs.Meaning.Histories.{history_of, is_departure, arrivals, departures}
+use Rattle.ti_lang.specs.Meaning.Histories.{History, history_of, is_departure, arrivals, departures}
 use Rattle.ti_lang.specs.Meaning.HeapAnswers.{Impossible, heap_answer}
 use Rattle.ti_lang.specs.Meaning.Runs.{World, IsReady}
 
@@ -26,3 +32,21 @@ abbrev pub NoneImpossible : Setting → List Entry → Type 0
 NoneImpossible s es =
     (i : ℕ) (p : Process) (at : Place) (a : Action) → i < s.procs → World s es i p → IsNext p (next.Act at a) → IsReady s es i (next.Act at a) → is_delete a ≡ false
     → heap_answer s.program (history_of es) i a ≡ Impossible → ⊥
+
+-- ---- regions
+
+-- each variable that holds a region holds one that was made
+abbrev pub HoldMade : History → List Variable → Type 0
+HoldMade h [] = Unit {0}
+HoldMade h (x ∷ xs) = (declared_type x.named.declared ≡ t.Region → (r : ℕ) × (x.held ≡ Plain (v.Region r)) × (is_made r h ≡ true)) × HoldMade h xs
+
+-- so do those of all these frames
+abbrev pub AllHoldMade : History → List Frame → Type 0
+AllHoldMade h [] = Unit {0}
+AllHoldMade h (f ∷ fs) = HoldMade h f.variables × AllHoldMade h fs
+
+-- each region that a variable holds was made, and each that a process comes to delete
+pub record RegionsMade (s : Setting) (es : List Entry) : Type 0 where
+  pub held : (i : ℕ) (p : Process) → i < s.procs → World s es i p → AllHoldMade (history_of es) p.frames
+  pub deleted : (i : ℕ) (p : Process) (at : Place) (arg : Option ℕ) (given : Deposit) → i < s.procs → World s es i p → IsNext p (next.Act at (act.Arrive coll.DeleteRegion arg given))
+      → (r : ℕ) × (arg ≡ Some r) × (is_made r (history_of es) ≡ true)

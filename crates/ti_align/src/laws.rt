@@ -1,4 +1,4 @@
-// Laws of the alignment: functions whose contracts are the laws; they do nothing, but that two read the numbers of the program.
+// Laws of the alignment: functions whose contracts are the laws; they do nothing, but that some read the numbers of the program.
 ghost use Rattle.std.specs.Prelude.{◌≡◌, ◌∷◌, ℕ, Bool, List, Some};
 ghost use Rattle.ti_base.specs.declared.action.Action.{Action};
 ghost use Rattle.ti_base.specs.declared.value.Value.{Value};
@@ -18,7 +18,7 @@ ghost use Rattle.ti_lang.specs.Meaning.Performing.{performed};
 ghost use Rattle.ti_lang.specs.Meaning.Histories.{History};
 ghost use Rattle.ti_lang.specs.Meaning.HeapAnswers.{IsAnswered};
 ghost use Rattle.ti_align.specs.Alignment.{ArrivalsAgree, NoneAfterEnd, OfEveryRun, IsAligned};
-ghost use Rattle.ti_align.specs.Stopping.{NoneImpossible, RoundsBalance};
+ghost use Rattle.ti_align.specs.Stopping.{NoneImpossible, RoundsBalance, RegionsMade};
 ghost use Rattle.ti_align.specs.Things.{Things, IsOf, NamesNothing};
 ghost use Rattle.ti_align.specs.Sound.{IsThere, Sound};
 ghost use Rattle.ti_align.specs.Fitting.{EnvFits, FieldsFit, IsWritten};
@@ -47,6 +47,14 @@ pub fn none_after_end(c: &Checked)
 /// no process can take an entry, all have their end. A region that a process comes to delete was made.
 pub fn aligned(c: &Checked)
     ensures { IsAligned (program_of c.now.program.parts) }
+{
+    literals_fit(c.program());
+}
+
+/// In every run of a checked program each variable of a region holds one that was made, and each
+/// region that a process comes to delete was made.
+pub fn regions_made(c: &Checked)
+    ensures { OfEveryRun RegionsMade (program_of c.now.program.parts) }
 {
     literals_fit(c.program());
 }
