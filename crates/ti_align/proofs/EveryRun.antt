@@ -11,6 +11,8 @@ use Rattle.ti_align.proofs.Stopping.{NoneWaits}
 use Rattle.ti_align.proofs.Possible.{never}
 use Rattle.ti_align.specs.Literals.{LiteralsFit}
 use Rattle.ti_align.specs.Typed.{RunTyped}
+use Rattle.ti_align.specs.Formed.{ActionsFormed}
+use Rattle.ti_align.proofs.Formed as formed
 use Rattle.ti_align.proofs.Aligning as aligning
 use Rattle.ti_align.proofs.Rounds.{same_departures}
 use Rattle.ti_align.proofs.Programs.{checked_fits}
@@ -48,3 +50,7 @@ none_impossible p c l procs fuel es a b d e w i q at x within v n r k o =
     let s : Setting = record { program = p; procs = procs; fuel = fuel } in
     let agree : (ds : List Entry) → IsRun s ds → ArrivalsAgree s ds = λ ds r. arrivals_agree p c procs fuel ds a b d e r in
     never s es w (agree es w) (holding.things_there s (checked_fits p c l) (checked_fine p c) b agree es w) i within q v at x n r k o
+
+pub actions_formed : (p : NumberedProgram) → IsChecked p → LiteralsFit p → OfEveryRun ActionsFormed p
+actions_formed p c l procs fuel es a b d e w =
+    formed.actions_formed (record { program = p; procs = procs; fuel = fuel }) es (checked_fits p c l).storable (run_typed p c l procs fuel es a b d e w)

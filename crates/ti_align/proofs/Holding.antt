@@ -130,7 +130,7 @@ round_in G coll.Barrier a k g = absurd (true_false (sym k))
 round_in G coll.DeleteRegion a k g = absurd (true_false (sym k))
 
 value_fits : (w : Things) (a : ValueType) (d : Deposit) (value : Value) → DepositFits w a d → value_in d ≡ Some value → IsOf w a (Plain value)
-value_fits w a (deposit.One x) value k z = subst (λ y. IsOf w a (Plain y)) (some_value x value z) k
+value_fits w a (deposit.One x) value k z = subst (λ y. IsOf w a (Plain y)) (some_value x value z) k.0
   where
     some_value : (x y : Value) → Some x ≡ Some y → x ≡ y
     some_value x y z = cc
@@ -435,20 +435,28 @@ module _ (s : Setting)
 
   -- ---- what is named
 
-  next_there : (es : List Entry) → IsRun s es → (fit : RunFits s es) → (i : ℕ) (p : Process) (at : Place) (a : Action) → i < s.procs → World s es i p → IsNext p (next.Act at a) → (wanted : Wanted) × IsThere s.program (things_of fit.elements (history_of es)) a wanted
-  next_there es r fit i p at a b x n =
+  next_fits : (es : List Entry) → IsRun s es → (fit : RunFits s es) → (i : ℕ) (p : Process) (at : Place) (a : Action) → i < s.procs → World s es i p → (n : IsNext p (next.Act at a))
+      → (asked : Asked) × (go : Answer → Process) × (n.0.setting ≡ s) × StepFits (things_of fit.elements (history_of es)) (GivesLast s es i) (GivesLast s es i) n.0 (At (asking at a asked) go)
+  next_fits es r fit i p at a b x n =
       let q = n.0 in
       let w = things_of fit.elements (history_of es) in
       let k = way_next s es i p p r x here in
       let stand = given_facts.stands s i p k.0 k.1 in
       let reached = reaches_fits performs w (GivesLast s es i) s i _ p q (known_of i b) stand n.1.reaches (fit.processes i p b x) in
       let acts = at_action (step q) at a n.1.stands in
-      let same = reached.1.0 in
-      let step_here = subst (StepFits w (GivesLast s es i) (GivesLast s es i) q) acts.2 (step_fits performs w (GivesLast s es i) (GivesLast s es i) s i _ q (known_here performs s i _ q (known_of i b) reached.1) reached.1 reached.0) in
-      (acts.0.1, subst (λ (y : Setting). IsThere y.program w a acts.0.1) same step_here.0)
+      (acts.0, acts.1, reached.1.0, subst (StepFits w (GivesLast s es i) (GivesLast s es i) q) acts.2 (step_fits performs w (GivesLast s es i) (GivesLast s es i) s i _ q (known_here performs s i _ q (known_of i b) reached.1) reached.1 reached.0))
+
+  next_there : (es : List Entry) → IsRun s es → (fit : RunFits s es) → (i : ℕ) (p : Process) (at : Place) (a : Action) → i < s.procs → World s es i p → IsNext p (next.Act at a) → (wanted : Wanted) × IsThere s.program (things_of fit.elements (history_of es)) a wanted
+  next_there es r fit i p at a b x n =
+      let k = next_fits es r fit i p at a b x n in
+      (k.0.1, subst (λ (y : Setting). IsThere y.program (things_of fit.elements (history_of es)) a k.0.1) k.2 k.3.0)
+
+  next_handed : (es : List Entry) → IsRun s es → (fit : RunFits s es) → (i : ℕ) (p : Process) (at : Place) (kind : CollKind) (arg : Option ℕ) (given : Deposit) → i < s.procs → World s es i p → IsNext p (next.Act at (act.Arrive kind arg given))
+      → (type : ValueType) × DepositFits (things_of fit.elements (history_of es)) type given
+  next_handed es r fit i p at kind arg given b x n = let k = next_fits es r fit i p at (act.Arrive kind arg given) b x n in (k.3.1.0, k.3.1.1)
 
   pub run_typed : ((es : List Entry) → IsRun s es → ArrivalsAgree s es) → (es : List Entry) → IsRun s es → RunTyped s es
-  run_typed agree es r = let fit = run_holds agree es r in record { fits = fit; there = next_there es r fit }
+  run_typed agree es r = let fit = run_holds agree es r in record { fits = fit; handed = next_handed es r fit; there = next_there es r fit }
 
   -- so the heap answers it
   pub things_there : ((es : List Entry) → IsRun s es → ArrivalsAgree s es) → (es : List Entry) → IsRun s es → ThingsThere s es

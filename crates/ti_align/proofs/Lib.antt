@@ -60,6 +60,7 @@ pub mod Deleting
 pub mod Deleted
 pub mod Presence
 pub mod Regioned
+pub mod Formed
 pub mod Stopping
 pub mod EveryRun
 pub mod Ended

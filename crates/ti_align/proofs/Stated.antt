@@ -80,6 +80,20 @@ as_fine p w a t.Region h s f k = absurd s
 as_fine p w a t.Null h s f k = absurd s
 as_fine p w a t.Void h s f k = absurd s
 
+-- what is stored is a value
+pub stored_value : (d : ValueType) → IsStorable d → is_void d ≡ false
+stored_value t.Int k = refl
+stored_value t.Long k = refl
+stored_value t.Boolean k = refl
+stored_value (t.Pt n) k = refl
+stored_value (t.Rc n) k = refl
+stored_value (t.Class c l) k = refl
+stored_value (t.Grid x n l) k = refl
+stored_value (t.Dm n) k = absurd k
+stored_value t.Region k = absurd k
+stored_value t.Null k = absurd k
+stored_value t.Void k = absurd k
+
 -- a member that is only read
 abbrev is_read : BuiltIn → Bool
 is_read Copy = false
@@ -167,7 +181,7 @@ module _ (s : ScopeContents) (env : Env) where
       let of_to : element_of to.type ≡ element_of (type_of env x) = ap element_of z.0 in
       let held = of_stays b f2 c _ (grows_then b f f2 v v2) (one_held b c hs ys) in
       sound_guarded p _ f2 _ faults.ExchangeDomain at _ (
-        (d, tt, subst (λ b. IsOf f2 d (Plain (plain_of (as_type b (slice_index_or hs 0 nothing))))) (sym of) (plain_is f2 d _ grid.4 (as_fine p f2 c d _ grid.4 (and_right (n == 1) (fits c d) can) held)), ap (option_map element_of) j, refl, (ap Some (sym (of_to ∙ of)), tt)),
+        (d, tt, (subst (λ b. IsOf f2 d (Plain (plain_of (as_type b (slice_index_or hs 0 nothing))))) (sym of) (plain_is f2 d _ grid.4 (as_fine p f2 c d _ grid.4 (and_right (n == 1) (fits c d) can) held)), stored_value d grid.4), ap (option_map element_of) j, refl, (ap Some (sym (of_to ∙ of)), tt)),
         ((subst (λ d. IsGridOf f2 d 1 to.thing) (sym (of_to ∙ of)) (subst (λ n. IsGridOf f2 d n to.thing) n_is grid), counted_fit 0 env.procs (omega (arith, natural_from env.procs r.fits.procs))), tt),
       )))))
     where

@@ -31,7 +31,7 @@ this_stays : (u w : Things) (m : NumberedMethod) (this : Option Id) → Grows u 
 this_stays u w m this g k = λ class c id z. g.classes id class (k class c id z)
 
 pub deposit_stays : (u w : Things) (type : ValueType) (given : Deposit) → Grows u w → DepositFits u type given → DepositFits w type given
-deposit_stays u w type (deposit.One v) g k = of_stays u w type (Plain v) g k
+deposit_stays u w type (deposit.One v) g k = (of_stays u w type (Plain v) g k.0, k.1)
 deposit_stays u w type deposit.Nothing g k = k
 deposit_stays u w type (deposit.Count n) g k = k
 

@@ -15,7 +15,7 @@ use Rattle.ti_lang.specs.Program.Statements as st
 use Rattle.ti_lang.specs.Program.Classes.{NumberedProgram}
 use Rattle.ti_lang.specs.Program.Scope.{ScopeContents}
 use Rattle.ti_lang.specs.Typing.Declared.{result_type}
-use Rattle.ti_lang.specs.Typing.Kinds.{element_of, as_global, domain_dim}
+use Rattle.ti_lang.specs.Typing.Kinds.{is_void, element_of, as_global, domain_dim}
 use Rattle.ti_lang.specs.Meaning.Held.{Held, Plain, rect_of, region_of, plain_of, points_in, truth_of}
 use Rattle.ti_lang.specs.Meaning.Asking.{ToBeDone, ValueOf, NewThing, request, request_through, Asking, ◌>>=◌, gives, asked}
 use Rattle.ti_lang.specs.Meaning.Answers.{IsPointOf, IsRectOf}
@@ -56,6 +56,20 @@ sent w (t.Dm n) h z k = cc
 sent w t.Region h z k = cc
 sent w t.Void h z k = cc
 
+-- what is handed on is a value
+given_value : (u : ValueType) → can_broadcast u ≡ true → is_void (as_global u) ≡ false
+given_value t.Int z = refl
+given_value t.Long z = refl
+given_value t.Boolean z = refl
+given_value (t.Pt n) z = refl
+given_value (t.Rc n) z = refl
+given_value (t.Class c l) z = refl
+given_value (t.Grid x n l) z = refl
+given_value t.Null z = refl
+given_value (t.Dm n) z = cc
+given_value t.Region z = cc
+given_value t.Void z = cc
+
 -- the points of a domain
 pub points_fit : (w : Things) (u : ValueType) (n : ℕ) (h : Held) → domain_dim u ≡ Some n → IsOf w u h → ArePoints n (points_in h)
 points_fit w (t.Rc m) n h z k = subst (λ i. ArePoints i (points_in h)) (some_same m n z) (subst (λ y. ArePoints m (points_in y)) (sym k.1) (points_placed m k.0 k.2).0)
@@ -92,7 +106,7 @@ module _ (s : ScopeContents) (env : Env) where
   root_fine w r root x u k z = by (env.number == root)
     where
       by : (b : Bool) → Sound p (λ x given. Work.DepositFits x (as_global u) given) w (if b then (eval env x >>= λ h. gives (deposit.One (plain_of h))) else gives deposit.Nothing)
-      by true = sound_then p (λ u' h. IsOf u' u h) _ w (eval env x) _ (inner_fine s env w r x u k.0 k.1) (λ a g h y. sound_value p _ a _ (sent a u h z y))
+      by true = sound_then p (λ u' h. IsOf u' u h) _ w (eval env x) _ (inner_fine s env w r x u k.0 k.1) (λ a g h y. sound_value p _ a _ (sent a u h z y, given_value u z))
       by false = sound_value p _ w _ tt
 
   pub init_fine : (untaken : Option ValueType) (w : Things) → Ready s w env → (receiver : Receiver) (value : NumberedInit) (type : ValueType) → InitFits p env.method s value type → ReceiverFits p env.method s receiver type → Fine s env (given_at p s value) untaken w (initialized env receiver value)

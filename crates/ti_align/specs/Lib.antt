@@ -8,3 +8,4 @@ pub mod Fitting
 pub mod Heap
 pub mod Work
 pub mod Typed
+pub mod Formed

@@ -2,6 +2,8 @@
 use Rattle.std.specs.Prelude.{◌≡◌, ◌<◌, ℕ, suc, Bool, true, false, List, [], ◌∷◌, ◌++◌, Option, Some, None}
 use Rattle.ti_base.specs.declared.value.Value.{Value}
 use Rattle.ti_base.specs.declared.action.Action.{Action}
+use Rattle.ti_base.specs.declared.action.Action.TheVariants as act
+use Rattle.ti_base.specs.declared.action.Deposit.{Deposit}
 use Rattle.ti_base.specs.declared.action.CollKind.{CollKind}
 use Rattle.ti_base.specs.declared.action.CollKind.TheVariants as coll
 use Rattle.ti_base.specs.declared.entry.Entry.{Entry}
@@ -26,7 +28,7 @@ use Rattle.ti_align.specs.Alignment.{Arrival, ArrivesAt}
 use Rattle.ti_align.specs.Things.{Things, IsOf}
 use Rattle.ti_align.specs.Sound.{IsThere, Sound}
 use Rattle.ti_align.specs.Fitting.{FieldsFit}
-use Rattle.ti_align.specs.Work.{VariablesFit, scope_over, MethodsFit, ReceiverFits, ThisFits, given_type, taken_type, TakesOf, taken_behind, IsOfRound, WantsOf, WorksFit, IsAwaited, MoveFits}
+use Rattle.ti_align.specs.Work.{VariablesFit, scope_over, MethodsFit, ReceiverFits, ThisFits, DepositFits, given_type, taken_type, TakesOf, taken_behind, IsOfRound, WantsOf, WorksFit, IsAwaited, MoveFits}
 use Rattle.ti_align.specs.Heap.{Elements, things_of, FieldsStorable, HeapFits}
 
 -- ---- programs
@@ -123,7 +125,9 @@ pub record RunFits (s : Setting) (es : List Entry) : Type 0 where
   pub deposits : (i k : ℕ) (a : rounds.Arrival) (value : Value) → arrival_at i (suc k) (history_of es) ≡ Some a → hands_in a.kind ≡ true → value_in a.deposit ≡ Some value
       → (type : ValueType) × GivesAt s es i k type × IsOf (things_of elements (history_of es)) type (Plain value)
 
--- The same, and what each process names in the action that it has next is there.
+-- The same; and what each process hands in or names in the action that it has next is of a type, or is there.
 pub record RunTyped (s : Setting) (es : List Entry) : Type 0 where
   pub fits : RunFits s es
+  pub handed : (i : ℕ) (pr : Process) (at : Place) (kind : CollKind) (arg : Option ℕ) (given : Deposit) → i < s.procs → World s es i pr → IsNext pr (next.Act at (act.Arrive kind arg given))
+      → (type : ValueType) × DepositFits (things_of fits.elements (history_of es)) type given
   pub there : (i : ℕ) (pr : Process) (at : Place) (a : Action) → i < s.procs → World s es i pr → IsNext pr (next.Act at a) → (wanted : Wanted) × IsThere s.program (things_of fits.elements (history_of es)) a wanted

@@ -198,7 +198,7 @@ ThisFits w m this = (class : ℕ) → this_of m ≡ Some class → (id : Id) →
 
 -- a deposit of this type
 abbrev pub DepositFits : Things → ValueType → Deposit → Type 0
-DepositFits w type (deposit.One value) = IsOf w type (Plain value)
+DepositFits w type (deposit.One value) = IsOf w type (Plain value) × (is_void type ≡ false)
 DepositFits w type given = Unit {0}
 
 -- ---- processes

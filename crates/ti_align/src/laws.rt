@@ -24,6 +24,7 @@ ghost use Rattle.ti_align.specs.Sound.{IsThere, Sound};
 ghost use Rattle.ti_align.specs.Fitting.{EnvFits, FieldsFit, IsWritten};
 ghost use Rattle.ti_align.specs.Work.{VariablesFit, scope_over, MethodsFit, ThisFits, HasNumber, given_type, taken_type, WorksFit, MoveFits};
 ghost use Rattle.ti_align.specs.Typed.{RunTyped};
+ghost use Rattle.ti_align.specs.Formed.{ActionsFormed};
 ghost use Rattle.ti_align.specs.Heap.{Elements, things_of, FieldsStorable, HeapFits, KeepsTypes};
 
 use crate::reading::literals_fit;
@@ -85,6 +86,14 @@ pub fn rounds_balance(c: &Checked)
 /// dimensions, a region that was made or none. Its points and domains are in their forms.
 pub fn run_typed(c: &Checked)
     ensures { OfEveryRun RunTyped (program_of c.now.program.parts) }
+{
+    literals_fit(c.program());
+}
+
+/// In every run of a checked program the values, points and domains that a process hands in with the
+/// action that it has next are in their one form.
+pub fn actions_formed(c: &Checked)
+    ensures { OfEveryRun ActionsFormed (program_of c.now.program.parts) }
 {
     literals_fit(c.program());
 }

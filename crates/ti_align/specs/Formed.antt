@@ -1,0 +1,49 @@
+-- Actions whose values and domains are in their one form.
+use Rattle.std.specs.Prelude.{ℕ, ◌<◌, List}
+use Rattle.ti_base.specs.declared.place.Place.{Place}
+use Rattle.ti_base.specs.declared.value.Value.{Value}
+use Rattle.ti_base.specs.declared.value.Value.TheVariants as v
+use Rattle.ti_base.specs.declared.action.Action.{Action}
+use Rattle.ti_base.specs.declared.action.Action.TheVariants as act
+use Rattle.ti_base.specs.declared.action.Deposit.{Deposit}
+use Rattle.ti_base.specs.declared.action.Deposit.TheVariants as deposit
+use Rattle.ti_base.specs.declared.action.ViewHow.{ViewHow}
+use Rattle.ti_base.specs.declared.action.ViewHow.TheVariants.{Restrict, Translate, Slice}
+use Rattle.ti_base.specs.declared.entry.Entry.{Entry}
+use Rattle.ti_base.specs.declared.entry.Next.TheVariants as next
+use Rattle.ti_base.specs.Points.{IsPoint}
+use Rattle.ti_base.specs.Rects.{IsRect}
+use Rattle.ti_lang.specs.Meaning.Processes.{Setting, Process}
+use Rattle.ti_lang.specs.Meaning.NextStep.{IsNext}
+use Rattle.ti_lang.specs.Meaning.Runs.{World}
+
+-- a point or a rectangular domain is in its one form
+abbrev pub IsFormed : Value → Type 0
+IsFormed (v.Pt p) = IsPoint p
+IsFormed (v.Rc r) = IsRect r
+IsFormed value = Unit {0}
+
+-- so is the value that is handed in
+abbrev pub IsFormedDeposit : Deposit → Type 0
+IsFormedDeposit (deposit.One value) = IsFormed value
+IsFormedDeposit given = Unit {0}
+
+-- and what a view is made by
+abbrev pub IsFormedView : ViewHow → Type 0
+IsFormedView (Restrict r) = IsRect r
+IsFormedView (Translate by) = IsPoint by
+IsFormedView (Slice k j) = Unit {0}
+
+-- the values and domains that an action of the heap or an arrival hands in are in their one form
+abbrev pub IsFormedAction : Action → Type 0
+IsFormedAction (act.PutField obj field value) = IsFormed value
+IsFormedAction (act.NewGrid zero domain region) = IsRect domain
+IsFormedAction (act.GetElem grid at) = IsPoint at
+IsFormedAction (act.PutElem grid at value) = IsPoint at × IsFormed value
+IsFormedAction (act.MakeView grid how) = IsFormedView how
+IsFormedAction (act.Arrive kind arg given) = IsFormedDeposit given
+IsFormedAction a = Unit {0}
+
+-- all that processes have next is in its form
+abbrev pub ActionsFormed : Setting → List Entry → Type 0
+ActionsFormed s es = (i : ℕ) (p : Process) (at : Place) (a : Action) → i < s.procs → World s es i p → IsNext p (next.Act at a) → IsFormedAction a
