@@ -14,7 +14,6 @@ use Rattle.ti_lang.proofs.Standing.{or_right}
 use Rattle.ti_words.specs.declared.job.Job.{Job}
 use Rattle.ti_top.specs.declared.fault.Fault.{Fault}
 use Rattle.ti_top.specs.declared.runner.How.{How}
-use Rattle.ti_top.specs.declared.runner.How.TheVariants as How
 use Rattle.ti_top.specs.declared.reports.ReportEnd.{ReportEnd}
 use Rattle.ti_top.specs.declared.reports.ReportEnd.TheVariants as Report
 use Rattle.ti_top.specs.declared.ending.Ending.{Ending}

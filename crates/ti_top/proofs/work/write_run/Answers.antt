@@ -1,5 +1,5 @@
 use Rattle.ti_top.specs.declared.runner.How.TheVariants as How
-use Rattle.ti_top.proofs.RunWritten.{wrote_cut, wrote_memory, wrote_after}
+use Rattle.ti_top.proofs.RunWritten.{wrote_cut, wrote_after}
 use Rattle.ti_top.proofs.work.write_run.Goals as goal
 
 pub returns-in-Ended : goal.returns-in-Ended
