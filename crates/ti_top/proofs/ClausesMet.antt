@@ -51,7 +51,7 @@ calm before c (inr cut) h = absurd (h cut.1)
 output_nothing : (c : Call) → (c.status ≡ 0 → WhereRun c (λ job program. ⊥)) → (c.status ≡ 2 → WhereRun c (λ job program. ⊥)) → (c.status ≡ 6 → WhereRun c (λ job program. IsCompleteRun (run_of program job) [] → ⊥)) → RanNothing c.out c.out_after c.history → WritesOutput c
 output_nothing c not_done not_faulted not_complete x =
     let same : c.out_after.taken ≡ c.out.taken = ap (λ s. s.taken) x.unwritten in
-    let none : c.out_after.taken ≡ c.out.taken ++ [] = same ∙ sym (append-nil c.out.taken) in
+    let grew_none : c.out_after.taken ≡ c.out.taken ++ [] = same ∙ sym (append-nil c.out.taken) in
     record {
       done = λ is _ job command mode program has. absurd (not_done is job command mode program has);
       faulted = λ is _ job command mode program has. absurd (not_faulted is job command mode program has);
@@ -62,12 +62,12 @@ output_nothing c not_done not_faulted not_complete x =
       not_whole = λ _ _ _. same;
       no_program = λ _. same;
       checked = λ _ _ _. same;
-      failed = λ _ _ job _ _ program _. ([], (output program c.history (wanted job c.watchers), refl), none);
+      failed = λ _ _ job _ _ program _. ([], (output program c.history (wanted job c.watchers), refl), grew_none);
       no_memory = λ is _ job command mode program has. record {
         few = [];
         others = wanted job c.watchers;
         first = refl;
-        grew = none ∙ ap (λ h. c.out.taken ++ output program h []) (sym x.no_entry);
+        grew = grew_none ∙ ap (λ h. c.out.taken ++ output program h []) (sym x.no_entry);
         none_of_cut = λ _. refl;
         not_all = λ complete. absurd (not_complete is job command mode program has (subst (λ h. IsCompleteRun (run_of program job) h) x.no_entry complete));
       };
@@ -290,11 +290,11 @@ clauses_ran before job c mode command from whole x =
               | inr five ↦ inr (inl five)
             ]))
             (λ e.
-                let asked : WantsReport job c = says.unfinished e (inl (fault_is_there c.history fault last)) in
-                yields before c from (λ same. inr (inr (same ∙ ap status_of e, asked))) (λ y. elim y [
-                  | inl six ↦ inr (inr (six, asked))
-                  | inr five ↦ inr (inl five)
-                ]))
+            let asked : WantsReport job c = says.unfinished e (inl (fault_is_there c.history fault last)) in
+            yields before c from (λ same. inr (inr (same ∙ ap status_of e, asked))) (λ y. elim y [
+              | inl six ↦ inr (inr (six, asked))
+              | inr five ↦ inr (inl five)
+            ]))
             (λ e. yields before c from
             (λ same. inr (inl (same ∙ ap status_of e, inl (says.rose e))))
             (λ y. elim y [

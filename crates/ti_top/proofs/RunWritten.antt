@@ -1,6 +1,5 @@
 -- The lines of a run, and then the reports on it.
-use Rattle.std.proofs.Common.{◌≡◌, ◌⊎◌, inl, inr, true, false, List, [], ◌++◌, Ok, Err, arith, refl, sym, ◌∙◌, ap, subst, append_assoc}
-use Rattle.std.proofs.lemmas.List.{append-nil}
+use Rattle.std.proofs.Common.{◌≡◌, ◌⊎◌, inl, inr, true, false, List, ◌++◌, Ok, Err, arith, refl, sym, ◌∙◌, ap, subst, append_assoc}
 use Rattle.ti_base.specs.declared.entry.Entry.{Entry}
 use Rattle.ti_io.specs.Sink.{SinkState, Writes}
 use Rattle.ti_io.proofs.Rising.{rose_since}
@@ -43,26 +42,6 @@ wrote_cut how p ws h s0 s1 e wrote = record {
       (front.0, (front.1.0 ++ reports ws h, sym (append_assoc front.0 front.1.0 (reports ws h)) ∙ ap (λ t. t ++ reports ws h) front.1.1), front.2);
   needed = λ is. absurd (let x = is in cc);
   few = λ is. absurd (let x = is in cc);
-}
-
--- the lines of a run that was cut short were written
-pub wrote_short : {T E : Type 0} (p : ListedProgram) (ws : List Watcher) (h : List Entry) (s0 s1 : SinkState) (x : T) → Writes {E = E} (lines_of p h) s0 s1 (Ok x) → WroteRun How.Memory p ws h s0 s1 NoMemory
-wrote_short p ws h s0 s1 x wrote = record {
-  never_falls = wrote.never_falls;
-  tells = wrote.tells;
-  known = inl refl;
-  rose = λ is. absurd (let x = is in cc);
-  all = λ _ there. absurd (there refl);
-  part = λ told. (lines_of p h, (reports ws h, refl), wrote.all told);
-  needed = λ _ there. absurd (there refl);
-  few = λ _ told. record {
-    few = [];
-    others = ws;
-    first = refl;
-    grew = wrote.all told ∙ ap (λ t. s0.taken ++ t) (sym (append-nil (lines_of p h)));
-    none_of_cut = λ _. refl;
-    not_all = λ there. absurd (there refl);
-  };
 }
 
 -- how the reports ended, by how the work does
@@ -118,9 +97,6 @@ wrote_reports how end p ws h s0 s1 s2 x whole wrote reported = record {
 pub wrote_after : {T E : Type 0} (how k : How) (ending : Ending) (end : ReportEnd) (p : ListedProgram) (ws : List Watcher) (h : List Entry) (s0 s1 s2 : SinkState) (x : T) → how ≡ k → (k ≡ How.Memory → ⊥) → ending ≡ ending_after end (ending_of k) → Writes {E = E} (lines_of p h) s0 s1 (Ok x) → Reported ws h s1 s2 end → WroteRun how p ws h s0 s2 ending
 wrote_after how k ending end p ws h s0 s1 s2 x is whole after wrote reported =
     subst (λ (how : How). WroteRun how p ws h s0 s2 ending) (sym is) (subst (λ (e : Ending). WroteRun k p ws h s0 s2 e) (sym after) (wrote_reports k end p ws h s0 s1 s2 x whole wrote reported))
-
-pub wrote_memory : {T E : Type 0} (how : How) (p : ListedProgram) (ws : List Watcher) (h : List Entry) (s0 s1 : SinkState) (x : T) → how ≡ How.Memory → Writes {E = E} (lines_of p h) s0 s1 (Ok x) → WroteRun how p ws h s0 s1 NoMemory
-wrote_memory how p ws h s0 s1 x is wrote = subst (λ (how : How). WroteRun how p ws h s0 s1 NoMemory) (sym is) (wrote_short p ws h s0 s1 x wrote)
 
 -- ---- what it says of the run
 
