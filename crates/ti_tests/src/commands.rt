@@ -525,7 +525,11 @@ pub(crate) fn words_of(alloc: Global, line: &str) -> Result<Vec<String>, AllocEr
 }
 
 /// A source with one file `a.ti`, which is read in pieces of 8 bytes.
-pub(crate) fn source_of(alloc: Global, text: String, fails: &[u32]) -> Result<MemSource, AllocError> {
+pub(crate) fn source_of(
+    alloc: Global,
+    text: String,
+    fails: &[u32],
+) -> Result<MemSource, AllocError> {
     let mut files = Vec::new(alloc);
     files.push((String::from_str(alloc, "a.ti")?, text.into_bytes()))?;
     Ok(MemSource::new(files, 8, fails.to_vec(alloc)?))

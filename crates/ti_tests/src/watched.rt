@@ -10,19 +10,24 @@ use ti_watch::{StatsWatch, TraceWatch, Watch};
 const SHORT: &str = "println(Ti.thisProc()); Ti.barrier();";
 
 /// Its trace, by one process.
-const TRACE: &str = "0 p0 1:62 print - 0 -> done\n1 p0 1:89 arrive barrier - - -> done\n2 p0 1:89 depart -> done\n3 p0 1:100 end -> done\n";
+const TRACE: &str =
+    "0 p0 1:62 print - 0 -> done\n1 p0 1:89 arrive barrier - - -> done\n2 p0 1:89 depart -> done\n3 p0 1:100 end -> done\n";
 
 /// The same by a watcher that was told `TOLD` before.
-const TRACE_BEHIND: &str = "0 p5 9:9 end -> done\n1 p0 1:62 print - 0 -> done\n2 p0 1:89 arrive barrier - - -> done\n3 p0 1:89 depart -> done\n4 p0 1:100 end -> done\n";
+const TRACE_BEHIND: &str =
+    "0 p5 9:9 end -> done\n1 p0 1:62 print - 0 -> done\n2 p0 1:89 arrive barrier - - -> done\n3 p0 1:89 depart -> done\n4 p0 1:100 end -> done\n";
 
 /// Its statistics, by one process.
-const STATS: &str = "stats entries 4\ngetField 0\nputField 0\nnewObj 0\nnewGrid 0\ngetElem 0\nputElem 0\nmakeView 0\ndomainOf 0\nprint 1\narrive 1\ndepart 1\ntake 0\nend 1\nfault 0\n";
+const STATS: &str =
+    "stats entries 4\ngetField 0\nputField 0\nnewObj 0\nnewGrid 0\ngetElem 0\nputElem 0\nmakeView 0\ndomainOf 0\nprint 1\narrive 1\ndepart 1\ntake 0\nend 1\nfault 0\n";
 
 /// Those of a run that has no tick for the barrier.
-const STATS_OF_FAULT: &str = "stats entries 2\ngetField 0\nputField 0\nnewObj 0\nnewGrid 0\ngetElem 0\nputElem 0\nmakeView 0\ndomainOf 0\nprint 1\narrive 0\ndepart 0\ntake 0\nend 0\nfault 1\n";
+const STATS_OF_FAULT: &str =
+    "stats entries 2\ngetField 0\nputField 0\nnewObj 0\nnewGrid 0\ngetElem 0\nputElem 0\nmakeView 0\ndomainOf 0\nprint 1\narrive 0\ndepart 0\ntake 0\nend 0\nfault 1\n";
 
 /// Those of `TWO_PRINTS`, by two processes.
-const STATS_OF_TWO: &str = "stats entries 10\ngetField 0\nputField 0\nnewObj 0\nnewGrid 0\ngetElem 0\nputElem 0\nmakeView 0\ndomainOf 0\nprint 4\narrive 2\ndepart 2\ntake 0\nend 2\nfault 0\n";
+const STATS_OF_TWO: &str =
+    "stats entries 10\ngetField 0\nputField 0\nnewObj 0\nnewGrid 0\ngetElem 0\nputElem 0\nmakeView 0\ndomainOf 0\nprint 4\narrive 2\ndepart 2\ntake 0\nend 2\nfault 0\n";
 
 const NO_MEMORY: &str = "titan: no memory\n";
 
