@@ -7,15 +7,16 @@ use std::test::Fail;
 use ti_base::{Action, Answer, CollKind, Deposit, Entry, FaultKind, Place, Value};
 use ti_io::{MemSink, MemSource};
 use ti_top::{Outcome, titan_top};
+use ti_watch::{StatsWatch, TraceWatch, Watch};
 
 /// Two prints with a barrier between them.
-const TWO_PRINTS: &str = "println(Ti.thisProc()); Ti.barrier(); println(Ti.numProcs());";
+pub(crate) const TWO_PRINTS: &str = "println(Ti.thisProc()); Ti.barrier(); println(Ti.numProcs());";
 
 const NO_COMMAND: &str = "titan: the words are no command\n";
 
 const UNREAD: &str = "titan: the source can't be read\n";
 
-const UNWRITTEN: &str = "titan: the output can't be written\n";
+pub(crate) const UNWRITTEN: &str = "titan: the output can't be written\n";
 
 /// What is left: the status, and what stands on out and err.
 #[derive(Clone, Copy)]
@@ -63,10 +64,10 @@ struct Failing {
 
 /// What a call left.
 #[derive(Drop)]
-struct Left {
-    outcome: Outcome,
-    out: MemSink,
-    err: MemSink,
+pub(crate) struct Left {
+    pub(crate) outcome: Outcome,
+    pub(crate) out: MemSink,
+    pub(crate) err: MemSink,
 }
 
 const COMMANDS: &[Command] = &[
@@ -515,7 +516,7 @@ const FAILING: &[Failing] = &[
 ];
 
 /// The words as a line of the command has them.
-fn words_of(alloc: Global, line: &str) -> Result<Vec<String>, AllocError> {
+pub(crate) fn words_of(alloc: Global, line: &str) -> Result<Vec<String>, AllocError> {
     let mut words = Vec::new(alloc);
     for word in line.split_ascii_whitespace() {
         words.push(String::from_str(alloc, word)?)?;
@@ -524,35 +525,44 @@ fn words_of(alloc: Global, line: &str) -> Result<Vec<String>, AllocError> {
 }
 
 /// A source with one file `a.ti`, which is read in pieces of 8 bytes.
-fn source_of(alloc: Global, text: String, fails: &[u32]) -> Result<MemSource, AllocError> {
+pub(crate) fn source_of(
+    alloc: Global,
+    text: String,
+    fails: &[u32],
+) -> Result<MemSource, AllocError> {
     let mut files = Vec::new(alloc);
     files.push((String::from_str(alloc, "a.ti")?, text.into_bytes()))?;
     Ok(MemSource::new(files, 8, fails.to_vec(alloc)?))
 }
 
 /// A sink that is written in pieces of 3 bytes.
-fn sink_of(alloc: Global, fails: &[u32]) -> Result<MemSink, Fail> {
+pub(crate) fn sink_of(alloc: Global, fails: &[u32]) -> Result<MemSink, Fail> {
     Ok(MemSink::new(alloc, 3, 200_000, fails.to_vec(alloc)?)?)
 }
 
-fn call(
+pub(crate) fn call(
     rt: &HostRuntime,
     words: &[String],
     mut source: MemSource,
     mut out: MemSink,
     mut err: MemSink,
+    watchers: Vec<Box<dyn Watch>>,
 ) -> Left {
-    let outcome = titan_top(rt, words, &mut source, &mut out, &mut err);
+    let outcome = titan_top(rt, words, &mut source, &mut out, &mut err, watchers);
     Left { outcome, out, err }
 }
 
-/// The command over one file `a.ti`.
+/// The command over one file `a.ti`, with the watchers that `main` hands in.
 fn run(rt: &HostRuntime, line: &str, text: String, fails: Fails) -> Result<Left, Fail> {
-    let source = source_of(rt.alloc(), text, fails.source)?;
-    let out = sink_of(rt.alloc(), fails.out)?;
-    let err = sink_of(rt.alloc(), fails.err)?;
-    let words = words_of(rt.alloc(), line)?;
-    Ok(call(rt, &words, source, out, err))
+    let alloc = rt.alloc();
+    let source = source_of(alloc, text, fails.source)?;
+    let out = sink_of(alloc, fails.out)?;
+    let err = sink_of(alloc, fails.err)?;
+    let words = words_of(alloc, line)?;
+    let mut watchers: Vec<Box<dyn Watch>> = Vec::new(alloc);
+    watchers.push(Box::new(alloc, TraceWatch::new(alloc))?)?;
+    watchers.push(Box::new(alloc, StatsWatch::new(alloc))?)?;
+    Ok(call(rt, &words, source, out, err, watchers))
 }
 
 /// Whether a command over a text leaves that.

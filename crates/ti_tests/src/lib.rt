@@ -46,4 +46,6 @@ mod values;
 #[cfg(test)]
 mod walks;
 #[cfg(test)]
+mod watched;
+#[cfg(test)]
 mod words;

@@ -183,13 +183,23 @@ fn shown_print(
     }
 }
 
+fn collective(kind: CollKind) -> &'static str {
+    match kind {
+        CollKind::Barrier => "Barrier",
+        CollKind::Broadcast => "Broadcast",
+        CollKind::Exchange => "Exchange",
+        CollKind::MakeRegion => "MakeRegion",
+        CollKind::DeleteRegion => "DeleteRegion",
+    }
+}
+
 fn shown_arrival(
     alloc: Global,
     kind: CollKind,
     arg: Option<u32>,
     deposit: Deposit,
 ) -> Result<String, AllocError> {
-    let mut shown = format!(in alloc; "arrive {kind:?}")?;
+    let mut shown = format!(in alloc; "arrive {}", collective(kind))?;
     if let Some(n) = arg {
         say(&mut shown, format!(in alloc; " {n}")?)?;
     }

@@ -4,11 +4,9 @@ use Rattle.ti_base.specs.declared.entry.Entry.{Entry}
 use Rattle.ti_io.specs.Source.{IsMissing, SameFiles}
 use Rattle.ti_io.specs.Sink.{SinkState, GrewBy, GrewByFront}
 use Rattle.ti_lang.specs.Listed.{ListedProgram}
-use Rattle.ti_lang.specs.Runs.{AllEnded, IsRun, IsSolo, IsComplete as IsCompleteRun, none, has_fault}
-use Rattle.ti_lang.specs.Lines.{lines_of}
+use Rattle.ti_lang.specs.Runs.{AllEnded, IsRun, IsSolo, IsComplete as IsCompleteRun, none}
 use Rattle.ti_lang.specs.Alignment.{IsAligned}
-use Rattle.ti_lang.proofs.Entries.{fault_more}
-use Rattle.ti_lang.proofs.Standing.{true_false, or_right}
+use Rattle.ti_lang.proofs.Standing.{true_false}
 use Rattle.ti_rules.specs.declared.refusal.Refusal.{Refusal}
 use Rattle.ti_top.specs.declared.fault.Fault.{Fault}
 use Rattle.ti_top.specs.declared.reading.ReadEnd.{ReadEnd}
@@ -19,18 +17,20 @@ use Rattle.ti_words.specs.declared.job.Job.{Job}
 use Rattle.ti_words.specs.declared.job.Mode.{Mode}
 use Rattle.ti_words.specs.declared.job.Mode.TheVariants.{Run, Check}
 use Rattle.ti_top.specs.Modes.{RefusalIn, AcceptedIn}
+use Rattle.ti_top.specs.Reports.{wanted, output, WroteFew}
 use Rattle.ti_top.specs.Mirrors.Reading.{ReadsWhole}
 use Rattle.ti_top.specs.Ending.{status_of}
 use Rattle.ti_top.specs.Mirrors.Ended.{Ended}
 use Rattle.ti_top.specs.Run.{fault_entry, EndsWithFault}
 use Rattle.ti_top.specs.Run.{run_of}
 use Rattle.ti_top.specs.Mirrors.Work.{RanNothing, Ran, WasRefused, WasChecked, TextSays, FileSays, WorkSays, work_of, DidNothing}
-use Rattle.ti_top.specs.Call.{most_read, Call, IsCommand, IsNoCommand, file_in, file_of, SourceRose, ErrRose, Yields}
-use Rattle.ti_top.specs.Clauses.{IsReadWhole, ReadsText, RefusesExactly, KeepsRun, WritesLines, WritesOutput, IsAlignedRun, EndsRun, NothingFailed, IsComplete, MeetsBesideErr, Says, before_err, Meets}
+use Rattle.ti_top.specs.Call.{most_read, Call, IsCommand, IsNoCommand, file_in, file_of, SourceRose, ErrRose, Yields, WantsReport}
+use Rattle.ti_top.specs.Clauses.{IsReadWhole, ReadsText, RefusesExactly, KeepsRun, WhereRun, WritesAll, WritesOutput, IsAlignedRun, EndsRun, NothingFailed, IsComplete, MeetsBesideErr, Says, before_err, Meets}
 use Rattle.ti_top.proofs.StatusFrom.{StatusFrom, status_from, not_five, is_done, is_faulted, is_no_memory}
 use Rattle.ti_top.proofs.WordsAnswered.{known, not_both, no_command_answers, command_answers}
 use Rattle.ti_top.proofs.TextRead.{EndsAs, read_whole, reads_text}
 use Rattle.ti_top.proofs.ErrWritten.{writes_err}
+use Rattle.ti_top.proofs.RunWritten.{fault_is_there}
 use Rattle.ti_top.proofs.Turns.{unbegun}
 
 -- a status that neither the ending nor a failed err gives
@@ -47,14 +47,14 @@ calm : (before : Ending) (c : Call) → StatusFrom before c → (ErrRose c → �
 calm before c (inl same) h = same
 calm before c (inr cut) h = absurd (h cut.1)
 
--- where nothing was run, nothing was written
-output_nothing : (c : Call) → RanNothing c.out c.out_after c.history → WritesOutput c
-output_nothing c x =
+-- where nothing was run, nothing was written: the text isn't one that is to be run, the status owes no report, and an empty history isn't complete
+output_nothing : (c : Call) → (c.status ≡ 0 → WhereRun c (λ job program. ⊥)) → (c.status ≡ 2 → WhereRun c (λ job program. ⊥)) → (c.status ≡ 6 → WhereRun c (λ job program. IsCompleteRun (run_of program job) [] → ⊥)) → RanNothing c.out c.out_after c.history → WritesOutput c
+output_nothing c not_done not_faulted not_complete x =
     let same : c.out_after.taken ≡ c.out.taken = ap (λ s. s.taken) x.unwritten in
-    let grew : WritesLines c = λ program _. same ∙ sym (append-nil c.out.taken) ∙ ap (λ h. c.out.taken ++ lines_of program h) (sym x.no_entry) in
+    let grew_none : c.out_after.taken ≡ c.out.taken ++ [] = same ∙ sym (append-nil c.out.taken) in
     record {
-      done = λ _ _. grew;
-      faulted = λ _ _. grew;
+      done = λ is _ job command mode program has. absurd (not_done is job command mode program has);
+      faulted = λ is _ job command mode program has. absurd (not_faulted is job command mode program has);
       nothing_at_one = λ _. same;
       nothing_at_three = λ _. same;
       nothing_at_four = λ _. same;
@@ -62,8 +62,15 @@ output_nothing c x =
       not_whole = λ _ _ _. same;
       no_program = λ _. same;
       checked = λ _ _ _. same;
-      failed = λ _ _ program has. (lines_of program c.history, ([], append-nil (lines_of program c.history)), grew program has);
-      no_memory = λ _ _. grew;
+      failed = λ _ _ job _ _ program _. ([], (output program c.history (wanted job c.watchers), refl), grew_none);
+      no_memory = λ is _ job command mode program has. record {
+        few = [];
+        others = wanted job c.watchers;
+        first = refl;
+        grew = grew_none ∙ ap (λ h. c.out.taken ++ output program h []) (sym x.no_entry);
+        none_of_cut = λ _. refl;
+        not_all = λ complete. absurd (not_complete is job command mode program has (subst (λ h. IsCompleteRun (run_of program job) h) x.no_entry complete));
+      };
     }
 
 run_nothing : (job : Job) (c : Call) → RanNothing c.out c.out_after c.history → KeepsRun job c
@@ -82,10 +89,6 @@ no_fault_of_nothing c fault x e = short e.before (fault_entry fault) (sym x.no_e
     short [] e h = cc
     short (b ∷ before) e h = cc
 
--- where the last entry is a fault, some entry is
-fault_is_there : (es : List Entry) (fault : Fault) → EndsWithFault es fault → has_fault es ≡ true
-fault_is_there es fault e = ap has_fault e.last ∙ fault_more e.before (fault_entry fault) ∙ or_right (has_fault e.before) true refl
-
 -- the words are no command
 beside_no_command : (c : Call) → IsNoCommand c → DidNothing c → StatusFrom NoCommand c → MeetsBesideErr c
 beside_no_command c no_job x from = record {
@@ -93,7 +96,7 @@ beside_no_command c no_job x from = record {
   text = λ job some. absurd (not_both c job some no_job);
   refusal = λ job some. absurd (not_both c job some no_job);
   run = λ job some. absurd (not_both c job some no_job);
-  output = output_nothing c x.nothing;
+  output = output_nothing c (λ _ job some. absurd (not_both c job some no_job)) (λ _ job some. absurd (not_both c job some no_job)) (λ _ job some. absurd (not_both c job some no_job)) x.nothing;
   alignment = record {
     done = λ is. absurd (never NoCommand c 0 from (λ e. omega arith) (λ e. omega arith) is);
     faulted = λ is. absurd (never NoCommand c 2 from (λ e. omega arith) (λ e. omega arith) is);
@@ -137,7 +140,7 @@ clauses_refused refusal job c from whole refused = let x = refused.nothing in re
     accepted_at_two = λ is. absurd (never (Refused refusal) c 2 from (λ e. omega arith) (λ e. omega arith) is);
   };
   run = run_nothing job c x;
-  output = output_nothing c x;
+  output = output_nothing c (λ _ _ _ _ program has. refused.no_program program has) (λ _ _ _ _ program has. refused.no_program program has) (λ _ _ _ _ program has. absurd (refused.no_program program has)) x;
   alignment = record {
     done = λ _ program has. absurd (refused.no_program program has);
     faulted = λ _ program has. absurd (refused.no_program program has);
@@ -170,7 +173,7 @@ clauses_cant_read job c from cause x = record {
     accepted_at_two = λ is. absurd (never CantRead c 2 from (λ e. omega arith) (λ e. omega arith) is);
   };
   run = run_nothing job c x;
-  output = output_nothing c x;
+  output = output_nothing c (λ is. absurd (never CantRead c 0 from (λ e. omega arith) (λ e. omega arith) is)) (λ is. absurd (never CantRead c 2 from (λ e. omega arith) (λ e. omega arith) is)) (λ is. absurd (never CantRead c 6 from (λ e. omega arith) (λ e. omega arith) is)) x;
   alignment = record {
     done = λ is. absurd (never CantRead c 0 from (λ e. omega arith) (λ e. omega arith) is);
     faulted = λ is. absurd (never CantRead c 2 from (λ e. omega arith) (λ e. omega arith) is);
@@ -185,8 +188,8 @@ clauses_cant_read job c from cause x = record {
 }
 
 -- out of memory before the run
-clauses_no_memory : (job : Job) (c : Call) → 1 ≤ job.procs → StatusFrom NoMemory c → RanNothing c.out c.out_after c.history → Clauses job c
-clauses_no_memory job c some from x = record {
+clauses_no_memory : (job : Job) (c : Call) → IsCommand c job → ((other : Job) → IsCommand c other → 1 ≤ other.procs) → StatusFrom NoMemory c → RanNothing c.out c.out_after c.history → Clauses job c
+clauses_no_memory job c command some from x = record {
   refusal = record {
     only_where = λ is. absurd (never NoMemory c 1 from (λ e. omega arith) (λ e. omega arith) is);
     everywhere = λ _ _. yields NoMemory c from (λ same. inr (inl (inl same))) (λ y. inr (inl y));
@@ -196,7 +199,7 @@ clauses_no_memory job c some from x = record {
     accepted_at_two = λ is. absurd (never NoMemory c 2 from (λ e. omega arith) (λ e. omega arith) is);
   };
   run = run_nothing job c x;
-  output = output_nothing c x;
+  output = output_nothing c (λ is. absurd (never NoMemory c 0 from (λ e. omega arith) (λ e. omega arith) is)) (λ is. absurd (never NoMemory c 2 from (λ e. omega arith) (λ e. omega arith) is)) (λ _ other is _ program _. unbegun (run_of program other) (some other is)) x;
   alignment = record {
     done = λ is. absurd (never NoMemory c 0 from (λ e. omega arith) (λ e. omega arith) is);
     faulted = λ is. absurd (never NoMemory c 2 from (λ e. omega arith) (λ e. omega arith) is);
@@ -205,7 +208,7 @@ clauses_no_memory job c some from x = record {
     ended = λ is. absurd (never NoMemory c 0 from (λ e. omega arith) (λ e. omega arith) is);
     fault_only_where = λ is. absurd (never NoMemory c 2 from (λ e. omega arith) (λ e. omega arith) is);
     fault_everywhere = λ fault e. absurd (no_fault_of_nothing c fault x e);
-    unfinished = λ _ program _ complete. unbegun (run_of program job) some (subst (λ h. IsCompleteRun (run_of program job) h) x.no_entry complete);
+    unfinished = λ _ program _ complete. absurd (unbegun (run_of program job) (some job command) (subst (λ h. IsCompleteRun (run_of program job) h) x.no_entry complete));
   };
   completeness = λ nothing. absurd (nothing.memory (calm NoMemory c from nothing.err));
 }
@@ -229,11 +232,17 @@ faulted_not_cut before fault x y = let e = sym x ∙ y in cc
 memory_not_cut : (before : Ending) → before ≡ NoMemory → before ≡ CantWrite → ⊥
 memory_not_cut before x y = let e = sym x ∙ y in cc
 
+done_not_memory : (before : Ending) → before ≡ Done → before ≡ NoMemory → ⊥
+done_not_memory before x y = let e = sym x ∙ y in cc
+
+faulted_not_memory : (before : Ending) (fault : Fault) → before ≡ Faulted fault → before ≡ NoMemory → ⊥
+faulted_not_memory before fault x y = let e = sym x ∙ y in cc
+
 run_or_check : (mode : Mode) → mode ≡ Run → mode ≡ Check → ⊥
 run_or_check mode run check = let e = sym run ∙ check in cc
 
 -- the program was run
-clauses_ran : (before : Ending) (job : Job) (c : Call) → job.mode ≡ Run → IsCommand c job → StatusFrom before c → IsReadWhole job c → Ran job c.text c.out c.out_after c.history before → Clauses job c
+clauses_ran : (before : Ending) (job : Job) (c : Call) → job.mode ≡ Run → IsCommand c job → StatusFrom before c → IsReadWhole job c → Ran job (wanted job c.watchers) c.text c.out c.out_after c.history before → Clauses job c
 clauses_ran before job c mode command from whole x =
     let says = x.says in
     let only = x.compiled.only in
@@ -255,8 +264,8 @@ clauses_ran before job c mode command from whole x =
         checked = λ check. absurd (run_or_check job.mode mode check);
       };
       output = record {
-        done = λ is told. lines (done_not_cut before (done_at before c from is)) told;
-        faulted = λ is told. let f = faulted_at before c from is in lines (faulted_not_cut before f.0 f.1) told;
+        done = λ is told. all (done_not_cut before (done_at before c from is)) (done_not_memory before (done_at before c from is)) told;
+        faulted = λ is told. let f = faulted_at before c from is in all (faulted_not_cut before f.0 f.1) (faulted_not_memory before f.0 f.1) told;
         nothing_at_one = λ is. absurd (other 1 (λ e. omega arith) (λ e. omega arith) (λ e. omega arith) (λ e. omega arith) is);
         nothing_at_three = λ is. absurd (other 3 (λ e. omega arith) (λ e. omega arith) (λ e. omega arith) (λ e. omega arith) is);
         nothing_at_four = λ is. absurd (other 4 (λ e. omega arith) (λ e. omega arith) (λ e. omega arith) (λ e. omega arith) is);
@@ -264,8 +273,8 @@ clauses_ran before job c mode command from whole x =
         not_whole = λ j some cut. absurd (cut (subst (λ j. IsReadWhole j c) (job_same c job j command some) whole));
         no_program = λ h. absurd (h x.program x.compiled.has);
         checked = λ j some check. absurd (run_or_check job.mode mode (subst (λ k. k.mode ≡ Check) (job_same c j job some command) check));
-        failed = λ _ told p has. subst (λ q. GrewByFront c.out c.out_after (lines_of q c.history)) (sym (only p has)) (says.part told);
-        no_memory = λ is told. lines (memory_not_cut before (no_memory_at before c from is)) told;
+        failed = λ _ told. run_alone (λ j q. GrewByFront c.out c.out_after (output q c.history (wanted j c.watchers))) (says.part told);
+        no_memory = λ is told. run_alone (λ j q. WroteFew (run_of q j) (wanted j c.watchers) c.history c.out c.out_after) (says.few (no_memory_at before c from is) told);
       };
       alignment = record {
         done = λ _ p has. subst IsAligned (sym (only p has)) says.aligned;
@@ -277,15 +286,20 @@ clauses_ran before job c mode command from whole x =
         fault_everywhere = λ fault last. by_end
             (λ e. absurd (true_false (sym (fault_is_there c.history fault last) ∙ says.no_fault e)))
             (λ f. yields before c from (λ same. inl (same ∙ ap status_of f.1)) (λ y. elim y [
-              | inl six ↦ absurd (faulted_is_not_six f (no_memory_at before c from six))
-              | inr five ↦ inr five
+              | inl six ↦ absurd (faulted_not_memory before f.0 f.1 (no_memory_at before c from six))
+              | inr five ↦ inr (inl five)
             ]))
-            (λ e. absurd (says.unfinished e (inl (fault_is_there c.history fault last))))
+            (λ e.
+            let asked : WantsReport job c = says.unfinished e (inl (fault_is_there c.history fault last)) in
+            yields before c from (λ same. inr (inr (same ∙ ap status_of e, asked))) (λ y. elim y [
+              | inl six ↦ inr (inr (six, asked))
+              | inr five ↦ inr (inl five)
+            ]))
             (λ e. yields before c from
-            (λ same. inr (same ∙ ap status_of e, inl (says.rose e)))
+            (λ same. inr (inl (same ∙ ap status_of e, inl (says.rose e))))
             (λ y. elim y [
               | inl six ↦ absurd (memory_not_cut before (no_memory_at before c from six) e)
-              | inr five ↦ inr five
+              | inr five ↦ inr (inl five)
             ]));
         unfinished = λ is p has complete. says.unfinished (no_memory_at before c from is) (subst (λ q. IsCompleteRun (run_of q job) c.history) (only p has) complete);
       };
@@ -316,19 +330,21 @@ clauses_ran before job c mode command from whole x =
       | inr (inr (inr e)) ↦ k e
     ]
 
-    faulted_is_not_six : (fault : Fault) × (before ≡ Faulted fault) → before ≡ NoMemory → ⊥
-    faulted_is_not_six f e = let x = sym f.1 ∙ e in cc
-
     -- a status that no ending of a run has
     other : (n : ℕ) → (0 ≡ n → ⊥) → (2 ≡ n → ⊥) → (6 ≡ n → ⊥) → (5 ≡ n → ⊥) → c.status ≡ n → ⊥
     other n a b d e is = never before c n from (λ s. by_end (λ k. a (sym (ap status_of k) ∙ s)) (λ k. b (sym (ap status_of k.1) ∙ s)) (λ k. d (sym (ap status_of k) ∙ s)) (λ k. e (sym (ap status_of k) ∙ s))) e is
 
-    lines : (before ≡ CantWrite → ⊥) → c.out.tells ≡ true → WritesLines c
-    lines whole told p has = subst (λ q. GrewBy c.out c.out_after (lines_of q c.history)) (sym (x.compiled.only p has)) (x.says.lines whole told)
+    -- what holds of this job and this program holds of each that the call has
+    run_alone : (P : Job → ListedProgram → Type 0) → P job x.program → WhereRun c P
+    run_alone P it j some _ p has = subst (λ k. P k p) (job_same c job j command some) (subst (P job) (sym (x.compiled.only p has)) it)
+
+    all : (before ≡ CantWrite → ⊥) → (before ≡ NoMemory → ⊥) → c.out.tells ≡ true → WritesAll c
+    all whole there told = run_alone (λ j q. GrewBy c.out c.out_after (output q c.history (wanted j c.watchers))) (x.says.all whole there told)
 
 -- the text was checked, and has a program
-clauses_checked : (job : Job) (c : Call) → ((p : ListedProgram) → IsAligned p) → job.mode ≡ Check → 1 ≤ job.procs → StatusFrom Done c → IsReadWhole job c → WasChecked c.text c.out c.out_after c.history → Clauses job c
-clauses_checked job c aligned mode some from whole x =
+clauses_checked : (job : Job) (c : Call) → IsCommand c job → ((p : ListedProgram) → IsAligned p) → job.mode ≡ Check → 1 ≤ job.procs → StatusFrom Done c → IsReadWhole job c → WasChecked c.text c.out c.out_after c.history → Clauses job c
+clauses_checked job c command aligned mode some from whole x =
+    let unrun : (other : Job) → IsCommand c other → other.mode ≡ Run → ⊥ = λ other is run. run_or_check job.mode (subst (λ (k : Job). k.mode ≡ Run) (job_same c other job is command) run) mode in
     let accepted : AcceptedIn job.mode c.text = subst (λ m. AcceptedIn m c.text) (sym mode) x.accepted in
     let unrefused : (refusal : Refusal) → RefusalIn job.mode c.text refusal → ⊥ = λ refusal is. x.unrefused refusal (subst (λ m. RefusalIn m c.text refusal) mode is) in
     record {
@@ -341,7 +357,7 @@ clauses_checked job c aligned mode some from whole x =
         accepted_at_two = λ _. accepted;
       };
       run = run_nothing job c x.nothing;
-      output = output_nothing c x.nothing;
+      output = output_nothing c (λ _ other is run _ _. unrun other is run) (λ _ other is run _ _. unrun other is run) (λ _ other is run _ _. absurd (unrun other is run)) x.nothing;
       alignment = record { done = λ _ p _. aligned p; faulted = λ _ p _. aligned p };
       end = record {
         ended = λ _ run. absurd (run_or_check job.mode run mode);
@@ -366,7 +382,7 @@ record Commanded (before : Ending) (job : Job) (c : Call) : Type 0 where
   pub aligned : (p : ListedProgram) → IsAligned p
   pub work : WorkSays job before (work_of c)
 
-ends_text : (mode : Mode) (before : Ending) (job : Job) (c : Call) → TextSays mode before job c.text c.out c.out_after c.history → EndsAs Read.Whole before
+ends_text : (mode : Mode) (before : Ending) (job : Job) (c : Call) → TextSays mode before job (wanted job c.watchers) c.text c.out c.out_after c.history → EndsAs Read.Whole before
 ends_text Run Done job c says = (λ e. let x = e in cc, λ e. let x = e in cc)
 ends_text Run (Refused refusal) job c says = (λ e. let x = e in cc, λ e. let x = e in cc)
 ends_text Run (Faulted fault) job c says = (λ e. let x = e in cc, λ e. let x = e in cc)
@@ -392,11 +408,15 @@ pub record Told (before : Ending) (job : Job) (c : Call) : Type 0 where
   pub clauses : Clauses job c
   pub says : Says c before
 
+-- there is a process in each job that the words ask for
+each_has : (job : Job) (c : Call) → IsCommand c job → 1 ≤ job.procs → (other : Job) → IsCommand c other → 1 ≤ other.procs
+each_has job c command some other is = subst (λ (j : Job). 1 ≤ j.procs) (job_same c job other command is) some
+
 told_refused : (refusal : Refusal) (job : Job) (c : Call) → IsCommand c job → StatusFrom (Refused refusal) c → IsReadWhole job c → WasRefused job.mode c.text c.out c.out_after c.history refusal → Told (Refused refusal) job c
 told_refused refusal job c command from whole refused = record { clauses = clauses_refused refusal job c from whole refused; says = (job, command, record { whole = whole; refused = refused.is }) }
 
 told_text : (mode : Mode) (before : Ending) (job : Job) (c : Call) → job.mode ≡ mode → IsCommand c job → 1 ≤ job.procs → ((p : ListedProgram) → IsAligned p) → IsReadWhole job c
-    → TextSays mode before job c.text c.out c.out_after c.history → StatusFrom before c → Told before job c
+    → TextSays mode before job (wanted job c.watchers) c.text c.out c.out_after c.history → StatusFrom before c → Told before job c
 told_text Run Done job c mode command some aligned whole says from =
     record { clauses = clauses_ran Done job c mode command from whole says; says = (job, command, subst (λ m. AcceptedIn m c.text) (sym mode) (says.program, says.compiled.has)) }
 told_text Run (Refused refusal) job c mode command some aligned whole says from = told_refused refusal job c command from whole (subst (λ m. WasRefused m c.text c.out c.out_after c.history refusal) (sym mode) says)
@@ -405,15 +425,15 @@ told_text Run NoCommand job c mode command some aligned whole says from = absurd
 told_text Run CantRead job c mode command some aligned whole says from = absurd says
 told_text Run CantWrite job c mode command some aligned whole says from = record { clauses = clauses_ran CantWrite job c mode command from whole says; says = (job, command, says.says.rose refl) }
 told_text Run NoMemory job c mode command some aligned whole says from =
-    record { clauses = elim says [ inl nothing ↦ clauses_no_memory job c some from nothing | inr ran ↦ clauses_ran NoMemory job c mode command from whole ran ]; says = tt }
+    record { clauses = elim says [ inl nothing ↦ clauses_no_memory job c command (each_has job c command some) from nothing | inr ran ↦ clauses_ran NoMemory job c mode command from whole ran ]; says = tt }
 told_text Check Done job c mode command some aligned whole says from =
-    record { clauses = clauses_checked job c aligned mode some from whole says; says = (job, command, subst (λ m. AcceptedIn m c.text) (sym mode) says.accepted) }
+    record { clauses = clauses_checked job c command aligned mode some from whole says; says = (job, command, subst (λ m. AcceptedIn m c.text) (sym mode) says.accepted) }
 told_text Check (Refused refusal) job c mode command some aligned whole says from = told_refused refusal job c command from whole (subst (λ m. WasRefused m c.text c.out c.out_after c.history refusal) (sym mode) says)
 told_text Check (Faulted fault) job c mode command some aligned whole says from = absurd says
 told_text Check NoCommand job c mode command some aligned whole says from = absurd says
 told_text Check CantRead job c mode command some aligned whole says from = absurd says
 told_text Check CantWrite job c mode command some aligned whole says from = absurd says
-told_text Check NoMemory job c mode command some aligned whole says from = record { clauses = clauses_no_memory job c some from says; says = tt }
+told_text Check NoMemory job c mode command some aligned whole says from = record { clauses = clauses_no_memory job c command (each_has job c command some) from says; says = tt }
 
 told_file : (before : Ending) (end : ReadEnd) (job : Job) (c : Call) → IsCommand c job → 1 ≤ job.procs → ((p : ListedProgram) → IsAligned p) → ReadsWhole job.file c.source c.source_after c.text end → FileSays end before job (work_of c) → StatusFrom before c → Told before job c
 told_file before Read.Whole job c command some aligned read says from =
@@ -424,7 +444,7 @@ told_file before Read.CantRead job c command some aligned read says from =
     subst (λ b. Told b job c) (sym says.0) (record { clauses = clauses_cant_read job c from' cause says.1; says = (job, command, cause) })
 told_file before Read.NoMemory job c command some aligned read says from =
     let from' = subst (λ b. StatusFrom b c) says.0 from in
-    subst (λ b. Told b job c) (sym says.0) (record { clauses = clauses_no_memory job c some from' says.1; says = tt })
+    subst (λ b. Told b job c) (sym says.0) (record { clauses = clauses_no_memory job c command (each_has job c command some) from' says.1; says = tt })
 
 told : (before : Ending) (job : Job) (c : Call) → Commanded before job c → StatusFrom before c → Told before job c
 told before job c x from = told_file before x.work.end job c x.command x.some x.aligned x.work.read x.work.says from
@@ -484,14 +504,14 @@ beside_unread c some x from = record {
     no_history = λ _. x.nothing.no_entry;
   };
   text = λ job _. reads_nothing job c x from;
-  refusal = λ job command. (clauses_no_memory job c (some job command) from x.nothing).refusal;
-  run = λ job command. (clauses_no_memory job c (some job command) from x.nothing).run;
-  output = output_nothing c x.nothing;
+  refusal = λ job command. (clauses_no_memory job c command some from x.nothing).refusal;
+  run = λ job command. (clauses_no_memory job c command some from x.nothing).run;
+  output = output_nothing c (λ is. absurd (never NoMemory c 0 from (λ e. omega arith) (λ e. omega arith) is)) (λ is. absurd (never NoMemory c 2 from (λ e. omega arith) (λ e. omega arith) is)) (λ _ other is _ program _. unbegun (run_of program other) (some other is)) x.nothing;
   alignment = record {
     done = λ is. absurd (never NoMemory c 0 from (λ e. omega arith) (λ e. omega arith) is);
     faulted = λ is. absurd (never NoMemory c 2 from (λ e. omega arith) (λ e. omega arith) is);
   };
-  end = λ job command. (clauses_no_memory job c (some job command) from x.nothing).end;
+  end = λ job command. (clauses_no_memory job c command some from x.nothing).end;
 }
 
 -- the line of want of memory names no file

@@ -8,14 +8,16 @@ use Rattle.ti_io.specs.Sink.{SinkState}
 use Rattle.ti_rules.specs.LexicalRefusals.{most_bytes}
 use Rattle.ti_words.specs.declared.job.Job.{Job}
 use Rattle.ti_words.specs.Job.{job_of}
+use Rattle.ti_top.specs.Reports.{Watcher, wanted}
 
 -- at most so many bytes of a file are read: one more than a text may have
 abbrev pub most_read : ℕ
 most_read = most_bytes + 1
 
--- the words; the source and the sinks before and after the call; and the call's outcome
+-- the words and the watchers handed in; the source and the sinks before and after the call; and the call's outcome
 pub record Call : Type 0 where
   pub words : List (List ℕ)
+  pub watchers : List Watcher
   pub source : SourceState
   pub source_after : SourceState
   pub out : SinkState
@@ -60,3 +62,7 @@ SinkRose c = OutRose c ⊎ ErrRose c
 -- where the words or the text ask for a status, one of these may stand in its place: it ran out of memory, or a sink failed
 abbrev pub Yields : Call → Type 0
 Yields c = (c.status ≡ 6) ⊎ ((c.status ≡ 5) × SinkRose c)
+
+-- a watcher that was handed in is wanted
+abbrev pub WantsReport : Job → Call → Type 0
+WantsReport job c = wanted job c.watchers ≡ [] → ⊥

@@ -4,7 +4,6 @@ use Rattle.ti_io.specs.Source.{SameFiles, IsMissing, Holds}
 use Rattle.ti_io.specs.Sink.{IsFront, GrewBy, GrewByFront}
 use Rattle.ti_lang.specs.Listed.{ListedProgram}
 use Rattle.ti_lang.specs.Runs.{AllEnded, IsRun, IsSolo, IsComplete as IsCompleteRun}
-use Rattle.ti_lang.specs.Lines.{lines_of}
 use Rattle.ti_lang.specs.Alignment.{IsAligned}
 use Rattle.ti_rules.specs.declared.refusal.Refusal.{Refusal}
 use Rattle.ti_rules.specs.RefusalOf.{HasNone, HasListing}
@@ -17,7 +16,8 @@ use Rattle.ti_top.specs.Modes.{RefusalIn, AcceptedIn}
 use Rattle.ti_top.specs.Run.{EndsWithFault}
 use Rattle.ti_top.specs.Ending.{status_of, err_line}
 use Rattle.ti_top.specs.Run.{run_of}
-use Rattle.ti_top.specs.Call.{most_read, Call, IsCommand, IsNoCommand, file_of, SourceRose, OutRose, ErrRose, SinkRose, Yields}
+use Rattle.ti_top.specs.Reports.{wanted, output, WroteFew}
+use Rattle.ti_top.specs.Call.{most_read, Call, IsCommand, IsNoCommand, file_of, SourceRose, OutRose, ErrRose, SinkRose, Yields, WantsReport}
 
 -- The words: status 3 says that they are no command, and then nothing was read.
 pub record AnswersWords (c : Call) : Type 0 where
@@ -73,14 +73,18 @@ pub record KeepsRun (job : Job) (c : Call) : Type 0 where
   pub none : ((program : ListedProgram) → HasListing c.text program → ⊥) → c.history ≡ []
   pub checked : job.mode ≡ Check → c.history ≡ []
 
--- out grew by the lines of the history
-abbrev pub WritesLines : Call → Type 0
-WritesLines c = (program : ListedProgram) → HasListing c.text program → GrewBy c.out c.out_after (lines_of program c.history)
+-- this holds of the job and the listing wherever the text is to be run and has one
+abbrev pub WhereRun : Call → (Job → ListedProgram → Type 0) → Type 0
+WhereRun c P = (job : Job) → IsCommand c job → job.mode ≡ Run → (program : ListedProgram) → HasListing c.text program → P job program
+
+-- out grew by the lines of the history and the reports of all wanted watchers
+abbrev pub WritesAll : Call → Type 0
+WritesAll c = WhereRun c (λ job program. GrewBy c.out c.out_after (output program c.history (wanted job c.watchers)))
 
 -- The output: what out has taken in the call.
 pub record WritesOutput (c : Call) : Type 0 where
-  pub done : c.status ≡ 0 → c.out.tells ≡ true → WritesLines c
-  pub faulted : c.status ≡ 2 → c.out.tells ≡ true → WritesLines c
+  pub done : c.status ≡ 0 → c.out.tells ≡ true → WritesAll c
+  pub faulted : c.status ≡ 2 → c.out.tells ≡ true → WritesAll c
   pub nothing_at_one : c.status ≡ 1 → c.out_after.taken ≡ c.out.taken
   pub nothing_at_three : c.status ≡ 3 → c.out_after.taken ≡ c.out.taken
   pub nothing_at_four : c.status ≡ 4 → c.out_after.taken ≡ c.out.taken
@@ -89,10 +93,9 @@ pub record WritesOutput (c : Call) : Type 0 where
   pub no_program : ((program : ListedProgram) → HasListing c.text program → ⊥) → c.out_after.taken ≡ c.out.taken
   pub checked : (job : Job) → IsCommand c job → job.mode ≡ Check → c.out_after.taken ≡ c.out.taken
   -- a write to out or err failed
-  pub failed : c.status ≡ 5 → c.out.tells ≡ true → (program : ListedProgram) → HasListing c.text program
-      → GrewByFront c.out c.out_after (lines_of program c.history)
-  -- the lines of the kept history are written
-  pub no_memory : c.status ≡ 6 → c.out.tells ≡ true → WritesLines c
+  pub failed : c.status ≡ 5 → c.out.tells ≡ true → WhereRun c (λ job program. GrewByFront c.out c.out_after (output program c.history (wanted job c.watchers)))
+  -- the lines of the kept history are written, and whole reports
+  pub no_memory : c.status ≡ 6 → c.out.tells ≡ true → WhereRun c (λ job program. WroteFew (run_of program job) (wanted job c.watchers) c.history c.out c.out_after)
 
 -- Alignment: with status 0 or 2 the program of the text is aligned.
 pub record IsAlignedRun (c : Call) : Type 0 where
@@ -100,13 +103,13 @@ pub record IsAlignedRun (c : Call) : Type 0 where
   pub faulted : c.status ≡ 2 → (program : ListedProgram) → HasListing c.text program → IsAligned program
 
 -- The end: where the text is run, all processes have their end with status 0, and status 2 says that the last entry is a fault,
--- which the line on err names with its process and place; status 6 never comes with a complete history.
+-- which the line on err names with its process and place; status 6 never comes with a complete history, unless a watcher is wanted.
 pub record EndsRun (job : Job) (c : Call) : Type 0 where
   pub ended : c.status ≡ 0 → job.mode ≡ Run → (program : ListedProgram) → HasListing c.text program → AllEnded (run_of program job) c.history
   pub fault_only_where : c.status ≡ 2 → (job.mode ≡ Run) × ((fault : Fault) × EndsWithFault c.history fault)
-  -- a sink may fail
-  pub fault_everywhere : (fault : Fault) → EndsWithFault c.history fault → (c.status ≡ 2) ⊎ ((c.status ≡ 5) × SinkRose c)
-  pub unfinished : c.status ≡ 6 → (program : ListedProgram) → HasListing c.text program → IsCompleteRun (run_of program job) c.history → ⊥
+  -- a sink may fail, and memory for a wanted report
+  pub fault_everywhere : (fault : Fault) → EndsWithFault c.history fault → (c.status ≡ 2) ⊎ (((c.status ≡ 5) × SinkRose c) ⊎ ((c.status ≡ 6) × WantsReport job c))
+  pub unfinished : c.status ≡ 6 → (program : ListedProgram) → HasListing c.text program → IsCompleteRun (run_of program job) c.history → WantsReport job c
 
 -- What the command promises of everything but its line on err.
 pub record MeetsBesideErr (c : Call) : Type 0 where

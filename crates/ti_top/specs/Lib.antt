@@ -3,4 +3,5 @@ pub mod Clauses
 pub mod Ending
 pub mod Mirrors
 pub mod Modes
+pub mod Reports
 pub mod Run

@@ -5,6 +5,7 @@ pub mod Flattening
 pub mod Jobs
 pub mod Line
 pub mod Reading
+pub mod Reporting
 pub mod RunEnds
 pub mod Team
 pub mod Unbuilt

@@ -1,6 +1,7 @@
 // The whole command.
 ghost use Rattle.std.specs.Prelude.{◌≡◌, [], map, string_bytes};
 ghost use Rattle.ti_top.specs.Clauses.{Meets};
+ghost use Rattle.ti_top.specs.Reports.{Watcher};
 
 use crate::ending::{Ending, end_with};
 use crate::work::work;
@@ -8,6 +9,7 @@ use std::alloc::{AllocGlobal, Global};
 use ti_base::Entry;
 use ti_io::{Sink, Source};
 use ti_lang::aligned;
+use ti_watch::Watch;
 use ti_words::{WordsErr, read_words};
 
 /// What the command did.
@@ -39,8 +41,9 @@ impl Outcome {
 }
 
 /// The command of these words, those after the program's name: reads the file that they name, refuses
-/// its text or runs it, writes the lines of the run to `out`, and where it can't be done a line to `err`.
-/// In mode check it runs nothing and writes nothing to `out`.
+/// its text or runs it, writes the lines of the run to `out` and behind them the reports of the watchers
+/// whose flag is given, and where it can't be done a line to `err`. In mode check it runs nothing and writes
+/// nothing to `out`.
 ///
 /// The words are `--mode run` or `--mode check`, `--procs`, `--workers`, `--fuel`, each with a number, and
 /// `--trace` and `--stats`, each at most once, and a file's name; `docs/LANGUAGE.md` says their ranges. What
@@ -51,9 +54,11 @@ pub fn titan_top<R: AllocGlobal, S: Source, K: Sink>(
     source: &mut S,
     out: &mut K,
     err: &mut K,
+    watchers: Vec<Box<dyn Watch>>,
 ) -> Outcome
     ensures { Meets (record {
       words = map string_bytes words.now;
+      watchers = map {B = Watcher} (λ w. record { kind = kind_of w; told = told w }) watchers.items;
       source = S.state source.old;
       source_after = S.state source.new;
       out = K.state out.old;
@@ -76,7 +81,7 @@ pub fn titan_top<R: AllocGlobal, S: Source, K: Sink>(
             return Outcome::nothing(alloc, end_with(err, Ending::NoMemory, ""));
         }
     };
-    let worked = work(alloc, &job, source, out);
+    let worked = work(alloc, &job, source, out, watchers);
     let status = end_with(err, worked.ending, job.file.as_str());
     Outcome {
         status,

@@ -9,6 +9,7 @@ mod flatten;
 mod line;
 mod printing;
 mod reading;
+mod reports;
 mod run_line;
 mod runner;
 mod seat;

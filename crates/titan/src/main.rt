@@ -6,6 +6,7 @@ use std::io::{self, ErrorKind};
 use std::process::ExitCode;
 use ti_io::{FileSource, StdSink};
 use ti_top::titan_top;
+use ti_watch::{StatsWatch, TraceWatch, Watch};
 
 // The words after the program's name. Words of which one is no text are no command, as no words are.
 fn words_of(rt: &HostRuntime) -> io::Result<Vec<String>> {
@@ -21,13 +22,23 @@ fn words_of(rt: &HostRuntime) -> io::Result<Vec<String>> {
     Ok(words)
 }
 
+// The status of the command, with a trace and statistics as watchers. Where memory is wanting for the words or for these, nothing is written.
+fn run(rt: &HostRuntime) -> io::Result<u8> {
+    let alloc = rt.alloc();
+    let words = words_of(rt)?;
+    let mut watchers: Vec<Box<dyn Watch>> = Vec::new(alloc);
+    watchers.push(Box::new(alloc, TraceWatch::new(alloc))?)?;
+    watchers.push(Box::new(alloc, StatsWatch::new(alloc))?)?;
+    let mut source = FileSource::new(rt);
+    let mut out = StdSink::out(rt);
+    let mut err = StdSink::err(rt);
+    let outcome = titan_top(rt, &words, &mut source, &mut out, &mut err, watchers);
+    Ok(outcome.status)
+}
+
 fn main(rt: HostRuntime) -> ExitCode {
-    let Ok(words) = words_of(&rt) else {
-        return ExitCode::from(6);
-    };
-    let mut source = FileSource::new(&rt);
-    let mut out = StdSink::out(&rt);
-    let mut err = StdSink::err(&rt);
-    let outcome = titan_top(&rt, &words, &mut source, &mut out, &mut err);
-    ExitCode::from(outcome.status)
+    match run(&rt) {
+        Ok(status) => ExitCode::from(status),
+        Err(_) => ExitCode::from(6),
+    }
 }

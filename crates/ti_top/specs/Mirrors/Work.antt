@@ -1,17 +1,18 @@
 -- Nobody has to believe this: it mirrors code, and only contracts of private functions speak of it.
 -- What was done before the line on err, for each way in which it may end.
-use Rattle.std.specs.Prelude.{◌≡◌, ◌⊎◌, ℕ, ◌≤◌, true, false, List, [], Result, Ok, Err}
+use Rattle.std.specs.Prelude.{◌≡◌, ◌⊎◌, ℕ, ◌≤◌, true, false, List, [], ◌++◌}
 use Rattle.ti_base.specs.declared.entry.Entry.{Entry}
 use Rattle.ti_io.specs.Faults.{Rose}
 use Rattle.ti_io.specs.Source.{SourceState}
 use Rattle.ti_io.specs.Sink.{SinkState, GrewBy, GrewByFront}
 use Rattle.ti_lang.specs.Listed.{ListedProgram}
 use Rattle.ti_lang.specs.Runs.{AllEnded, IsComplete, IsRun, IsSolo, has_fault}
-use Rattle.ti_lang.specs.Lines.{lines_of}
 use Rattle.ti_lang.specs.Alignment.{IsAligned}
 use Rattle.ti_top.specs.declared.fault.Fault.{Fault}
 use Rattle.ti_top.specs.declared.reading.ReadEnd.{ReadEnd}
 use Rattle.ti_top.specs.declared.reading.ReadEnd.TheVariants as Read
+use Rattle.ti_top.specs.declared.reports.ReportEnd.{ReportEnd}
+use Rattle.ti_top.specs.declared.reports.ReportEnd.TheVariants as Report
 use Rattle.ti_top.specs.declared.runner.How.{How}
 use Rattle.ti_top.specs.declared.ending.Ending.{Ending}
 use Rattle.ti_top.specs.declared.ending.Ending.TheVariants.{Done, Refused, Faulted, NoCommand, CantRead, CantWrite, NoMemory}
@@ -22,11 +23,13 @@ use Rattle.ti_words.specs.declared.job.Mode.TheVariants.{Run, Check}
 use Rattle.ti_top.specs.Modes.{RefusalIn, AcceptedIn}
 use Rattle.ti_top.specs.Mirrors.Compiling.{IsUnrefused, HasNoListing, HasListingAlone}
 use Rattle.ti_top.specs.Call.{Call}
+use Rattle.ti_top.specs.Reports.{Watcher, wanted, output, WroteFew}
 use Rattle.ti_top.specs.Mirrors.Reading.{ReadsWhole}
 use Rattle.ti_top.specs.Run.{run_of, EndsWithFault}
 
--- the source and out before and after, what was read, and the entries of the run
+-- the watchers handed in, the source and out before and after, what was read, and the entries of the run
 pub record Work : Type 0 where
+  pub watchers : List Watcher
   pub source : SourceState
   pub source_after : SourceState
   pub out : SinkState
@@ -34,39 +37,65 @@ pub record Work : Type 0 where
   pub text : List ℕ
   pub history : List Entry
 
--- how the work ends, by how the run and the writing of its lines ended
-abbrev pub ending_of : {E : Type 0} → How → Result (Unit {0}) E → Ending
-ending_of How.Ended (Ok done) = Done
-ending_of (How.Faulted fault) (Ok done) = Faulted fault
-ending_of How.Memory (Ok done) = NoMemory
-ending_of how (Err e) = CantWrite
+-- how the work ends where all is written, by how the run ended
+abbrev pub ending_of : How → Ending
+ending_of How.Ended = Done
+ending_of (How.Faulted fault) = Faulted fault
+ending_of How.Memory = NoMemory
+
+-- how the work ends after reports that ended so
+abbrev pub ending_after : ReportEnd → Ending → Ending
+ending_after Report.Written ending = ending
+ending_after Report.CantWrite ending = CantWrite
+ending_after Report.NoMemory ending = NoMemory
+
+-- the lines of a run that ended so were written, and the reports of the first few of these watchers: where memory was wanting in the run, of none
+pub record WroteFewOf (how : How) (program : ListedProgram) (watchers : List Watcher) (history : List Entry) (out out_after : SinkState) : Type 0 where
+  pub few : List Watcher
+  pub others : List Watcher
+  pub first : few ++ others ≡ watchers
+  pub grew : GrewBy out out_after (output program history few)
+  pub none_of_cut : how ≡ How.Memory → few ≡ []
+  pub not_all : (how ≡ How.Memory → ⊥) → others ≡ [] → ⊥
+
+-- the lines of a run that ended so were written, and then the reports of these watchers, up to the first call that failed
+pub record WroteRun (how : How) (program : ListedProgram) (watchers : List Watcher) (history : List Entry) (out out_after : SinkState) (ending : Ending) : Type 0 where
+  pub never_falls : out.faults ≤ out_after.faults
+  pub tells : out_after.tells ≡ out.tells
+  pub known : (ending ≡ ending_of how) ⊎ (ending ≡ NoMemory) ⊎ (ending ≡ CantWrite)
+  pub rose : ending ≡ CantWrite → Rose out.faults out_after.faults
+  pub all : (ending ≡ CantWrite → ⊥) → (ending ≡ NoMemory → ⊥) → out.tells ≡ true → GrewBy out out_after (output program history watchers)
+  pub part : out.tells ≡ true → GrewByFront out out_after (output program history watchers)
+  pub needed : ending ≡ NoMemory → (how ≡ How.Memory → ⊥) → watchers ≡ [] → ⊥
+  pub few : ending ≡ NoMemory → out.tells ≡ true → WroteFewOf how program watchers history out out_after
 
 -- nothing was run and nothing written
 pub record RanNothing (out out_after : SinkState) (history : List Entry) : Type 0 where
   pub unwritten : out_after ≡ out
   pub no_entry : history ≡ []
 
--- the program was run, and its lines were written up to the first call that failed
-pub record RunSays (program : ListedProgram) (job : Job) (out out_after : SinkState) (history : List Entry) (ending : Ending) : Type 0 where
+-- the program was run, and its lines and the reports of these watchers were written up to the first call that failed
+pub record RunSays (program : ListedProgram) (job : Job) (watchers : List Watcher) (out out_after : SinkState) (history : List Entry) (ending : Ending) : Type 0 where
   pub aligned : IsAligned program
   pub run : IsRun (run_of program job) history
   pub solo : IsSolo (run_of program job) history
   pub ended : ending ≡ Done → AllEnded (run_of program job) history
   pub no_fault : ending ≡ Done → has_fault history ≡ false
   pub faulted : (fault : Fault) → ending ≡ Faulted fault → EndsWithFault history fault
-  pub unfinished : ending ≡ NoMemory → IsComplete (run_of program job) history → ⊥
+  pub unfinished : ending ≡ NoMemory → IsComplete (run_of program job) history → watchers ≡ [] → ⊥
   pub known : (ending ≡ Done) ⊎ ((fault : Fault) × (ending ≡ Faulted fault)) ⊎ (ending ≡ NoMemory) ⊎ (ending ≡ CantWrite)
   pub never_falls : out.faults ≤ out_after.faults
   pub tells : out_after.tells ≡ out.tells
   pub rose : ending ≡ CantWrite → Rose out.faults out_after.faults
-  pub lines : (ending ≡ CantWrite → ⊥) → out.tells ≡ true → GrewBy out out_after (lines_of program history)
-  pub part : out.tells ≡ true → GrewByFront out out_after (lines_of program history)
+  pub all : (ending ≡ CantWrite → ⊥) → (ending ≡ NoMemory → ⊥) → out.tells ≡ true → GrewBy out out_after (output program history watchers)
+  pub part : out.tells ≡ true → GrewByFront out out_after (output program history watchers)
+  pub few : ending ≡ NoMemory → out.tells ≡ true → WroteFew (run_of program job) watchers history out out_after
 
 -- so was the program of the text
-pub record Ran (job : Job) (text : List ℕ) (out out_after : SinkState) (history : List Entry) (ending : Ending) : Type 0 where
+pub record Ran (job : Job) (watchers : List Watcher) (text : List ℕ) (out out_after : SinkState) (history : List Entry) (ending : Ending) : Type 0 where
   pub program : ListedProgram
   pub compiled : HasListingAlone text program
-  pub says : RunSays program job out out_after history ending
+  pub says : RunSays program job watchers out out_after history ending
 
 -- the text is refused in a mode, and nothing was run
 pub record WasRefused (mode : Mode) (text : List ℕ) (out out_after : SinkState) (history : List Entry) (refusal : Refusal) : Type 0 where
@@ -81,14 +110,14 @@ pub record WasChecked (text : List ℕ) (out out_after : SinkState) (history : L
   pub nothing : RanNothing out out_after history
 
 -- what became of a text that was read whole and is to be run
-abbrev pub RunTextSays : Ending → Job → List ℕ → SinkState → SinkState → List Entry → Type 0
-RunTextSays Done job text out out_after history = Ran job text out out_after history Done
-RunTextSays (Refused refusal) job text out out_after history = WasRefused Run text out out_after history refusal
-RunTextSays (Faulted fault) job text out out_after history = Ran job text out out_after history (Faulted fault)
-RunTextSays CantWrite job text out out_after history = Ran job text out out_after history CantWrite
-RunTextSays NoMemory job text out out_after history = RanNothing out out_after history ⊎ Ran job text out out_after history NoMemory
-RunTextSays NoCommand job text out out_after history = ⊥
-RunTextSays CantRead job text out out_after history = ⊥
+abbrev pub RunTextSays : Ending → Job → List Watcher → List ℕ → SinkState → SinkState → List Entry → Type 0
+RunTextSays Done job watchers text out out_after history = Ran job watchers text out out_after history Done
+RunTextSays (Refused refusal) job watchers text out out_after history = WasRefused Run text out out_after history refusal
+RunTextSays (Faulted fault) job watchers text out out_after history = Ran job watchers text out out_after history (Faulted fault)
+RunTextSays CantWrite job watchers text out out_after history = Ran job watchers text out out_after history CantWrite
+RunTextSays NoMemory job watchers text out out_after history = RanNothing out out_after history ⊎ Ran job watchers text out out_after history NoMemory
+RunTextSays NoCommand job watchers text out out_after history = ⊥
+RunTextSays CantRead job watchers text out out_after history = ⊥
 
 -- what became of one that is to be checked
 abbrev pub CheckTextSays : Ending → List ℕ → SinkState → SinkState → List Entry → Type 0
@@ -98,13 +127,13 @@ CheckTextSays NoMemory text out out_after history = RanNothing out out_after his
 CheckTextSays ending text out out_after history = ⊥
 
 -- what became of a text that was read whole, in a mode
-abbrev pub TextSays : Mode → Ending → Job → List ℕ → SinkState → SinkState → List Entry → Type 0
-TextSays Run ending job text out out_after history = RunTextSays ending job text out out_after history
-TextSays Check ending job text out out_after history = CheckTextSays ending text out out_after history
+abbrev pub TextSays : Mode → Ending → Job → List Watcher → List ℕ → SinkState → SinkState → List Entry → Type 0
+TextSays Run ending job watchers text out out_after history = RunTextSays ending job watchers text out out_after history
+TextSays Check ending job watchers text out out_after history = CheckTextSays ending text out out_after history
 
 -- what a reading that ended so leads to
 abbrev pub FileSays : ReadEnd → Ending → Job → Work → Type 0
-FileSays Read.Whole ending job w = TextSays job.mode ending job w.text w.out w.out_after w.history
+FileSays Read.Whole ending job w = TextSays job.mode ending job (wanted job w.watchers) w.text w.out w.out_after w.history
 FileSays Read.CantRead ending job w = (ending ≡ CantRead) × RanNothing w.out w.out_after w.history
 FileSays Read.NoMemory ending job w = (ending ≡ NoMemory) × RanNothing w.out w.out_after w.history
 
@@ -117,6 +146,7 @@ pub record WorkSays (job : Job) (ending : Ending) (w : Work) : Type 0 where
 -- what was done in a call before the line on err
 abbrev pub work_of : Call → Work
 work_of c = record {
+  watchers = c.watchers;
   source = c.source;
   source_after = c.source_after;
   out = c.out;

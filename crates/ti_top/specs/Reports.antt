@@ -1,0 +1,50 @@
+-- The watchers of a call, and what they report.
+use Rattle.std.specs.Prelude.{◌≡◌, ℕ, ◌==◌, Bool, false, if◌then◌else◌, List, [], ◌++◌, filter, flat_map}
+use Rattle.ti_base.specs.declared.entry.Entry.{Entry}
+use Rattle.ti_io.specs.Sink.{SinkState, GrewBy}
+use Rattle.ti_lang.specs.Listed.{ListedProgram}
+use Rattle.ti_lang.specs.Lines.{lines_of}
+use Rattle.ti_lang.specs.Processes.{Setting}
+use Rattle.ti_lang.specs.Runs.{IsComplete}
+use Rattle.ti_watch.specs.Reports.{watch_text}
+use Rattle.ti_words.specs.declared.job.Job.{Job}
+
+-- a watcher, by its kind and the entries that it was told before the call
+pub record Watcher : Type 0 where
+  pub kind : ℕ
+  pub told : List Entry
+
+-- kind 0 is wanted by `--trace`, kind 1 by `--stats`, and no other kind is
+abbrev pub is_kind_wanted : Bool → Bool → ℕ → Bool
+is_kind_wanted trace stats kind = if kind == 0 then trace else if kind == 1 then stats else false
+
+-- whether a job wants a watcher
+abbrev pub is_wanted : Job → Watcher → Bool
+is_wanted job watcher = is_kind_wanted job.trace job.stats watcher.kind
+
+-- the watchers that a job wants, in their order
+abbrev pub wanted : Job → List Watcher → List Watcher
+wanted job watchers = filter (is_wanted job) watchers
+
+-- the report of a watcher that is told a history behind what it was told before
+abbrev pub report_of : List Entry → Watcher → List ℕ
+report_of history watcher = watch_text watcher.kind (watcher.told ++ history)
+
+-- the reports of watchers, one behind the other
+abbrev pub reports : List Watcher → List Entry → List ℕ
+reports watchers history = flat_map (report_of history) watchers
+
+-- what is written of a run: the lines of its history, and then the reports of watchers
+abbrev pub output : ListedProgram → List Entry → List Watcher → List ℕ
+output program history watchers = lines_of program history ++ reports watchers history
+
+-- the lines of a history were written, and the reports of the first few of these watchers
+pub record WroteFew (run : Setting) (watchers : List Watcher) (history : List Entry) (out out_after : SinkState) : Type 0 where
+  pub few : List Watcher
+  pub others : List Watcher
+  pub first : few ++ others ≡ watchers
+  pub grew : GrewBy out out_after (output run.program history few)
+  -- on a run that was cut short nobody reports
+  pub none_of_cut : (IsComplete run history → ⊥) → few ≡ []
+  -- on a complete run not all do
+  pub not_all : IsComplete run history → others ≡ [] → ⊥

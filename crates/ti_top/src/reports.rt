@@ -1,0 +1,122 @@
+// The watchers of a run, and their reports.
+ghost use Rattle.std.specs.Prelude.{◌≡◌, ◌++◌, ◌∷◌, [], map, OnOk, OnErr};
+ghost use Rattle.ti_io.specs.Sink.{Writes};
+ghost use Rattle.ti_watch.specs.Reports.{watch_text};
+ghost use Rattle.ti_top.specs.Reports.{Watcher, is_kind_wanted, wanted};
+ghost use Rattle.ti_top.specs.Mirrors.Reporting.{Reported};
+
+use std::alloc::Global;
+use ti_base::{Entry, Memory};
+use ti_io::{Failed, Sink, write_piece};
+use ti_watch::Watch;
+use ti_words::Job;
+
+/// How the writing of the reports ended.
+#[derive(Clone, Copy)]
+pub enum ReportEnd {
+    /// All are written.
+    Written,
+    /// A write or a flush failed.
+    CantWrite,
+    /// Out of memory.
+    NoMemory,
+}
+
+// Whether a watcher's flag is given.
+fn is_asked_for(watcher: &Box<dyn Watch>, trace: bool, stats: bool) -> bool
+    ensures { result ≡ is_kind_wanted trace stats (kind_of watcher.now) }
+{
+    match watcher.kind() {
+        0 => trace,
+        1 => stats,
+        _ => false,
+    }
+}
+
+/// Keeps the watchers whose flag is given, and drops the others.
+pub fn keep_wanted(watchers: &mut Vec<Box<dyn Watch>>, job: &Job)
+    ensures { map {B = Watcher} (λ w. record { kind = kind_of w; told = told w }) watchers.new.items ≡ wanted job.now (map {B = Watcher} (λ w. record { kind = kind_of w; told = told w }) watchers.old.items) }
+{
+    let trace = job.trace;
+    let stats = job.stats;
+    watchers.retain(
+        |w: &Box<dyn Watch>| -> bool
+            ensures { result ≡ is_kind_wanted trace stats (kind_of w.now) }
+        { is_asked_for(w, trace, stats) },
+    );
+}
+
+// Tells a watcher one entry, by what its trait says.
+fn see_one(watcher: &mut Box<dyn Watch>, entry: &Entry) -> Result<(), Memory>
+    ensures kind { kind_of watcher.new ≡ kind_of watcher.old }
+    ensures told { OnOk result (told watcher.new ≡ told watcher.old ++ entry.now ∷ []) }
+{
+    watcher.see(entry)
+}
+
+// Has a watcher report, by what its trait says.
+fn report_one(watcher: &Box<dyn Watch>, out: &mut Vec<u8>) -> Result<(), Memory>
+    ensures { OnOk result (out.new.items ≡ out.old.items ++ watch_text (kind_of watcher.now) (told watcher.now)) }
+{
+    watcher.report(out)
+}
+
+// Tells a watcher a history in its order.
+fn tell(watcher: &mut Box<dyn Watch>, history: &[Entry]) -> Result<(), Memory>
+    ensures kind { kind_of watcher.new ≡ kind_of watcher.old }
+    ensures told { OnOk result (told watcher.new ≡ told watcher.old ++ history.now) }
+{
+    'entries: for entry in history {
+        see_one(watcher, entry)?;
+    }
+    Ok(())
+}
+
+// Writes a report as one piece, and flushes out.
+fn write_text<K: Sink>(out: &mut K, text: &[u8]) -> Result<(), Failed>
+    ensures { Writes text.now (K.state out.old) (K.state out.new) result }
+{
+    write_piece(out, text)?;
+    out.flush()
+}
+
+// Tells a watcher the history, writes its report, and drops it.
+fn write_report<K: Sink>(
+    alloc: Global,
+    watcher: Box<dyn Watch>,
+    history: &[Entry],
+    out: &mut K,
+) -> ReportEnd
+    ensures { Reported (record { kind = kind_of watcher; told = told watcher } ∷ []) history.now (K.state out.old) (K.state out.new) result }
+{
+    let mut watcher = watcher;
+    if tell(&mut watcher, history).is_err() {
+        return ReportEnd::NoMemory;
+    }
+    let mut text = Vec::new(alloc);
+    if report_one(&watcher, &mut text).is_err() {
+        return ReportEnd::NoMemory;
+    }
+    match write_text(out, &text) {
+        Ok(()) => ReportEnd::Written,
+        Err(_) => ReportEnd::CantWrite,
+    }
+}
+
+/// Tells each watcher the history and writes its report, one after the other.
+pub fn write_reports<K: Sink>(
+    alloc: Global,
+    watchers: Vec<Box<dyn Watch>>,
+    history: &[Entry],
+    out: &mut K,
+) -> ReportEnd
+    ensures { Reported (map {B = Watcher} (λ w. record { kind = kind_of w; told = told w }) watchers.items) history.now (K.state out.old) (K.state out.new) result }
+{
+    'watchers: for watcher in watchers {
+        match write_report(alloc, watcher, history, out) {
+            ReportEnd::Written => {}
+            stopped => return stopped,
+        }
+    }
+    ReportEnd::Written
+}
