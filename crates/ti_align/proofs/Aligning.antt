@@ -28,7 +28,7 @@ use Rattle.ti_align.proofs.Ways.{Asked, asking, Meeting, Way, comings, answers_l
 use Rattle.ti_align.proofs.Ways as way
 use Rattle.ti_align.proofs.Vars.{true_false}
 use Rattle.ti_align.proofs.Fitting.{FineMethods}
-use Rattle.ti_align.proofs.Passing.{same_arrival, no_end}
+use Rattle.ti_align.proofs.Passing.{same_arrival, BothArrive, no_end}
 use Rattle.ti_align.proofs.Passing as passing
 use Rattle.ti_align.proofs.Running.{on_way, way_then, reach_way, at_action, Grows, still, acted, grows}
 use Rattle.ti_align.proofs.Arrived.{last_kind}
@@ -77,6 +77,17 @@ arrivals_agree s fine es w left i j k a b x y =
     let z = same_arrival s fine i j x.settled y.settled l.0 r.0 a.place b.place a.kind b.kind a.arg b.arg x.deposit y.deposit c.0 d.0 c.1 d.1 l.1 r.1
     (λ n q t g h. left i j n q t (l.3 n q g) (r.3 n t h)) (l.2 ∙ sym r.2) c.2 d.2 in
     arrival_same a b z.0 z.1 z.2 (x.single ∙ z.3 ∙ sym y.single)
+
+-- those who make them stand at one state of the slice
+pub both_arrive : (s : Setting) → FineMethods s.program s.program.methods → (es : List Entry) → IsRun s es → SameDepartures es → (i j k : ℕ) (a b : Arrival) (x : ArrivesAt s es i k a) (y : ArrivesAt s es j k b)
+    → BothArrive s x.settled y.settled
+both_arrive s fine es w left i j k a b x y =
+    let l = way_to s es i k a w x in
+    let r = way_to s es j k b w y in
+    let c = at_action (step x.settled) a.place (act.Arrive a.kind a.arg x.deposit) x.settles.stands in
+    let d = at_action (step y.settled) b.place (act.Arrive b.kind b.arg y.deposit) y.settles.stands in
+    passing.both_arrive s fine i j x.settled y.settled l.0 r.0 a.place b.place a.kind b.kind a.arg b.arg x.deposit y.deposit c.0 d.0 c.1 d.1 l.1 r.1
+    (λ n q t g h. left i j n q t (l.3 n q g) (r.3 n t h)) (l.2 ∙ sym r.2) c.2 d.2
 
 -- ---- ends
 

@@ -1,11 +1,15 @@
 -- The laws of every run of a checked program.
+use Rattle.std.specs.Prelude.{List}
 use Rattle.ti_lang.specs.Program.Classes.{NumberedProgram}
+use Rattle.ti_base.specs.declared.entry.Entry.{Entry}
 use Rattle.ti_lang.specs.Meaning.Processes.{Setting}
+use Rattle.ti_lang.specs.Meaning.Runs.{IsRun}
 use Rattle.ti_rules.specs.ProgramRefusals.{IsChecked}
 use Rattle.ti_align.specs.Alignment.{ArrivalsAgree, NoneAfterEnd, OfEveryRun}
 use Rattle.ti_align.specs.Stopping.{NoneWaits}
 use Rattle.ti_align.proofs.Aligning as aligning
 use Rattle.ti_align.proofs.Rounds.{same_departures}
+use Rattle.ti_align.proofs.Possible.{ThingsThere}
 use Rattle.ti_align.proofs.Stopping as stopping
 use Rattle.ti_align.proofs.Checked.{checked_fine}
 
@@ -21,5 +25,7 @@ none_after_end p c procs fuel es a b d e w =
     let fine = checked_fine p c in
     aligning.none_after_end s fine es w (same_departures s fine es w)
 
-pub none_waits : (p : NumberedProgram) → IsChecked p → OfEveryRun NoneWaits p
-none_waits p c procs fuel es a b d e w = stopping.none_waits (record { program = p; procs = procs; fuel = fuel }) es w (arrivals_agree p c procs fuel es a b d e w) (none_after_end p c procs fuel es a b d e w)
+pub none_waits : (p : NumberedProgram) → IsChecked p → ((s : Setting) (es : List Entry) → IsRun s es → ThingsThere s es) → OfEveryRun NoneWaits p
+none_waits p c there procs fuel es a b d e w =
+    let s : Setting = record { program = p; procs = procs; fuel = fuel } in
+    stopping.none_waits s es w (arrivals_agree p c procs fuel es a b d e w) (there s es w) (none_after_end p c procs fuel es a b d e w)

@@ -22,7 +22,7 @@ use Rattle.ti_align.specs.Heap.{FieldsStorable}
 use Rattle.ti_lang.specs.Meaning.Performing.{performed}
 use Rattle.ti_lang.specs.Meaning.Scoping as scoping
 use Rattle.ti_align.proofs.Stated.{work_fine}
-use Rattle.ti_align.specs.Work.{VariablesFit, has_dims, may_use, uses_of, scope_over, MethodsFit, ThisFits, WorksFit, MoveFits}
+use Rattle.ti_align.specs.Work.{VariablesFit, has_dims, may_use, uses_of, scope_over, MethodsFit, ThisFits, given_type, taken_type, WorksFit, MoveFits}
 use Rattle.ti_align.proofs.Vars.{true_false, and_left, and_right}
 use Rattle.ti_align.proofs.Operating.{none_some, some_same}
 use Rattle.ti_align.proofs.Evaluating.{mapped}
@@ -159,6 +159,6 @@ frame_env pr f left w vs this k = record {
 -- the first piece of work of a frame comes to a move that fits
 pub frame_fine : (pr : Process) (f : Frame) (left : List Work) (w : Things) (x : Work) → VariablesFit w f.variables → ThisFits w f.method f.this → FieldsFit pr.setting.program → FieldsStorable pr.setting.program → MethodsFit pr.setting.program pr.setting.program.methods
     → WorksFit pr.setting.program f.method (method_scope f.method) w (x ∷ left)
-    → Sound pr.setting.program (λ u move. MoveFits pr.setting.program f.method (scope_over pr.setting.program (method_scope f.method) left) u move) w (performed (env_of pr f left) x)
+    → Sound pr.setting.program (λ u move. MoveFits pr.setting.program f.method (given_type pr.setting.program (scope_over pr.setting.program (method_scope f.method) left) x) (taken_type x) (scope_over pr.setting.program (method_scope f.method) left) u move) w (performed (env_of pr f left) x)
 frame_fine pr f left w x vs this g d ms k =
     work_fine (scope_over pr.setting.program (method_scope f.method) left) (env_of pr f left) w (record { fits = frame_env pr f left w vs this k.1; variables = vs; fields = g; store = d; methods = ms }) x k.0

@@ -135,7 +135,7 @@ module _ (p : NumberedProgram) (m : NumberedMethod) where
 
   -- ---- a jump with effects
 
-  through : {A : Type 0} → (g : List Work → A) (z : A) (w : Work) (ws : List Work) → (g (w ∷ kept p m ws) ≡ g (kept p m ws)) → g (kept p m ws) ≡ z → g (kept p m (w ∷ ws)) ≡ z
+  pub through : {A : Type 0} → (g : List Work → A) (z : A) (w : Work) (ws : List Work) → (g (w ∷ kept p m ws) ≡ g (kept p m ws)) → g (kept p m ws) ≡ z → g (kept p m (w ∷ ws)) ≡ z
   through g z w ws k ih = go (work_acts p m ws w) refl
     where
       go : (b : Bool) → work_acts p m ws w ≡ b → g (kept p m (w ∷ ws)) ≡ z

@@ -17,6 +17,7 @@ pub mod Given
 pub mod Running
 pub mod Aligning
 pub mod Rounds
+pub mod Giving
 pub mod Possible
 pub mod Checked
 pub mod EveryRun
@@ -30,3 +31,4 @@ pub mod Performed
 pub mod Working
 pub mod Stated
 pub mod Framed
+pub mod Holding

@@ -19,7 +19,7 @@ use Rattle.ti_align.proofs.Ways as way
 use Rattle.ti_align.proofs.Vars.{true_false, if_true}
 use Rattle.ti_align.proofs.Fine.{kept_agrees}
 use Rattle.ti_align.proofs.Fitting.{FineMethods}
-use Rattle.ti_align.proofs.Stepping.{Leads, OkFrames, Ok, Kinds, KindsAt, kinds, begin_ok}
+use Rattle.ti_align.proofs.Stepping.{Leads, Acts, OkFrames, Ok, Kinds, KindsAt, kinds, begin_ok}
 use Rattle.ti_align.proofs.Asks.{work_alone}
 
 -- a way through the slice
@@ -248,6 +248,36 @@ same_arrival n fine i j p q ms ns at at' kind kind' arg arg' d d' v v' go go' x 
     let px = from_start n i i p ms fine x in
     let py = from_start n i j q ns fine y in
     at_one n (slice (begin n i)) p q ms ns at at' kind kind' arg arg' px py a c (arrival_facts n p at kind arg d v go px.0 e) (arrival_facts n q at' kind' arg' d' v' go' py.0 f)
+
+-- a process stands at an arrival
+pub record AtArrival (n : Setting) (q : Process) : Type 0 where
+  pub ok : Ok n q
+  pub leads : Leads n.program q.frames
+  pub acts : Acts n.program q.frames
+
+-- two processes stand at arrivals, at one state of the slice
+pub record BothArrive (n : Setting) (p q : Process) : Type 0 where
+  pub first : AtArrival n p
+  pub second : AtArrival n q
+  pub same : slice p ≡ slice q
+
+at_arrival : (n : Setting) (p : Process) (at : Place) (kind : CollKind) (arg : Option ℕ) (d : Deposit) (v : Asked) (go : Answer → Process) → Ok n p → step p ≡ At (asking at (act.Arrive kind arg d) v) go → AtArrival n p
+at_arrival n p at kind arg d v go o e = let k = kind_of n p (At (asking at (act.Arrive kind arg d) v) go) o e in record { ok = o; leads = k.5; acts = k.6 }
+
+-- at arrivals of one number all processes stand at one state of the slice
+pub both_arrive : (n : Setting) → FineMethods n.program n.program.methods → (i j : ℕ) (p q : Process) (ms ns : List Meeting) (at at' : Place) (kind kind' : CollKind) (arg arg' : Option ℕ) (d d' : Deposit) (v v' : Asked) (go go' : Answer → Process)
+    → Way (begin n i) ms p → Way (begin n j) ns q → SameAnswers ms ns → comings ms ≡ comings ns
+    → step p ≡ At (asking at (act.Arrive kind arg d) v) go → step q ≡ At (asking at' (act.Arrive kind' arg' d') v') go' → BothArrive n p q
+both_arrive n fine i j p q ms ns at at' kind kind' arg arg' d d' v v' go go' x y a c e f =
+    let px = from_start n i i p ms fine x in
+    let py = from_start n i j q ns fine y in
+    let k = arrival_facts n p at kind arg d v go px.0 e in
+    let l = arrival_facts n q at' kind' arg' d' v' go' py.0 f in
+    record {
+      first = at_arrival n p at kind arg d v go px.0 e;
+      second = at_arrival n q at' kind' arg' d' v' go' py.0 f;
+      same = (same_states n (slice (begin n i)) (slice p) (slice q) k.1 l.1 k.0 l.0 ms ns px.1 py.1 a c k.2 l.2).0;
+    }
 
 -- no process does its end as an action
 pub no_end : (n : Setting) → FineMethods n.program n.program.methods → (i : ℕ) (p : Process) (ms : List Meeting) (at : Place) (v : Asked) (go : Answer → Process) → Way (begin n i) ms p → step p ≡ At (asking at act.End v) go → ⊥

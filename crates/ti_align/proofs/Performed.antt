@@ -104,17 +104,18 @@ module _ (s : ScopeContents) (env : Env) where
   abbrev p : NumberedProgram
   p = env.program
 
-  abbrev pub Fine : Things → Asking Move → Type 0
-  Fine w m = Sound p (λ u move. MoveFits p env.method s u move) w m
+  -- the computation comes to a move that fits, where values of these types are handed in and are left to be taken
+  abbrev pub Fine : Option ValueType → Option ValueType → Things → Asking Move → Type 0
+  Fine handed untaken w m = Sound p (λ u move. MoveFits p env.method handed untaken s u move) w m
 
   -- an expression inside another
   pub inner_fine : (w : Things) → Ready s w env → (x : NumberedExp) (type : ValueType) → IsWritten (uses_of env.method) x → operand_type p s x ≡ Some type → Sound p (λ u h. IsOf u type h) w (eval env x)
   inner_fine w r x type k z = (eval_fine (uses_of env.method) s w env r.fits r.fields x k type z).sound
 
-  pub receives_fine : (w : Things) → Ready s w env → (receiver : Receiver) (type : ValueType) (right : Asking Held) → ReceiverFits p env.method s receiver type
-      → ((u : Things) → Grows w u → Sound p (λ x h. IsOf x type h) u right) → Fine w (receives env receiver right)
-  receives_fine w r receiver type right k q =
-      sound_then p (λ x vs. VariablesFit x vs) _ w (into env receiver right) _ (into_fine s w env r.fits r.fields r.store r.variables receiver type right k q) (λ u g vs y. sound_value p _ u _ (y, tt))
+  pub receives_fine : (handed untaken : Option ValueType) (w : Things) → Ready s w env → (receiver : Receiver) (type : ValueType) (right : Asking Held) → ReceiverFits p env.method s receiver type
+      → ((u : Things) → Grows w u → Sound p (λ x h. IsOf x type h) u right) → Fine handed untaken w (receives env receiver right)
+  receives_fine handed untaken w r receiver type right k q =
+      sound_then p (λ x vs. VariablesFit x vs) _ w (into env receiver right) _ (into_fine s w env r.fits r.fields r.store r.variables receiver type right k q) (λ u g vs y. sound_value p _ u _ (y, tt, tt))
 
   -- ---- calls
 
@@ -262,18 +263,18 @@ module _ (s : ScopeContents) (env : Env) where
       by Words z = sound_value p _ u _ tt
       by (Params params) z = bound_fine u (ready_stays s w u env g r) params 0 c.args k.types [] k.args z k.written tt
 
-  pub calling_fine : (w : Things) → Ready s w env → (receiver : Receiver) (c : Call) (type : ValueType) → CallFits w c type → ReceiverFits p env.method s receiver type → Fine w (calling env receiver c)
-  calling_fine w r receiver c type k q =
+  pub calling_fine : (handed untaken : Option ValueType) (w : Things) → Ready s w env → (receiver : Receiver) (c : Call) (type : ValueType) → CallFits w c type → ReceiverFits p env.method s receiver type → Fine handed untaken w (calling env receiver c)
+  calling_fine handed untaken w r receiver c type k q =
       sound_then p (λ u o. ObjectFits u c.method o) _ w (maybe_eval env c.object) _ k.object (λ u g o y.
       sound_then p (λ x vs. VariablesFit x vs) _ u (bound env (parameters_of c.method.params) c.args []) _ (params_fine w r c type k u g) (λ l i vs m.
       sound_then p (λ x this. ThisFits x c.method this) _ l (maybe_needed c.place o) _ (needed_this l c.place c.method o (object_stays u l c.method o i y)) (λ n j this h.
       sound_value p _ n _ (k.method, h, variables_stay l n vs j m, subst (ReceiverFits p env.method s receiver) (sym k.result) q))))
 
   -- a whole expression that goes to a receiver
-  pub whole_fine : (w : Things) → Ready s w env → (receiver : Receiver) (x : NumberedExp) (type : ValueType) → WholeFits p env.method s x type → is_void type ≡ false → ReceiverFits p env.method s receiver type
-      → Fine w (valued_or_called env receiver x (call.called env x))
-  whole_fine w r receiver x type k v q = by (called_or w r x type k)
+  pub whole_fine : (handed untaken : Option ValueType) (w : Things) → Ready s w env → (receiver : Receiver) (x : NumberedExp) (type : ValueType) → WholeFits p env.method s x type → is_void type ≡ false → ReceiverFits p env.method s receiver type
+      → Fine handed untaken w (valued_or_called env receiver x (call.called env x))
+  whole_fine handed untaken w r receiver x type k v q = by (called_or w r x type k)
     where
-      by : CalledOr w x type → Fine w (valued_or_called env receiver x (call.called env x))
-      by (inl c) = subst (λ o. Fine w (valued_or_called env receiver x o)) (sym c.1) (calling_fine w r receiver c.0 type c.2 q)
-      by (inr c) = subst (λ o. Fine w (valued_or_called env receiver x o)) (sym c.0) (receives_fine w r receiver type (eval env x) q (λ u g. inner_fine u (ready_stays s w u env g r) x type c.1 (c.2 v)))
+      by : CalledOr w x type → Fine handed untaken w (valued_or_called env receiver x (call.called env x))
+      by (inl c) = subst (λ o. Fine handed untaken w (valued_or_called env receiver x o)) (sym c.1) (calling_fine handed untaken w r receiver c.0 type c.2 q)
+      by (inr c) = subst (λ o. Fine handed untaken w (valued_or_called env receiver x o)) (sym c.0) (receives_fine handed untaken w r receiver type (eval env x) q (λ u g. inner_fine u (ready_stays s w u env g r) x type c.1 (c.2 v)))

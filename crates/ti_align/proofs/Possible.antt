@@ -27,7 +27,8 @@ use Rattle.ti_lang.specs.Meaning.Runs.{World, IsReady, CanTake, IsRun}
 use Rattle.ti_lang.specs.Meaning.Runs as run
 use Rattle.ti_lang.proofs.MeaningLaws.Running.{taker, history_grows}
 use Rattle.ti_align.specs.Alignment.{ArrivalsAgree}
-use Rattle.ti_align.specs.Stopping.{names_things}
+use Rattle.ti_align.specs.Stopping.{is_delete}
+use Rattle.ti_align.specs.Heap.{is_of_heap}
 use Rattle.ti_align.proofs.Ways.{asking, answers_at_departures, waiting, last_from}
 use Rattle.ti_align.proofs.Vars.{true_false, and_left, and_right}
 use Rattle.ti_align.proofs.Balance.{step_waits, balanced}
@@ -158,6 +159,10 @@ root_value procs root kind arg d k a f =
 exchange_value : (procs i : ℕ) (kind : CollKind) (arg : Option ℕ) (d : Deposit) → kind ≡ coll.Exchange → ArrivalFine procs i kind arg d → HasValue d
 exchange_value procs i kind arg d k f = subst (λ c. ArrivalFine procs i c arg d) k f
 
+-- what actions of the heap name is there, so that they are possible
+abbrev pub ThingsThere : Setting → List Entry → Type 0
+ThingsThere s es = (i : ℕ) (p : Process) (at : Place) (a : Action) → World s es i p → IsNext p (next.Act at a) → is_of_heap a ≡ true → heap_answer s.program (history_of es) i a ≡ Impossible → ⊥
+
 module _ (s : Setting) (es : List Entry) (w : IsRun s es) (agree : ArrivalsAgree s es) where
   come_to : (i n : ℕ) → arrivals i es ≡ suc n → (a : Arrival) × (arrival_at i (suc n) (history_of es) ≡ Some a)
   come_to i n c = there i n (history_of es) (less _ n (back i es ∙ c))
@@ -200,7 +205,7 @@ module _ (s : Setting) (es : List Entry) (w : IsRun s es) (agree : ArrivalsAgree
       (sym (ap (λ (z : Option Arrival). where_some z (λ (b : Arrival). departs s.program (history_of es) i b.kind b.arg)) last) ∙ o)
 
   -- the last arrival, by its kind
-  by_kind : (i : ℕ) (kind : CollKind) → last_kind i (history_of es) ≡ Some kind → (n : ℕ) × (a : Arrival) × (arrivals i (history_of es) ≡ suc n) × (arrival_at i (suc n) (history_of es) ≡ Some a) × (a.kind ≡ kind)
+  pub by_kind : (i : ℕ) (kind : CollKind) → last_kind i (history_of es) ≡ Some kind → (n : ℕ) × (a : Arrival) × (arrivals i (history_of es) ≡ suc n) × (arrival_at i (suc n) (history_of es) ≡ Some a) × (a.kind ≡ kind)
   by_kind i kind z = by (last_arrival i (history_of es)) refl z
     where
       none_kind : (k : CollKind) → ◌≡◌ {A = Option CollKind} None (Some k) → ⊥
@@ -235,22 +240,22 @@ module _ (s : Setting) (es : List Entry) (w : IsRun s es) (agree : ArrivalsAgree
       later : (aw ah ai bi d x n : ℕ) → aw ≡ ah → ai ≡ bi → bi ≡ d + x → x ≡ 0 → d ≤ ah → ai ≡ suc n → n < aw
       later aw ah ai bi d x n p q r t u v = omega arith
 
-  pub never : (i : ℕ) (p : Process) → World s es i p → (at : Place) (a : Action) → IsNext p (next.Act at a) → IsReady s es i (next.Act at a) → names_things a ≡ false → heap_answer s.program (history_of es) i a ≡ Impossible → ⊥
-  never i p v at act.Depart n r k o = depart_possible i p v at n r o
-  never i p v at (act.Take who) n r k o = take_possible i who p v at n o
-  never i p v at (act.Print literal value) n r k o = answered _ o
-  never i p v at act.End n r k o = answered _ o
-  never i p v at (act.Fault kind) n r k o = answered _ o
-  never i p v at (act.Arrive coll.Barrier arg d) n r k o = answered _ o
-  never i p v at (act.Arrive coll.Broadcast arg d) n r k o = answered _ o
-  never i p v at (act.Arrive coll.Exchange arg d) n r k o = answered _ o
-  never i p v at (act.Arrive coll.MakeRegion arg d) n r k o = answered _ o
-  never i p v at (act.Arrive coll.DeleteRegion arg d) n r k o = absurd (true_false k)
-  never i p v at (act.GetField obj field) n r k o = absurd (true_false k)
-  never i p v at (act.PutField obj field value) n r k o = absurd (true_false k)
-  never i p v at (act.NewObj class region) n r k o = absurd (true_false k)
-  never i p v at (act.NewGrid element domain region) n r k o = absurd (true_false k)
-  never i p v at (act.GetElem grid index) n r k o = absurd (true_false k)
-  never i p v at (act.PutElem grid index value) n r k o = absurd (true_false k)
-  never i p v at (act.MakeView grid how) n r k o = absurd (true_false k)
-  never i p v at (act.DomainOf grid) n r k o = absurd (true_false k)
+  pub never : ThingsThere s es → (i : ℕ) (p : Process) → World s es i p → (at : Place) (a : Action) → IsNext p (next.Act at a) → IsReady s es i (next.Act at a) → is_delete a ≡ false → heap_answer s.program (history_of es) i a ≡ Impossible → ⊥
+  never there i p v at act.Depart n r k o = depart_possible i p v at n r o
+  never there i p v at (act.Take who) n r k o = take_possible i who p v at n o
+  never there i p v at (act.Print literal value) n r k o = answered _ o
+  never there i p v at act.End n r k o = answered _ o
+  never there i p v at (act.Fault kind) n r k o = answered _ o
+  never there i p v at (act.Arrive coll.Barrier arg d) n r k o = answered _ o
+  never there i p v at (act.Arrive coll.Broadcast arg d) n r k o = answered _ o
+  never there i p v at (act.Arrive coll.Exchange arg d) n r k o = answered _ o
+  never there i p v at (act.Arrive coll.MakeRegion arg d) n r k o = answered _ o
+  never there i p v at (act.Arrive coll.DeleteRegion arg d) n r k o = absurd (true_false k)
+  never there i p v at (act.GetField obj field) n r k o = there i p at (act.GetField obj field) v n refl o
+  never there i p v at (act.PutField obj field value) n r k o = there i p at (act.PutField obj field value) v n refl o
+  never there i p v at (act.NewObj class region) n r k o = there i p at (act.NewObj class region) v n refl o
+  never there i p v at (act.NewGrid element domain region) n r k o = there i p at (act.NewGrid element domain region) v n refl o
+  never there i p v at (act.GetElem grid index) n r k o = there i p at (act.GetElem grid index) v n refl o
+  never there i p v at (act.PutElem grid index value) n r k o = there i p at (act.PutElem grid index value) v n refl o
+  never there i p v at (act.MakeView grid how) n r k o = there i p at (act.MakeView grid how) v n refl o
+  never there i p v at (act.DomainOf grid) n r k o = there i p at (act.DomainOf grid) v n refl o

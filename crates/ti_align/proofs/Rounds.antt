@@ -9,6 +9,7 @@ use Rattle.ti_base.specs.declared.action.Action.{Action}
 use Rattle.ti_base.specs.declared.action.Action.TheVariants as act
 use Rattle.ti_base.specs.declared.action.CollKind.{CollKind}
 use Rattle.ti_base.specs.declared.action.CollKind.TheVariants as coll
+use Rattle.ti_base.specs.declared.action.Deposit.{Deposit}
 use Rattle.ti_base.specs.declared.entry.Answer.{Answer}
 use Rattle.ti_base.specs.declared.entry.Answer.TheVariants.{Done, Val}
 use Rattle.ti_base.specs.declared.entry.Entry.{Entry}
@@ -104,7 +105,7 @@ departs_told program h i coll.Broadcast (Some root) r z = sent h i (arrivals i h
 departs_told program h i coll.MakeRegion arg r z = sym (answer_same _ _ z) ∙ ap (λ k. Val (v.Region k)) (made_all i h)
 departs_told program h i coll.DeleteRegion arg r z = leaves_done program h (arrivals i h) arg r z
 
-told_now : (program : NumberedProgram) (h : History) (i : ℕ) (r : Answer) → heap_answer program h i act.Depart ≡ Answers r → Told h i (arrivals i h) r
+pub told_now : (program : NumberedProgram) (h : History) (i : ℕ) (r : Answer) → heap_answer program h i act.Depart ≡ Answers r → Told h i (arrivals i h) r
 told_now program h i r z = by (last_arrival i h) refl z
   where
     by : (o : Option Arrival) → last_arrival i h ≡ o → where_some o (λ (a : Arrival). departs program h i a.kind a.arg) ≡ Answers r → Told h i (arrivals i h) r
@@ -153,7 +154,7 @@ depart_is _ k = absurd (true_false (sym k))
 
 -- ---- the answers to departures
 
-said : (program : NumberedProgram) (h : History) (e : Entry) → IsAnswered program (e ∷ h) → heap_answer program h e.proc e.act ≡ Answers e.answer
+pub said : (program : NumberedProgram) (h : History) (e : Entry) → IsAnswered program (e ∷ h) → heap_answer program h e.proc e.act ≡ Answers e.answer
 said program h e (heap.more w k) = k
 
 pub left_one : (i : ℕ) (p : Process) (wanted : Asked) (go : _) (c l : ℕ) (at : _) → step p ≡ At (asking at act.Depart wanted) go → c ≡ l + waiting p.wait → c ≡ suc l
@@ -260,7 +261,7 @@ arrival_is _ x h = absurd (none_arrival x h)
     none_arrival : (b : Arrival) → ◌≡◌ {A = Option Arrival} None (Some b) → ⊥
     none_arrival b h = cc
 
-extended : (s : Setting) (es all : List Entry) (e : Entry) (i k : ℕ) (a : aligned.Arrival) → all ≡ es ++ e ∷ [] → ArrivesAt s es i k a → ArrivesAt s all i k a
+unfoldable pub extended : (s : Setting) (es all : List Entry) (e : Entry) (i k : ℕ) (a : aligned.Arrival) → all ≡ es ++ e ∷ [] → ArrivesAt s es i k a → ArrivesAt s all i k a
 extended s es all e i k a z x = record {
   before = x.before;
   rest = x.rest ++ e ∷ [];
@@ -275,31 +276,32 @@ extended s es all e i k a z x = record {
   single = x.single;
 }
 
+-- a new arrival
+unfoldable pub arrives_now : (s : Setting) (es all : List Entry) (e : Entry) (i k : ℕ) (kind : CollKind) (arg : Option ℕ) (given : Deposit) (t : CanTake s es i e) → all ≡ es ++ e ∷ [] → e.act ≡ act.Arrive kind arg given → arrivals i es ≡ k
+    → ArrivesAt s all i k (record { place = e.place; kind = kind; arg = arg; single = single_part t.is_next.0 })
+arrives_now s es all e i k kind arg given t z is c =
+    let n : t.next ≡ next.Act e.place (act.Arrive kind arg given) = acts_as s es i t.next e t.entry (arrive_answered e (ap is_arrival is)) ∙ ap (next.Act e.place) is in
+    record {
+      before = es;
+      rest = [];
+      deposit = given;
+      answer = e.answer;
+      split = z ∙ ap (λ d. es ++ d ∷ []) (ap₂ (λ (p : ℕ) (b : Action). record { proc = p; place = e.place; act = b; answer = e.answer }) (taker s es i e t) is);
+      count = c;
+      process = t.process;
+      world = t.world;
+      settled = t.is_next.0;
+      settles = subst (Settles t.process t.is_next.0) n t.is_next.1;
+      single = refl;
+    }
+
 -- an arrival of the history, as one of the run
 abbrev Seen : Setting → List Entry → ℕ → ℕ → Arrival → Type 0
 Seen s es i k a = (x : aligned.Arrival) × ArrivesAt s es i k x × (x.kind ≡ a.kind) × (x.arg ≡ a.arg)
 
 seen_now : (s : Setting) (es all : List Entry) (e : Entry) (i k : ℕ) (a : Arrival) → CanTake s es i e → all ≡ es ++ e ∷ [] → is_arrival e.act ≡ true → arrival_in e.act ≡ Some a → arrivals i es ≡ k → Seen s all i k a
 seen_now s es all e i k a t z l y c =
-    let is = arrival_is e.act a y in
-    let n : t.next ≡ next.Act e.place (act.Arrive a.kind a.arg a.deposit) = acts_as s es i t.next e t.entry (arrive_answered e l) ∙ ap (next.Act e.place) is in (
-      record { place = e.place; kind = a.kind; arg = a.arg; single = single_part t.is_next.0 },
-      record {
-        before = es;
-        rest = [];
-        deposit = a.deposit;
-        answer = e.answer;
-        split = z ∙ ap (λ d. es ++ d ∷ []) (ap₂ (λ (p : ℕ) (b : Action). record { proc = p; place = e.place; act = b; answer = e.answer }) (taker s es i e t) is);
-        count = c;
-        process = t.process;
-        world = t.world;
-        settled = t.is_next.0;
-        settles = subst (Settles t.process t.is_next.0) n t.is_next.1;
-        single = refl;
-      },
-      refl,
-      refl,
-    )
+    (record { place = e.place; kind = a.kind; arg = a.arg; single = single_part t.is_next.0 }, arrives_now s es all e i k a.kind a.arg a.deposit t z (arrival_is e.act a y) c, refl, refl)
 
 one_less : (a b c : ℕ) → a ≡ suc b → a ≡ suc c → b ≡ c
 one_less a b c h k = omega arith

@@ -38,7 +38,7 @@ pub reach_way : (p q r : Process) (ns : List Meeting) → Reaches p q → Way q 
 reach_way p q r ns here y = y
 reach_way p q r ns (later e x) y = way.silent e (reach_way _ q r ns x y)
 
-after_more : (p q u : Process) (rs : List Answer) (at : Place) (a : Action) (w : Asked) (go : Answer → Process) (r : Answer) → After p rs q → Reaches q u → step u ≡ At (asking at a w) go → After p (rs ++ r ∷ []) (go r)
+pub after_more : (p q u : Process) (rs : List Answer) (at : Place) (a : Action) (w : Asked) (go : Answer → Process) (r : Answer) → After p rs q → Reaches q u → step u ≡ At (asking at a w) go → After p (rs ++ r ∷ []) (go r)
 after_more p q u [] at a w go r none y e = more y e none
 after_more p q u (x ∷ xs) at a w go r (more z f k) y e = more z f (after_more _ q u xs at a w go r k y e)
 

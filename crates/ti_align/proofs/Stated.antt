@@ -37,7 +37,7 @@ use Rattle.ti_lang.specs.Meaning.Performing.{declared_in, performed}
 use Rattle.ti_align.specs.Things.{Things, Grows, IsStorable, IsGridOf, IsPlaced, IsOf}
 use Rattle.ti_align.specs.Sound.{Sound, value, fault, asks}
 use Rattle.ti_align.specs.Fitting.{IsWritten}
-use Rattle.ti_align.specs.Work.{uses_of, is_form_of_call, WholeFits, StmFits, WorkFits}
+use Rattle.ti_align.specs.Work.{uses_of, is_form_of_call, WholeFits, StmFits, given_type, taken_type, WorkFits}
 use Rattle.ti_align.proofs.Vars.{true_false, and_left, and_right}
 use Rattle.ti_align.proofs.Computing
 use Rattle.ti_align.specs.Things
@@ -46,7 +46,7 @@ use Rattle.ti_align.proofs.Operating.{none_some, some_same, where_some, type_sam
 use Rattle.ti_align.proofs.Evaluating.{and_then, AllOfTypes, needed_fine, domain_fine, grid_in, not_object, eval_fine, all_fine}
 use Rattle.ti_align.proofs.Storing.{plain_is, variables_stay, without_fits}
 use Rattle.ti_align.proofs.Performed.{Ready, ready_stays, Fine, CalledOr, inner_fine, receives_fine, calling_fine, called_or}
-use Rattle.ti_align.proofs.Working.{points_fit, init_fine, print_fine, return_fine, before_fine, behind_fine, copied_fine, taken_fine, all_fit}
+use Rattle.ti_align.proofs.Working.{points_fit, init_fine, print_fine, return_fine, before_fine, behind_fine, copied_fine, taken_fine, all_fit, none_taken}
 
 -- what a computation that gives a value at once gives
 sound_gives : {A : Type 0} (p : NumberedProgram) (P : Things → A → Type 0) (w : Things) (a : A) → Sound p P w (gives a) → P w a
@@ -111,15 +111,19 @@ module _ (s : ScopeContents) (env : Env) where
   abbrev p : NumberedProgram
   p = env.program
 
+  -- the type of what is handed in at an exchange of this grid
+  abbrev exchanged : NumberedExp → Option ValueType
+  exchanged x = option_map element_of (operand_type p s x)
+
   -- the one argument
   one_held : (w : Things) (a : ValueType) (hs : List Held) → AllOfTypes w (a ∷ []) hs → IsOf w a (slice_index_or hs 0 nothing)
   one_held w a (h ∷ []) k = k.0
   one_held w a [] k = absurd k
   one_held w a (h ∷ i ∷ is) k = absurd k.1
 
-  copies_fine : (w : Things) → Ready s w env → (at : Place) (x : NumberedExp) (args : NumberedExps) (a u : ValueType) (ts : List ValueType) → member_type Copy a ts ≡ Some u → IsWritten (uses_of env.method) (e.Member at x 0 args) → operand_type p s x ≡ Some a → operands p s args ≡ Some ts
-      → Fine s env w (copies env at x args)
-  copies_fine w r at x args (t.Grid d n l) u (t.Grid c m i ∷ []) z k j q =
+  copies_fine : (handed untaken : Option ValueType) (w : Things) → Ready s w env → (at : Place) (x : NumberedExp) (args : NumberedExps) (a u : ValueType) (ts : List ValueType) → member_type Copy a ts ≡ Some u → IsWritten (uses_of env.method) (e.Member at x 0 args) → operand_type p s x ≡ Some a → operands p s args ≡ Some ts
+      → Fine s env handed untaken w (copies env at x args)
+  copies_fine handed untaken w r at x args (t.Grid d n l) u (t.Grid c m i ∷ []) z k j q =
       let same = and_left (same_type d c && (n == m)) _ (where_some _ t.Void u z).0 in
       let d_is : c ≡ d = sym (type_same d c (and_left (same_type d c) (n == m) same)) in
       let n_is : m ≡ n = sym (eqb-true n m (and_right (same_type d c) (n == m) same)) in
@@ -137,14 +141,15 @@ module _ (s : ScopeContents) (env : Env) where
       sound_value p _ f4 _ (
         variables_stay w f4 env.variables from_w r.variables,
         ((d, n, grid_stays f f4 d n to.thing all z, grid_stays f2 f4 d n from.thing (grows_then f2 f3 f4 v3 v4) z2, common_dims ((rect_of h3).dim == (rect_of h4).dim) n _ (subst (λ k. AllOf k (points_of (meet (rect_of h3) (rect_of h4)))) dims.0 (points_dim (meet (rect_of h3) (rect_of h4))))), tt),
+        tt,
       )))))))
-  copies_fine w r at x args _ u (y ∷ []) z k j q = absurd (true_false (sym (where_some _ t.Void u z).0))
-  copies_fine w r at x args _ u [] z k j q = absurd (none_some u z)
-  copies_fine w r at x args _ u (y ∷ y2 ∷ ys) z k j q = absurd (none_some u z)
+  copies_fine handed untaken w r at x args _ u (y ∷ []) z k j q = absurd (true_false (sym (where_some _ t.Void u z).0))
+  copies_fine handed untaken w r at x args _ u [] z k j q = absurd (none_some u z)
+  copies_fine handed untaken w r at x args _ u (y ∷ y2 ∷ ys) z k j q = absurd (none_some u z)
 
-  exchanges_fine : (w : Things) → Ready s w env → (at : Place) (x : NumberedExp) (args : NumberedExps) (a u : ValueType) (ts : List ValueType) → member_type Exchange a ts ≡ Some u → IsWritten (uses_of env.method) (e.Member at x 0 args) → operand_type p s x ≡ Some a → operands p s args ≡ Some ts
-      → Fine s env w (exchanges env at x args)
-  exchanges_fine w r at x args (t.Grid d n l) u (c ∷ []) z k j q =
+  exchanges_fine : (untaken : Option ValueType) (w : Things) → Ready s w env → (at : Place) (x : NumberedExp) (args : NumberedExps) (a u : ValueType) (ts : List ValueType) → member_type Exchange a ts ≡ Some u → IsWritten (uses_of env.method) (e.Member at x 0 args) → operand_type p s x ≡ Some a → operands p s args ≡ Some ts
+      → Fine s env (exchanged x) untaken w (exchanges env at x args)
+  exchanges_fine untaken w r at x args (t.Grid d n l) u (c ∷ []) z k j q =
       let can = and_left ((n == 1) && fits c d) _ (where_some _ t.Void u z).0 in
       let n_is : n ≡ 1 = eqb-true n 1 (and_left (n == 1) (fits c d) can) in
       let seen : type_of env x ≡ t.Grid d n l = (eval_fine (uses_of env.method) s w env r.fits r.fields x k.0 (t.Grid d n l) j).seen in
@@ -158,40 +163,40 @@ module _ (s : ScopeContents) (env : Env) where
       let of_to : element_of to.type ≡ element_of (type_of env x) = ap element_of z.0 in
       let held = of_stays b f2 c _ (grows_then b f f2 v v2) (one_held b c hs ys) in
       sound_guarded p _ f2 _ faults.ExchangeDomain at _ (
-        (element_of (type_of env x), tt, subst (λ d. IsOf f2 d (Plain (plain_of (as_type d (slice_index_or hs 0 nothing))))) (sym of) (plain_is f2 d _ grid.4 (as_fine p f2 c d _ grid.4 (and_right (n == 1) (fits c d) can) held)), tt, (of_to, tt)),
+        (d, tt, subst (λ b. IsOf f2 d (Plain (plain_of (as_type b (slice_index_or hs 0 nothing))))) (sym of) (plain_is f2 d _ grid.4 (as_fine p f2 c d _ grid.4 (and_right (n == 1) (fits c d) can) held)), ap (option_map element_of) j, refl, (ap Some (sym (of_to ∙ of)), tt)),
         (subst (λ d. IsGridOf f2 d 1 to.thing) (sym (of_to ∙ of)) (subst (λ n. IsGridOf f2 d n to.thing) n_is grid), tt),
       )))))
     where
       needed_typed : (w : Things) (at : Place) (through : ValueType) (h : Held) (d : ValueType) (n : ℕ) → ((id : _) → thing_of h ≡ Some id → IsGridOf w d n id) → Sound p (λ u (g : Reference). (g.type ≡ through) × IsGridOf u d n g.thing) w (needed at through h)
       needed_typed w at through h d n k = Computing.needed_as p w at through h (λ u id. IsGridOf u d n id) k
-  exchanges_fine w r at x args _ u (y ∷ []) z k j q = absurd (true_false (sym (where_some _ t.Void u z).0))
-  exchanges_fine w r at x args _ u [] z k j q = absurd (none_some u z)
-  exchanges_fine w r at x args _ u (y ∷ y2 ∷ ys) z k j q = absurd (none_some u z)
+  exchanges_fine untaken w r at x args _ u (y ∷ []) z k j q = absurd (true_false (sym (where_some _ t.Void u z).0))
+  exchanges_fine untaken w r at x args _ u [] z k j q = absurd (none_some u z)
+  exchanges_fine untaken w r at x args _ u (y ∷ y2 ∷ ys) z k j q = absurd (none_some u z)
 
-  deletes_fine : (w : Things) → Ready s w env → (at : Place) (x : NumberedExp) (a u : ValueType) (ts : List ValueType) → member_type Delete a ts ≡ Some u → IsWritten (uses_of env.method) x → operand_type p s x ≡ Some a → Fine s env w (deletes env at x)
-  deletes_fine w r at x t.Region u ts z k j =
+  deletes_fine : (handed untaken : Option ValueType) (w : Things) → Ready s w env → (at : Place) (x : NumberedExp) (a u : ValueType) (ts : List ValueType) → member_type Delete a ts ≡ Some u → IsWritten (uses_of env.method) x → operand_type p s x ≡ Some a → Fine s env handed untaken w (deletes env at x)
+  deletes_fine handed untaken w r at x t.Region u ts z k j =
       sound_then p (λ u h. IsOf u t.Region h) _ w (eval env x) _ (inner_fine s env w r x t.Region k j) (λ a g h y. sound_value p _ a _ (subst (IsPlaced a) (sym (ap region_of y.1)) y.2))
-  deletes_fine w r at x _ u ts z k j = absurd (none_some u z)
+  deletes_fine handed untaken w r at x _ u ts z k j = absurd (none_some u z)
 
   -- ---- statements that stand alone
 
   -- nothing is left of it
-  nowhere_fine : (w : Things) → Ready s w env → Fine s env w (receives env Nowhere (gives nothing))
-  nowhere_fine w r = receives_fine s env w r Nowhere t.Void (gives nothing) tt (λ u g. sound_value p _ u _ tt)
+  nowhere_fine : (handed untaken : Option ValueType) (w : Things) → Ready s w env → Fine s env handed untaken w (receives env Nowhere (gives nothing))
+  nowhere_fine handed untaken w r = receives_fine s env handed untaken w r Nowhere t.Void (gives nothing) tt (λ u g. sound_value p _ u _ tt)
 
-  member_fine : (w : Things) → Ready s w env → (at : Place) (a : NumberedExp) (name : ℕ) (args : NumberedExps) (u : ValueType) → call.called env (e.Member at a name args) ≡ None → (known p s (e.Member at a name args)).type ≡ Some u
+  member_fine : (untaken : Option ValueType) (w : Things) → Ready s w env → (at : Place) (a : NumberedExp) (name : ℕ) (args : NumberedExps) (u : ValueType) → call.called env (e.Member at a name args) ≡ None → (known p s (e.Member at a name args)).type ≡ Some u
       → IsWritten (uses_of env.method) (e.Member at a name args) → (is_void u ≡ false → operand_type p s (e.Member at a name args) ≡ Some u)
-      → Fine s env w (member_alone env at a args (receives env Nowhere (eval env (e.Member at a name args))) (member_called p (this_of env.method) a name))
-  member_fine w r at a name args u c z k o = by (operand_type p s a) refl (operands p s args) refl z
+      → Fine s env (exchanged a) untaken w (member_alone env at a args (receives env Nowhere (eval env (e.Member at a name args))) (member_called p (this_of env.method) a name))
+  member_fine untaken w r at a name args u c z k o = by (operand_type p s a) refl (operands p s args) refl z
     where
-      read : is_void u ≡ false → Fine s env w (receives env Nowhere (eval env (e.Member at a name args)))
-      read q = receives_fine s env w r Nowhere u (eval env (e.Member at a name args)) tt (λ x g. inner_fine s env x (ready_stays s w x env g r) (e.Member at a name args) u k (o q))
+      read : is_void u ≡ false → Fine s env (exchanged a) untaken w (receives env Nowhere (eval env (e.Member at a name args)))
+      read q = receives_fine s env (exchanged a) untaken w r Nowhere u (eval env (e.Member at a name args)) tt (λ x g. inner_fine s env x (ready_stays s w x env g r) (e.Member at a name args) u k (o q))
 
       done : (b : BuiltIn) (x : ValueType) (ts : List ValueType) → member_type b x ts ≡ Some u → operand_type p s a ≡ Some x → operands p s args ≡ Some ts
-          → Fine s env w (member_alone env at a args (receives env Nowhere (eval env (e.Member at a name args))) (Some b))
-      done Copy x ts z i j = copies_fine w r at a args x u ts z k i j
-      done Exchange x ts z i j = exchanges_fine w r at a args x u ts z k i j
-      done Delete x ts z i j = deletes_fine w r at a x u ts z k.0 i
+          → Fine s env (exchanged a) untaken w (member_alone env at a args (receives env Nowhere (eval env (e.Member at a name args))) (Some b))
+      done Copy x ts z i j = copies_fine (exchanged a) untaken w r at a args x u ts z k i j
+      done Exchange x ts z i j = exchanges_fine untaken w r at a args x u ts z k i j
+      done Delete x ts z i j = deletes_fine (exchanged a) untaken w r at a x u ts z k.0 i
       done Size x ts z i j = read (read_value Size x u ts refl z)
       done Min x ts z i j = read (read_value Min x u ts refl z)
       done Max x ts z i j = read (read_value Max x u ts refl z)
@@ -202,21 +207,21 @@ module _ (s : ScopeContents) (env : Env) where
       done Slice x ts z i j = read (read_value Slice x u ts refl z)
 
       other : (x : ValueType) (ts : List ValueType) → operand_type p s a ≡ Some x → operands p s args ≡ Some ts → is_object x ≡ false → option_and_then (λ (b : BuiltIn). member_type b x ts) (built_in p name) ≡ Some u
-          → Fine s env w (member_alone env at a args (receives env Nowhere (eval env (e.Member at a name args))) (member_called p (this_of env.method) a name))
+          → Fine s env (exchanged a) untaken w (member_alone env at a args (receives env Nowhere (eval env (e.Member at a name args))) (member_called p (this_of env.method) a name))
       other x ts i j n z =
           let q = and_then (λ (b : BuiltIn). member_type b x ts) (built_in p name) u z in
           let seen = (eval_fine (uses_of env.method) s w env r.fits r.fields a k.0 x i).seen in
-          subst (λ b. Fine s env w (member_alone env at a args (receives env Nowhere (eval env (e.Member at a name args))) b)) (sym (ap (λ b. if b then None else built_in p name) (not_object x (type_of env a) n seen) ∙ q.1))
+          subst (λ b. Fine s env (exchanged a) untaken w (member_alone env at a args (receives env Nowhere (eval env (e.Member at a name args))) b)) (sym (ap (λ b. if b then None else built_in p name) (not_object x (type_of env a) n seen) ∙ q.1))
           (done q.0 x ts q.2 i j)
 
       by : (x : Option ValueType) → operand_type p s a ≡ x → (y : Option (List ValueType)) → operands p s args ≡ y → (typing.member p x name y).type ≡ Some u
-          → Fine s env w (member_alone env at a args (receives env Nowhere (eval env (e.Member at a name args))) (member_called p (this_of env.method) a name))
+          → Fine s env (exchanged a) untaken w (member_alone env at a args (receives env Nowhere (eval env (e.Member at a name args))) (member_called p (this_of env.method) a name))
       by None i y j z = absurd (none_some u z)
       by (Some x) i None j z = absurd (none_some u z)
       by (Some (t.Class d l)) i (Some ts) j z = of (instance_method p d name) refl z
         where
           of : (m : Option _) → instance_method p d name ≡ m → (typing.called m (Some ts)).type ≡ Some u
-              → Fine s env w (member_alone env at a args (receives env Nowhere (eval env (e.Member at a name args))) (member_called p (this_of env.method) a name))
+              → Fine s env (exchanged a) untaken w (member_alone env at a args (receives env Nowhere (eval env (e.Member at a name args))) (member_called p (this_of env.method) a name))
           of None q z = absurd (none_some u z)
           of (Some m) q z =
               let seen = (eval_fine (uses_of env.method) s w env r.fits r.fields a k.0 (t.Class d l) i).seen in
@@ -232,57 +237,57 @@ module _ (s : ScopeContents) (env : Env) where
       by (Some t.Null) i (Some ts) j z = other t.Null ts i j refl z
       by (Some t.Void) i (Some ts) j z = other t.Void ts i j refl z
 
-  alone_fine : (w : Things) → Ready s w env → (x : NumberedExp) (u : ValueType) → WholeFits p env.method s x u → is_form_of_call x ≡ true → Fine s env w (alone env x (call.called env x))
-  alone_fine w r x u k f = by (called_or s env w r x u k)
+  alone_fine : (untaken : Option ValueType) (w : Things) → Ready s w env → (x : NumberedExp) (u : ValueType) → WholeFits p env.method s x u → is_form_of_call x ≡ true → Fine s env (given_type p s (Do (st.Call x))) untaken w (alone env x (call.called env x))
+  alone_fine untaken w r x u k f = by (called_or s env w r x u k)
     where
-      none : (x : NumberedExp) → WholeFits p env.method s x u → is_form_of_call x ≡ true → call.called env x ≡ None → IsWritten (uses_of env.method) x → (is_void u ≡ false → operand_type p s x ≡ Some u) → Fine s env w (alone env x None)
-      none (e.Call at method args) k f c i o = nowhere_fine w r
-      none (e.OwnCall at method args) k f c i o = nowhere_fine w r
-      none (e.Member at a name args) k f c i o = member_fine w r at a name args u c k.0 i o
+      none : (x : NumberedExp) → WholeFits p env.method s x u → is_form_of_call x ≡ true → call.called env x ≡ None → IsWritten (uses_of env.method) x → (is_void u ≡ false → operand_type p s x ≡ Some u) → Fine s env (given_type p s (Do (st.Call x))) untaken w (alone env x None)
+      none (e.Call at method args) k f c i o = nowhere_fine None untaken w r
+      none (e.OwnCall at method args) k f c i o = nowhere_fine None untaken w r
+      none (e.Member at a name args) k f c i o = member_fine untaken w r at a name args u c k.0 i o
       none _ k f c i o = absurd (true_false (sym f))
 
-      by : CalledOr s env w x u → Fine s env w (alone env x (call.called env x))
-      by (inl c) = subst (λ o. Fine s env w (alone env x o)) (sym c.1) (calling_fine s env w r Nowhere c.0 u c.2 tt)
-      by (inr c) = subst (λ o. Fine s env w (alone env x o)) (sym c.0) (none x k f c.0 c.1 c.2)
+      by : CalledOr s env w x u → Fine s env (given_type p s (Do (st.Call x))) untaken w (alone env x (call.called env x))
+      by (inl c) = subst (λ o. Fine s env (given_type p s (Do (st.Call x))) untaken w (alone env x o)) (sym c.1) (calling_fine s env (given_type p s (Do (st.Call x))) untaken w r Nowhere c.0 u c.2 tt)
+      by (inr c) = subst (λ o. Fine s env (given_type p s (Do (st.Call x))) untaken w (alone env x o)) (sym c.0) (none x k f c.0 c.1 c.2)
 
   -- ---- all statements
 
-  pub statement_fine : (w : Things) → Ready s w env → (x : NumberedStm) → StmFits p env.method s x → Fine s env w (statement env x)
-  statement_fine w r st.Empty k = sound_value p _ w _ (r.variables, tt)
-  statement_fine w r (st.Declare at type variable right) k = init_fine s env w r (Declared at (declared_as type variable)) right k.0 k.1 k.2
-  statement_fine w r (st.Assign at target right) k = init_fine s env w r (Assigned at target) right k.0 k.1 k.2
-  statement_fine w r (st.Update at op target x) k = init_fine s env w r (Updated at op target) (st.Value x) k.0 k.1 k.2
-  statement_fine w r (st.Step at op target) k = init_fine s env w r (Updated at _ target) (st.Value (e.Int at _)) t.Int ((refl, tt), refl) k
-  statement_fine w r (st.Call x) k = alone_fine w r x k.0 k.1 k.2
-  statement_fine w r (st.Print at what) k = print_fine s env w r at what k
-  statement_fine w r (st.Barrier at) k = sound_value p _ w _ ((t.Void, tt, tt, tt, tt), tt)
+  pub statement_fine : (w : Things) → Ready s w env → (x : NumberedStm) → StmFits p env.method s x → Fine s env (given_type p s (Do x)) None w (statement env x)
+  statement_fine w r st.Empty k = sound_value p _ w _ (r.variables, tt, tt)
+  statement_fine w r (st.Declare at type variable right) k = init_fine s env None w r (Declared at (declared_as type variable)) right k.0 k.1 k.2
+  statement_fine w r (st.Assign at target right) k = init_fine s env None w r (Assigned at target) right k.0 k.1 k.2
+  statement_fine w r (st.Update at op target x) k = init_fine s env None w r (Updated at op target) (st.Value x) k.0 k.1 k.2
+  statement_fine w r (st.Step at op target) k = init_fine s env None w r (Updated at _ target) (st.Value (e.Int at _)) t.Int ((refl, tt), refl) k
+  statement_fine w r (st.Call x) k = alone_fine None w r x k.0 k.1 k.2
+  statement_fine w r (st.Print at what) k = print_fine s env None None w r at what k
+  statement_fine w r (st.Barrier at) k = sound_value p _ w _ ((t.Void, tt, tt, tt, refl, tt), tt)
   statement_fine w r (st.Break at) k = sound_value p _ w _ tt
   statement_fine w r (st.Continue at) k = sound_value p _ w _ tt
-  statement_fine w r (st.Return at result) k = return_fine s env w r at result k
-  statement_fine w r (st.Block body) k = sound_value p _ w _ (r.variables, all_fit s env w body (End (st.Block body) ∷ []) k (tt, tt))
+  statement_fine w r (st.Return at result) k = return_fine s env None None w r at result k
+  statement_fine w r (st.Block body) k = sound_value p _ w _ (r.variables, all_fit s env w body (End (st.Block body) ∷ []) k (tt, tt), none_taken s env None body (End (st.Block body) ∷ []) tt)
   statement_fine w r (st.If at c x) k = sound_then p (λ u h. IsOf u t.Boolean h) _ w (eval env c) _ (inner_fine s env w r c t.Boolean k.0.0 k.0.1) (λ u g h y. by u g (truth_of h))
     where
-      by : (u : Things) → Grows w u → (b : Bool) → Fine s env u (gives (Goes env.variables (if b then Do x ∷ [] else [])))
-      by u g true = sound_value p _ u _ (variables_stay w u env.variables g r.variables, (k.1, tt))
-      by u g false = sound_value p _ u _ (variables_stay w u env.variables g r.variables, tt)
+      by : (u : Things) → Grows w u → (b : Bool) → Fine s env None None u (gives (Goes env.variables (if b then Do x ∷ [] else [])))
+      by u g true = sound_value p _ u _ (variables_stay w u env.variables g r.variables, (k.1, tt), tt)
+      by u g false = sound_value p _ u _ (variables_stay w u env.variables g r.variables, tt, tt)
   statement_fine w r (st.IfElse at c x y) k = sound_then p (λ u h. IsOf u t.Boolean h) _ w (eval env c) _ (inner_fine s env w r c t.Boolean k.0.0 k.0.1) (λ u g h z. by u g (truth_of h))
     where
-      by : (u : Things) → Grows w u → (b : Bool) → Fine s env u (gives (Goes env.variables (Do (if b then x else y) ∷ [])))
-      by u g true = sound_value p _ u _ (variables_stay w u env.variables g r.variables, (k.1, tt))
-      by u g false = sound_value p _ u _ (variables_stay w u env.variables g r.variables, (k.2, tt))
-  statement_fine w r (st.While at c body) k = sound_value p _ w _ (r.variables, ((k.0, tt, k.1), tt))
-  statement_fine w r (st.For at st.NoStm c update body) k = sound_value p _ w _ (r.variables, ((k.1, k.2, k.3), (tt, tt)))
-  statement_fine w r (st.For at (st.SomeStm x) c update body) k = sound_value p _ w _ (r.variables, (k.0, ((k.1, k.2, k.3), (tt, tt))))
+      by : (u : Things) → Grows w u → (b : Bool) → Fine s env None None u (gives (Goes env.variables (Do (if b then x else y) ∷ [])))
+      by u g true = sound_value p _ u _ (variables_stay w u env.variables g r.variables, (k.1, tt), tt)
+      by u g false = sound_value p _ u _ (variables_stay w u env.variables g r.variables, (k.2, tt), tt)
+  statement_fine w r (st.While at c body) k = sound_value p _ w _ (r.variables, ((k.0, tt, k.1), tt), tt)
+  statement_fine w r (st.For at st.NoStm c update body) k = sound_value p _ w _ (r.variables, ((k.1, k.2, k.3), (tt, tt)), tt)
+  statement_fine w r (st.For at (st.SomeStm x) c update body) k = sound_value p _ w _ (r.variables, (k.0, ((k.1, k.2, k.3), (tt, tt))), tt)
   statement_fine w r (st.Foreach at number domain body) k =
       let d = k.0.1.0 in
       sound_then p (λ u h. IsOf u d.0 h) _ w (eval env domain) _ (inner_fine s env w r domain d.0 d.1.0 d.1.1) (λ u g h y.
-      sound_value p _ u _ (variables_stay w u env.variables g r.variables, (((k.0.0, k.0.1, points_fit u d.0 k.0.0 h d.2 y), k.1), tt)))
+      sound_value p _ u _ (variables_stay w u env.variables g r.variables, (((k.0.0, k.0.1, points_fit u d.0 k.0.0 h d.2 y), k.1), tt), tt))
 
-  pub work_fine : (w : Things) → Ready s w env → (x : Work) → WorkFits p env.method s w x → Fine s env w (performed env x)
+  pub work_fine : (w : Things) → Ready s w env → (x : Work) → WorkFits p env.method s w x → Fine s env (given_type p s x) (taken_type x) w (performed env x)
   work_fine w r (Do x) k = statement_fine w r x k
-  work_fine w r (End x) k = sound_value p _ w _ (without_fits w (declared_in x) env.variables r.variables, tt)
-  work_fine w r (Before loop) k = before_fine s env w r loop k
-  work_fine w r (Behind loop) k = behind_fine s env w r loop k.0
-  work_fine w r (Receive receiver h) k = receives_fine s env w r receiver k.0 (gives h) k.2 (λ u g. sound_value p _ u _ (of_stays w u k.0 h g k.1))
-  work_fine w r (CopyAll at to from points) k = copied_fine s env w r at to from points k
-  work_fine w r (TakeAll at grid procs) k = taken_fine s env w r at grid procs k
+  work_fine w r (End x) k = sound_value p _ w _ (without_fits w (declared_in x) env.variables r.variables, tt, tt)
+  work_fine w r (Before loop) k = before_fine s env None None w r loop k
+  work_fine w r (Behind loop) k = behind_fine s env None None w r loop k.0
+  work_fine w r (Receive receiver h) k = receives_fine s env None None w r receiver k.0 (gives h) k.2 (λ u g. sound_value p _ u _ (of_stays w u k.0 h g k.1))
+  work_fine w r (CopyAll at to from points) k = copied_fine s env None None w r at to from points k
+  work_fine w r (TakeAll at grid procs) k = taken_fine s env None w r at grid procs k

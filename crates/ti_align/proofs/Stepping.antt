@@ -47,6 +47,15 @@ abbrev pub Leads : NumberedProgram → List Frame → Type 0
 Leads p [] = Unit {0}
 Leads p (g ∷ gs) = (g.method.is_single ≡ true) × (parts p g.method ≡ true) × Deep (jump_at p g.method g.left)
 
+-- what it does next has effects
+abbrev pub FirstActs : NumberedProgram → NumberedMethod → List Work → Type 0
+FirstActs p m [] = Unit {0}
+FirstActs p m (w ∷ left) = work_acts p m left w ≡ true
+
+abbrev pub Acts : NumberedProgram → List Frame → Type 0
+Acts p [] = Unit {0}
+Acts p (g ∷ gs) = FirstActs p g.method g.left
+
 abbrev pub OkFrame : NumberedProgram → Frame → List Frame → Type 0
 OkFrame p f below =
     FineMethod p f.method × (parts p f.method ≡ false → kept p f.method f.left ≡ []) × (is_single_receiver f.receiver ≡ true → has_single_result f.method ≡ true)
@@ -68,7 +77,7 @@ Ok n q = (q.setting ≡ n) × OkFrames n.program q.frames × OkWait n.program q.
 -- what an action means for the slice, which stands at s and makes the move m
 abbrev pub KindsAt : Setting → sl.Move → State → List Frame → Place → Action → (Answer → Process) → Type 0
 KindsAt n m s fs at (act.Arrive kind arg given) go =
-    (w : Wait) × (w.place ≡ at) × (w.kind ≡ kind) × (w.arg ≡ arg) × ((r : Answer) → (m ≡ Arrival w (slice (go r))) × Ok n (go r)) × Leads n.program fs
+    (w : Wait) × (w.place ≡ at) × (w.kind ≡ kind) × (w.arg ≡ arg) × ((r : Answer) → (m ≡ Arrival w (slice (go r))) × Ok n (go r)) × Leads n.program fs × Acts n.program fs
 KindsAt n m s fs at act.Depart go = (w : Wait) × (next : Answer → State) × (m ≡ Departure w next) × ((r : Answer) → (slice (go r) ≡ next r) × Ok n (go r))
 KindsAt n m s fs at act.End go = ⊥
 KindsAt n m s fs at _ go = (r : Answer) → (slice (go r) ≡ s) × Ok n (go r)
@@ -265,10 +274,10 @@ plain_move q f fs above m left (Deletes at region) hm e o w k t = absurd (t refl
 
 -- ---- moves with effects
 
-arrives_kind : (q : Process) (f : Frame) (fs above : List Frame) (s : State) (wait : Wait) (given : Deposit) (left behind : List Work) → Leads q.setting.program above → f.method.is_single ≡ true → parts q.setting.program f.method ≡ true → Deep (jump_at q.setting.program f.method left) → Frames q f fs
+arrives_kind : (q : Process) (f : Frame) (fs above : List Frame) (s : State) (wait : Wait) (given : Deposit) (left behind : List Work) → Leads q.setting.program above → Acts q.setting.program above → f.method.is_single ≡ true → parts q.setting.program f.method ≡ true → Deep (jump_at q.setting.program f.method left) → Frames q f fs
     → kept q.setting.program f.method (behind ++ left) ≡ kept q.setting.program f.method left → jump_at q.setting.program f.method (behind ++ left) ≡ jump_at q.setting.program f.method left → OkWorks q.setting.program f.method (behind ++ left)
     → Kinds q.setting (arrives_at (record (frame_part q.setting.program f) { left = kept q.setting.program f.method left } ∷ frame_parts q.setting.program fs) wait) s above (arrives q (record f { left = behind ++ left } ∷ fs) wait given)
-arrives_kind q f fs above s wait given left behind l b c d o k a w =
+arrives_kind q f fs above s wait given left behind l e b c d o k a w =
     kinds_ticks q.setting _ s above q wait.place _ (
       wait,
       refl,
@@ -280,18 +289,19 @@ arrives_kind q f fs above s wait given left behind l b c d o k a w =
         (refl, (w, (o.0.0, (λ z. absurd (true_false (sym c ∙ z))), o.0.2, o.0.3), o.1), (b, c, subst Deep (sym a) d), o.2),
       )),
       l,
+      e,
     )
 
-pub single_move : (q : Process) (f : Frame) (fs above : List Frame) (left : List Work) (mv n : Move) → Leads q.setting.program above → f.method.is_single ≡ true → parts q.setting.program f.method ≡ true → Deep (jump_at q.setting.program f.method left) → Frames q f fs → OkWorks q.setting.program f.method left
+pub single_move : (q : Process) (f : Frame) (fs above : List Frame) (left : List Work) (mv n : Move) → Leads q.setting.program above → Acts q.setting.program above → f.method.is_single ≡ true → parts q.setting.program f.method ≡ true → Deep (jump_at q.setting.program f.method left) → Frames q f fs → OkWorks q.setting.program f.method left
     → Agree q.setting.program f.method (kept q.setting.program f.method left) left → Fit q.setting.program f.method left f.variables true mv → Like q.setting.program f.method left mv n
     → Kinds q.setting (moves_to q.setting (frame_part q.setting.program f) (frame_parts q.setting.program fs) (kept q.setting.program f.method left) n) (slice q) above (moves q f fs left mv)
-single_move q f fs above left (Goes vs ws) n l b c d o w a t i =
+single_move q f fs above left (Goes vs ws) n l e b c d o w a t i =
     subst (λ x. Kinds q.setting (moves_to q.setting (frame_part q.setting.program f) (frame_parts q.setting.program fs) (kept q.setting.program f.method left) x) (slice q) above (moves q f fs left (Goes vs ws))) (sym i)
     (goes_kind q f fs above (slice q) vs (singles vs) (ws ++ left) _ b c o refl (kept_append q.setting.program f.method ws left a) t.0)
-single_move q f fs above left (Turns at vs ws) n l b c d o w a t i =
+single_move q f fs above left (Turns at vs ws) n l e b c d o w a t i =
     subst (λ x. Kinds q.setting (moves_to q.setting (frame_part q.setting.program f) (frame_parts q.setting.program fs) (kept q.setting.program f.method left) x) (slice q) above (moves q f fs left (Turns at vs ws))) (sym i)
     (kinds_ticks q.setting _ (slice q) above q at (To (spends (going q f fs vs (ws ++ left)))) (goes_kind q f fs above (slice q) vs (singles vs) (ws ++ left) _ b c o refl (kept_append q.setting.program f.method ws left a) t.0))
-single_move q f fs above left Breaks n l b c d o w a t i =
+single_move q f fs above left Breaks n l e b c d o w a t i =
     subst (λ x. Kinds q.setting (moves_to q.setting (frame_part q.setting.program f) (frame_parts q.setting.program fs) (kept q.setting.program f.method left) x) (slice q) above (moves q f fs left Breaks)) (sym i.0)
     (go (has_mark left) refl)
   where
@@ -300,7 +310,7 @@ single_move q f fs above left Breaks n l b c d o w a t i =
         let p = q.setting.program in
         (goes_kind q f fs above (slice q) (variables_at_mark left f.variables) _ (past_mark left) _ b c o (single_leaves p f.method left f.variables i.1) (single_break p f.method left i.1) (ok_past p f.method left w))
     go false h = absurd (none_true (sym (unmarked q.setting.program f.method left h) ∙ i.1))
-single_move q f fs above left Continues n l b c d o w a t i =
+single_move q f fs above left Continues n l e b c d o w a t i =
     subst (λ x. Kinds q.setting (moves_to q.setting (frame_part q.setting.program f) (frame_parts q.setting.program fs) (kept q.setting.program f.method left) x) (slice q) above (moves q f fs left Continues)) (sym i.0)
     (go (has_mark left) refl)
   where
@@ -309,7 +319,7 @@ single_move q f fs above left Continues n l b c d o w a t i =
         let p = q.setting.program in
         goes_kind q f fs above (slice q) (variables_at_mark left f.variables) _ (from_mark left) _ b c o (single_leaves p f.method left f.variables i.1) (single_continue p f.method left i.1) (ok_mark p f.method left w)
     go false h = absurd (none_true (sym (unmarked q.setting.program f.method left h) ∙ i.1))
-single_move q f fs above left (Calls at k this ps r) n l b c d o w a t i =
+single_move q f fs above left (Calls at k this ps r) n l e b c d o w a t i =
     let p = q.setting.program in
     let ok = callee_ok p k this ps r (record f { left = left } ∷ fs) t.0 t.1 (λ _. (b, c, d)) in
     subst (λ x. Kinds q.setting (moves_to q.setting (frame_part p f) (frame_parts p fs) (kept p f.method left) x) (slice q) above (moves q f fs left (Calls at k this ps r))) (sym i.0)
@@ -319,7 +329,7 @@ single_move q f fs above left (Calls at k this ps r) n l b c d o w a t i =
       (refl, (ok.0, ok.1, (w, (o.0.0, (λ z. absurd (true_false (sym c ∙ z))), o.0.2, o.0.3), o.1)), tt, o.2),
     )
     tt))
-single_move q f fs above left (Returns v) n l b c d o w a t i =
+single_move q f fs above left (Returns v) n l e b c d o w a t i =
     (inr (by i), (refl, pushed_ok q.setting.program f.receiver v fs (λ z. o.0.3 b) o.1, tt, o.2))
   where
     by : (n ≡ Returns v) ⊎ ((n ≡ Returns None) × (has_single_result f.method ≡ false)) → moves_to q.setting (frame_part q.setting.program f) (frame_parts q.setting.program fs) (kept q.setting.program f.method left) n ≡ Silent (still (frame_parts q.setting.program (handed f.receiver v fs)))
@@ -330,12 +340,12 @@ single_move q f fs above left (Returns v) n l b c d o w a t i =
         let r : is_single_receiver f.receiver ≡ false = not_true _ (λ k. true_false (sym (o.0.2 k) ∙ z.1)) in
         ap (moves_to q.setting (frame_part q.setting.program f) (frame_parts q.setting.program fs) (kept q.setting.program f.method left)) z.0
         ∙ ap (λ x. Silent (still x)) (if_false (is_single_receiver f.receiver) _ _ r ∙ sym (pushed_plain q.setting.program f.receiver v fs r))
-single_move q f fs above left (Meets wait given behind) n l b c d o w a t i =
+single_move q f fs above left (Meets wait given behind) n l e b c d o w a t i =
     subst (λ x. Kinds q.setting (moves_to q.setting (frame_part q.setting.program f) (frame_parts q.setting.program fs) (kept q.setting.program f.method left) x) (slice q) above (moves q f fs left (Meets wait given behind))) (sym i.1)
-    (arrives_kind q f fs above (slice q) wait given left behind l b c d o (kept_none q.setting.program f.method behind left i.2) i.3 t.0)
-single_move q f fs above left (Deletes at region) n l b c d o w a t i =
+    (arrives_kind q f fs above (slice q) wait given left behind l e b c d o (kept_none q.setting.program f.method behind left i.2) i.3 t.0)
+single_move q f fs above left (Deletes at region) n l e b c d o w a t i =
     subst (λ x. Kinds q.setting (moves_to q.setting (frame_part q.setting.program f) (frame_parts q.setting.program fs) (kept q.setting.program f.method left) x) (slice q) above (moves q f fs left (Deletes at region))) (sym i)
-    (arrives_kind q f fs above (slice q) (deleting at region) _ left [] l b c d o refl refl w)
+    (arrives_kind q f fs above (slice q) (deleting at region) _ left [] l e b c d o refl refl w)
 
 -- ---- steps
 
@@ -378,11 +388,12 @@ module _ (alone : (env : Env) (w : Work) (rest : List Answer) → Alone (perform
       let b : f.method.is_single ≡ true = plain_parts p f.method o.0.0 c in
       let a = kept_agrees p f.method left x.2 d in
       let l : Leads p (f ∷ fs) = (b, c, subst (λ i. Deep (jump_at p f.method i)) (sym z) (deep_on p f.method w left h d)) in
+      let e : Acts p (f ∷ fs) = subst (FirstActs p f.method) (sym z) h in
       subst (λ i. Kinds q.setting (certain (single_performed i w []) (moves_to q.setting (frame_part p f) (frame_parts p fs) (kept p f.method left))) (slice q) (f ∷ fs) (works q f fs (w ∷ left))) (sym (env_same q f left a))
       (valued_single q (f ∷ fs) (Fit p f.method left f.variables true) (Like p f.method left) (performed (env_of q f left) w q.answers) (single_performed (env_part (env_of q f left)) w []) (moves q f fs left) _ ok (alone (env_of q f left) w q.answers)
       (subst (λ i. Giving (Fit p f.method left f.variables i) (performed (env_of q f left) w q.answers)) h (work_fits q f left w q.answers x o.2))
       (work_single q f left w q.answers x o.2 h)
-      (λ mv n t i. single_move q f fs (f ∷ fs) left mv n l b c d o x.2 a t i))
+      (λ mv n t i. single_move q f fs (f ∷ fs) left mv n l e b c d o x.2 a t i))
 
   plain_work : (q : Process) (f : Frame) (fs : List Frame) (m : sl.Move) (w : Work) (left : List Work) → f.left ≡ w ∷ left → Moving q f fs m → slice q ≡ still (frame_parts q.setting.program (f ∷ fs)) → Ok q.setting q → OkWorks q.setting.program f.method (w ∷ left) → Frames q f fs → work_acts q.setting.program f.method left w ≡ false
       → Kinds q.setting m (slice q) (f ∷ fs) (works q f fs (w ∷ left))

@@ -17,13 +17,13 @@ use Rattle.ti_lang.specs.Meaning.HeapAnswers.{Outcome, Answers, Faults, Impossib
 use Rattle.ti_lang.specs.Meaning.Runs.{World, IsReady, CanTake, IsRun, entry_with, entry_of}
 use Rattle.ti_lang.proofs.MeaningLaws.Total.{next_some}
 use Rattle.ti_align.specs.Alignment.{ArrivalsAgree, NoneAfterEnd}
-use Rattle.ti_align.specs.Stopping.{names_things, IsImpossible, NoneWaits}
+use Rattle.ti_align.specs.Stopping.{is_delete, DeletesNothing, NoneWaits}
 use Rattle.ti_align.proofs.Ways.{answers_at_departures, waiting}
 use Rattle.ti_align.proofs.Balance.{balanced}
 use Rattle.ti_align.proofs.Running.{on_way, at_action}
 use Rattle.ti_align.proofs.Aligning.{way_next}
 use Rattle.ti_align.proofs.Rounds.{left_one}
-use Rattle.ti_align.proofs.Possible.{never}
+use Rattle.ti_align.proofs.Possible.{ThingsThere, never}
 
 -- departures are as many as their answers
 left_count : (i : ℕ) (es : List Entry) → length (answers_at_departures i es) ≡ departures i es
@@ -69,12 +69,12 @@ all_or_late s es d (suc n) l = by (all_or_late s es d n (less n _ l)) (nat_lt d 
 pub data Fate (s : Setting) (es : List Entry) (i : ℕ) : Type 0 where
   ended : has_end i es ≡ true → Fate s es i
   goes : (e : Entry) → CanTake s es i e → Fate s es i
-  stuck : IsImpossible s es i → Fate s es i
+  stuck : DeletesNothing s es i → Fate s es i
   waits : (j : ℕ) → j < s.procs → arrivals j es < arrivals i es → Fate s es i
 
 -- an action that needs to wait for nobody
-ready_fate : (s : Setting) (es : List Entry) (i : ℕ) → IsRun s es → ArrivalsAgree s es → i < s.procs → has_fault es ≡ false → has_end i es ≡ false → (p : Process) → World s es i p → (at : Place) (a : Action) → IsNext p (next.Act at a) → IsReady s es i (next.Act at a) → Fate s es i
-ready_fate s es i run agree l f u p w at a n r = by (heap_answer s.program (history_of es) i a) refl
+ready_fate : (s : Setting) (es : List Entry) (i : ℕ) → IsRun s es → ArrivalsAgree s es → ThingsThere s es → i < s.procs → has_fault es ≡ false → has_end i es ≡ false → (p : Process) → World s es i p → (at : Place) (a : Action) → IsNext p (next.Act at a) → IsReady s es i (next.Act at a) → Fate s es i
+ready_fate s es i run agree there l f u p w at a n r = by (heap_answer s.program (history_of es) i a) refl
   where
     entry : (o : Outcome) → heap_answer s.program (history_of es) i a ≡ o → entry_of s es i (next.Act at a) ≡ entry_with i at a o
     entry o z = ap (entry_with i at a) z
@@ -85,17 +85,17 @@ ready_fate s es i run agree l f u p w at a n r = by (heap_answer s.program (hist
     by : (o : Outcome) → heap_answer s.program (history_of es) i a ≡ o → Fate s es i
     by (Answers x) z = taken _ (entry _ z)
     by (Faults k) z = taken _ (entry _ z)
-    by Impossible z = named (names_things a) refl
+    by Impossible z = named (is_delete a) refl
       where
-        named : (b : Bool) → names_things a ≡ b → Fate s es i
-        named true k = stuck (record { within = l; unended = u; process = p; world = w; place = at; action = a; is_next = n; names = k; impossible = z })
-        named false k = absurd (never s es run agree i p w at a n r k z)
+        named : (b : Bool) → is_delete a ≡ b → Fate s es i
+        named true k = stuck (record { within = l; unended = u; process = p; world = w; place = at; action = a; is_next = n; deletes = k; impossible = z })
+        named false k = absurd (never s es run agree there i p w at a n r k z)
 
 earlier : (a d b : ℕ) → a ≡ suc d → b ≤ d → b < a
 earlier a d b h k = omega arith
 
-next_fate : (s : Setting) (es : List Entry) (i : ℕ) → IsRun s es → ArrivalsAgree s es → i < s.procs → has_fault es ≡ false → has_end i es ≡ false → (p : Process) → World s es i p → (n : Next) → IsNext p n → Fate s es i
-next_fate s es i run agree l f u p w (next.Act at act.Depart) n = by (all_or_late s es (departures i es) s.procs (same s.procs))
+next_fate : (s : Setting) (es : List Entry) (i : ℕ) → IsRun s es → ArrivalsAgree s es → ThingsThere s es → i < s.procs → has_fault es ≡ false → has_end i es ≡ false → (p : Process) → World s es i p → (n : Next) → IsNext p n → Fate s es i
+next_fate s es i run agree there l f u p w (next.Act at act.Depart) n = by (all_or_late s es (departures i es) s.procs (same s.procs))
   where
     same : (k : ℕ) → k ≤ k
     same k = omega arith
@@ -108,31 +108,31 @@ next_fate s es i run agree l f u p w (next.Act at act.Depart) n = by (all_or_lat
         (sym y.2 ∙ balanced s i n.0 y.0 y.1 ∙ ap (λ xs. length xs + waiting n.0.wait) y.3 ∙ ap (λ k. k + waiting n.0.wait) (left_count i es))
 
     by : ((j : ℕ) → j < s.procs → departures i es < arrivals j es) ⊎ IsLate s es (departures i es) → Fate s es i
-    by (inl r) = ready_fate s es i run agree l f u p w at act.Depart n r
+    by (inl r) = ready_fate s es i run agree there l f u p w at act.Depart n r
     by (inr x) = waits x.0 x.1 (earlier _ _ _ come x.2)
-next_fate s es i run agree l f u p w (next.Act at a) n = ready_fate s es i run agree l f u p w at a n tt
-next_fate s es i run agree l f u p w (next.End at) n =
+next_fate s es i run agree there l f u p w (next.Act at a) n = ready_fate s es i run agree there l f u p w at a n tt
+next_fate s es i run agree there l f u p w (next.End at) n =
     goes _ (record { within = l; goes_on = f; unended = u; process = p; world = w; next = next.End at; is_next = n; ready = tt; entry = refl })
-next_fate s es i run agree l f u p w (next.Fault k at) n =
+next_fate s es i run agree there l f u p w (next.Fault k at) n =
     goes _ (record { within = l; goes_on = f; unended = u; process = p; world = w; next = next.Fault k at; is_next = n; ready = tt; entry = refl })
 
-fate : (s : Setting) (es : List Entry) (i : ℕ) → IsRun s es → ArrivalsAgree s es → i < s.procs → has_fault es ≡ false → Fate s es i
-fate s es i run agree l f = go (has_end i es) refl
+fate : (s : Setting) (es : List Entry) (i : ℕ) → IsRun s es → ArrivalsAgree s es → ThingsThere s es → i < s.procs → has_fault es ≡ false → Fate s es i
+fate s es i run agree there l f = go (has_end i es) refl
   where
     go : (b : Bool) → has_end i es ≡ b → Fate s es i
     go true z = ended z
-    go false z = let o = on_way s es run i in let n = next_some o.process in next_fate s es i run agree l f z o.process o.world n.0 n.1
+    go false z = let o = on_way s es run i in let n = next_some o.process in next_fate s es i run agree there l f z o.process o.world n.0 n.1
 
 -- ---- all processes
 
-module _ (s : Setting) (es : List Entry) (run : IsRun s es) (agree : ArrivalsAgree s es) (after : NoneAfterEnd s es) (f : has_fault es ≡ false) (none : (i : ℕ) (e : Entry) → CanTake s es i e → ⊥) where
+module _ (s : Setting) (es : List Entry) (run : IsRun s es) (agree : ArrivalsAgree s es) (there : ThingsThere s es) (after : NoneAfterEnd s es) (f : has_fault es ≡ false) (none : (i : ℕ) (e : Entry) → CanTake s es i e → ⊥) where
   -- one that has come less than n times has its end, or something is impossible
-  reaches : (n i : ℕ) → i < s.procs → arrivals i es < n → (has_end i es ≡ true) ⊎ ((i : ℕ) × IsImpossible s es i)
+  reaches : (n i : ℕ) → i < s.procs → arrivals i es < n → (has_end i es ≡ true) ⊎ ((i : ℕ) × DeletesNothing s es i)
   reaches zero i l h = absurd (no _ h)
     where
       no : (a : ℕ) → a < 0 → ⊥
       no a h = absurd (omega arith)
-  reaches (suc n) i l h = by (fate s es i run agree l f) (λ j m k. reaches n j m k)
+  reaches (suc n) i l h = by (fate s es i run agree there l f) (λ j m k. reaches n j m k)
     where
       lower : (a b n : ℕ) → a < b → b < suc n → a < n
       lower a b n x y = omega arith
@@ -140,18 +140,18 @@ module _ (s : Setting) (es : List Entry) (run : IsRun s es) (agree : ArrivalsAgr
       not_both : (a b : ℕ) → a < b → b ≤ a → ⊥
       not_both a b x y = absurd (omega arith)
 
-      by : Fate s es i → ((j : ℕ) → j < s.procs → arrivals j es < n → (has_end j es ≡ true) ⊎ ((i : ℕ) × IsImpossible s es i)) → (has_end i es ≡ true) ⊎ ((i : ℕ) × IsImpossible s es i)
+      by : Fate s es i → ((j : ℕ) → j < s.procs → arrivals j es < n → (has_end j es ≡ true) ⊎ ((i : ℕ) × DeletesNothing s es i)) → (has_end i es ≡ true) ⊎ ((i : ℕ) × DeletesNothing s es i)
       by (ended z) ih = inl z
       by (goes e t) ih = absurd (none i e t)
       by (stuck x) ih = inr (i, x)
       by (waits j m k) ih = then (ih j m (lower _ _ n k h))
         where
-          then : (has_end j es ≡ true) ⊎ ((i : ℕ) × IsImpossible s es i) → (has_end i es ≡ true) ⊎ ((i : ℕ) × IsImpossible s es i)
+          then : (has_end j es ≡ true) ⊎ ((i : ℕ) × DeletesNothing s es i) → (has_end i es ≡ true) ⊎ ((i : ℕ) × DeletesNothing s es i)
           then (inl z) = absurd (not_both _ _ k (after j i m l z))
           then (inr x) = inr x
 
   -- all of the first processes
-  firsts : (n : ℕ) → n ≤ s.procs → ((i : ℕ) → i < n → has_end i es ≡ true) ⊎ ((i : ℕ) × IsImpossible s es i)
+  firsts : (n : ℕ) → n ≤ s.procs → ((i : ℕ) → i < n → has_end i es ≡ true) ⊎ ((i : ℕ) × DeletesNothing s es i)
   firsts zero l = inl (λ i h. absurd (no i h))
     where
       no : (a : ℕ) → a < 0 → ⊥
@@ -167,7 +167,7 @@ module _ (s : Setting) (es : List Entry) (run : IsRun s es) (agree : ArrivalsAgr
       own : (a : ℕ) → a < suc a
       own a = omega arith
 
-      by : ((i : ℕ) → i < n → has_end i es ≡ true) ⊎ ((i : ℕ) × IsImpossible s es i) → (has_end n es ≡ true) ⊎ ((i : ℕ) × IsImpossible s es i) → ((i : ℕ) → i < suc n → has_end i es ≡ true) ⊎ ((i : ℕ) × IsImpossible s es i)
+      by : ((i : ℕ) → i < n → has_end i es ≡ true) ⊎ ((i : ℕ) × DeletesNothing s es i) → (has_end n es ≡ true) ⊎ ((i : ℕ) × DeletesNothing s es i) → ((i : ℕ) → i < suc n → has_end i es ≡ true) ⊎ ((i : ℕ) × DeletesNothing s es i)
       by (inr x) y = inr x
       by (inl g) (inr x) = inr x
       by (inl g) (inl z) = inl (λ i h. each i (below i n h))
@@ -176,8 +176,8 @@ module _ (s : Setting) (es : List Entry) (run : IsRun s es) (agree : ArrivalsAgr
           each i (inl k) = g i k
           each i (inr k) = subst (λ m. has_end m es ≡ true) (sym k) z
 
-pub none_waits : (s : Setting) (es : List Entry) → IsRun s es → ArrivalsAgree s es → NoneAfterEnd s es → NoneWaits s es
-none_waits s es run agree after f none = firsts s es run agree after f none s.procs (same s.procs)
+pub none_waits : (s : Setting) (es : List Entry) → IsRun s es → ArrivalsAgree s es → ThingsThere s es → NoneAfterEnd s es → NoneWaits s es
+none_waits s es run agree there after f none = firsts s es run agree there after f none s.procs (same s.procs)
   where
     same : (k : ℕ) → k ≤ k
     same k = omega arith

@@ -1,5 +1,5 @@
 -- Each piece of work that fits comes to a move that fits.
-use Rattle.std.proofs.Common.{◌≡◌, ℕ, ◌==◌, Bool, true, false, inl, if◌then◌else◌, Option, Some, None, List, [], ◌∷◌, ◌++◌, refl, ap, sym, subst}
+use Rattle.std.proofs.Common.{◌≡◌, ℕ, ◌==◌, Bool, true, false, inl, if◌then◌else◌, option_map, Option, Some, None, List, [], ◌∷◌, ◌++◌, refl, ap, sym, subst}
 use Rattle.ti_base.specs.declared.place.Place.{Place}
 use Rattle.ti_base.specs.declared.value.Value.{Value}
 use Rattle.ti_base.specs.declared.fault.FaultKind.TheVariants as fault
@@ -34,7 +34,7 @@ use Rattle.ti_align.specs.Things.{Things, Grows, HasDims, IsPlaced, IsOf}
 use Rattle.ti_align.specs.Sound.{Sound}
 use Rattle.ti_align.specs.Work
 use Rattle.ti_lang.specs.Meaning.Processes
-use Rattle.ti_align.specs.Work.{VariablesFit, uses_of, scope_inside, scope_over, domain_written, IsInner, ReceiverFits, RegionFits, InitFits, PrintFits, ConditionFits, DomainFits, StmFits, MaybeFits, StmsFit, LoopFits, WorksFit}
+use Rattle.ti_align.specs.Work.{VariablesFit, uses_of, scope_inside, scope_over, domain_written, IsInner, ReceiverFits, RegionFits, InitFits, PrintFits, ConditionFits, DomainFits, StmFits, MaybeFits, StmsFit, LoopFits, given_at, TakesOf, WorksFit}
 use Rattle.ti_align.proofs.Computing.{grows_then, grid_stays, place_stays, of_stays, sound_then, sound_value, sound_guarded, sound_asked}
 use Rattle.ti_align.proofs.Operating.{some_same, none_some, seen_same, converted_fine, points_dim}
 use Rattle.ti_align.proofs.Evaluating.{eval_fine}
@@ -75,9 +75,9 @@ module _ (s : ScopeContents) (env : Env) where
   spread_fine w r at (st.Domain x) n k = inner_fine s env w r x (t.Rc n) k.0 k.1
   spread_fine w r at (st.Ranges ranges) n k = inner_fine s env w r (domain_written at (st.Ranges ranges)) (t.Rc n) k.0 k.1
 
-  made_fine : (w : Things) → Ready s w env → (receiver : Receiver) (type : ValueType) (new : Asking Held) → ReceiverFits p env.method s receiver type → Sound p (λ u h. IsOf u type h) w new → Fine s env w (made_first env receiver new)
-  made_fine w r receiver type new q k =
-      sound_then p (λ u h. IsOf u type h) _ w new _ k (λ u g h y. receives_fine s env u (ready_stays s w u env g r) receiver type (gives h) q (λ x j. sound_value p _ x _ (of_stays u x type h j y)))
+  made_fine : (handed untaken : Option ValueType) (w : Things) → Ready s w env → (receiver : Receiver) (type : ValueType) (new : Asking Held) → ReceiverFits p env.method s receiver type → Sound p (λ u h. IsOf u type h) w new → Fine s env handed untaken w (made_first env receiver new)
+  made_fine handed untaken w r receiver type new q k =
+      sound_then p (λ u h. IsOf u type h) _ w new _ k (λ u g h y. receives_fine s env handed untaken u (ready_stays s w u env g r) receiver type (gives h) q (λ x j. sound_value p _ x _ (of_stays u x type h j y)))
 
   -- ---- right sides
 
@@ -89,16 +89,16 @@ module _ (s : ScopeContents) (env : Env) where
       by true = sound_then p (λ u' h. IsOf u' u h) _ w (eval env x) _ (inner_fine s env w r x u k.0 k.1) (λ a g h y. sound_value p _ a _ (sent a u h z y))
       by false = sound_value p _ w _ tt
 
-  pub init_fine : (w : Things) → Ready s w env → (receiver : Receiver) (value : NumberedInit) (type : ValueType) → InitFits p env.method s value type → ReceiverFits p env.method s receiver type → Fine s env w (initialized env receiver value)
-  init_fine w r receiver (st.Value x) type k q = whole_fine s env w r receiver x type k.0 k.1 q
-  init_fine w r receiver (st.NewRegion at) type k q = sound_value p _ w _ ((type, q, tt, k, tt), tt)
-  init_fine w r receiver (st.NewObject at region class) type k q =
-      made_fine w r receiver type (new_object env at region class) q (subst (λ y. Sound p (λ u h. IsOf u y h) w (new_object env at region class)) (sym k.0) (
+  pub init_fine : (untaken : Option ValueType) (w : Things) → Ready s w env → (receiver : Receiver) (value : NumberedInit) (type : ValueType) → InitFits p env.method s value type → ReceiverFits p env.method s receiver type → Fine s env (given_at p s value) untaken w (initialized env receiver value)
+  init_fine untaken w r receiver (st.Value x) type k q = whole_fine s env None untaken w r receiver x type k.0 k.1 q
+  init_fine untaken w r receiver (st.NewRegion at) type k q = sound_value p _ w _ ((type, q, tt, k, tt, tt), tt)
+  init_fine untaken w r receiver (st.NewObject at region class) type k q =
+      made_fine None untaken w r receiver type (new_object env at region class) q (subst (λ y. Sound p (λ u h. IsOf u y h) w (new_object env at region class)) (sym k.0) (
       sound_then p (λ u r. IsPlaced u r) _ w (region_for env region) _ (region_fine w r region k.1) (λ u g i y.
       sound_asked p _ u (request at (act.NewObj class i) (NewThing (t.Class class true))) (k.2.0, k.2.1, y) (λ x j answer o. o))
       ))
-  init_fine w r receiver (st.NewGrid at region element dims_at dims) type k q =
-      made_fine w r receiver type (new_grid env at region element.type dims_at dims) q (subst (λ y. Sound p (λ u h. IsOf u y h) w (new_grid env at region element.type dims_at dims)) (sym k.1) (
+  init_fine untaken w r receiver (st.NewGrid at region element dims_at dims) type k q =
+      made_fine None untaken w r receiver type (new_grid env at region element.type dims_at dims) q (subst (λ y. Sound p (λ u h. IsOf u y h) w (new_grid env at region element.type dims_at dims)) (sym k.1) (
       sound_then p (λ u r. IsPlaced u r) _ w (region_for env region) _ (region_fine w r region k.2) (λ u g i y.
       sound_then p (λ u h. IsOf u (t.Rc k.0) h) _ u (spread env dims_at dims) _ (spread_fine u (ready_stays s w u env g r) dims_at dims k.0 k.3) (λ x j h o.
       let dims_are : HasDims k.0 (rect_of h) = subst (HasDims k.0) (sym (ap rect_of o.1)) o.2 in
@@ -107,27 +107,27 @@ module _ (s : ScopeContents) (env : Env) where
       (element.type, k.0, ap (λ n. NewThing (t.Grid element.type n true)) dims_are.0, refl, dims_are, fine, place_stays u x i j y, k.4)
       (λ z l answer c. c element.type k.0 (ap (λ n. NewThing (t.Grid element.type n true)) dims_are.0))))
       ))
-  init_fine w r receiver (st.Broadcast at x root) type k q =
+  init_fine untaken w r receiver (st.Broadcast at x root) type k q =
       sound_then p (λ u h. IsOf u t.Int h) _ w (eval env root) _ (inner_fine s env w r root t.Int k.3.0 k.3.1) (λ u g h y.
       sound_then p (λ u n. Unit {0}) _ u (root_among env.procs at h) _ (sound_guarded p _ u _ fault.BadRoot at _ tt) (λ a i n o.
       sound_then p (λ u given. Work.DepositFits u (as_global k.0) given) _ a (root_deposit env n x) _ (root_fine a (ready_stays s w a env (grows_then w u a g i) r) n x k.0 k.2 k.4) (λ b j given l.
-      sound_value p _ b _ ((as_global k.0, subst (ReceiverFits p env.method s receiver) k.1 q, l, tt, tt), tt))))
+      sound_value p _ b _ ((as_global k.0, subst (ReceiverFits p env.method s receiver) k.1 q, l, ap (option_map as_global) k.2.1, tt, tt), tt))))
 
   -- ---- prints
 
-  print_done : (w : Things) → Ready s w env → (at : Place) (literal : Option ℕ) (value : Option Value) → Fine s env w (prints env at literal value)
-  print_done w r at literal value =
-      sound_then p (λ u h. Unit {0}) _ w (asked (request at (act.Print literal value) ToBeDone)) _ (sound_asked p _ w (request at (act.Print literal value) ToBeDone) tt (λ u g answer o. tt)) (λ u g h y. sound_value p _ u _ (variables_stay w u env.variables g r.variables, tt))
+  print_done : (handed untaken : Option ValueType) (w : Things) → Ready s w env → (at : Place) (literal : Option ℕ) (value : Option Value) → Fine s env handed untaken w (prints env at literal value)
+  print_done handed untaken w r at literal value =
+      sound_then p (λ u h. Unit {0}) _ w (asked (request at (act.Print literal value) ToBeDone)) _ (sound_asked p _ w (request at (act.Print literal value) ToBeDone) tt (λ u g answer o. tt)) (λ u g h y. sound_value p _ u _ (variables_stay w u env.variables g r.variables, tt, tt))
 
-  pub print_fine : (w : Things) → Ready s w env → (at : Place) (what : NumberedPrint) → PrintFits p env.method s what → Fine s env w (printed env at what)
-  print_fine w r at st.Nothing k = print_done w r at None None
-  print_fine w r at (st.Text literal) k = print_done w r at (Some literal) None
-  print_fine w r at (st.Expression x) k = sound_then p (λ u h. IsOf u k.0 h) _ w (eval env x) _ (inner_fine s env w r x k.0 k.1.0 k.1.1) (λ u g h y. print_done u (ready_stays s w u env g r) at None (Some (plain_of h)))
-  print_fine w r at (st.TextAndExpression literal x) k = sound_then p (λ u h. IsOf u k.0 h) _ w (eval env x) _ (inner_fine s env w r x k.0 k.1.0 k.1.1) (λ u g h y. print_done u (ready_stays s w u env g r) at (Some literal) (Some (plain_of h)))
+  pub print_fine : (handed untaken : Option ValueType) (w : Things) → Ready s w env → (at : Place) (what : NumberedPrint) → PrintFits p env.method s what → Fine s env handed untaken w (printed env at what)
+  print_fine handed untaken w r at st.Nothing k = print_done handed untaken w r at None None
+  print_fine handed untaken w r at (st.Text literal) k = print_done handed untaken w r at (Some literal) None
+  print_fine handed untaken w r at (st.Expression x) k = sound_then p (λ u h. IsOf u k.0 h) _ w (eval env x) _ (inner_fine s env w r x k.0 k.1.0 k.1.1) (λ u g h y. print_done handed untaken u (ready_stays s w u env g r) at None (Some (plain_of h)))
+  print_fine handed untaken w r at (st.TextAndExpression literal x) k = sound_then p (λ u h. IsOf u k.0 h) _ w (eval env x) _ (inner_fine s env w r x k.0 k.1.0 k.1.1) (λ u g h y. print_done handed untaken u (ready_stays s w u env g r) at (Some literal) (Some (plain_of h)))
 
-  pub return_fine : (w : Things) → Ready s w env → (at : Place) (value : Option NumberedExp) → StmFits p env.method s (st.Return at value) → Fine s env w (returns env at value)
-  return_fine w r at None k = sound_value p _ w _ tt
-  return_fine w r at (Some x) k =
+  pub return_fine : (handed untaken : Option ValueType) (w : Things) → Ready s w env → (at : Place) (value : Option NumberedExp) → StmFits p env.method s (st.Return at value) → Fine s env handed untaken w (returns env at value)
+  return_fine handed untaken w r at None k = sound_value p _ w _ tt
+  return_fine handed untaken w r at (Some x) k =
       sound_then p (λ u h. IsOf u k.0 h) _ w (eval env x) _ (inner_fine s env w r x k.0 k.1.0 k.1.1) (λ u g h y.
       sound_then p (λ u h. IsOf u (result_type env.method) h) _ u (converted at (result_type env.method) h) _ (converted_fine p u at k.0 (result_type env.method) _ h k.2 (seen_same _) y) (λ a i j o. sound_value p _ a _ o))
 
@@ -137,43 +137,43 @@ module _ (s : ScopeContents) (env : Env) where
   condition_fine w r None k = sound_value p _ w _ (true, refl)
   condition_fine w r (Some c) k = inner_fine s env w r c t.Boolean k.0 k.1
 
-  pub before_fine : (w : Things) → Ready s w env → (loop : Loop) → LoopFits p env.method s loop → Fine s env w (before_turn env loop)
-  before_fine w r (While at c update body) k =
+  pub before_fine : (handed untaken : Option ValueType) (w : Things) → Ready s w env → (loop : Loop) → LoopFits p env.method s loop → Fine s env handed untaken w (before_turn env loop)
+  before_fine handed untaken w r (While at c update body) k =
       sound_then p (λ u h. IsOf u t.Boolean h) _ w (condition env c) _ (condition_fine w r c k.0) (λ u g h y. by u g (truth_of h))
     where
-      by : (u : Things) → Grows w u → (b : Bool) → Fine s env u (gives (if b then Turns at env.variables (Do body ∷ Behind (While at c update body) ∷ []) else Goes env.variables []))
-      by u g true = sound_value p _ u _ (variables_stay w u env.variables g r.variables, (k.2, ((k, tt), tt)))
-      by u g false = sound_value p _ u _ (variables_stay w u env.variables g r.variables, tt)
-  before_fine w r (Foreach at number domain [] body) k = sound_value p _ w _ (r.variables, tt)
-  before_fine w r (Foreach at number domain (q ∷ qs) body) k = sound_value p _ w _ (r.variables, (k.1, ((k, tt), tt)))
+      by : (u : Things) → Grows w u → (b : Bool) → Fine s env handed untaken u (gives (if b then Turns at env.variables (Do body ∷ Behind (While at c update body) ∷ []) else Goes env.variables []))
+      by u g true = sound_value p _ u _ (variables_stay w u env.variables g r.variables, (k.2, ((k, tt), tt)), tt)
+      by u g false = sound_value p _ u _ (variables_stay w u env.variables g r.variables, tt, tt)
+  before_fine handed untaken w r (Foreach at number domain [] body) k = sound_value p _ w _ (r.variables, tt, tt)
+  before_fine handed untaken w r (Foreach at number domain (q ∷ qs) body) k = sound_value p _ w _ (r.variables, (k.1, ((k, tt), tt)), tt)
 
-  pub behind_fine : (w : Things) → Ready s w env → (loop : Loop) → LoopFits p env.method s loop → Fine s env w (gives (Goes env.variables (update_of loop ++ Before (turned loop) ∷ [])))
-  behind_fine w r (While at c st.NoStm body) k = sound_value p _ w _ (r.variables, (k, tt))
-  behind_fine w r (While at c (st.SomeStm x) body) k = sound_value p _ w _ (r.variables, (k.1, (k, tt)))
-  behind_fine w r (Foreach at number domain [] body) k = sound_value p _ w _ (r.variables, (k, tt))
-  behind_fine w r (Foreach at number domain (q ∷ qs) body) k = sound_value p _ w _ (r.variables, (((k.0.0, k.0.1, k.0.2.1), k.1), tt))
+  pub behind_fine : (handed untaken : Option ValueType) (w : Things) → Ready s w env → (loop : Loop) → LoopFits p env.method s loop → Fine s env handed untaken w (gives (Goes env.variables (update_of loop ++ Before (turned loop) ∷ [])))
+  behind_fine handed untaken w r (While at c st.NoStm body) k = sound_value p _ w _ (r.variables, (k, tt), tt)
+  behind_fine handed untaken w r (While at c (st.SomeStm x) body) k = sound_value p _ w _ (r.variables, (k.1, (k, tt)), tt)
+  behind_fine handed untaken w r (Foreach at number domain [] body) k = sound_value p _ w _ (r.variables, (k, tt), tt)
+  behind_fine handed untaken w r (Foreach at number domain (q ∷ qs) body) k = sound_value p _ w _ (r.variables, (((k.0.0, k.0.1, k.0.2.1), k.1), tt), tt)
 
   -- ---- copies and exchanges
 
-  pub copied_fine : (w : Things) → Ready s w env → (at : Place) (to from : _) (points : _) → Work.WorkFits p env.method s w (CopyAll at to from points) → Fine s env w (copied env at to from points)
-  copied_fine w r at to from [] k = sound_value p _ w _ (r.variables, tt)
-  copied_fine w r at to from (q ∷ qs) k =
+  pub copied_fine : (handed untaken : Option ValueType) (w : Things) → Ready s w env → (at : Place) (to from : _) (points : _) → Work.WorkFits p env.method s w (CopyAll at to from points) → Fine s env handed untaken w (copied env at to from points)
+  copied_fine handed untaken w r at to from [] k = sound_value p _ w _ (r.variables, tt, tt)
+  copied_fine handed untaken w r at to from (q ∷ qs) k =
       sound_then p (λ u h. IsOf u k.0 h) _ w (asked (request_through from at (act.GetElem from.thing q) (ValueOf _))) _
       (sound_asked p _ w (request_through from at (act.GetElem from.thing q) (ValueOf _)) (k.0, k.1, k.3, k.4.0) (λ u g answer o. o k.0 k.1 (grid_stays w u k.0 k.1 from.thing g k.3))) (λ u g h y.
       sound_then p (λ u h. Unit {0}) _ u (asked (request_through to at (act.PutElem to.thing q (plain_of h)) ToBeDone)) _
       (sound_asked p _ u (request_through to at (act.PutElem to.thing q (plain_of h)) ToBeDone) (k.0, k.1, grid_stays w u k.0 k.1 to.thing g k.2, k.4.0, plain_is u k.0 h k.2.4 y) (λ a i answer o. tt)) (λ a i j o.
       let all = grows_then w u a g i in
-      sound_value p _ a _ (variables_stay w a env.variables all r.variables, ((k.0, k.1, grid_stays w a k.0 k.1 to.thing all k.2, grid_stays w a k.0 k.1 from.thing all k.3, k.4.1), tt))))
+      sound_value p _ a _ (variables_stay w a env.variables all r.variables, ((k.0, k.1, grid_stays w a k.0 k.1 to.thing all k.2, grid_stays w a k.0 k.1 from.thing all k.3, k.4.1), tt), tt)))
 
-  pub taken_fine : (w : Things) → Ready s w env → (at : Place) (grid : _) (procs : List ℕ) → Work.WorkFits p env.method s w (TakeAll at grid procs) → Fine s env w (taken env at grid procs)
-  taken_fine w r at grid [] k = sound_value p _ w _ (r.variables, tt)
-  taken_fine w r at grid (i ∷ is) k =
+  pub taken_fine : (handed : Option ValueType) (w : Things) → Ready s w env → (at : Place) (grid : _) (procs : List ℕ) → Work.WorkFits p env.method s w (TakeAll at grid procs) → Fine s env handed (Some (element_of grid.type)) w (taken env at grid procs)
+  taken_fine handed w r at grid [] k = sound_value p _ w _ (r.variables, tt, tt)
+  taken_fine handed w r at grid (i ∷ is) k =
       let a = element_of grid.type in
       sound_then p (λ u h. IsOf u a h) _ w (asked (request at (act.Take i) (ValueOf a))) _ (sound_asked p _ w (request at (act.Take i) (ValueOf a)) tt (λ u g answer o. o a refl)) (λ u g h y.
       sound_then p (λ u h. Unit {0}) _ u (asked (request_through grid at (act.PutElem grid.thing (element_at i) (plain_of h)) ToBeDone)) _
       (sound_asked p _ u (request_through grid at (act.PutElem grid.thing (element_at i) (plain_of h)) ToBeDone) (a, 1, grid_stays w u a 1 grid.thing g k, refl, plain_is u a h k.4 y) (λ b j answer o. tt)) (λ b j z o.
       let all = grows_then w u b g j in
-      sound_value p _ b _ (variables_stay w b env.variables all r.variables, (grid_stays w b a 1 grid.thing all k, tt))))
+      sound_value p _ b _ (variables_stay w b env.variables all r.variables, (grid_stays w b a 1 grid.thing all k, tt), (refl, tt))))
 
   -- ---- blocks
 
@@ -184,3 +184,8 @@ module _ (s : ScopeContents) (env : Env) where
   pub all_fit : (w : Things) (xs : NumberedStms) (left : List Work) → StmsFit p env.method (scope_over p s left) xs → WorksFit p env.method s w left → WorksFit p env.method s w (Processes.all_before xs left)
   all_fit w st.Nil left k q = q
   all_fit w (st.Cons x rest) left k q = (subst (λ y. StmFits p env.method y x) (sym (all_over rest left)) k.0, all_fit w rest left k.1 q)
+
+  -- nothing is taken in statements
+  pub none_taken : (untaken : Option ValueType) (xs : NumberedStms) (left : List Work) → TakesOf untaken left → TakesOf untaken (Processes.all_before xs left)
+  none_taken untaken st.Nil left k = k
+  none_taken untaken (st.Cons x rest) left k = none_taken untaken rest left k

@@ -6,3 +6,4 @@ pub mod Sound
 pub mod Fitting
 pub mod Heap
 pub mod Work
+pub mod Typed

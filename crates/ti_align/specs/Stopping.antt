@@ -13,23 +13,13 @@ use Rattle.ti_lang.specs.Meaning.Histories.{history_of, has_end, has_fault}
 use Rattle.ti_lang.specs.Meaning.HeapAnswers.{Impossible, heap_answer}
 use Rattle.ti_lang.specs.Meaning.Runs.{World, CanTake, AllEnded}
 
--- a collective that names a region
-abbrev pub names_region : CollKind → Bool
-names_region coll.DeleteRegion = true
-names_region kind = false
+-- an arrival at the delete of a region
+abbrev pub is_delete : Action → Bool
+is_delete (act.Arrive coll.DeleteRegion arg given) = true
+is_delete a = false
 
--- an action that names a thing, a class or a region: it is possible only where that is there
-abbrev pub names_things : Action → Bool
-names_things (act.Print literal value) = false
-names_things (act.Arrive kind arg given) = names_region kind
-names_things act.Depart = false
-names_things (act.Take who) = false
-names_things act.End = false
-names_things (act.Fault kind) = false
-names_things a = true
-
--- process i has come to an action that names a thing, a class or a region, and to which there is neither an answer nor a fault
-pub record IsImpossible (s : Setting) (es : List Entry) (i : ℕ) : Type 0 where
+-- process i has come to the delete of a region that isn't there: there is neither an answer nor a fault
+pub record DeletesNothing (s : Setting) (es : List Entry) (i : ℕ) : Type 0 where
   pub within : i < s.procs
   pub unended : has_end i es ≡ false
   pub process : Process
@@ -37,10 +27,10 @@ pub record IsImpossible (s : Setting) (es : List Entry) (i : ℕ) : Type 0 where
   pub place : Place
   pub action : Action
   pub is_next : IsNext process (next.Act place action)
-  pub names : names_things action ≡ true
+  pub deletes : is_delete action ≡ true
   pub impossible : heap_answer s.program (history_of es) i action ≡ Impossible
 
 -- no process waits for ever: where there is no fault and no process can take an entry, all have their end, or some process has
--- come to an action that names what isn't there
+-- come to the delete of a region that isn't there
 abbrev pub NoneWaits : Setting → List Entry → Type 0
-NoneWaits s es = has_fault es ≡ false → ((i : ℕ) (e : Entry) → CanTake s es i e → ⊥) → AllEnded s es ⊎ ((i : ℕ) × IsImpossible s es i)
+NoneWaits s es = has_fault es ≡ false → ((i : ℕ) (e : Entry) → CanTake s es i e → ⊥) → AllEnded s es ⊎ ((i : ℕ) × DeletesNothing s es i)

@@ -1,5 +1,5 @@
 -- Work that fits the types: pieces of work that are left in a frame, and the moves that they come to.
-use Rattle.std.specs.Prelude.{◌≡◌, ℕ, Bool, true, false, ◌&&◌, ◌||◌, is_none, List, [], ◌∷◌, Option, Some, None, slice_get}
+use Rattle.std.specs.Prelude.{◌≡◌, ℕ, Bool, true, false, ◌&&◌, ◌||◌, is_none, List, [], ◌∷◌, Option, Some, None, option_map, slice_get}
 use Rattle.ti_base.specs.declared.place.Place.{Place}
 use Rattle.ti_base.specs.declared.value.Id.{Id}
 use Rattle.ti_base.specs.declared.value.Zero.{Zero}
@@ -200,6 +200,50 @@ abbrev pub DepositFits : Things → ValueType → Deposit → Type 0
 DepositFits w type (deposit.One value) = IsOf w type (Plain value)
 DepositFits w type given = Unit {0}
 
+-- ---- what is handed in at collectives, and taken
+
+-- the type of the values that processes hand in at a right side, if it is a broadcast
+abbrev pub given_at : NumberedProgram → ScopeContents → NumberedInit → Option ValueType
+given_at p s (st.Broadcast at x root) = option_map as_global (operand_type p s x)
+given_at p s value = None
+
+-- the type of the values that processes hand in at the collective at which a piece of work arrives: at a broadcast that of its value,
+-- at an exchange that of the elements of its grid
+abbrev pub given_type : NumberedProgram → ScopeContents → Work → Option ValueType
+given_type p s (Do (st.Declare at type variable value)) = given_at p s value
+given_type p s (Do (st.Assign at target value)) = given_at p s value
+given_type p s (Do (st.Call (e.Member at x name args))) = option_map element_of (operand_type p s x)
+given_type p s x = None
+
+-- the type of the values that are left to be taken, if any are
+abbrev pub taken_type : Work → Option ValueType
+taken_type (TakeAll at grid procs) = Some (element_of grid.type)
+taken_type x = None
+
+-- the values that are taken in this work, if any, are of this type
+abbrev pub TakesOf : Option ValueType → List Work → Type 0
+TakesOf takes [] = Unit {0}
+TakesOf takes (TakeAll at grid procs ∷ works) = (takes ≡ Some (element_of grid.type)) × TakesOf takes works
+TakesOf takes (w ∷ works) = TakesOf takes works
+
+-- the type of the values that are taken behind a collective, at which values of this type are handed in
+abbrev pub taken_behind : CollKind → ValueType → Option ValueType
+taken_behind coll.Exchange type = Some type
+taken_behind kind type = None
+
+-- a collective at which values of such a type are handed in, or which gives a region, or neither
+abbrev pub IsOfRound : (ValueType → Type 0) → CollKind → ValueType → Type 0
+IsOfRound G coll.Broadcast type = G type
+IsOfRound G coll.Exchange type = G type
+IsOfRound G coll.MakeRegion type = type ≡ t.Region
+IsOfRound G kind type = Unit {0}
+
+-- only a broadcast and the making of a region have an answer that is wanted
+abbrev pub WantsOf : CollKind → Wanted → Type 0
+WantsOf coll.Broadcast wanted = Unit {0}
+WantsOf coll.MakeRegion wanted = Unit {0}
+WantsOf kind wanted = wanted ≡ ToBeDone
+
 module _ (p : NumberedProgram) (m : NumberedMethod) where
   -- a piece of work
   abbrev pub WorkFits : ScopeContents → Things → Work → Type 0
@@ -222,25 +266,17 @@ module _ (p : NumberedProgram) (m : NumberedMethod) where
   IsAwaited s (ValueOf u) receiver type = ReceiverFits p m s receiver type
   IsAwaited s (NewThing u) receiver type = ReceiverFits p m s receiver type
 
-  -- the process comes for a region
-  abbrev pub IsOfKind : CollKind → ValueType → Type 0
-  IsOfKind coll.MakeRegion type = type ≡ t.Region
-  IsOfKind kind type = Unit {0}
-
-  -- the values that are taken are of this type
-  abbrev pub TakesOf : List Work → ValueType → Type 0
-  TakesOf [] type = Unit {0}
-  TakesOf (TakeAll at grid procs ∷ works) type = (element_of grid.type ≡ type) × TakesOf works type
-  TakesOf (w ∷ works) type = TakesOf works type
-
-  -- a move
-  abbrev pub MoveFits : ScopeContents → Things → Move → Type 0
-  MoveFits s w (Goes variables works) = VariablesFit w variables × WorksFit s w works
-  MoveFits s w (Turns at variables works) = VariablesFit w variables × WorksFit s w works
-  MoveFits s w (Calls at method this parameters receiver) = MethodFits p method × ThisFits w method this × VariablesFit w parameters × ReceiverFits p m s receiver (result_type method)
-  MoveFits s w (Returns None) = Unit {0}
-  MoveFits s w (Returns (Some h)) = IsOf w (result_type m) h
-  MoveFits s w (Meets wait given behind) =
-      ((type : ValueType) × IsAwaited s wait.wanted wait.receiver type × DepositFits w type given × IsOfKind wait.kind type × TakesOf behind type) × WorksFit s w behind
-  MoveFits s w (Deletes at region) = IsPlaced w region
-  MoveFits s w move = Unit {0}
+  -- A move of a piece of work at which values of the first type are handed in to a collective, if there is one, and values of the
+  -- second are left to be taken.
+  abbrev pub MoveFits : Option ValueType → Option ValueType → ScopeContents → Things → Move → Type 0
+  MoveFits gives takes s w (Goes variables works) = VariablesFit w variables × WorksFit s w works × TakesOf takes works
+  MoveFits gives takes s w (Turns at variables works) = VariablesFit w variables × WorksFit s w works × TakesOf takes works
+  MoveFits gives takes s w (Calls at method this parameters receiver) =
+      MethodFits p method × ThisFits w method this × VariablesFit w parameters × ReceiverFits p m s receiver (result_type method)
+  MoveFits gives takes s w (Returns None) = Unit {0}
+  MoveFits gives takes s w (Returns (Some h)) = IsOf w (result_type m) h
+  MoveFits gives takes s w (Meets wait given behind) =
+      ((type : ValueType) × IsAwaited s wait.wanted wait.receiver type × DepositFits w type given × IsOfRound (λ u. gives ≡ Some u) wait.kind type × WantsOf wait.kind wait.wanted
+      × TakesOf (taken_behind wait.kind type) behind) × WorksFit s w behind
+  MoveFits gives takes s w (Deletes at region) = IsPlaced w region
+  MoveFits gives takes s w move = Unit {0}

@@ -19,7 +19,7 @@ ghost use Rattle.ti_align.specs.Stopping.{NoneWaits};
 ghost use Rattle.ti_align.specs.Things.{Things, IsOf};
 ghost use Rattle.ti_align.specs.Sound.{IsThere, Sound};
 ghost use Rattle.ti_align.specs.Fitting.{EnvFits, FieldsFit, IsWritten};
-ghost use Rattle.ti_align.specs.Work.{VariablesFit, scope_over, MethodsFit, ThisFits, WorksFit, MoveFits};
+ghost use Rattle.ti_align.specs.Work.{VariablesFit, scope_over, MethodsFit, ThisFits, given_type, taken_type, WorksFit, MoveFits};
 ghost use Rattle.ti_align.specs.Heap.{Elements, things_of, FieldsStorable, HeapFits, KeepsTypes};
 
 use ti_rules::Checked;
@@ -64,5 +64,5 @@ pub fn heap_fits()
 pub fn work_fits()
     ensures { (p : Process) (f : Frame) (left : List Work) (w : Things) (x : Work) → VariablesFit w f.variables → ThisFits w f.method f.this → FieldsFit p.setting.program
         → FieldsStorable p.setting.program → MethodsFit p.setting.program p.setting.program.methods → WorksFit p.setting.program f.method (method_scope f.method) w (x ∷ left)
-        → Sound p.setting.program (λ u move. MoveFits p.setting.program f.method (scope_over p.setting.program (method_scope f.method) left) u move) w (performed (env_of p f left) x) }
+        → Sound p.setting.program (λ u move. MoveFits p.setting.program f.method (given_type p.setting.program (scope_over p.setting.program (method_scope f.method) left) x) (taken_type x) (scope_over p.setting.program (method_scope f.method) left) u move) w (performed (env_of p f left) x) }
 {}
