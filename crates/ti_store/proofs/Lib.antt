@@ -1,0 +1,11 @@
+pub mod Beginning
+pub mod Courses
+pub mod Doing
+pub mod HeapSteps
+pub mod Makings
+pub mod Meeting
+pub mod NoRegions
+pub mod OneMore
+pub mod Replies
+pub mod Running
+pub mod Stepping

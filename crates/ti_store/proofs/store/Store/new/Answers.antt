@@ -1,0 +1,24 @@
+use Rattle.std.proofs.Common.{sym, ap, subst}
+use Rattle.ti_heap.specs.Things.{contents}
+use Rattle.ti_lang.specs.Program.Views.{program_of}
+use Rattle.ti_lang.specs.Meaning.Histories.{history_of, has_fault}
+use Rattle.ti_lang.specs.Meaning.Processes.{Setting}
+use Rattle.ti_lang.specs.Meaning.Runs.{IsRun, none}
+use Rattle.ti_store.specs.Conditions.{SuitsStore}
+use Rattle.ti_store.specs.MirrorsParts.{KeepsParts}
+use Rattle.ti_store.proofs.Beginning.{new_parts}
+use Rattle.ti_store.proofs.store.Store.new.Goals as goal
+
+pub invariant_of-result : goal.invariant_of-result
+invariant_of-result c =
+    let program = program_of c.in_ok-program.program.parts in
+    let s : Setting = record { program = program; procs = c.args.procs; fuel = c.args.fuel } in
+    let empty = c.new-3.ensures.items in
+    record {
+      within = c.requires.within;
+      suits = subst SuitsStore (sym c.in_ok-program.ensures) c.requires.suits;
+      run = subst (IsRun s) (sym empty) none;
+      faulted_is = sym (ap has_fault empty);
+      kept = subst (λ es. KeepsParts program c.args.procs (history_of es) (contents c.in_ok-heap.heap) c.in_ok-rounds.rounds) (sym empty)
+          (new_parts program c.args.procs (contents c.in_ok-heap.heap) c.in_ok-rounds.rounds c.in_ok-heap.ensures c.in_ok-rounds.ensures);
+    }

@@ -1,0 +1,41 @@
+-- Nobody has to believe what stands here: it mirrors the code, and only contracts of private functions and the invariant speak of it.
+use Rattle.std.specs.Prelude.{◌≡◌, ℕ, ◌+◌, ◌<◌, true, if◌then◌else◌, List, [], ◌∷◌, Option, Some, IfSome}
+use Rattle.ti_base.specs.declared.place.Place.{Place}
+use Rattle.ti_base.specs.declared.action.Action.{Action}
+use Rattle.ti_base.specs.declared.action.CollKind.{CollKind}
+use Rattle.ti_base.specs.declared.action.Deposit.{Deposit}
+use Rattle.ti_base.specs.declared.action.Deposit.TheVariants as deposit
+use Rattle.ti_base.specs.declared.entry.Answer.{Answer}
+use Rattle.ti_base.specs.declared.entry.Answer.TheVariants.{Done, Val}
+use Rattle.ti_base.specs.declared.entry.Entry.{Entry}
+use Rattle.ti_lang.specs.Program.Classes.{NumberedProgram}
+use Rattle.ti_lang.specs.Meaning.Histories.{History, history_of, is_departure, arrivals, departures}
+use Rattle.ti_lang.specs.Meaning.HeapAnswers.{heap_answer}
+use Rattle.ti_store.specs.Conditions.{IsPossible, IsFormed, is_regionless, collective_in, collective_at}
+
+-- every entry is one of these processes, and has nothing to do with regions
+abbrev pub AreOurs : ℕ → History → Type 0
+AreOurs procs [] = Unit {0}
+AreOurs procs (e ∷ h) = (e.proc < procs) × (is_regionless e.act ≡ true) × AreOurs procs h
+
+-- all have arrived at the round in which process p waits
+abbrev pub AllArrived : ℕ → ℕ → List Entry → Type 0
+AllArrived procs p es = (j : ℕ) → j < procs → departures p es < arrivals j es
+
+-- all who have arrived at the next round of process p said this
+abbrev pub AgreesWith : ℕ → List Entry → CollKind × Place × Option ℕ → Type 0
+AgreesWith p es said = (q : ℕ) → IfSome (collective_at q (arrivals p es + 1) (history_of es)) (λ other. other ≡ said)
+
+-- what is known of an action that a process may do
+pub record MayDo (program : NumberedProgram) (procs : ℕ) (es : List Entry) (p : ℕ) (at : Place) (a : Action) : Type 0 where
+  pub possible : IsPossible (heap_answer program (history_of es) p a)
+  pub formed : IsFormed a
+  pub regionless : is_regionless a ≡ true
+  pub balance : arrivals p es ≡ departures p es + (if is_departure a then 1 else 0)
+  pub arrived : is_departure a ≡ true → AllArrived procs p es
+  pub agrees : (said : CollKind × Place × Option ℕ) → collective_in at a ≡ Some said → AgreesWith p es said
+
+-- what a deposit that is handed out answers
+abbrev pub answer_given : Deposit → Answer
+answer_given (deposit.One value) = Val value
+answer_given given = Done
