@@ -23,7 +23,7 @@ use Rattle.ti_rounds.proofs.KeptCourses.{seat_kept}
 use Rattle.ti_lang.specs.Meaning.Histories.{History, is_arrival, is_departure, entries_of, arrivals, departures}
 use Rattle.ti_lang.specs.Meaning.RoundsOf.{arrival_in, arrival_at, value_in, given}
 use Rattle.ti_lang.specs.Meaning.RoundsOf as lang
-use Rattle.ti_store.specs.Conditions.{collective_in, collective_at}
+use Rattle.ti_store.specs.MirrorsLedger.{collective_in, collective_at}
 use Rattle.ti_store.specs.MirrorsRounds.{said_by, arrivals_said, course_of, AreCourses, KeepsRounds}
 use Rattle.ti_store.proofs.OneMore.{one, entries_own, entries_other, counted_own}
 

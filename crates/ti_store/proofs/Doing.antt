@@ -37,9 +37,10 @@ use Rattle.ti_lang.specs.Meaning.Histories.{History, is_making, is_arrival, is_d
 use Rattle.ti_lang.specs.Meaning.RegionsOf.{is_made, is_gone}
 use Rattle.ti_lang.specs.Meaning.HeapOf.{new_id, view_id, grid_of, written_by, cell_value, cost_of, cost_of_making, most_cells}
 use Rattle.ti_lang.specs.Meaning.HeapAnswers.{Outcome, Answers, Faults, where_some, possible_if, faults_if, answers_value, makes, places, is_dim, at_point, views, heap_answer}
-use Rattle.ti_store.specs.Conditions.{IsPossible, IsFormedView, is_regionless}
+use Rattle.ti_eval.specs.Forms.{IsFormedValue}
+use Rattle.ti_store.specs.Conditions.{IsFormedZero, IsFormedView, IsFormed, is_regionless}
 use Rattle.ti_store.specs.MirrorsHeap.{full_cost, KeepsHeap}
-use Rattle.ti_store.specs.MirrorsLedger.{AreOurs}
+use Rattle.ti_store.specs.MirrorsLedger.{AreOurs, IsPossible}
 use Rattle.ti_store.specs.MirrorsParts.{field_zeros, KeepsParts, read_outcome}
 use Rattle.ti_store.proofs.OneMore.{some_same, one}
 use Rattle.ti_store.proofs.NoRegions.{none_gone, cost_full}
@@ -50,17 +51,17 @@ use Rattle.ti_store.proofs.Makings.{object_keeps, grid_keeps, view_keeps}
 
 -- ---- what changes nothing
 
-pub quiet_parts : (program : NumberedProgram) (procs : ℕ) (e : Entry) (h : History) (s : Contents) (seats : List Seat) → e.proc < procs → is_regionless e.act ≡ true → is_making e.act ≡ false
+pub quiet_parts : (program : NumberedProgram) (procs : ℕ) (e : Entry) (h : History) (s : Contents) (seats : List Seat) → e.proc < procs → is_regionless e.act ≡ true → IsFormed e.act → is_making e.act ≡ false
     → written_by e.act h ≡ None → is_arrival e.act ≡ false → is_departure e.act ≡ false → KeepsParts program procs h s seats → KeepsParts program procs (e ∷ h) s seats
-quiet_parts program procs e h s seats inside r m w a d k = record {
-  ours = (inside, r, k.ours);
+quiet_parts program procs e h s seats inside r f m w a d k = record {
+  ours = (inside, r, f, k.ours);
   rounds = quiet_courses procs e h seats a d k.rounds;
   heap = quiet_keeps program procs e h s m w k.heap;
 }
 
 pub fault_parts : (program : NumberedProgram) (procs : ℕ) (h : History) (s : Contents) (seats : List Seat) (p : ℕ) (at : Place) (kind : FaultKind) → p < procs → KeepsParts program procs h s seats
     → KeepsParts program procs (record { proc = p; place = at; act = act.Fault kind; answer = Done } ∷ h) s seats
-fault_parts program procs h s seats p at kind inside k = quiet_parts program procs _ h s seats inside refl refl refl refl refl k
+fault_parts program procs h s seats p at kind inside k = quiet_parts program procs _ h s seats inside refl tt refl refl refl refl k
 
 -- ---- what is possible
 
@@ -101,14 +102,14 @@ put_answer program h p obj field x possible =
     let old = possible_some (cell_value program (Field obj field) h) (λ old. Answers Done) possible in
     ap (λ o. where_some o (λ old. Answers Done)) old.1
 
-pub put_parts : (program : NumberedProgram) (procs : ℕ) (h : History) (s s' : Contents) (seats : List Seat) (p : ℕ) (at : Place) (obj : Id) (field : ℕ) (x : Value) → p < procs → KeepsParts program procs h s seats
-    → IsPossible (heap_answer program h p (act.PutField obj field x)) → s' ≡ with_value (cell_at obj field) x s
+pub put_parts : (program : NumberedProgram) (procs : ℕ) (h : History) (s s' : Contents) (seats : List Seat) (p : ℕ) (at : Place) (obj : Id) (field : ℕ) (x : Value) → p < procs → IsFormedValue x
+    → KeepsParts program procs h s seats → IsPossible (heap_answer program h p (act.PutField obj field x)) → s' ≡ with_value (cell_at obj field) x s
     → KeepsParts program procs (record { proc = p; place = at; act = act.PutField obj field x; answer = Done } ∷ h) s' seats
-put_parts program procs h s s' seats p at obj field x inside k possible is =
+put_parts program procs h s s' seats p at obj field x inside f k possible is =
     let e : Entry = record { proc = p; place = at; act = act.PutField obj field x; answer = Done } in
     let old = possible_some (cell_value program (Field obj field) h) (λ old. Answers Done) possible in
     subst (λ s. KeepsParts program procs (e ∷ h) s seats) (sym is) (record {
-      ours = (inside, refl, k.ours);
+      ours = (inside, refl, f, k.ours);
       rounds = quiet_courses procs e h seats refl refl k.rounds;
       heap = put_field_keeps program procs e h s obj field x old.0 refl refl old.1 k.heap;
     })
@@ -173,10 +174,10 @@ ok_err : {A E : Type 0} (a : A) (e : E) → Ok a ≡ Err e → ⊥
 ok_err a e h = let P : ⊥ = cc in P
 
 -- an element is written
-pub put_elem_done : (program : NumberedProgram) (procs : ℕ) (h : History) (s s' : Contents) (seats : List Seat) (p : ℕ) (place : Place) (grid : Id) (at : Point) (x : Value) → p < procs → KeepsParts program procs h s seats
-    → IsPossible (heap_answer program h p (act.PutElem grid at x)) → Writes s (grid_cell grid at s) x (Ok tt) s'
+pub put_elem_done : (program : NumberedProgram) (procs : ℕ) (h : History) (s s' : Contents) (seats : List Seat) (p : ℕ) (place : Place) (grid : Id) (at : Point) (x : Value) → p < procs → IsFormedValue x
+    → KeepsParts program procs h s seats → IsPossible (heap_answer program h p (act.PutElem grid at x)) → Writes s (grid_cell grid at s) x (Ok tt) s'
     → (heap_answer program h p (act.PutElem grid at x) ≡ Answers Done) × KeepsParts program procs (record { proc = p; place = place; act = act.PutElem grid at x; answer = Done } ∷ h) s' seats
-put_elem_done program procs h s s' seats p place grid at x inside k possible writes =
+put_elem_done program procs h s s' seats p place grid at x inside f k possible writes =
     let e : Entry = record { proc = p; place = place; act = act.PutElem grid at x; answer = Done } in
     let go : Grid → Outcome = λ g. Answers Done in
     let g = element_of h grid at go possible in
@@ -188,7 +189,7 @@ put_elem_done program procs h s s' seats p place grid at x inside k possible wri
     let wrote : written_by (act.PutElem grid at x) h ≡ Some (Element g.0.block (g.0.place at), x) = ap (option_map (λ (g : Grid). (cell_of g at, x))) g.1 in (
       element_answer h grid at go g.0 g.1 g.2 ∙ ap (λ t. faults_if (not t) fault.Bounds (Answers Done)) t,
       subst (λ s. KeepsParts program procs (e ∷ h) s seats) (sym written.1) (record {
-        ours = (inside, refl, k.ours);
+        ours = (inside, refl, f, k.ours);
         rounds = quiet_courses procs e h seats refl refl k.rounds;
         heap = put_elem_keeps program procs e h s g.0.block (g.0.place at) g.0.zero kept.whole cell.0 x refl wrote kept.block cell.3 k.heap;
       }),
@@ -338,7 +339,7 @@ object_done program procs h s s' seats p at class region zeros id inside k r is 
     let e : Entry = record { proc = p; place = at; act = act.NewObj class region; answer = Val (v.Obj (Some new)) } in
     let room = makes_room program procs h s p (act.NewObj class region) (length zeros) (v.Obj (Some new)) k.ours k.heap (object_cost program class region zeros is) none in
     let kept : KeepsParts program procs (e ∷ h) (with_thing new (map zero_value zeros) None s) seats = record {
-      ours = (inside, r, k.ours);
+      ours = (inside, r, tt, k.ours);
       rounds = quiet_courses procs e h seats refl refl k.rounds;
       heap = object_keeps program procs h s p at class region zeros k.heap is room.1;
     } in (
@@ -366,7 +367,7 @@ grid_cost : (program : NumberedProgram) (zero : Zero) (domain : Rect) (region : 
 grid_cost program zero domain region = ap (λ n. 1 + n) (sym (length_points domain))
 
 pub grid_done : (program : NumberedProgram) (procs : ℕ) (h : History) (s s' : Contents) (seats : List Seat) (p : ℕ) (at : Place) (zero : Zero) (domain : Rect) (region : ℕ) (id : Id) → p < procs
-    → KeepsParts program procs h s seats → (region == 0) ≡ true → IsRect domain → IsPossible (heap_answer program h p (act.NewGrid zero domain region))
+    → KeepsParts program procs h s seats → (region == 0) ≡ true → IsFormedZero zero × IsRect domain → IsPossible (heap_answer program h p (act.NewGrid zero domain region))
     → new_fault p (length (points_of domain)) s ≡ None → id ≡ own_id p region s
     → s' ≡ with_thing id (replicate (length (points_of domain)) (zero_value zero)) (Some (whole_map id domain)) s
     → (heap_answer program h p (act.NewGrid zero domain region) ≡ Answers (Val (v.Grid (Some id))))
@@ -378,9 +379,9 @@ grid_done program procs h s s' seats p at zero domain region id inside k r form 
     let e : Entry = record { proc = p; place = at; act = act.NewGrid zero domain region; answer = Val (v.Grid (Some new)) } in
     let room = makes_room program procs h s p (act.NewGrid zero domain region) (length (points_of domain)) (v.Grid (Some new)) k.ours k.heap (grid_cost program zero domain region) none in
     let kept : KeepsParts program procs (e ∷ h) (with_thing new values (Some (whole_map new domain)) s) seats = record {
-      ours = (inside, r, k.ours);
+      ours = (inside, r, form, k.ours);
       rounds = quiet_courses procs e h seats refl refl k.rounds;
-      heap = grid_keeps program procs h s p at zero domain region k.heap form room.1;
+      heap = grid_keeps program procs h s p at zero domain region k.heap form.1 room.1;
     } in (
       grid_answer program procs h p zero domain region k.ours r possible ∙ room.0 ∙ ap (λ i. Answers (Val (v.Grid (Some i)))) (sym name),
       subst (λ s. KeepsParts program procs (record { proc = p; place = at; act = act.NewGrid zero domain region; answer = Val (v.Grid (Some id)) } ∷ h) s seats) (sym made)
@@ -428,7 +429,7 @@ first_none None b e = (refl, e)
 first_none (Some x) b e = cc
 
 pub view_done : (program : NumberedProgram) (procs : ℕ) (h : History) (s s' : Contents) (seats : List Seat) (p : ℕ) (at : Place) (grid : Id) (how : ViewHow) (id : Id) → p < procs
-    → KeepsParts program procs h s seats → IsView how → IsPossible (heap_answer program h p (act.MakeView grid how))
+    → KeepsParts program procs h s seats → IsFormedView how → IsPossible (heap_answer program h p (act.MakeView grid how))
     → IsSomeAnd (s.grid grid) (λ m. seen_fault p how m s ≡ None) → id ≡ heap.view_id p grid s → s' ≡ with_thing id [] (option_map (seen_map how) (s.grid grid)) s
     → (heap_answer program h p (act.MakeView grid how) ≡ Answers (Val (v.Grid (Some id))))
     × KeepsParts program procs (record { proc = p; place = at; act = act.MakeView grid how; answer = Val (v.Grid (Some id)) } ∷ h) s' seats
@@ -443,9 +444,9 @@ view_done program procs h s s' seats p at grid how id inside k form possible non
     let room = makes_room program procs h s p (act.MakeView grid how) 0 (v.Grid (Some new)) k.ours k.heap refl both.1 in
     let gm : Option GridMap = option_map (seen_map how) (s.grid grid) in
     let kept : KeepsParts program procs (e ∷ h) (with_thing new [] gm s) seats = record {
-      ours = (inside, refl, k.ours);
+      ours = (inside, refl, form, k.ours);
       rounds = quiet_courses procs e h seats refl refl k.rounds;
-      heap = view_keeps program procs h s p at grid how g.0 k.heap g.1 form g.2 sound room.1;
+      heap = view_keeps program procs h s p at grid how g.0 k.heap g.1 (view_formed how form) g.2 sound room.1;
     } in (
       view_answer program h p grid how g.0 g.1 g.2
           ∙ ap (λ o. views o (makes program h p (act.MakeView grid how) (v.Grid (Some new)))) sound

@@ -1,6 +1,7 @@
 pub mod Beginning
 pub mod Courses
 pub mod Doing
+pub mod Forming
 pub mod HeapSteps
 pub mod Makings
 pub mod Meeting

@@ -19,9 +19,9 @@ use Rattle.ti_lang.specs.Meaning.Histories.{History, history_of, is_arrival, is_
 use Rattle.ti_lang.specs.Meaning.RoundsOf.{arrival_in, arrival_at, last_arrival, value_in, given}
 use Rattle.ti_lang.specs.Meaning.RoundsOf as lang
 use Rattle.ti_lang.specs.Meaning.HeapAnswers.{Answers, where_some, answers_value, departs, heap_answer}
-use Rattle.ti_store.specs.Conditions.{IsPossible, is_regionless_kind, collective_at}
+use Rattle.ti_store.specs.Conditions.{is_regionless_kind}
 use Rattle.ti_store.specs.MirrorsRounds.{arrivals_said, AreCourses, KeepsRounds}
-use Rattle.ti_store.specs.MirrorsLedger.{AreOurs, AllArrived, AgreesWith, answer_given}
+use Rattle.ti_store.specs.MirrorsLedger.{AreOurs, IsPossible, collective_at, AllArrived, AgreesWith, answer_given}
 use Rattle.ti_store.proofs.OneMore.{one, counted_own, counted_few, counted_back}
 use Rattle.ti_store.proofs.NoRegions.{kind_regionless}
 use Rattle.ti_store.proofs.Courses.{length_said, round_is, left_is, count_is, heard, heard_at, collective_met, given_said, latest_at}
@@ -100,7 +100,7 @@ gave_some i who h v g = by (arrival_at who (arrivals i h) h) refl g
 
 arrived_ours : (procs who round : ℕ) (h : History) (a : lang.Arrival) → AreOurs procs h → arrival_at who round h ≡ Some a → (who < procs) × (0 < round)
 arrived_ours procs who round [] a ours e = cc
-arrived_ours procs who round (d ∷ h) a ours e = by (d.proc == who && is_arrival d.act && arrivals who (d ∷ h) == round) refl (arrived_ours procs who round h a ours.2) e
+arrived_ours procs who round (d ∷ h) a ours e = by (d.proc == who && is_arrival d.act && arrivals who (d ∷ h) == round) refl (arrived_ours procs who round h a ours.3) e
   where
     by : (t : Bool) → (d.proc == who && is_arrival d.act && arrivals who (d ∷ h) == round) ≡ t → (arrival_at who round h ≡ Some a → (who < procs) × (0 < round))
         → cond t (arrival_in d.act) (arrival_at who round h) ≡ Some a → (who < procs) × (0 < round)

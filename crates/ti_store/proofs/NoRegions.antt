@@ -25,7 +25,7 @@ arrival_regionless _ x k h = cc
 -- no arrival makes a region or deletes one
 pub kind_regionless : (procs i round : ℕ) (h : History) (x : Arrival) → AreOurs procs h → arrival_at i round h ≡ Some x → is_regionless_kind x.kind ≡ true
 kind_regionless procs i round [] x ours e = cc
-kind_regionless procs i round (d ∷ h) x ours e = by (d.proc == i && is_arrival d.act && arrivals i (d ∷ h) == round) (kind_regionless procs i round h x ours.2) e
+kind_regionless procs i round (d ∷ h) x ours e = by (d.proc == i && is_arrival d.act && arrivals i (d ∷ h) == round) (kind_regionless procs i round h x ours.3) e
   where
     by : (t : Bool) → (arrival_at i round h ≡ Some x → is_regionless_kind x.kind ≡ true) → cond t (arrival_in d.act) (arrival_at i round h) ≡ Some x → is_regionless_kind x.kind ≡ true
     by true go k = arrival_regionless d.act x ours.1 k
@@ -54,7 +54,7 @@ and_or false b c h k = k
 pub none_gone : (procs r : ℕ) (h : History) → AreOurs procs h → is_gone r h ≡ false
 none_gone procs r [] ours = refl
 none_gone procs r (e ∷ h) ours =
-    and_or (is_departure e.act) (is_delete_of r (last_arrival e.proc h)) (is_gone r h) (none_deleted procs e.proc r h ours.2) (none_gone procs r h ours.2)
+    and_or (is_departure e.act) (is_delete_of r (last_arrival e.proc h)) (is_gone r h) (none_deleted procs e.proc r h ours.3) (none_gone procs r h ours.3)
 
 -- ---- cost
 

@@ -19,7 +19,7 @@ pub read_does : (l : Ledger) (p : ℕ) (at : Place) (a : Action) (answer : Answe
     → heap_answer (program_in l) (history_in l) p a ≡ Answers answer → Does l p at a (Answered answer) l
 read_does l p at a answer r m w x y is = record {
   answer = is;
-  kept = quiet_parts (program_in l) l.procs (entry_after p at a (Answered answer)) (history_in l) (contents l.heap) l.rounds r.process r.may.regionless m w x y r.kept;
+  kept = quiet_parts (program_in l) l.procs (entry_after p at a (Answered answer)) (history_in l) (contents l.heap) l.rounds r.process r.may.regionless r.may.formed m w x y r.kept;
   same = refl;
 }
 

@@ -1,7 +1,7 @@
 -- What a store does is a step of a run, and what is known of every run is known of it.
-use Rattle.std.proofs.Common.{◌≡◌, ⊎_elim, ℕ, ◌+◌, ◌<◌, ◌==◌, ◌&&◌, true, false, cond, List, [], ◌∷◌, ◌++◌, Option, Some, None, IfSome, refl, sym, ap, subst, ◌∙◌, arith, eq-eqb}
+use Rattle.std.proofs.Common.{◌≡◌, ⊎_elim, ℕ, ◌+◌, ◌<◌, ◌==◌, ◌&&◌, Bool, true, false, cond, List, [], ◌∷◌, ◌++◌, Option, Some, None, IfSome, refl, sym, ap, subst, ◌∙◌, arith, eq-eqb, eqb-true, append_assoc}
 use Rattle.std.specs.Option.{option_map}
-use Rattle.std.proofs.lemmas.Bool.{ne_eqb, cases_eq}
+use Rattle.std.proofs.lemmas.Bool.{and_parts, ne_eqb, cases_eq}
 use Rattle.ti_base.specs.declared.place.Place.{Place}
 use Rattle.ti_base.specs.declared.action.Action.{Action}
 use Rattle.ti_base.specs.declared.action.Action.TheVariants as act
@@ -14,17 +14,17 @@ use Rattle.ti_base.specs.declared.entry.Entry.{Entry}
 use Rattle.ti_base.specs.declared.entry.Next.{Next}
 use Rattle.ti_base.specs.declared.entry.Next.TheVariants as next
 use Rattle.ti_rounds.specs.Seats.{collective_of}
-use Rattle.ti_lang.specs.Meaning.Processes.{Setting, Process}
-use Rattle.ti_lang.specs.Meaning.Histories.{History, history_of, is_end, is_fault, is_arrival, is_departure, is_answered, entries_of, arrivals, has_fault}
-use Rattle.ti_lang.specs.Meaning.HeapAnswers.{Answers, arrives}
-use Rattle.ti_lang.specs.Meaning.Answers.{FitsAction}
-use Rattle.ti_lang.specs.Meaning.Runs.{World, IsReady, entry_with, entry_of, IsRun, more}
-use Rattle.ti_lang.proofs.MeaningLaws.Running.{history_grows}
-use Rattle.ti_store.specs.Conditions.{IsWithin, HasNext, is_regionless, is_regionless_kind, collective_in, collective_at, ArrivalsAgree, SuitsRun, SuitsStore}
+use Rattle.ti_lang.specs.Meaning.Processes.{Setting}
+use Rattle.ti_lang.specs.Meaning.NextStep.{Settles}
+use Rattle.ti_lang.specs.Meaning.Histories.{History, history_of, is_end, is_fault, is_arrival, is_departure, entries_of, arrivals, has_fault}
+use Rattle.ti_lang.specs.Meaning.HeapAnswers.{Outcome, Answers, Faults, Impossible, arrives, heap_answer}
+use Rattle.ti_lang.specs.Meaning.Runs.{IsReady, entry_with, entry_of, CanTake, IsRun, none, more}
+use Rattle.ti_lang.proofs.MeaningLaws.Running.{history_grows, taker}
+use Rattle.ti_store.specs.Conditions.{IsWithin, HasNext, IsFormed, is_regionless, is_regionless_kind, ArrivesAt, ArrivalsAgree, SuitsRun, SuitsStore}
 use Rattle.ti_store.specs.Stores.{next_of}
 use Rattle.ti_store.specs.MirrorsRounds.{arrivals_said}
-use Rattle.ti_store.specs.MirrorsLedger.{AllArrived, AgreesWith, MayDo}
-use Rattle.ti_store.proofs.OneMore.{one, counted_own, counted_back}
+use Rattle.ti_store.specs.MirrorsLedger.{IsPossible, collective_in, collective_at, AllArrived, AgreesWith, MayDo}
+use Rattle.ti_store.proofs.OneMore.{one, some_same, counted_own, counted_back}
 use Rattle.ti_store.proofs.Courses.{length_said, collective_met, none_beyond}
 
 -- ---- one step more
@@ -86,10 +86,113 @@ if_some : (o : Option (CollKind × Place × Option ℕ)) (said : CollKind × Pla
 if_some None said h = tt
 if_some (Some other) said h = h other refl
 
+-- ---- arrivals of a run
+
+some_entry : (d e : Entry) → Some d ≡ Some e → d ≡ e
+some_entry d e h = cc
+
+-- what comes of an arrival is that arrival, or a fault
+came_with : (i : ℕ) (at : Place) (a : Action) (o : Outcome) (e : Entry) → entry_with i at a o ≡ Some e → is_arrival e.act ≡ true → next.Act at a ≡ next.Act e.place e.act
+came_with i at a (Answers r) e h k = ap (λ (x : Entry). next.Act x.place x.act) (some_entry _ e h)
+came_with i at a (Faults kind) e h k = let same : is_arrival (act.Fault kind) ≡ is_arrival e.act = ap (λ (x : Entry). is_arrival x.act) (some_entry _ e h) in cc
+came_with i at a Impossible e h k = cc
+
+came_next : (s : Setting) (es : List Entry) (i : ℕ) (n : Next) (e : Entry) → entry_of s es i n ≡ Some e → is_arrival e.act ≡ true → n ≡ next.Act e.place e.act
+came_next s es i (next.Act at a) e h k = came_with i at a (heap_answer s.program (history_of es) i a) e h k
+came_next s es i (next.End at) e h k = let same : is_arrival act.End ≡ is_arrival e.act = ap (λ (x : Entry). is_arrival x.act) (some_entry _ e h) in cc
+came_next s es i (next.Fault kind at) e h k = let same : is_arrival (act.Fault kind) ≡ is_arrival e.act = ap (λ (x : Entry). is_arrival x.act) (some_entry _ e h) in cc
+
+-- the process of an entry that is an arrival arrives there
+arrives_now : (s : Setting) (es all : List Entry) (q k : ℕ) (at : Place) (kind : CollKind) (arg : Option ℕ) (d : Deposit) (r : Answer)
+    → (t : CanTake s es q (record { proc = q; place = at; act = act.Arrive kind arg d; answer = r })) → all ≡ es ++ record { proc = q; place = at; act = act.Arrive kind arg d; answer = r } ∷ []
+    → arrivals q es ≡ k → ArrivesAt s all q k at kind arg
+arrives_now s es all q k at kind arg d r t split count =
+    let e : Entry = record { proc = q; place = at; act = act.Arrive kind arg d; answer = r } in
+    let n : t.next ≡ next.Act at (act.Arrive kind arg d) = came_next s es q t.next e t.entry refl in
+    record {
+      before = es;
+      rest = [];
+      deposit = d;
+      answer = r;
+      split = split;
+      count = count;
+      process = t.process;
+      world = t.world;
+      settled = t.is_next.0;
+      settles = subst (Settles t.process t.is_next.0) n t.is_next.1;
+    }
+
+-- and so does each that came before
+arrives_later : (s : Setting) (es all : List Entry) (q k : ℕ) (at : Place) (kind : CollKind) (arg : Option ℕ) (e : Entry) → all ≡ es ++ e ∷ [] → ArrivesAt s es q k at kind arg → ArrivesAt s all q k at kind arg
+arrives_later s es all q k at kind arg e split x =
+    let d : Entry = record { proc = q; place = at; act = act.Arrive kind arg x.deposit; answer = x.answer } in
+    record {
+      before = x.before;
+      rest = x.rest ++ e ∷ [];
+      deposit = x.deposit;
+      answer = x.answer;
+      split = split ∙ ap (λ xs. xs ++ e ∷ []) x.split ∙ append_assoc x.before (d ∷ x.rest) (e ∷ []);
+      count = x.count;
+      process = x.process;
+      world = x.world;
+      settled = x.settled;
+      settles = x.settles;
+    }
+
+-- the arrival of a process at a round, counted from 1
+abbrev ArrivesIn : Setting → List Entry → ℕ → ℕ → CollKind × Place × Option ℕ → Type 0
+ArrivesIn s es q round said = (k : ℕ) × (round ≡ k + 1) × ArrivesAt s es q k said.1 said.0 said.2
+
+entry_arrives : (s : Setting) (es all : List Entry) (q round : ℕ) (e : Entry) (said : CollKind × Place × Option ℕ) → CanTake s es q e → e.proc ≡ q → all ≡ es ++ e ∷ []
+    → (n : ℕ) → n ≡ one (is_arrival e.act) + arrivals q es → n ≡ round → collective_in e.place e.act ≡ Some said → ArrivesIn s all q round said
+entry_arrives s es all q round e said t who split n count here is = by e.act refl is count
+  where
+    by : (a : Action) → e.act ≡ a → collective_in e.place a ≡ Some said → n ≡ one (is_arrival a) + arrivals q es → ArrivesIn s all q round said
+    by (act.Arrive kind arg d) same is count =
+        let d' : Entry = record { proc = q; place = e.place; act = act.Arrive kind arg d; answer = e.answer } in
+        let entry : e ≡ d' = λ j. record { proc = who j; place = e.place; act = same j; answer = e.answer } in
+        let at = some_same (kind, e.place, arg) said is in
+        subst (λ x. ArrivesIn s all q round x) at
+        (arrivals q es, omega (arith, count, here), arrives_now s es all q (arrivals q es) e.place kind arg d e.answer (subst (CanTake s es q) entry t) (split ∙ ap (λ x. es ++ x ∷ []) entry) refl)
+    by _ same is count = cc
+
+pub met_arrives : (s : Setting) (es : List Entry) → IsRun s es → (q round : ℕ) (said : CollKind × Place × Option ℕ) → collective_at q round (history_of es) ≡ Some said → ArrivesIn s es q round said
+met_arrives s es none q round said is = cc
+met_arrives s all (more {es = es} {i = i} {e = e} run t split) q round said is =
+    by (e.proc == q && is_arrival e.act && arrivals q (e ∷ history_of es) == round) refl (met_arrives s es run q round said)
+    (sym (ap (collective_at q round) (ap history_of split ∙ history_grows es e)) ∙ is)
+  where
+    by : (b : Bool) → (e.proc == q && is_arrival e.act && arrivals q (e ∷ history_of es) == round) ≡ b → (collective_at q round (history_of es) ≡ Some said → ArrivesIn s es q round said)
+        → cond b (collective_in e.place e.act) (collective_at q round (history_of es)) ≡ Some said → ArrivesIn s all q round said
+    by true b go x =
+        let t1 = and_parts (e.proc == q && is_arrival e.act) (arrivals q (e ∷ history_of es) == round) b in
+        let t2 = and_parts (e.proc == q) (is_arrival e.act) t1.0 in
+        let who : e.proc ≡ q = eqb-true e.proc q t2.0 in
+        let mine : i ≡ q = sym (taker s es i e t) ∙ who in
+        let count : arrivals q (e ∷ history_of es) ≡ one (is_arrival e.act) + arrivals q es =
+        counted_own is_arrival q e (history_of es) who ∙ ap (λ m. one (is_arrival e.act) + m) (counted_back is_arrival q es) in
+        entry_arrives s es all q round e said (subst (λ j. CanTake s es j e) mine t) who split (arrivals q (e ∷ history_of es)) count
+        (eqb-true (arrivals q (e ∷ history_of es)) round t1.1) x
+    by false b go x = let y = go x in (y.0, y.1, arrives_later s es all q y.0 said.1 said.0 said.2 e split y.2)
+
+same_number : (m n r : ℕ) → r ≡ m + 1 → r ≡ n + 1 → m ≡ n
+same_number m n r x y = omega arith
+
+-- all arrivals at one round are the same
+rounds_agree : (s : Setting) (es : List Entry) → IsRun s es → ArrivalsAgree s es → (i j round : ℕ) (a b : CollKind × Place × Option ℕ)
+    → collective_at i round (history_of es) ≡ Some a → collective_at j round (history_of es) ≡ Some b → a ≡ b
+rounds_agree s es run agree i j round a b x y =
+    let k = met_arrives s es run i round a x in
+    let l = met_arrives s es run j round b y in
+    let same = same_number k.0 l.0 round k.1 l.1 in
+    let z = agree i j l.0 a.1 b.1 a.0 b.0 a.2 b.2 (subst (λ n. ArrivesAt s es i n a.1 a.0 a.2) same k.2) l.2 in
+    λ t. (z.1 t, z.0 t, z.2 t)
+
 -- where all arrivals of a run agree that has one arrival more, that arrival agrees with those before it
 agree_now : (s : Setting) (es : List Entry) (p : ℕ) (at : Place) (kind : CollKind) (arg : Option ℕ) (d : Deposit)
+    → IsRun s (es ++ record { proc = p; place = at; act = act.Arrive kind arg d; answer = Done } ∷ [])
     → ArrivalsAgree s (es ++ record { proc = p; place = at; act = act.Arrive kind arg d; answer = Done } ∷ []) → AgreesWith p es (kind, at, arg)
-agree_now s es p at kind arg d agree q =
+agree_now s es p at kind arg d run agree q =
     let e : Entry = record { proc = p; place = at; act = act.Arrive kind arg d; answer = Done } in
     let h = history_of es in
     let round = arrivals p es + 1 in
@@ -98,7 +201,7 @@ agree_now s es p at kind arg d agree q =
     ⊎_elim
     (λ same. let none : None ≡ Some other = sym (met_none p h round is) ∙ ap (λ j. collective_at j round h) same ∙ k in cc)
     (λ apart.
-    agree q p round other (kind, at, arg)
+    rounds_agree s (es ++ e ∷ []) run agree q p round other (kind, at, arg)
     (ap (collective_at q round) (history_grows es e) ∙ met_other p q at (act.Arrive kind arg d) Done h round (ne_eqb p q apart) ∙ k)
     (ap (collective_at p round) (history_grows es e) ∙ met_now p at kind arg d h round is))
     (cases_eq p q))
@@ -106,7 +209,7 @@ agree_now s es p at kind arg d agree q =
 -- ---- what is known of an action
 
 pub suits : (s : Setting) (es : List Entry) → IsWithin s.procs s.fuel → SuitsStore s.program → IsRun s es → SuitsRun s es
-suits s es w all run = all s.procs s.fuel es w run
+suits s es w all run = all.runs s.procs s.fuel es w run
 
 agrees : (s : Setting) (es : List Entry) (p : ℕ) (at : Place) (a : Action) → IsWithin s.procs s.fuel → SuitsStore s.program → IsRun s es → p < s.procs → has_fault es ≡ false
     → HasNext s p (entries_of p es) (next.Act at a) → is_regionless a ≡ true
@@ -116,22 +219,23 @@ agrees s es p at (act.Arrive kind arg d) w all run inside goes has k said is =
     let entry : entry_of s es p (next.Act at (act.Arrive kind arg d)) ≡ Some e = ap (entry_with p at (act.Arrive kind arg d)) (arrives_done (history_of es) kind arg k) in
     let grown = run_more s es p (next.Act at (act.Arrive kind arg d)) e run inside goes has tt entry in
     let same : (kind, at, arg) ≡ said = cc in
-    subst (AgreesWith p es) same (agree_now s es p at kind arg d (suits s (es ++ e ∷ []) w all grown).agree)
+    subst (AgreesWith p es) same (agree_now s es p at kind arg d grown (suits s (es ++ e ∷ []) w all grown).agree)
 agrees s es p at _ w all run inside goes has k said is = cc
 
+possible_from : (o : Outcome) → (o ≡ Impossible → ⊥) → IsPossible o
+possible_from Impossible h = h refl
+possible_from (Answers r) h = tt
+possible_from (Faults kind) h = tt
+
 pub may_do : (s : Setting) (es : List Entry) (p : ℕ) (at : Place) (a : Action) → IsWithin s.procs s.fuel → SuitsStore s.program → IsRun s es → p < s.procs → has_fault es ≡ false
-    → HasNext s p (entries_of p es) (next.Act at a) → IsReady s es p (next.Act at a) → (is_departure a ≡ true → AllArrived s.procs p es) → MayDo s.program s.procs es p at a
-may_do s es p at a w all run inside goes has ready arrived =
+    → HasNext s p (entries_of p es) (next.Act at a) → IsReady s es p (next.Act at a) → (is_departure a ≡ true → AllArrived s.procs p es) → IsFormed a → is_regionless a ≡ true
+    → MayDo s.program s.procs es p at a
+may_do s es p at a w all run inside goes has ready arrived form regionless =
     let known = suits s es w all run in record {
-      possible = known.possible p at a inside goes has ready;
-      formed = known.formed p at a inside goes has;
-      regionless = known.regionless p at a inside goes has;
-      balance = known.balance p at a inside goes has;
+      possible = possible_from (heap_answer s.program (history_of es) p a) (known.possible p has.process at a has.world has.is_next ready regionless);
+      formed = form;
+      regionless = regionless;
+      balance = known.balance p has.process at a has.world has.is_next;
       arrived = arrived;
-      agrees = agrees s es p at a w all run inside goes has (known.regionless p at a inside goes has);
+      agrees = agrees s es p at a w all run inside goes has regionless;
     }
-
--- ---- answers fit
-
-pub fits : (s : Setting) (es : List Entry) (e : Entry) (p : Process) → IsWithin s.procs s.fuel → SuitsStore s.program → IsRun s (es ++ e ∷ []) → is_answered e ≡ true → World s es e.proc p → FitsAction p e.answer
-fits s es e p w all run answered world = (suits s (es ++ e ∷ []) w all run).fit es [] e p refl answered world

@@ -13,23 +13,24 @@ use Rattle.ti_heap.specs.Contents.{Contents}
 use Rattle.ti_heap.specs.Things.{contents}
 use Rattle.ti_lang.specs.Program.Classes.{NumberedProgram}
 use Rattle.ti_lang.specs.Program.Views.{program_of}
-use Rattle.ti_lang.specs.Meaning.Processes.{Setting, Process}
-use Rattle.ti_lang.specs.Meaning.Histories.{History, history_of, is_end, is_fault, is_departure, is_answered, entries_of, arrivals, departures, has_fault}
+use Rattle.ti_lang.specs.Meaning.Processes.{Setting}
+use Rattle.ti_lang.specs.Meaning.Histories.{History, history_of, is_end, is_fault, is_departure, entries_of, arrivals, departures, has_fault}
 use Rattle.ti_lang.specs.Meaning.HeapAnswers.{Answers, heap_answer}
-use Rattle.ti_lang.specs.Meaning.Answers.{FitsAction}
-use Rattle.ti_lang.specs.Meaning.Runs.{World, IsReady, entry_with, entry_of, IsRun}
+use Rattle.ti_lang.specs.Meaning.Runs.{IsReady, entry_with, entry_of, IsRun}
 use Rattle.ti_lang.proofs.MeaningLaws.Running.{history_grows}
+use Rattle.ti_eval.specs.Forms.{IsFormedAnswer}
 use Rattle.ti_store.specs.declared.ledger.Ledger.{Ledger}
 use Rattle.ti_store.specs.declared.ledger.Reply.{Reply}
 use Rattle.ti_store.specs.declared.ledger.Reply.TheVariants.{Answered, Faulted}
-use Rattle.ti_store.specs.Conditions.{IsWithin, HasNext, SuitsStore}
+use Rattle.ti_store.specs.Conditions.{IsWithin, HasNext, IsFormed, is_regionless, SuitsStore}
 use Rattle.ti_store.specs.Stores.{next_of}
 use Rattle.ti_store.specs.MirrorsLedger.{AllArrived}
 use Rattle.ti_store.specs.MirrorsParts.{program_in, history_in, KeepsParts, IsKept, outcome_of, entry_after, Does, came_of, MayAct, Comes, Steps, SameLedger}
 use Rattle.ti_store.specs.MirrorsStore.{setting_in, IsLedger}
 use Rattle.ti_store.proofs.OneMore.{fault_more}
 use Rattle.ti_store.proofs.Doing.{quiet_parts, fault_parts}
-use Rattle.ti_store.proofs.Running.{run_more, next_acts, ready_when, suits, may_do, fits}
+use Rattle.ti_store.proofs.Running.{run_more, next_acts, ready_when, suits, may_do}
+use Rattle.ti_store.proofs.Forming.{answer_formed}
 
 -- ---- what comes of it
 
@@ -43,7 +44,7 @@ comes_from l l' p at a reply f d = record { answer = came_acts (program_in l) (h
 pub end_comes : (l : Ledger) (p : ℕ) (at : Place) (a : Action) → p < l.procs → IsKept l (history_in l) → a ≡ act.End → Comes l p at a (Answered Done) l
 end_comes l p at a inside k is = subst (λ a. Comes l p at a (Answered Done) l) (sym is) (record {
   answer = refl;
-  kept = quiet_parts (program_in l) l.procs (entry_after p at act.End (Answered Done)) (history_in l) (contents l.heap) l.rounds inside refl refl refl refl refl k;
+  kept = quiet_parts (program_in l) l.procs (entry_after p at act.End (Answered Done)) (history_in l) (contents l.heap) l.rounds inside refl tt refl refl refl refl k;
   same = refl;
 })
 
@@ -116,14 +117,15 @@ waits_before l fuel p at a k inside n d =
     let es = l.entries.items in
     let s = setting_in l fuel in
     let acts = departure_acts a d in
-    (suits s es k.within k.suits k.run).balance p at a inside (sym k.faulted_is) (next_act s es p at a acts.0 acts.1 n) ∙ ap (λ t. departures p es + cond t 1 0) d
+    let has = next_act s es p at a acts.0 acts.1 n in
+    (suits s es k.within k.suits k.run).balance p has.process at a has.world has.is_next ∙ ap (λ t. departures p es + cond t 1 0) d
 
 pub may_act : (l : Ledger) (fuel p : ℕ) (at : Place) (a : Action) → IsLedger l fuel false → p < l.procs → HasNext (setting_in l fuel) p (entries_of p l.entries.items) (next_of at a)
-    → (is_departure a ≡ true → AllArrived l.procs p l.entries.items) → MayAct l p at a
-may_act l fuel p at a k inside n arrived e f =
+    → (is_departure a ≡ true → AllArrived l.procs p l.entries.items) → IsFormed a → is_regionless a ≡ true → MayAct l p at a
+may_act l fuel p at a k inside n arrived form regionless e f =
     let es = l.entries.items in
     let s = setting_in l fuel in
-    may_do s es p at a k.within k.suits k.run inside (sym k.faulted_is) (next_act s es p at a e f n) (subst (IsReady s es p) (next_acts at a e f) (ready_when s es p at a arrived)) arrived
+    may_do s es p at a k.within k.suits k.run inside (sym k.faulted_is) (next_act s es p at a e f n) (subst (IsReady s es p) (next_acts at a e f) (ready_when s es p at a arrived)) arrived form regionless
 
 -- a fault ends the run
 abbrev pub is_faulted : Reply → Bool
@@ -157,16 +159,9 @@ ledger_steps l l' fuel p at a reply k inside n arrived st =
       kept = st.kept;
     }
 
-answered_entry : (p : ℕ) (at : Place) (a : Action) (answer : Answer) → is_end a ≡ false → is_fault a ≡ false → is_answered (record { proc = p; place = at; act = a; answer = answer }) ≡ true
-answered_entry p at act.End answer e f = cc
-answered_entry p at (act.Fault kind) answer e f = cc
-answered_entry p at _ answer e f = refl
-
-pub answer_fits : (l l' : Ledger) (fuel p : ℕ) (at : Place) (a : Action) (answer : Answer) → IsLedger l fuel false → p < l.procs → HasNext (setting_in l fuel) p (entries_of p l.entries.items) (next_of at a)
-    → (is_departure a ≡ true → AllArrived l.procs p l.entries.items) → Steps l p at a (Answered answer) l' → is_end a ≡ false → (q : Process) → World (setting_in l fuel) l.entries.items p q → FitsAction q answer
-answer_fits l l' fuel p at a answer k inside n arrived st e q world =
-    fits (setting_in l fuel) l.entries.items (entry_after p at a (Answered answer)) q k.within k.suits (grown_run l l' fuel p at a (Answered answer) k inside n arrived st)
-    (answered_entry p at a answer e (answered_acts (program_in l) (history_in l) p a answer st.answer)) world
+-- what is answered is in its form
+pub form_answered : (l l' : Ledger) (fuel p : ℕ) (at : Place) (a : Action) (answer : Answer) → IsLedger l fuel false → Steps l p at a (Answered answer) l' → IsFormedAnswer answer
+form_answered l l' fuel p at a answer k st = answer_formed (program_in l) l.procs (history_in l) (contents l.heap) p a answer k.suits.fields k.kept.ours k.kept.heap st.answer
 
 pub answered_no_fault : (l l' : Ledger) (p : ℕ) (at : Place) (a : Action) (answer : Answer) → Steps l p at a (Answered answer) l' → is_fault a ≡ false
 answered_no_fault l l' p at a answer st = answered_acts (program_in l) (history_in l) p a answer st.answer

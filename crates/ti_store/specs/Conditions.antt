@@ -1,25 +1,33 @@
--- What a store asks of its program: facts of every run of it, with every number of processes and every fuel.
-use Rattle.std.specs.Prelude.{◌≡◌, ℕ, ◌+◌, ◌≤◌, ◌<◌, ◌==◌, Bool, true, false, ◌&&◌, if◌then◌else◌, List, [], ◌∷◌, ◌++◌, map, filter, Option, None, Some}
+-- What a store asks of its program, as facts of every run of it with every number of processes and every fuel, and of what it is told to do.
+use Rattle.std.specs.Prelude.{◌≡◌, ℕ, ◌+◌, ◌≤◌, ◌==◌, Bool, true, false, if◌then◌else◌, List, ◌∷◌, ◌++◌, map, filter, Option, Some}
 use Rattle.std.specs.List.{list_any}
 use Rattle.ti_base.specs.declared.place.Place.{Place}
+use Rattle.ti_base.specs.declared.value.Zero.{Zero}
+use Rattle.ti_base.specs.declared.value.Zero.TheVariants as z
 use Rattle.ti_base.specs.declared.action.Action.{Action}
 use Rattle.ti_base.specs.declared.action.Action.TheVariants as act
 use Rattle.ti_base.specs.declared.action.CollKind.{CollKind}
 use Rattle.ti_base.specs.declared.action.CollKind.TheVariants as coll
+use Rattle.ti_base.specs.declared.action.Deposit.{Deposit}
+use Rattle.ti_base.specs.declared.action.Deposit.TheVariants as deposit
 use Rattle.ti_base.specs.declared.action.ViewHow.{ViewHow}
 use Rattle.ti_base.specs.declared.action.ViewHow.TheVariants.{Restrict, Translate, Slice}
+use Rattle.ti_base.specs.declared.entry.Answer.{Answer}
 use Rattle.ti_base.specs.declared.entry.Entry.{Entry}
 use Rattle.ti_base.specs.declared.entry.Next.{Next}
 use Rattle.ti_base.specs.declared.entry.Next.TheVariants as next
-use Rattle.ti_base.specs.Points.{IsPoint}
+use Rattle.ti_base.specs.Points.{IsDim, IsPoint}
 use Rattle.ti_base.specs.Rects.{IsRect}
+use Rattle.ti_lang.specs.Program.Types.{ValueType}
 use Rattle.ti_lang.specs.Program.Classes.{NumberedProgram}
+use Rattle.ti_lang.specs.Typing.Declared.{field_type}
+use Rattle.ti_lang.specs.Meaning.Zeros.{zero_of_type}
 use Rattle.ti_lang.specs.Meaning.Processes.{Setting, Process, begin}
-use Rattle.ti_lang.specs.Meaning.NextStep.{IsNext, After}
-use Rattle.ti_lang.specs.Meaning.Histories.{History, history_of, is_end, is_arrival, is_departure, is_answered, entries_of, arrivals, departures, has_fault}
-use Rattle.ti_lang.specs.Meaning.HeapAnswers.{Outcome, Impossible, heap_answer}
-use Rattle.ti_lang.specs.Meaning.Answers.{FitsAction}
+use Rattle.ti_lang.specs.Meaning.NextStep.{IsNext, After, Settles}
+use Rattle.ti_lang.specs.Meaning.Histories.{history_of, is_end, is_departure, is_answered, arrivals, departures}
+use Rattle.ti_lang.specs.Meaning.HeapAnswers.{Impossible, heap_answer}
 use Rattle.ti_lang.specs.Meaning.Runs.{World, IsReady, IsRun}
+use Rattle.ti_eval.specs.Forms.{IsFormedValue}
 
 -- ---- every run
 
@@ -53,20 +61,13 @@ pub record HasNext (s : Setting) (i : ℕ) (own : List Entry) (n : Next) : Type 
   pub world : After (begin s i) (map (λ (e : Entry). e.answer) (filter is_answered own)) process
   pub is_next : IsNext process n
 
--- the fact of each action that a process has next after these entries
-abbrev pub OfActions : (ℕ → Place → Action → Type 0) → Setting → List Entry → Type 0
-OfActions fact s es = (i : ℕ) (at : Place) (a : Action) → i < s.procs → has_fault es ≡ false → HasNext s i (entries_of i es) (next.Act at a) → fact i at a
+-- ---- what a store is told to do
 
--- ---- the facts
-
--- the step is possible
-abbrev pub IsPossible : Outcome → Type 0
-IsPossible Impossible = ⊥
-IsPossible outcome = Unit {0}
-
--- nothing impossible is asked: each action for which its process needn't wait comes to an answer or a fault
-abbrev pub NothingImpossible : Setting → List Entry → Type 0
-NothingImpossible s es = OfActions (λ i at a. IsReady s es i (next.Act at a) → IsPossible (heap_answer s.program (history_of es) i a)) s es
+-- the first value of a field or an element has one to three dimensions, where it has any
+abbrev pub IsFormedZero : Zero → Type 0
+IsFormedZero (z.Pt dim) = IsDim dim
+IsFormedZero (z.Rc dim) = IsDim dim
+IsFormedZero zero = Unit {0}
 
 -- what a view is made by is in its form
 abbrev pub IsFormedView : ViewHow → Type 0
@@ -74,16 +75,19 @@ IsFormedView (Restrict r) = IsRect r
 IsFormedView (Translate by) = IsPoint by
 IsFormedView (Slice k j) = Unit {0}
 
--- the points and the domains of an action are in their form
-abbrev pub IsFormed : Action → Type 0
-IsFormed (act.NewGrid zero domain region) = IsRect domain
-IsFormed (act.GetElem grid at) = IsPoint at
-IsFormed (act.PutElem grid at value) = IsPoint at
-IsFormed (act.MakeView grid how) = IsFormedView how
-IsFormed a = Unit {0}
+-- the value of a deposit is in its form
+abbrev pub IsFormedDeposit : Deposit → Type 0
+IsFormedDeposit (deposit.One value) = IsFormedValue value
+IsFormedDeposit given = Unit {0}
 
-abbrev pub AllFormed : Setting → List Entry → Type 0
-AllFormed s es = OfActions (λ i at a. IsFormed a) s es
+-- the values and domains that an action hands in are in their form
+abbrev pub IsFormed : Action → Type 0
+IsFormed (act.PutField obj field value) = IsFormedValue value
+IsFormed (act.NewGrid zero domain region) = IsFormedZero zero × IsRect domain
+IsFormed (act.PutElem grid at value) = IsFormedValue value
+IsFormed (act.MakeView grid how) = IsFormedView how
+IsFormed (act.Arrive kind arg given) = IsFormedDeposit given
+IsFormed a = Unit {0}
 
 -- a collective that makes no region and deletes none
 abbrev pub is_regionless_kind : CollKind → Bool
@@ -98,43 +102,50 @@ is_regionless (act.NewGrid zero domain region) = region == 0
 is_regionless (act.Arrive kind arg given) = is_regionless_kind kind
 is_regionless a = true
 
--- there are no shared regions
-abbrev pub NoRegions : Setting → List Entry → Type 0
-NoRegions s es = OfActions (λ i at a. is_regionless a ≡ true) s es
+-- ---- what is known of every run
+
+-- nothing impossible is asked: each action for which its process needn't wait comes to an answer or a fault, but for those of regions
+abbrev pub NothingImpossible : Setting → List Entry → Type 0
+NothingImpossible s es =
+    (i : ℕ) (p : Process) (at : Place) (a : Action) → World s es i p → IsNext p (next.Act at a) → IsReady s es i (next.Act at a) → is_regionless a ≡ true
+    → heap_answer s.program (history_of es) i a ≡ Impossible → ⊥
 
 -- a departure leaves the round that its process reached last; a process that has anything else next has left each round that it reached
 abbrev pub RoundsBalance : Setting → List Entry → Type 0
-RoundsBalance s es = OfActions (λ i at a. arrivals i es ≡ departures i es + (if is_departure a then 1 else 0)) s es
+RoundsBalance s es =
+    (i : ℕ) (p : Process) (at : Place) (a : Action) → World s es i p → IsNext p (next.Act at a) → arrivals i es ≡ departures i es + (if is_departure a then 1 else 0)
 
--- each answer fits what its process asked for
-abbrev pub AnswersFit : Setting → List Entry → Type 0
-AnswersFit s es = (before rest : List Entry) (e : Entry) (p : Process) → es ≡ before ++ e ∷ rest → is_answered e ≡ true → World s before e.proc p → FitsAction p e.answer
+-- in these entries, arrival number k of process i, counted from 0, is at this place, of this kind and with this argument
+pub record ArrivesAt (s : Setting) (es : List Entry) (i k : ℕ) (at : Place) (kind : CollKind) (arg : Option ℕ) : Type 0 where
+  pub before : List Entry
+  pub rest : List Entry
+  pub deposit : Deposit
+  pub answer : Answer
+  pub split : es ≡ before ++ record { proc = i; place = at; act = act.Arrive kind arg deposit; answer = answer } ∷ rest
+  pub count : arrivals i before ≡ k
+  -- the process that makes it
+  pub process : Process
+  pub world : World s before i process
+  pub settled : Process
+  pub settles : Settles process settled (next.Act at (act.Arrive kind arg deposit))
 
--- kind, place and argument of an arrival
-abbrev pub collective_in : Place → Action → Option (CollKind × Place × Option ℕ)
-collective_in at (act.Arrive kind arg given) = Some (kind, at, arg)
-collective_in at a = None
-
--- kind, place and argument of the arrival of process i at this round, counted from 1
-abbrev pub collective_at : ℕ → ℕ → History → Option (CollKind × Place × Option ℕ)
-collective_at i round [] = None
-collective_at i round (e ∷ earlier) =
-    if e.proc == i && is_arrival e.act && arrivals i (e ∷ earlier) == round then collective_in e.place e.act else collective_at i round earlier
-
--- all arrivals at one round are at the same place, of the same kind and with the same argument
+-- arrivals of one number are at the same place, of the same kind and with the same argument
 abbrev pub ArrivalsAgree : Setting → List Entry → Type 0
 ArrivalsAgree s es =
-    (i j round : ℕ) (a b : CollKind × Place × Option ℕ) → collective_at i round (history_of es) ≡ Some a → collective_at j round (history_of es) ≡ Some b → a ≡ b
+    (i j k : ℕ) (at bt : Place) (kind lind : CollKind) (arg brg : Option ℕ) → ArrivesAt s es i k at kind arg → ArrivesAt s es j k bt lind brg
+    → (at ≡ bt) × (kind ≡ lind) × (arg ≡ brg)
 
 -- what a store relies on in one run
 pub record SuitsRun (s : Setting) (es : List Entry) : Type 0 where
   pub possible : NothingImpossible s es
-  pub formed : AllFormed s es
-  pub regionless : NoRegions s es
   pub balance : RoundsBalance s es
-  pub fit : AnswersFit s es
   pub agree : ArrivalsAgree s es
 
+-- fields have one to three dimensions, where they have any
+abbrev pub FieldsFormed : NumberedProgram → Type 0
+FieldsFormed program = (class field : ℕ) (type : ValueType) → field_type program class field ≡ Some type → IsFormedZero (zero_of_type type)
+
 -- a program that a store can keep the runs of
-abbrev pub SuitsStore : NumberedProgram → Type 0
-SuitsStore program = OfEveryRun SuitsRun program
+pub record SuitsStore (program : NumberedProgram) : Type 0 where
+  pub runs : OfEveryRun SuitsRun program
+  pub fields : FieldsFormed program

@@ -1,7 +1,8 @@
 -- Nobody has to believe what stands here: it mirrors the code, and only contracts of private functions and the invariant speak of it.
-use Rattle.std.specs.Prelude.{◌≡◌, ℕ, ◌+◌, ◌<◌, true, if◌then◌else◌, List, [], ◌∷◌, Option, Some, IfSome}
+use Rattle.std.specs.Prelude.{◌≡◌, ℕ, ◌+◌, ◌<◌, ◌==◌, true, ◌&&◌, if◌then◌else◌, List, [], ◌∷◌, Option, None, Some, IfSome}
 use Rattle.ti_base.specs.declared.place.Place.{Place}
 use Rattle.ti_base.specs.declared.action.Action.{Action}
+use Rattle.ti_base.specs.declared.action.Action.TheVariants as act
 use Rattle.ti_base.specs.declared.action.CollKind.{CollKind}
 use Rattle.ti_base.specs.declared.action.Deposit.{Deposit}
 use Rattle.ti_base.specs.declared.action.Deposit.TheVariants as deposit
@@ -9,14 +10,30 @@ use Rattle.ti_base.specs.declared.entry.Answer.{Answer}
 use Rattle.ti_base.specs.declared.entry.Answer.TheVariants.{Done, Val}
 use Rattle.ti_base.specs.declared.entry.Entry.{Entry}
 use Rattle.ti_lang.specs.Program.Classes.{NumberedProgram}
-use Rattle.ti_lang.specs.Meaning.Histories.{History, history_of, is_departure, arrivals, departures}
-use Rattle.ti_lang.specs.Meaning.HeapAnswers.{heap_answer}
-use Rattle.ti_store.specs.Conditions.{IsPossible, IsFormed, is_regionless, collective_in, collective_at}
+use Rattle.ti_lang.specs.Meaning.Histories.{History, history_of, is_arrival, is_departure, arrivals, departures}
+use Rattle.ti_lang.specs.Meaning.HeapAnswers.{Outcome, Impossible, heap_answer}
+use Rattle.ti_store.specs.Conditions.{IsFormed, is_regionless}
 
--- every entry is one of these processes, and has nothing to do with regions
+-- every entry is one of these processes, has nothing to do with regions, and handed in what is in its form
 abbrev pub AreOurs : ℕ → History → Type 0
 AreOurs procs [] = Unit {0}
-AreOurs procs (e ∷ h) = (e.proc < procs) × (is_regionless e.act ≡ true) × AreOurs procs h
+AreOurs procs (e ∷ h) = (e.proc < procs) × (is_regionless e.act ≡ true) × IsFormed e.act × AreOurs procs h
+
+-- the step is possible
+abbrev pub IsPossible : Outcome → Type 0
+IsPossible Impossible = ⊥
+IsPossible outcome = Unit {0}
+
+-- kind, place and argument of an arrival
+abbrev pub collective_in : Place → Action → Option (CollKind × Place × Option ℕ)
+collective_in at (act.Arrive kind arg given) = Some (kind, at, arg)
+collective_in at a = None
+
+-- kind, place and argument of the arrival of process i at this round, counted from 1
+abbrev pub collective_at : ℕ → ℕ → History → Option (CollKind × Place × Option ℕ)
+collective_at i round [] = None
+collective_at i round (e ∷ earlier) =
+    if e.proc == i && is_arrival e.act && arrivals i (e ∷ earlier) == round then collective_in e.place e.act else collective_at i round earlier
 
 -- all have arrived at the round in which process p waits
 abbrev pub AllArrived : ℕ → ℕ → List Entry → Type 0

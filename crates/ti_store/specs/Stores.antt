@@ -11,10 +11,9 @@ use Rattle.ti_base.specs.declared.entry.Next.{Next}
 use Rattle.ti_base.specs.declared.entry.Next.TheVariants as next
 use Rattle.ti_lang.specs.declared.program.classes.Parts.{Parts}
 use Rattle.ti_lang.specs.Program.Views.{program_of}
-use Rattle.ti_lang.specs.Meaning.Processes.{Setting, Process}
-use Rattle.ti_lang.specs.Meaning.Histories.{is_end, is_fault, has_fault, entries_of}
-use Rattle.ti_lang.specs.Meaning.Answers.{FitsAction}
-use Rattle.ti_lang.specs.Meaning.Runs.{World, IsReady, entry_of}
+use Rattle.ti_lang.specs.Meaning.Processes.{Setting}
+use Rattle.ti_lang.specs.Meaning.Histories.{is_fault, has_fault, entries_of}
+use Rattle.ti_lang.specs.Meaning.Runs.{IsReady, entry_of}
 use Rattle.ti_store.specs.declared.act_err.ActErr.{ActErr}
 use Rattle.ti_store.specs.declared.act_err.ActErr.TheVariants.{Faulted, NotYet, Halted, Memory}
 use Rattle.ti_store.specs.Conditions.{HasNext}
@@ -76,7 +75,3 @@ IsRefused old p at a (Faulted kind) new = Becomes old p at a (fault_entry p at k
 IsRefused old p at a NotYet new = (is_halted old ≡ false) × (NeedNotWait old p at a → ⊥) × (new ≡ old)
 IsRefused old p at a Halted new = (is_halted old ≡ true) × (new ≡ old)
 IsRefused old p at a Memory new = (is_halted old ≡ false) × NeedNotWait old p at a × (new ≡ old)
-
--- the answer fits what process p asked for
-abbrev pub AnswerFits : StoreState → ℕ → Action → Answer → Type 0
-AnswerFits s p a answer = is_end a ≡ false → (q : Process) → World (setting_of s) s.entries p q → FitsAction q answer

@@ -3,8 +3,9 @@
 ghost use Rattle.std.specs.Prelude.{◌≡◌, ◌<◌, [], false, true, IfOk, IfErr};
 ghost use Rattle.ti_lang.specs.Program.Views.{program_of};
 ghost use Rattle.ti_lang.specs.Meaning.Runs.{IsRun};
-ghost use Rattle.ti_store.specs.Conditions.{IsWithin, SuitsStore};
-ghost use Rattle.ti_store.specs.Stores.{setting_of, IsNextOf, IsDone, IsRefused, AnswerFits};
+ghost use Rattle.ti_eval.specs.Forms.{IsFormedAnswer};
+ghost use Rattle.ti_store.specs.Conditions.{IsWithin, IsFormed, is_regionless, SuitsStore};
+ghost use Rattle.ti_store.specs.Stores.{setting_of, IsNextOf, IsDone, IsRefused};
 
 use crate::act_err::ActErr;
 use crate::ledger::{Ledger, Reply};
@@ -47,9 +48,8 @@ impl Model for Store {
 impl Store {
     /// The store of a program with so many processes and so much fuel for each, before the first entry.
     ///
-    /// It keeps a copy of the program. In every run of the program what a process asks for is possible and in
-    /// its form, all meet the same collectives, each answer fits what was asked for, and there are no shared
-    /// regions.
+    /// It keeps a copy of the program. In every run of the program what a process asks for is possible, but for
+    /// shared regions, and all meet the same collectives.
     pub fn new(alloc: Global, c: &Checked, procs: u32, fuel: u32) -> Result<Self, Memory>
         requires within { IsWithin procs fuel }
         requires suits { SuitsStore (program_of c.now.program.parts) }
@@ -75,7 +75,8 @@ impl Store {
         })
     }
 
-    /// The process does what it has next: an action, its end or a fault of its own.
+    /// The process does what it has next: an action, its end or a fault of its own. What it hands in is in its
+    /// form, and it has nothing to do with shared regions.
     ///
     /// Its entry is added, with its answer or as the fault that comes of it. `Halted` comes exactly where
     /// the history ends with a fault or the store was halted; else `NotYet` exactly where this is a departure
@@ -85,8 +86,10 @@ impl Store {
     pub fn act(&mut self, alloc: Global, p: u32, place: Place, a: Action) -> Result<Answer, ActErr>
         requires process { p < self.old.procs }
         requires next { IsNextOf self.old p place a }
+        requires form { IsFormed a }
+        requires regionless { is_regionless a ≡ true }
         ensures ok { IfOk result (λ answer. IsDone self.old p place a answer self.new) }
-        ensures fits { IfOk result (AnswerFits self.old p a) }
+        ensures form { IfOk result IsFormedAnswer }
         ensures err { IfErr result (λ why. IsRefused self.old p place a why self.new) }
     {
         if self.halted || self.faulted {

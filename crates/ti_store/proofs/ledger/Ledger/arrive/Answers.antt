@@ -39,7 +39,7 @@ returns c =
     record {
       answer = arrives_done (history_in l) c.args.kind c.args.arg c.requires.may.regionless;
       kept = record {
-        ours = (c.requires.process, c.requires.may.regionless, k.ours);
+        ours = (c.requires.process, c.requires.may.regionless, c.requires.may.formed, k.ours);
         rounds = record {
           courses = with_arrival k.rounds.courses c.args.p (record { kind = c.args.kind; place = c.args.place; arg = c.args.arg; deposit = c.args.given });
           keeps = c.arrive.ensures k.rounds.courses k.rounds.keeps;

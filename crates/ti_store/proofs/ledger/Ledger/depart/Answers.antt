@@ -31,7 +31,7 @@ returns c =
           ∙ ap (λ d. Answers (answer_given d)) (sym (c.depart.ensures.value k.rounds.courses k.rounds.keeps))
           ∙ ap Answers (sym c.answer_given.ensures);
       kept = record {
-        ours = (c.requires.process, refl, k.ours);
+        ours = (c.requires.process, refl, tt, k.ours);
         rounds = record {
           courses = with_departure k.rounds.courses c.args.p;
           keeps = c.depart.ensures.left k.rounds.courses k.rounds.keeps;

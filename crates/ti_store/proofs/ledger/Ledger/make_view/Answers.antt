@@ -29,7 +29,7 @@ returns-in-Ok-clause-ok c =
     let l = c.args.self.now in
     let e = c.in-Ok.ensures in
     let done = view_done (program_in l) l.procs (history_in l) (contents l.heap) (contents c.make_view.new.self) l.rounds c.args.p c.args.place c.args.grid c.args.how c.in-Ok.id
-    c.requires.process c.requires.kept (view_formed c.args.how c.requires.may.formed) c.requires.may.possible e.fault e.id e.made in
+    c.requires.process c.requires.kept c.requires.may.formed c.requires.may.possible e.fault e.id e.made in
     record { answer = done.0; kept = done.1; same = refl }
 
 pub returns-in-Err-Faulted-clause-ok : goal.returns-in-Err-Faulted-clause-ok
