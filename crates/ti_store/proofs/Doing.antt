@@ -38,9 +38,9 @@ use Rattle.ti_lang.specs.Meaning.RegionsOf.{is_made, is_gone}
 use Rattle.ti_lang.specs.Meaning.HeapOf.{new_id, view_id, grid_of, written_by, cell_value, cost_of, cost_of_making, most_cells}
 use Rattle.ti_lang.specs.Meaning.HeapAnswers.{Outcome, Answers, Faults, where_some, possible_if, faults_if, answers_value, makes, places, is_dim, at_point, views, heap_answer}
 use Rattle.ti_eval.specs.Forms.{IsFormedValue}
-use Rattle.ti_store.specs.Conditions.{IsFormedZero, IsFormedView, IsFormed, is_regionless}
+use Rattle.ti_store.specs.Conditions.{IsFormedZero, IsFormedView, is_regionless}
 use Rattle.ti_store.specs.MirrorsHeap.{full_cost, KeepsHeap}
-use Rattle.ti_store.specs.MirrorsLedger.{AreOurs, IsPossible}
+use Rattle.ti_store.specs.MirrorsLedger.{AllFormed, AreOurs, IsPossible}
 use Rattle.ti_store.specs.MirrorsParts.{field_zeros, KeepsParts, read_outcome}
 use Rattle.ti_store.proofs.OneMore.{some_same, one}
 use Rattle.ti_store.proofs.NoRegions.{none_gone, cost_full}
@@ -51,7 +51,7 @@ use Rattle.ti_store.proofs.Makings.{object_keeps, grid_keeps, view_keeps}
 
 -- ---- what changes nothing
 
-pub quiet_parts : (program : NumberedProgram) (procs : ℕ) (e : Entry) (h : History) (s : Contents) (seats : List Seat) → e.proc < procs → is_regionless e.act ≡ true → IsFormed e.act → is_making e.act ≡ false
+pub quiet_parts : (program : NumberedProgram) (procs : ℕ) (e : Entry) (h : History) (s : Contents) (seats : List Seat) → e.proc < procs → is_regionless e.act ≡ true → AllFormed e.act → is_making e.act ≡ false
     → written_by e.act h ≡ None → is_arrival e.act ≡ false → is_departure e.act ≡ false → KeepsParts program procs h s seats → KeepsParts program procs (e ∷ h) s seats
 quiet_parts program procs e h s seats inside r f m w a d k = record {
   ours = (inside, r, f, k.ours);

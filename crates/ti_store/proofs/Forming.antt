@@ -32,9 +32,9 @@ use Rattle.ti_lang.specs.Meaning.RegionUse.{is_in_use}
 use Rattle.ti_lang.specs.Meaning.HeapOf.{new_id, view_id, is_grid, class_of, grid_made, grid_of, written_by, written_to, or_else, last_written, zero_of, cell_value}
 use Rattle.ti_lang.specs.Meaning.HeapAnswers.{Outcome, Answers, where_some, possible_if, faults_if, answers_value, makes, places, is_dim, at_point, views, leaves_delete, departs, arrives, heap_answer}
 use Rattle.ti_eval.specs.Forms.{IsFormedValue, IsFormedAnswer}
-use Rattle.ti_store.specs.Conditions.{IsFormedZero, IsFormedDeposit, IsFormed, FieldsFormed}
+use Rattle.ti_store.specs.Conditions.{IsFormedZero, IsFormedDeposit, FieldsFormed}
 use Rattle.ti_store.specs.MirrorsHeap.{KeepsHeap}
-use Rattle.ti_store.specs.MirrorsLedger.{AreOurs}
+use Rattle.ti_store.specs.MirrorsLedger.{AllFormed, AreOurs}
 use Rattle.ti_store.specs.MirrorsParts.{came_of}
 use Rattle.ti_store.proofs.OneMore.{some_same}
 
@@ -78,7 +78,7 @@ element_put : (o : Option Grid) (at : Point) (c : Cell) (x y : Value) → ◌≡
 element_put None at c x y e = cc
 element_put (Some g) at c x y e = put_value (cell_of g at) c x y e
 
-written_formed : (a : Action) (h : History) (c : Cell) (y : Value) → IsFormed a → written_by a h ≡ Some (c, y) → IsFormedValue y
+written_formed : (a : Action) (h : History) (c : Cell) (y : Value) → AllFormed a → written_by a h ≡ Some (c, y) → IsFormedValue y
 written_formed (act.PutField obj field x) h c y f e = subst IsFormedValue (put_value (Field obj field) c x y e) f
 written_formed (act.PutElem grid at x) h c y f e = subst IsFormedValue (element_put (grid_of grid h) at c x y e) f
 written_formed _ h c y f e = cc
@@ -101,7 +101,7 @@ viewed_zero : (how : ViewHow) (o : Option Grid) (g : Grid) → ((x : Grid) → o
 viewed_zero how None g h e = cc
 viewed_zero how (Some x) g h e = subst (λ (g : Grid). IsFormedZero g.zero) (some_same (view how x) g e) (h x refl)
 
-made_zero : (a : Action) (id : Id) (earlier : Id → Option Grid) (g : Grid) → ((viewed : Id) (x : Grid) → earlier viewed ≡ Some x → IsFormedZero x.zero) → IsFormed a → grid_made id a earlier ≡ Some g → IsFormedZero g.zero
+made_zero : (a : Action) (id : Id) (earlier : Id → Option Grid) (g : Grid) → ((viewed : Id) (x : Grid) → earlier viewed ≡ Some x → IsFormedZero x.zero) → AllFormed a → grid_made id a earlier ≡ Some g → IsFormedZero g.zero
 made_zero (act.NewGrid zero domain region) id earlier g ih f e = subst (λ (g : Grid). IsFormedZero g.zero) (some_same (whole_grid id zero domain) g e) f.0
 made_zero (act.MakeView viewed how) id earlier g ih f e = viewed_zero how (earlier viewed) g (ih viewed) e
 made_zero _ id earlier g ih f e = cc
@@ -146,7 +146,7 @@ cell_formed program procs h cell y formed ours e = by (last_written cell h) refl
 
 -- ---- deposits
 
-arrival_formed : (a : Action) (x : Arrival) → IsFormed a → arrival_in a ≡ Some x → IsFormedDeposit x.deposit
+arrival_formed : (a : Action) (x : Arrival) → AllFormed a → arrival_in a ≡ Some x → IsFormedDeposit x.deposit
 arrival_formed (act.Arrive kind arg given) x f e = subst (λ (y : Arrival). IsFormedDeposit y.deposit) (some_same (record { kind = kind; arg = arg; deposit = given }) x e) f
 arrival_formed _ x f e = cc
 

@@ -14,16 +14,16 @@ use Rattle.ti_base.specs.declared.entry.Entry.{Entry}
 use Rattle.ti_base.specs.declared.entry.Next.{Next}
 use Rattle.ti_base.specs.declared.entry.Next.TheVariants as next
 use Rattle.ti_rounds.specs.Seats.{collective_of}
-use Rattle.ti_lang.specs.Meaning.Processes.{Setting}
-use Rattle.ti_lang.specs.Meaning.NextStep.{Settles}
+use Rattle.ti_lang.specs.Meaning.Processes.{Setting, Process}
+use Rattle.ti_lang.specs.Meaning.NextStep.{IsNext, Settles}
 use Rattle.ti_lang.specs.Meaning.Histories.{History, history_of, is_end, is_fault, is_arrival, is_departure, entries_of, arrivals, has_fault}
 use Rattle.ti_lang.specs.Meaning.HeapAnswers.{Outcome, Answers, Faults, Impossible, arrives, heap_answer}
-use Rattle.ti_lang.specs.Meaning.Runs.{IsReady, entry_with, entry_of, CanTake, IsRun, none, more}
+use Rattle.ti_lang.specs.Meaning.Runs.{World, IsReady, entry_with, entry_of, CanTake, IsRun, none, more}
 use Rattle.ti_lang.proofs.MeaningLaws.Running.{history_grows, taker}
-use Rattle.ti_store.specs.Conditions.{IsWithin, HasNext, IsFormed, is_regionless, is_regionless_kind, ArrivesAt, ArrivalsAgree, SuitsRun, SuitsStore}
+use Rattle.ti_store.specs.Conditions.{IsWithin, HasNext, IsFormed, is_regionless, is_regionless_kind, ArrivesAt, ArrivalsAgree, ElementsFormed, SuitsRun, SuitsStore}
 use Rattle.ti_store.specs.Stores.{next_of}
 use Rattle.ti_store.specs.MirrorsRounds.{arrivals_said}
-use Rattle.ti_store.specs.MirrorsLedger.{IsPossible, collective_in, collective_at, AllArrived, AgreesWith, MayDo}
+use Rattle.ti_store.specs.MirrorsLedger.{AllFormed, IsPossible, collective_in, collective_at, AllArrived, AgreesWith, MayDo}
 use Rattle.ti_store.proofs.OneMore.{one, some_same, counted_own, counted_back}
 use Rattle.ti_store.proofs.Courses.{length_said, collective_met, none_beyond}
 
@@ -227,13 +227,18 @@ possible_from Impossible h = h refl
 possible_from (Answers r) h = tt
 possible_from (Faults kind) h = tt
 
+-- what a new grid's elements hold first is in its form in each run
+all_formed : (s : Setting) (es : List Entry) (p : ℕ) (q : Process) (at : Place) (a : Action) → ElementsFormed s es → World s es p q → IsNext q (next.Act at a) → IsFormed a → AllFormed a
+all_formed s es p q at (act.NewGrid zero domain region) known world is form = (known p q at zero domain region world is, form)
+all_formed s es p q at _ known world is form = form
+
 pub may_do : (s : Setting) (es : List Entry) (p : ℕ) (at : Place) (a : Action) → IsWithin s.procs s.fuel → SuitsStore s.program → IsRun s es → p < s.procs → has_fault es ≡ false
     → HasNext s p (entries_of p es) (next.Act at a) → IsReady s es p (next.Act at a) → (is_departure a ≡ true → AllArrived s.procs p es) → IsFormed a → is_regionless a ≡ true
     → MayDo s.program s.procs es p at a
 may_do s es p at a w all run inside goes has ready arrived form regionless =
     let known = suits s es w all run in record {
       possible = possible_from (heap_answer s.program (history_of es) p a) (known.possible p has.process at a has.world has.is_next ready regionless);
-      formed = form;
+      formed = all_formed s es p has.process at a known.elements has.world has.is_next form;
       regionless = regionless;
       balance = known.balance p has.process at a has.world has.is_next;
       arrived = arrived;

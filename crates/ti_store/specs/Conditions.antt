@@ -2,6 +2,7 @@
 use Rattle.std.specs.Prelude.{◌≡◌, ℕ, ◌+◌, ◌≤◌, ◌==◌, Bool, true, false, if◌then◌else◌, List, ◌∷◌, ◌++◌, map, filter, Option, Some}
 use Rattle.std.specs.List.{list_any}
 use Rattle.ti_base.specs.declared.place.Place.{Place}
+use Rattle.ti_base.specs.declared.point.Rect.{Rect}
 use Rattle.ti_base.specs.declared.value.Zero.{Zero}
 use Rattle.ti_base.specs.declared.value.Zero.TheVariants as z
 use Rattle.ti_base.specs.declared.action.Action.{Action}
@@ -63,12 +64,6 @@ pub record HasNext (s : Setting) (i : ℕ) (own : List Entry) (n : Next) : Type 
 
 -- ---- what a store is told to do
 
--- the first value of a field or an element has one to three dimensions, where it has any
-abbrev pub IsFormedZero : Zero → Type 0
-IsFormedZero (z.Pt dim) = IsDim dim
-IsFormedZero (z.Rc dim) = IsDim dim
-IsFormedZero zero = Unit {0}
-
 -- what a view is made by is in its form
 abbrev pub IsFormedView : ViewHow → Type 0
 IsFormedView (Restrict r) = IsRect r
@@ -83,7 +78,7 @@ IsFormedDeposit given = Unit {0}
 -- the values and domains that an action hands in are in their form
 abbrev pub IsFormed : Action → Type 0
 IsFormed (act.PutField obj field value) = IsFormedValue value
-IsFormed (act.NewGrid zero domain region) = IsFormedZero zero × IsRect domain
+IsFormed (act.NewGrid zero domain region) = IsRect domain
 IsFormed (act.PutElem grid at value) = IsFormedValue value
 IsFormed (act.MakeView grid how) = IsFormedView how
 IsFormed (act.Arrive kind arg given) = IsFormedDeposit given
@@ -135,11 +130,23 @@ ArrivalsAgree s es =
     (i j k : ℕ) (at bt : Place) (kind lind : CollKind) (arg brg : Option ℕ) → ArrivesAt s es i k at kind arg → ArrivesAt s es j k bt lind brg
     → (at ≡ bt) × (kind ≡ lind) × (arg ≡ brg)
 
+-- the first value of a field or an element has one to three dimensions, where it has any
+abbrev pub IsFormedZero : Zero → Type 0
+IsFormedZero (z.Pt dim) = IsDim dim
+IsFormedZero (z.Rc dim) = IsDim dim
+IsFormedZero zero = Unit {0}
+
+-- the elements of new grids have one to three dimensions, where they have any
+abbrev pub ElementsFormed : Setting → List Entry → Type 0
+ElementsFormed s es =
+    (i : ℕ) (p : Process) (at : Place) (zero : Zero) (domain : Rect) (region : ℕ) → World s es i p → IsNext p (next.Act at (act.NewGrid zero domain region)) → IsFormedZero zero
+
 -- what a store relies on in one run
 pub record SuitsRun (s : Setting) (es : List Entry) : Type 0 where
   pub possible : NothingImpossible s es
   pub balance : RoundsBalance s es
   pub agree : ArrivalsAgree s es
+  pub elements : ElementsFormed s es
 
 -- fields have one to three dimensions, where they have any
 abbrev pub FieldsFormed : NumberedProgram → Type 0

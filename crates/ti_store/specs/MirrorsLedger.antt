@@ -9,15 +9,21 @@ use Rattle.ti_base.specs.declared.action.Deposit.TheVariants as deposit
 use Rattle.ti_base.specs.declared.entry.Answer.{Answer}
 use Rattle.ti_base.specs.declared.entry.Answer.TheVariants.{Done, Val}
 use Rattle.ti_base.specs.declared.entry.Entry.{Entry}
+use Rattle.ti_base.specs.Rects.{IsRect}
 use Rattle.ti_lang.specs.Program.Classes.{NumberedProgram}
 use Rattle.ti_lang.specs.Meaning.Histories.{History, history_of, is_arrival, is_departure, arrivals, departures}
 use Rattle.ti_lang.specs.Meaning.HeapAnswers.{Outcome, Impossible, heap_answer}
-use Rattle.ti_store.specs.Conditions.{IsFormed, is_regionless}
+use Rattle.ti_store.specs.Conditions.{IsFormed, IsFormedZero, is_regionless}
+
+-- the values and domains that an action hands in are in their form, and so is the first value of a new grid's elements
+abbrev pub AllFormed : Action → Type 0
+AllFormed (act.NewGrid zero domain region) = IsFormedZero zero × IsRect domain
+AllFormed a = IsFormed a
 
 -- every entry is one of these processes, has nothing to do with regions, and handed in what is in its form
 abbrev pub AreOurs : ℕ → History → Type 0
 AreOurs procs [] = Unit {0}
-AreOurs procs (e ∷ h) = (e.proc < procs) × (is_regionless e.act ≡ true) × IsFormed e.act × AreOurs procs h
+AreOurs procs (e ∷ h) = (e.proc < procs) × (is_regionless e.act ≡ true) × AllFormed e.act × AreOurs procs h
 
 -- the step is possible
 abbrev pub IsPossible : Outcome → Type 0
@@ -46,7 +52,7 @@ AgreesWith p es said = (q : ℕ) → IfSome (collective_at q (arrivals p es + 1)
 -- what is known of an action that a process may do
 pub record MayDo (program : NumberedProgram) (procs : ℕ) (es : List Entry) (p : ℕ) (at : Place) (a : Action) : Type 0 where
   pub possible : IsPossible (heap_answer program (history_of es) p a)
-  pub formed : IsFormed a
+  pub formed : AllFormed a
   pub regionless : is_regionless a ≡ true
   pub balance : arrivals p es ≡ departures p es + (if is_departure a then 1 else 0)
   pub arrived : is_departure a ≡ true → AllArrived procs p es
