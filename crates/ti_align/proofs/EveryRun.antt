@@ -7,9 +7,11 @@ use Rattle.ti_lang.specs.Meaning.Runs.{IsRun}
 use Rattle.ti_rules.specs.ProgramRefusals.{IsChecked}
 use Rattle.ti_align.specs.Alignment.{ArrivalsAgree, NoneAfterEnd, OfEveryRun}
 use Rattle.ti_align.specs.Stopping.{NoneWaits}
+use Rattle.ti_align.specs.Typed.{RunTyped}
 use Rattle.ti_align.proofs.Aligning as aligning
 use Rattle.ti_align.proofs.Rounds.{same_departures}
-use Rattle.ti_align.proofs.Possible.{ThingsThere}
+use Rattle.ti_align.proofs.Programs.{checked_fits}
+use Rattle.ti_align.proofs.Holding as holding
 use Rattle.ti_align.proofs.Stopping as stopping
 use Rattle.ti_align.proofs.Checked.{checked_fine}
 
@@ -25,7 +27,12 @@ none_after_end p c procs fuel es a b d e w =
     let fine = checked_fine p c in
     aligning.none_after_end s fine es w (same_departures s fine es w)
 
-pub none_waits : (p : NumberedProgram) → IsChecked p → ((s : Setting) (es : List Entry) → IsRun s es → ThingsThere s es) → OfEveryRun NoneWaits p
-none_waits p c there procs fuel es a b d e w =
+pub run_typed : (p : NumberedProgram) → IsChecked p → OfEveryRun RunTyped p
+run_typed p c procs fuel es a b d e w =
+    holding.run_typed (record { program = p; procs = procs; fuel = fuel }) (checked_fits p c) (checked_fine p c) (λ ds r. arrivals_agree p c procs fuel ds a b d e r) es w
+
+pub none_waits : (p : NumberedProgram) → IsChecked p → OfEveryRun NoneWaits p
+none_waits p c procs fuel es a b d e w =
     let s : Setting = record { program = p; procs = procs; fuel = fuel } in
-    stopping.none_waits s es w (arrivals_agree p c procs fuel es a b d e w) (there s es w) (none_after_end p c procs fuel es a b d e w)
+    let agree : (ds : List Entry) → IsRun s ds → ArrivalsAgree s ds = λ ds r. arrivals_agree p c procs fuel ds a b d e r in
+    stopping.none_waits s es w (agree es w) (holding.things_there s (checked_fits p c) (checked_fine p c) agree es w) (none_after_end p c procs fuel es a b d e w)

@@ -84,7 +84,7 @@ free_fine procs last (Behind loop ∷ ws) n = n
 free_fine procs last (Receive r h ∷ ws) n = n
 free_fine procs last (CopyAll at to from points ∷ ws) n = n
 
-tail_free : (procs : ℕ) (last : Option CollKind) (w : Work) (ws : List Work) → LeftFine procs last (w ∷ ws) → NoTakes ws
+pub tail_free : (procs : ℕ) (last : Option CollKind) (w : Work) (ws : List Work) → LeftFine procs last (w ∷ ws) → NoTakes ws
 tail_free procs last (TakeAll at grid is) ws n = n.2
 tail_free procs last (Do x) ws n = n
 tail_free procs last (End x) ws n = n
@@ -117,7 +117,7 @@ free_before : (xs : NumberedStms) (ws : List Work) → NoTakes ws → NoTakes (a
 free_before Nil ws n = n
 free_before (Cons x xs) ws n = free_before xs ws n
 
-free_mark : (ws : List Work) → NoTakes ws → NoTakes (from_mark ws)
+pub free_mark : (ws : List Work) → NoTakes ws → NoTakes (from_mark ws)
 free_mark [] n = tt
 free_mark (TakeAll at grid is ∷ ws) n = absurd n
 free_mark (Do x ∷ ws) n = free_mark ws n
@@ -127,7 +127,7 @@ free_mark (Behind loop ∷ ws) n = n
 free_mark (Receive r h ∷ ws) n = free_mark ws n
 free_mark (CopyAll at to from points ∷ ws) n = free_mark ws n
 
-free_past : (ws : List Work) → NoTakes ws → NoTakes (past_mark ws)
+pub free_past : (ws : List Work) → NoTakes ws → NoTakes (past_mark ws)
 free_past [] n = tt
 free_past (TakeAll at grid is ∷ ws) n = absurd n
 free_past (Do x ∷ ws) n = free_past ws n
@@ -331,15 +331,15 @@ first_taken procs last (CopyAll at to from points) ws n = tt
 
 -- ---- processes
 
-abbrev AllFree : List Frame → Type 0
+abbrev pub AllFree : List Frame → Type 0
 AllFree [] = Unit {0}
 AllFree (f ∷ fs) = NoTakes f.left × AllFree fs
 
-abbrev TopFine : ℕ → Option CollKind → List Frame → Type 0
+abbrev pub TopFine : ℕ → Option CollKind → List Frame → Type 0
 TopFine procs last [] = Unit {0}
 TopFine procs last (f ∷ fs) = LeftFine procs last f.left × AllFree fs
 
-abbrev WaitFine : ℕ → Option CollKind → Option Wait → List Frame → Type 0
+abbrev pub WaitFine : ℕ → Option CollKind → Option Wait → List Frame → Type 0
 WaitFine procs last None fs = TopFine procs last fs
 WaitFine procs last (Some w) fs = TopFine procs last fs × (AllFree fs ⊎ (w.wanted ≡ ToBeDone))
 

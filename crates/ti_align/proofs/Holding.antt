@@ -1,9 +1,8 @@
 -- In every run all that is there is as the types say: each entry keeps it so.
-use Rattle.std.proofs.Common.{◌≡◌, ℕ, suc, ◌+◌, ◌==◌, Bool, true, false, not, ◌&&◌, ◌||◌, ◌⊎◌, inl, inr, filter, map, Option, Some, None, List, [], ◌∷◌, ◌++◌, refl, ap, ap₂, sym, ◌∙◌, subst, arith, append-nil, eqb-true, eq-eqb}
+use Rattle.std.proofs.Common.{◌≡◌, ℕ, suc, ◌==◌, Bool, true, false, not, ◌&&◌, ◌||◌, ◌⊎◌, inl, inr, filter, map, Option, Some, None, List, [], ◌∷◌, ◌++◌, refl, ap, ap₂, sym, ◌∙◌, subst, arith, append-nil, eqb-true, eq-eqb}
 use Rattle.std.specs.Option.{option_map, option_and_then}
 use Rattle.ti_base.specs.declared.place.Place.{Place}
 use Rattle.ti_base.specs.declared.value.Value.{Value}
-use Rattle.ti_base.specs.declared.value.Value.TheVariants as v
 use Rattle.ti_base.specs.declared.action.Action.{Action}
 use Rattle.ti_base.specs.declared.action.Action.TheVariants as act
 use Rattle.ti_base.specs.declared.action.CollKind.{CollKind}
@@ -11,53 +10,56 @@ use Rattle.ti_base.specs.declared.action.CollKind.TheVariants as coll
 use Rattle.ti_base.specs.declared.action.Deposit.{Deposit}
 use Rattle.ti_base.specs.declared.action.Deposit.TheVariants as deposit
 use Rattle.ti_base.specs.declared.entry.Answer.{Answer}
-use Rattle.ti_base.specs.declared.entry.Answer.TheVariants.{Done, Val}
+use Rattle.ti_base.specs.declared.entry.Answer.TheVariants.{Val}
 use Rattle.ti_base.specs.declared.entry.Entry.{Entry}
 use Rattle.ti_base.specs.declared.entry.Next.TheVariants as next
 use Rattle.ti_base.specs.Cells.{Cell}
 use Rattle.ti_lang.specs.Program.Types.{ValueType}
 use Rattle.ti_lang.specs.Program.Types as types
-use Rattle.ti_lang.specs.Program.Classes.{NumberedProgram}
 use Rattle.ti_lang.specs.Meaning.Held.{Plain}
-use Rattle.ti_lang.specs.Meaning.Asking.{Wanted, ToBeDone, told, Request}
+use Rattle.ti_lang.specs.Meaning.Asking.{Wanted, ToBeDone, told}
 use Rattle.ti_lang.specs.Meaning.Processes.{Setting, Wait, Process, begin}
-use Rattle.ti_lang.specs.Meaning.Steps.{Step, To, At, step}
-use Rattle.ti_lang.specs.Meaning.NextStep.{Reaches, here, Settles, After, none, more}
+use Rattle.ti_lang.specs.Meaning.Steps.{To, At, step}
+use Rattle.ti_lang.specs.Meaning.NextStep.{Reaches, here, IsNext, After, none}
 use Rattle.ti_lang.specs.Meaning.Histories.{History, history_of, is_end, is_fault, is_arrival, is_departure, is_answered, entries_of, answers_of, arrivals}
 use Rattle.ti_lang.specs.Meaning.RegionsOf.{is_made, is_region}
 use Rattle.ti_lang.specs.Meaning.HeapOf.{last_written}
 use Rattle.ti_lang.specs.Meaning.RoundsOf as rounds
 use Rattle.ti_lang.specs.Meaning.RoundsOf.{arrival_in, arrival_at, last_arrival, value_in, given}
-use Rattle.ti_lang.specs.Meaning.HeapAnswers.{Outcome, Answers, Impossible, answers_value, heap_answer, IsAnswered}
-use Rattle.ti_lang.specs.Meaning.HeapAnswers as heap
+use Rattle.ti_lang.specs.Meaning.HeapAnswers.{Answers, Impossible, answers_value, heap_answer, IsAnswered}
 use Rattle.ti_lang.specs.Meaning.Runs.{World, CanTake, IsRun}
 use Rattle.ti_lang.specs.Meaning.Runs as run
 use Rattle.ti_lang.proofs.MeaningLaws.Steps.{after_same}
 use Rattle.ti_lang.proofs.MeaningLaws.Running.{taker, history_grows, run_answered}
-use Rattle.ti_align.specs.SinglePart.{single_part}
-use Rattle.ti_align.specs.Alignment.{ArrivalsAgree, ArrivesAt}
-use Rattle.ti_align.specs.Alignment as aligned
+use Rattle.ti_align.specs.Alignment.{ArrivalsAgree}
 use Rattle.ti_align.specs.Things.{Things, Grows, IsOf}
 use Rattle.ti_align.specs.Sound.{IsThere, FitsAsked}
 use Rattle.ti_align.specs.Work.{DepositFits, IsOfRound, WantsOf}
 use Rattle.ti_align.specs.Heap.{Elements, things_of, HeapFits, elements_behind, is_of_heap, KeepsTypes}
-use Rattle.ti_align.specs.Typed.{ProgramFits, ProcessFits, ActionFits, StepFits, given_by, GivesAt, GivesLast, hands_in, RunFits}
-use Rattle.ti_align.proofs.Vars.{true_false, and_left, and_right}
+use Rattle.ti_align.specs.Typed.{ProgramFits, ProcessFits, ActionFits, StepFits, given_by, GivesAt, GivesLast, hands_in, RunFits, RunTyped}
+use Rattle.ti_align.proofs.Vars.{true_false, and_left}
 use Rattle.ti_align.proofs.Ways.{Asked, asking, Meeting, Way, last_from}
 use Rattle.ti_align.proofs.Ways as way
 use Rattle.ti_align.proofs.Fitting.{FineMethods}
-use Rattle.ti_align.proofs.Entries.{got_both, arrivals_both, own, other}
+use Rattle.ti_align.proofs.Entries.{got_both, own, other}
 use Rattle.ti_align.proofs.Balance.{step_waits}
 use Rattle.ti_align.proofs.Given.{Stands, ActsFine, step_fine}
 use Rattle.ti_align.proofs.Given as given_facts
 use Rattle.ti_align.proofs.Arrived.{is_own, more_own, more_other, back, Comes, before, now, comes, last_kind, made}
 use Rattle.ti_align.proofs.Running.{after_more, at_action}
-use Rattle.ti_align.proofs.Rounds.{RoundAnswer, Told, told_now, said, acts_as, arrive_answered, arrival_is, extended, alike}
+use Rattle.ti_align.proofs.Rounds.{RoundAnswer, told_now, said, acts_as, arrival_is, alike}
 use Rattle.ti_align.proofs.Giving.{given_same, gives_more, gives_now}
-use Rattle.ti_align.proofs.Possible.{by_kind}
+use Rattle.ti_align.proofs.Possible.{ThingsThere, by_kind}
 use Rattle.ti_align.proofs.Aligning.{way_next}
 use Rattle.ti_align.proofs.Computing.{of_stays}
 use Rattle.ti_align.proofs.Heaping.{keeps_types}
+use Rattle.ti_align.proofs.Staying.{stays, other_round}
+use Rattle.ti_align.proofs.Kept.{Performs, begin_fits, step_fits, reaches_fits}
+use Rattle.ti_align.proofs.Framed.{frame_fine}
+
+-- what is done next in a frame that fits
+performs : Performs
+performs pr f left w x fine vars this k = frame_fine pr f left w x vars this fine.fields fine.storable fine.methods k
 
 -- ---- who waits
 
@@ -191,12 +193,7 @@ kind_here i h a kind x y = some_kind _ _ (sym y ∙ ap (option_map (λ (a : roun
     some_kind k l z = cc
 
 module _ (s : Setting)
-    (fits : ProgramFits s.program) (fine : FineMethods s.program s.program.methods)
-    (stays : (w u : Things) (G : ValueType → Type 0) (p : Process) → Grows w u → ProcessFits w G p → ProcessFits u G p)
-    (other_round : (w : Things) (G H : ValueType → Type 0) (p : Process) → ((a : ValueType) → G a → H a) → ProcessFits w G p → ProcessFits w H p)
-    (begin_fits : (w : Things) (G : ValueType → Type 0) (i : ℕ) → ProcessFits w G (begin s i))
-    (step_fits : (w : Things) (G H : ValueType → Type 0) (i : ℕ) (last : Option CollKind) (p : Process) → Stands s i last p → ProcessFits w G p → StepFits w G H p (step p))
-    (reaches_fits : (w : Things) (G : ValueType → Type 0) (i : ℕ) (last : Option CollKind) (p q : Process) → Stands s i last p → Reaches p q → ProcessFits w G p → ProcessFits w G q) where
+    (fits : ProgramFits s.program) (fine : FineMethods s.program s.program.methods) where
   module _ (es : List Entry) (e : Entry) (ran : IsRun s es) (agree : ArrivalsAgree s es) (t : CanTake s es e.proc e) (fit : RunFits s es) where
     abbrev h : History
     h = history_of es
@@ -225,7 +222,7 @@ module _ (s : Setting)
     q_fits : ProcessFits w (GivesLast s es i) q
     q_fits =
         let k = way_next s es i t.process t.process ran t.world here in
-        reaches_fits w (GivesLast s es i) i _ t.process q (given_facts.stands s i t.process k.0 k.1) t.is_next.1.reaches (fit.processes i t.process t.world)
+        (reaches_fits performs w (GivesLast s es i) s i _ t.process q fits (given_facts.stands s i t.process k.0 k.1) t.is_next.1.reaches (fit.processes i t.process t.world)).0
 
     -- where what the action names is there
     module _ (wanted : Wanted) (there : IsThere s.program w e.act wanted) where
@@ -297,7 +294,7 @@ module _ (s : Setting)
     -- an answer
     module _ (is : is_answered e ≡ true) (asked : Asked) (go : Answer → Process) (stands : step q ≡ At (asking e.place e.act asked) go) where
       step_here : StepFits w (GivesLast s es i) (GivesLast s all i) q (At (asking e.place e.act asked) go)
-      step_here = subst (StepFits w (GivesLast s es i) (GivesLast s all i) q) stands (step_fits w (GivesLast s es i) (GivesLast s all i) i (last_kind i h) q q_stands q_fits)
+      step_here = subst (StepFits w (GivesLast s es i) (GivesLast s all i) q) stands (step_fits performs w (GivesLast s es i) (GivesLast s all i) s i (last_kind i h) q (subst (λ (x : Setting). ProgramFits x.program) (sym q_stands.0) fits) q_stands q_fits)
 
       there : IsThere s.program w e.act asked.1
       there = subst (λ (x : Setting). IsThere x.program w e.act asked.1) q_stands.0 step_here.0
@@ -408,7 +405,7 @@ module _ (s : Setting)
   begin_holds = record {
     elements = λ id. None;
     heap = record { cells = λ cell value z. absurd (none_written cell value z); blocks = λ block type z. absurd (no_type type z) };
-    processes = λ i p x. subst (ProcessFits (things_of (λ id. None) []) (GivesLast s [] i)) (after_same (begin s i) (begin s i) p [] none x) (begin_fits (things_of (λ id. None) []) (GivesLast s [] i) i);
+    processes = λ i p x. subst (ProcessFits (things_of (λ id. None) []) (GivesLast s [] i)) (after_same (begin s i) (begin s i) p [] none x) (begin_fits performs (things_of (λ id. None) []) (GivesLast s [] i) s i fits);
     deposits = λ i k a value z. absurd (no_arrival a z);
   }
     where
@@ -423,3 +420,27 @@ module _ (s : Setting)
   run_holds agree es run.none = begin_holds
   run_holds agree whole (run.more {es = es} {i = i} {e = e} r t z) =
       subst (RunFits s) (sym z) (entry_holds es e r (agree es r) (subst (λ j. CanTake s es j e) (sym (taker s es i e t)) t) (run_holds agree es r))
+
+  -- ---- what is named
+
+  next_there : (es : List Entry) → IsRun s es → (fit : RunFits s es) → (i : ℕ) (p : Process) (at : Place) (a : Action) → World s es i p → IsNext p (next.Act at a) → (wanted : Wanted) × IsThere s.program (things_of fit.elements (history_of es)) a wanted
+  next_there es r fit i p at a x n =
+      let q = n.0 in
+      let w = things_of fit.elements (history_of es) in
+      let k = way_next s es i p p r x here in
+      let stand = given_facts.stands s i p k.0 k.1 in
+      let reached = reaches_fits performs w (GivesLast s es i) s i _ p q fits stand n.1.reaches (fit.processes i p x) in
+      let acts = at_action (step q) at a n.1.stands in
+      let same = reached.1.0 in
+      let step_here = subst (StepFits w (GivesLast s es i) (GivesLast s es i) q) acts.2 (step_fits performs w (GivesLast s es i) (GivesLast s es i) s i _ q (subst (λ (y : Setting). ProgramFits y.program) (sym same) fits) reached.1 reached.0) in
+      (acts.0.1, subst (λ (y : Setting). IsThere y.program w a acts.0.1) same step_here.0)
+
+  pub run_typed : ((es : List Entry) → IsRun s es → ArrivalsAgree s es) → (es : List Entry) → IsRun s es → RunTyped s es
+  run_typed agree es r = let fit = run_holds agree es r in record { fits = fit; there = next_there es r fit }
+
+  -- so the heap answers it
+  pub things_there : ((es : List Entry) → IsRun s es → ArrivalsAgree s es) → (es : List Entry) → IsRun s es → ThingsThere s es
+  things_there agree es r i p at a x n of o =
+      let typed = run_typed agree es r in
+      let named = typed.there i p at a x n in
+      (keeps_types s.program typed.fits.elements (history_of es) i a named.0 fits.storable (run_answered s es r) typed.fits.heap named.1).possible of o

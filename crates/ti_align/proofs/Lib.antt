@@ -20,8 +20,6 @@ pub mod Rounds
 pub mod Giving
 pub mod Possible
 pub mod Checked
-pub mod EveryRun
-pub mod Stopping
 pub mod Computing
 pub mod Operating
 pub mod Evaluating
@@ -31,4 +29,17 @@ pub mod Performed
 pub mod Working
 pub mod Stated
 pub mod Framed
+pub mod Staying
+pub mod Pending
+pub mod Kept
+pub mod Meant
+pub mod Forming
+pub mod Written
+pub mod Stating
+pub mod Spelled
+pub mod Naming
+pub mod Numbered
+pub mod Programs
 pub mod Holding
+pub mod Stopping
+pub mod EveryRun

@@ -7,18 +7,20 @@ use Rattle.ti_base.specs.declared.action.CollKind.{CollKind}
 use Rattle.ti_base.specs.declared.action.CollKind.TheVariants as coll
 use Rattle.ti_base.specs.declared.entry.Answer.{Answer}
 use Rattle.ti_base.specs.declared.entry.Entry.{Entry}
+use Rattle.ti_base.specs.declared.entry.Next.TheVariants as next
+use Rattle.ti_base.specs.declared.place.Place.{Place}
 use Rattle.ti_lang.specs.Program.Types.{ValueType}
-use Rattle.ti_lang.specs.Program.Types as t
 use Rattle.ti_lang.specs.Program.Classes.{NumberedProgram}
 use Rattle.ti_lang.specs.Program.Scope.{method_scope}
 use Rattle.ti_lang.specs.Typing.Declared.{result_type}
 use Rattle.ti_lang.specs.Typing.Kinds.{element_of}
 use Rattle.ti_lang.specs.Meaning.Held.{Plain}
-use Rattle.ti_lang.specs.Meaning.Asking.{Wanted, ToBeDone, ValueOf, Request, told}
+use Rattle.ti_lang.specs.Meaning.Asking.{Wanted, ToBeDone, Request, told}
 use Rattle.ti_lang.specs.Meaning.Processes.{Setting, Frame, Work, TakeAll, Wait, Process}
 use Rattle.ti_lang.specs.Meaning.Scoping.{env_of}
 use Rattle.ti_lang.specs.Meaning.Performing.{performed}
 use Rattle.ti_lang.specs.Meaning.Steps.{Step, To, At}
+use Rattle.ti_lang.specs.Meaning.NextStep.{IsNext}
 use Rattle.ti_lang.specs.Meaning.Histories.{arrivals, history_of}
 use Rattle.ti_lang.specs.Meaning.RoundsOf as rounds
 use Rattle.ti_lang.specs.Meaning.RoundsOf.{arrival_at, value_in}
@@ -83,7 +85,7 @@ TakesFirst G left = Unit {0}
 
 -- what a process that waits is given, or takes behind the collective, suits the frame in which it waits
 abbrev pub WaitFits : NumberedProgram → (ValueType → Type 0) → Wait → List Frame → Type 0
-WaitFits p G wait [] = Unit {0}
+WaitFits p G wait [] = ⊥
 WaitFits p G wait (f ∷ fs) =
     (type : ValueType) × IsAwaited p f.method (scope_over p (method_scope f.method) f.left) wait.wanted wait.receiver type
     × IsOfRound G wait.kind type × WantsOf wait.kind wait.wanted × TakesOf (taken_behind wait.kind type) f.left
@@ -144,3 +146,8 @@ pub record RunFits (s : Setting) (es : List Entry) : Type 0 where
   pub processes : (i : ℕ) (pr : Process) → World s es i pr → ProcessFits (things_of elements (history_of es)) (GivesLast s es i) pr
   pub deposits : (i k : ℕ) (a : rounds.Arrival) (value : Value) → arrival_at i (suc k) (history_of es) ≡ Some a → hands_in a.kind ≡ true → value_in a.deposit ≡ Some value
       → (type : ValueType) × GivesAt s es i k type × IsOf (things_of elements (history_of es)) type (Plain value)
+
+-- The same, and what each process names in the action that it has next is there.
+pub record RunTyped (s : Setting) (es : List Entry) : Type 0 where
+  pub fits : RunFits s es
+  pub there : (i : ℕ) (pr : Process) (at : Place) (a : Action) → World s es i pr → IsNext pr (next.Act at a) → (wanted : Wanted) × IsThere s.program (things_of fits.elements (history_of es)) a wanted

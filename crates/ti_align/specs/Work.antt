@@ -276,7 +276,7 @@ module _ (p : NumberedProgram) (m : NumberedMethod) where
   MoveFits gives takes s w (Returns None) = Unit {0}
   MoveFits gives takes s w (Returns (Some h)) = IsOf w (result_type m) h
   MoveFits gives takes s w (Meets wait given behind) =
-      ((type : ValueType) × IsAwaited s wait.wanted wait.receiver type × DepositFits w type given × IsOfRound (λ u. gives ≡ Some u) wait.kind type × WantsOf wait.kind wait.wanted
+      ((type : ValueType) × IsAwaited (scope_over p s behind) wait.wanted wait.receiver type × DepositFits w type given × IsOfRound (λ u. gives ≡ Some u) wait.kind type × WantsOf wait.kind wait.wanted
       × TakesOf (taken_behind wait.kind type) behind) × WorksFit s w behind
   MoveFits gives takes s w (Deletes at region) = IsPlaced w region
   MoveFits gives takes s w move = Unit {0}

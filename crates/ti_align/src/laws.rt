@@ -20,6 +20,7 @@ ghost use Rattle.ti_align.specs.Things.{Things, IsOf};
 ghost use Rattle.ti_align.specs.Sound.{IsThere, Sound};
 ghost use Rattle.ti_align.specs.Fitting.{EnvFits, FieldsFit, IsWritten};
 ghost use Rattle.ti_align.specs.Work.{VariablesFit, scope_over, MethodsFit, ThisFits, given_type, taken_type, WorksFit, MoveFits};
+ghost use Rattle.ti_align.specs.Typed.{RunTyped};
 ghost use Rattle.ti_align.specs.Heap.{Elements, things_of, FieldsStorable, HeapFits, KeepsTypes};
 
 use ti_rules::Checked;
@@ -38,10 +39,19 @@ pub fn none_after_end(c: &Checked)
 {}
 
 /// In every run of a checked program no process waits for ever: where there is no fault and no
-/// process can take an entry, all have their end, or some process has come to an action that names a
-/// thing, a class or a region which isn't there. The third part of alignment, but for such actions.
+/// process can take an entry, all have their end, or some process has come to the delete of a region
+/// that isn't there. The third part of alignment, but for such deletes.
 pub fn none_waits(c: &Checked)
     ensures { OfEveryRun NoneWaits (program_of c.now.program.parts) }
+{}
+
+/// In every run of a checked program all that is there is as the types say: each field, each element
+/// and each variable holds a value of its type, what is handed in at a broadcast or an exchange is of
+/// the type at which it is taken, and what a process names in the action that it has next is there: an
+/// object of a class with that field, a grid of these elements and dimensions, a region that was made
+/// or none.
+pub fn run_typed(c: &Checked)
+    ensures { OfEveryRun RunTyped (program_of c.now.program.parts) }
 {}
 
 /// What an expression comes to inside another is a value of the type that the rules give it, and all

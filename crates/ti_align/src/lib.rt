@@ -3,4 +3,6 @@
 
 mod laws;
 
-pub use laws::{arrivals_agree, expressions_fit, heap_fits, none_after_end, none_waits, work_fits};
+pub use laws::{
+    arrivals_agree, expressions_fit, heap_fits, none_after_end, none_waits, run_typed, work_fits,
+};

@@ -1,4 +1,3 @@
-use Rattle.ti_align.proofs.Holding as holding
 use Rattle.ti_lang.specs.Program.Views.{program_of}
 use Rattle.ti_align.proofs.EveryRun as every
 use Rattle.ti_align.proofs.laws.none_waits.Goals as goal
