@@ -1,5 +1,5 @@
 -- What comes of actions on the heap, and what the heap is then.
-use Rattle.std.proofs.Common.{◌≡◌, ⊎_elim, ℕ, ◌+◌, ◌<◌, ◌≤◌, ◌==◌, ◌||◌, nat_lt, not, Bool, true, false, cond, List, [], ◌∷◌, length, map, replicate, slice_get, sum_by, count_by, Option, Some, None, is_some, IsSome, Result, Ok, Err, refl, sym, ap, ap₂, subst, ◌∙◌, arith, eqb-true, ltb-false}
+use Rattle.std.proofs.Common.{◌≡◌, ⊎_elim, ℕ, ◌+◌, ◌<◌, ◌≤◌, ◌==◌, nat_lt, not, Bool, true, false, cond, List, [], ◌∷◌, length, map, replicate, slice_get, sum_by, count_by, Option, Some, None, is_some, IsSome, Result, Ok, Err, refl, sym, ap, ap₂, subst, ◌∙◌, arith, eqb-true, ltb-false}
 use Rattle.std.specs.Option.{option_map, option_and_then, option_map_or, IsSomeAnd}
 use Rattle.std.proofs.lemmas.List.Sums.{sum_by-cons}
 use Rattle.std.proofs.lemmas.Option.{slice_get-map}
@@ -34,7 +34,7 @@ use Rattle.ti_lang.specs.Program.Classes.{NumberedField, NumberedClass, Numbered
 use Rattle.ti_lang.specs.Program.Views.{program_of, numbered_field_of, numbered_class_of}
 use Rattle.ti_lang.specs.Meaning.Zeros.{zero_of_type, zeros_of_class}
 use Rattle.ti_lang.specs.Meaning.Histories.{History, is_making, is_arrival, is_departure, entries_of, things_made}
-use Rattle.ti_lang.specs.Meaning.RegionsOf.{is_made, is_gone}
+use Rattle.ti_lang.specs.Meaning.RegionsOf.{is_gone, is_place}
 use Rattle.ti_lang.specs.Meaning.HeapOf.{new_id, view_id, grid_of, written_by, cell_value, cost_of, cost_of_making, most_cells}
 use Rattle.ti_lang.specs.Meaning.HeapAnswers.{Outcome, Answers, Faults, where_some, possible_if, faults_if, answers_value, makes, places, is_dim, at_point, views, heap_answer}
 use Rattle.ti_eval.specs.Forms.{IsFormedValue}
@@ -287,10 +287,15 @@ makes_full program procs h s p a cells made kind ours k cost some =
     let t = some_full (nat_lt 1048576 (heap.cost_of p s + (1 + cells))) kind some in
     ap (λ t. faults_if t fault.HeapFull (Answers (Val made))) (test_same program procs h s p a cells ours k cost ∙ t.0) ∙ ap Faults t.1
 
--- nothing is placed in a region
-placed : (procs : ℕ) (h : History) (region : ℕ) (o : Outcome) → AreOurs procs h → (region == 0) ≡ true → places region h o ≡ o
-placed procs h region o ours r =
-    ap (λ t. possible_if (t || is_made region h) (faults_if (is_gone region h) fault.RegionGone o)) r ∙ ap (λ t. faults_if t fault.RegionGone o) (none_gone procs region h ours)
+possible_rest : (t : Bool) (o : Outcome) → IsPossible (possible_if t o) → IsPossible o
+possible_rest true o h = h
+possible_rest false o h = absurd h
+
+-- no region is gone
+placed : (procs : ℕ) (h : History) (region : ℕ) (o : Outcome) → AreOurs procs h → IsPossible (places region h o) → places region h o ≡ o
+placed procs h region o ours possible =
+    ap (λ t. possible_if t (faults_if (is_gone region h) fault.RegionGone o)) (possible_test (is_place region h) (faults_if (is_gone region h) fault.RegionGone o) possible)
+    ∙ ap (λ t. faults_if t fault.RegionGone o) (none_gone procs region h ours)
 
 own_name : (program : NumberedProgram) (procs : ℕ) (h : History) (s : Contents) (p region : ℕ) → KeepsHeap program procs h s → own_id p region s ≡ new_id p region h
 own_name program procs h s p region k = ap (λ n. let i : Id = record { maker = p; serial = n; owner = p; region = region } in i) (k.counts p)
@@ -319,17 +324,18 @@ pub class_there : (program : NumberedProgram) (h : History) (p class region : �
 class_there program h p class region possible =
     possible_some (zeros_of_class program class) (λ zeros. places region h (makes program h p (act.NewObj class region) (v.Obj (Some (new_id p region h))))) possible
 
-object_answer : (program : NumberedProgram) (procs : ℕ) (h : History) (p class region : ℕ) (zeros : List Zero) → AreOurs procs h → (region == 0) ≡ true → zeros_of_class program class ≡ Some zeros
-    → heap_answer program h p (act.NewObj class region) ≡ makes program h p (act.NewObj class region) (v.Obj (Some (new_id p region h)))
+object_answer : (program : NumberedProgram) (procs : ℕ) (h : History) (p class region : ℕ) (zeros : List Zero) → AreOurs procs h → IsPossible (heap_answer program h p (act.NewObj class region))
+    → zeros_of_class program class ≡ Some zeros → heap_answer program h p (act.NewObj class region) ≡ makes program h p (act.NewObj class region) (v.Obj (Some (new_id p region h)))
 object_answer program procs h p class region zeros ours r is =
     ap (λ o. where_some o (λ zeros. places region h (makes program h p (act.NewObj class region) (v.Obj (Some (new_id p region h)))))) is
-    ∙ placed procs h region (makes program h p (act.NewObj class region) (v.Obj (Some (new_id p region h)))) ours r
+    ∙ placed procs h region (makes program h p (act.NewObj class region) (v.Obj (Some (new_id p region h)))) ours
+    (possible_then (zeros_of_class program class) zeros (λ zeros. places region h (makes program h p (act.NewObj class region) (v.Obj (Some (new_id p region h))))) is r)
 
 object_cost : (program : NumberedProgram) (class region : ℕ) (zeros : List Zero) → zeros_of_class program class ≡ Some zeros → cost_of_making program (act.NewObj class region) ≡ 1 + length zeros
 object_cost program class region zeros is = ap (λ o. 1 + option_map_or (λ (zs : List Zero). length zs) o 0) is
 
 pub object_done : (program : NumberedProgram) (procs : ℕ) (h : History) (s s' : Contents) (seats : List Seat) (p : ℕ) (at : Place) (class region : ℕ) (zeros : List Zero) (id : Id) → p < procs
-    → KeepsParts program procs h s seats → (region == 0) ≡ true → zeros_of_class program class ≡ Some zeros → new_fault p (length zeros) s ≡ None → id ≡ own_id p region s
+    → KeepsParts program procs h s seats → IsPossible (heap_answer program h p (act.NewObj class region)) → zeros_of_class program class ≡ Some zeros → new_fault p (length zeros) s ≡ None → id ≡ own_id p region s
     → s' ≡ with_thing id (map zero_value zeros) None s
     → (heap_answer program h p (act.NewObj class region) ≡ Answers (Val (v.Obj (Some id))))
     × KeepsParts program procs (record { proc = p; place = at; act = act.NewObj class region; answer = Val (v.Obj (Some id)) } ∷ h) s' seats
@@ -339,7 +345,7 @@ object_done program procs h s s' seats p at class region zeros id inside k r is 
     let e : Entry = record { proc = p; place = at; act = act.NewObj class region; answer = Val (v.Obj (Some new)) } in
     let room = makes_room program procs h s p (act.NewObj class region) (length zeros) (v.Obj (Some new)) k.ours k.heap (object_cost program class region zeros is) none in
     let kept : KeepsParts program procs (e ∷ h) (with_thing new (map zero_value zeros) None s) seats = record {
-      ours = (inside, r, tt, k.ours);
+      ours = (inside, refl, tt, k.ours);
       rounds = quiet_courses procs e h seats refl refl k.rounds;
       heap = object_keeps program procs h s p at class region zeros k.heap is room.1;
     } in (
@@ -349,51 +355,50 @@ object_done program procs h s s' seats p at class region zeros id inside k r is 
     )
 
 pub object_full : (program : NumberedProgram) (procs : ℕ) (h : History) (s : Contents) (seats : List Seat) (p class region : ℕ) (zeros : List Zero) (kind : FaultKind) → KeepsParts program procs h s seats
-    → (region == 0) ≡ true → zeros_of_class program class ≡ Some zeros → new_fault p (length zeros) s ≡ Some kind → heap_answer program h p (act.NewObj class region) ≡ Faults kind
+    → IsPossible (heap_answer program h p (act.NewObj class region)) → zeros_of_class program class ≡ Some zeros → new_fault p (length zeros) s ≡ Some kind → heap_answer program h p (act.NewObj class region) ≡ Faults kind
 object_full program procs h s seats p class region zeros kind k r is some =
     object_answer program procs h p class region zeros k.ours r is
     ∙ makes_full program procs h s p (act.NewObj class region) (length zeros) (v.Obj (Some (new_id p region h))) kind k.ours k.heap (object_cost program class region zeros is) some
 
 -- ---- grids
 
-grid_answer : (program : NumberedProgram) (procs : ℕ) (h : History) (p : ℕ) (zero : Zero) (domain : Rect) (region : ℕ) → AreOurs procs h → (region == 0) ≡ true
-    → IsPossible (heap_answer program h p (act.NewGrid zero domain region))
+grid_answer : (program : NumberedProgram) (procs : ℕ) (h : History) (p : ℕ) (zero : Zero) (domain : Rect) (region : ℕ) → AreOurs procs h → IsPossible (heap_answer program h p (act.NewGrid zero domain region))
     → heap_answer program h p (act.NewGrid zero domain region) ≡ makes program h p (act.NewGrid zero domain region) (v.Grid (Some (new_id p region h)))
-grid_answer program procs h p zero domain region ours r possible =
+grid_answer program procs h p zero domain region ours possible =
     let made = makes program h p (act.NewGrid zero domain region) (v.Grid (Some (new_id p region h))) in
-    ap (λ t. possible_if t (places region h made)) (possible_test (is_dim domain.dim) (places region h made) possible) ∙ placed procs h region made ours r
+    ap (λ t. possible_if t (places region h made)) (possible_test (is_dim domain.dim) (places region h made) possible) ∙ placed procs h region made ours (possible_rest (is_dim domain.dim) (places region h made) possible)
 
 grid_cost : (program : NumberedProgram) (zero : Zero) (domain : Rect) (region : ℕ) → cost_of_making program (act.NewGrid zero domain region) ≡ 1 + length (points_of domain)
 grid_cost program zero domain region = ap (λ n. 1 + n) (sym (length_points domain))
 
 pub grid_done : (program : NumberedProgram) (procs : ℕ) (h : History) (s s' : Contents) (seats : List Seat) (p : ℕ) (at : Place) (zero : Zero) (domain : Rect) (region : ℕ) (id : Id) → p < procs
-    → KeepsParts program procs h s seats → (region == 0) ≡ true → IsFormedZero zero × IsRect domain → IsPossible (heap_answer program h p (act.NewGrid zero domain region))
+    → KeepsParts program procs h s seats → IsFormedZero zero × IsRect domain → IsPossible (heap_answer program h p (act.NewGrid zero domain region))
     → new_fault p (length (points_of domain)) s ≡ None → id ≡ own_id p region s
     → s' ≡ with_thing id (replicate (length (points_of domain)) (zero_value zero)) (Some (whole_map id domain)) s
     → (heap_answer program h p (act.NewGrid zero domain region) ≡ Answers (Val (v.Grid (Some id))))
     × KeepsParts program procs (record { proc = p; place = at; act = act.NewGrid zero domain region; answer = Val (v.Grid (Some id)) } ∷ h) s' seats
-grid_done program procs h s s' seats p at zero domain region id inside k r form possible none named made =
+grid_done program procs h s s' seats p at zero domain region id inside k form possible none named made =
     let new = new_id p region h in
     let name : id ≡ new = named ∙ own_name program procs h s p region k.heap in
     let values = replicate (length (points_of domain)) (zero_value zero) in
     let e : Entry = record { proc = p; place = at; act = act.NewGrid zero domain region; answer = Val (v.Grid (Some new)) } in
     let room = makes_room program procs h s p (act.NewGrid zero domain region) (length (points_of domain)) (v.Grid (Some new)) k.ours k.heap (grid_cost program zero domain region) none in
     let kept : KeepsParts program procs (e ∷ h) (with_thing new values (Some (whole_map new domain)) s) seats = record {
-      ours = (inside, r, form, k.ours);
+      ours = (inside, refl, form, k.ours);
       rounds = quiet_courses procs e h seats refl refl k.rounds;
       heap = grid_keeps program procs h s p at zero domain region k.heap form.1 room.1;
     } in (
-      grid_answer program procs h p zero domain region k.ours r possible ∙ room.0 ∙ ap (λ i. Answers (Val (v.Grid (Some i)))) (sym name),
+      grid_answer program procs h p zero domain region k.ours possible ∙ room.0 ∙ ap (λ i. Answers (Val (v.Grid (Some i)))) (sym name),
       subst (λ s. KeepsParts program procs (record { proc = p; place = at; act = act.NewGrid zero domain region; answer = Val (v.Grid (Some id)) } ∷ h) s seats) (sym made)
           (subst (λ i. KeepsParts program procs (record { proc = p; place = at; act = act.NewGrid zero domain region; answer = Val (v.Grid (Some i)) } ∷ h) (with_thing i values (Some (whole_map i domain)) s) seats)
           (sym name) kept),
     )
 
 pub grid_full : (program : NumberedProgram) (procs : ℕ) (h : History) (s : Contents) (seats : List Seat) (p : ℕ) (zero : Zero) (domain : Rect) (region : ℕ) (kind : FaultKind) → KeepsParts program procs h s seats
-    → (region == 0) ≡ true → IsPossible (heap_answer program h p (act.NewGrid zero domain region)) → new_fault p (length (points_of domain)) s ≡ Some kind
+    → IsPossible (heap_answer program h p (act.NewGrid zero domain region)) → new_fault p (length (points_of domain)) s ≡ Some kind
     → heap_answer program h p (act.NewGrid zero domain region) ≡ Faults kind
-grid_full program procs h s seats p zero domain region kind k r possible some =
-    grid_answer program procs h p zero domain region k.ours r possible
+grid_full program procs h s seats p zero domain region kind k possible some =
+    grid_answer program procs h p zero domain region k.ours possible
     ∙ makes_full program procs h s p (act.NewGrid zero domain region) (length (points_of domain)) (v.Grid (Some (new_id p region h))) kind k.ours k.heap (grid_cost program zero domain region) some
 
 -- ---- views

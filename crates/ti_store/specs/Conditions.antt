@@ -1,5 +1,5 @@
 -- What a store asks of its program, as facts of every run of it with every number of processes and every fuel, and of what it is told to do.
-use Rattle.std.specs.Prelude.{◌≡◌, ℕ, ◌+◌, ◌≤◌, ◌==◌, Bool, true, false, if◌then◌else◌, List, ◌∷◌, ◌++◌, map, filter, Option, Some}
+use Rattle.std.specs.Prelude.{◌≡◌, ℕ, ◌+◌, ◌≤◌, Bool, true, false, if◌then◌else◌, List, ◌∷◌, ◌++◌, map, filter, Option, Some}
 use Rattle.std.specs.List.{list_any}
 use Rattle.ti_base.specs.declared.place.Place.{Place}
 use Rattle.ti_base.specs.declared.point.Rect.{Rect}
@@ -90,16 +90,14 @@ is_regionless_kind coll.MakeRegion = false
 is_regionless_kind coll.DeleteRegion = false
 is_regionless_kind kind = true
 
--- the action makes no region, deletes none and places nothing in one
+-- the action makes no region and deletes none
 abbrev pub is_regionless : Action → Bool
-is_regionless (act.NewObj class region) = region == 0
-is_regionless (act.NewGrid zero domain region) = region == 0
 is_regionless (act.Arrive kind arg given) = is_regionless_kind kind
 is_regionless a = true
 
 -- ---- what is known of every run
 
--- nothing impossible is asked: each action for which its process needn't wait comes to an answer or a fault, but for those of regions
+-- nothing impossible is asked: each action for which its process needn't wait comes to an answer or a fault, but for makings and deletes of regions
 abbrev pub NothingImpossible : Setting → List Entry → Type 0
 NothingImpossible s es =
     (i : ℕ) (p : Process) (at : Place) (a : Action) → World s es i p → IsNext p (next.Act at a) → IsReady s es i (next.Act at a) → is_regionless a ≡ true

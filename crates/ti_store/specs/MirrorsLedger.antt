@@ -20,7 +20,7 @@ abbrev pub AllFormed : Action → Type 0
 AllFormed (act.NewGrid zero domain region) = IsFormedZero zero × IsRect domain
 AllFormed a = IsFormed a
 
--- every entry is one of these processes, has nothing to do with regions, and handed in what is in its form
+-- every entry is one of these processes, makes no region and deletes none, and handed in what is in its form
 abbrev pub AreOurs : ℕ → History → Type 0
 AreOurs procs [] = Unit {0}
 AreOurs procs (e ∷ h) = (e.proc < procs) × (is_regionless e.act ≡ true) × AllFormed e.act × AreOurs procs h

@@ -34,7 +34,7 @@ program_in l = program_of l.program.parts
 abbrev pub history_in : Ledger → History
 history_in l = history_of l.entries.items
 
--- heap and rounds are those of the history, which has nothing to do with regions
+-- heap and rounds are those of the history, which makes no region and deletes none
 pub record KeepsParts (program : NumberedProgram) (procs : ℕ) (h : History) (s : Contents) (seats : List Seat) : Type 0 where
   pub ours : AreOurs procs h
   pub rounds : KeepsRounds procs h seats

@@ -49,7 +49,7 @@ impl Store {
     /// The store of a program with so many processes and so much fuel for each, before the first entry.
     ///
     /// It keeps a copy of the program. In every run of the program what a process asks for is possible, but for
-    /// shared regions, and all meet the same collectives.
+    /// deletes of shared regions, and all meet the same collectives.
     pub fn new(alloc: Global, c: &Checked, procs: u32, fuel: u32) -> Result<Self, Memory>
         requires within { IsWithin procs fuel }
         requires suits { SuitsStore (program_of c.now.program.parts) }
@@ -76,7 +76,7 @@ impl Store {
     }
 
     /// The process does what it has next: an action, its end or a fault of its own. What it hands in is in its
-    /// form, and it has nothing to do with shared regions.
+    /// form, and it makes no shared region and deletes none.
     ///
     /// Its entry is added, with its answer or as the fault that comes of it. `Halted` comes exactly where
     /// the history ends with a fault or the store was halted; else `NotYet` exactly where this is a departure
