@@ -5,8 +5,10 @@ use Rattle.ti_rounds.specs.Courses.{no_course, Keeps}
 use Rattle.ti_heap.specs.Contents.{nothing, Contents}
 use Rattle.ti_lang.specs.Program.Classes.{NumberedProgram}
 use Rattle.ti_store.specs.MirrorsHeap.{KeepsHeap}
+use Rattle.ti_store.specs.MirrorsRounds.{KeepsMakings}
 use Rattle.ti_store.specs.MirrorsParts.{KeepsParts}
 use Rattle.ti_store.proofs.Courses.{no_courses}
+use Rattle.ti_store.proofs.RegionRounds.{no_makings}
 use Rattle.std.proofs.Common.{List}
 
 new_heap : (program : NumberedProgram) (procs : ℕ) → KeepsHeap program procs [] (nothing procs)
@@ -24,9 +26,10 @@ new_heap program procs = record {
   unwritten = λ cell n. refl;
 }
 
-pub new_parts : (program : NumberedProgram) (procs : ℕ) (s : Contents) (seats : List Seat) → s ≡ nothing procs → Keeps seats (replicate procs no_course) → KeepsParts program procs [] s seats
-new_parts program procs s seats is keeps = record {
+pub new_parts : (program : NumberedProgram) (procs : ℕ) (s : Contents) (seats : List Seat) → s ≡ nothing procs → Keeps seats (replicate procs no_course) → (makings : List ℕ) → makings ≡ replicate procs 0 → KeepsParts program procs [] s seats makings
+new_parts program procs s seats is keeps makings none = record {
   ours = tt;
   rounds = record { courses = replicate procs no_course; keeps = keeps; are = no_courses procs };
+  regions = subst (KeepsMakings procs []) (sym none) (no_makings procs);
   heap = subst (KeepsHeap program procs []) (sym is) (new_heap program procs);
 }

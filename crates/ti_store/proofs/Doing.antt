@@ -38,30 +38,32 @@ use Rattle.ti_lang.specs.Meaning.RegionsOf.{is_gone, is_place}
 use Rattle.ti_lang.specs.Meaning.HeapOf.{new_id, view_id, grid_of, written_by, cell_value, cost_of, cost_of_making, most_cells}
 use Rattle.ti_lang.specs.Meaning.HeapAnswers.{Outcome, Answers, Faults, where_some, possible_if, faults_if, answers_value, makes, places, is_dim, at_point, views, heap_answer}
 use Rattle.ti_eval.specs.Forms.{IsFormedValue}
-use Rattle.ti_store.specs.Conditions.{IsFormedZero, IsFormedView, is_regionless}
+use Rattle.ti_store.specs.Conditions.{IsFormedZero, IsFormedView, is_delete}
 use Rattle.ti_store.specs.MirrorsHeap.{full_cost, KeepsHeap}
 use Rattle.ti_store.specs.MirrorsLedger.{AllFormed, AreOurs, IsPossible}
 use Rattle.ti_store.specs.MirrorsParts.{field_zeros, KeepsParts, read_outcome}
 use Rattle.ti_store.proofs.OneMore.{some_same, one}
-use Rattle.ti_store.proofs.NoRegions.{none_gone, cost_full}
+use Rattle.ti_store.proofs.NoneGone.{none_gone, cost_full}
 use Rattle.ti_store.proofs.Courses.{quiet_courses}
+use Rattle.ti_store.proofs.RegionRounds.{makes_none, quiet_makings}
 use Rattle.ti_store.proofs.Meeting.{possible_value}
 use Rattle.ti_store.proofs.HeapSteps.{quiet_keeps, put_field_keeps, put_elem_keeps}
-use Rattle.ti_store.proofs.Makings.{object_keeps, grid_keeps, view_keeps}
+use Rattle.ti_store.proofs.NewThings.{object_keeps, grid_keeps, view_keeps}
 
 -- ---- what changes nothing
 
-pub quiet_parts : (program : NumberedProgram) (procs : ℕ) (e : Entry) (h : History) (s : Contents) (seats : List Seat) → e.proc < procs → is_regionless e.act ≡ true → AllFormed e.act → is_making e.act ≡ false
-    → written_by e.act h ≡ None → is_arrival e.act ≡ false → is_departure e.act ≡ false → KeepsParts program procs h s seats → KeepsParts program procs (e ∷ h) s seats
-quiet_parts program procs e h s seats inside r f m w a d k = record {
+pub quiet_parts : (program : NumberedProgram) (procs : ℕ) (e : Entry) (h : History) (s : Contents) (seats : List Seat) (makings : List ℕ) → e.proc < procs → is_delete e.act ≡ false → AllFormed e.act → is_making e.act ≡ false
+    → written_by e.act h ≡ None → is_arrival e.act ≡ false → is_departure e.act ≡ false → KeepsParts program procs h s seats makings → KeepsParts program procs (e ∷ h) s seats makings
+quiet_parts program procs e h s seats makings inside r f m w a d k = record {
   ours = (inside, r, f, k.ours);
   rounds = quiet_courses procs e h seats a d k.rounds;
+  regions = quiet_makings procs e h makings (makes_none e.act a) k.regions;
   heap = quiet_keeps program procs e h s m w k.heap;
 }
 
-pub fault_parts : (program : NumberedProgram) (procs : ℕ) (h : History) (s : Contents) (seats : List Seat) (p : ℕ) (at : Place) (kind : FaultKind) → p < procs → KeepsParts program procs h s seats
-    → KeepsParts program procs (record { proc = p; place = at; act = act.Fault kind; answer = Done } ∷ h) s seats
-fault_parts program procs h s seats p at kind inside k = quiet_parts program procs _ h s seats inside refl tt refl refl refl refl k
+pub fault_parts : (program : NumberedProgram) (procs : ℕ) (h : History) (s : Contents) (seats : List Seat) (makings : List ℕ) (p : ℕ) (at : Place) (kind : FaultKind) → p < procs → KeepsParts program procs h s seats makings
+    → KeepsParts program procs (record { proc = p; place = at; act = act.Fault kind; answer = Done } ∷ h) s seats makings
+fault_parts program procs h s seats makings p at kind inside k = quiet_parts program procs _ h s seats makings inside refl tt refl refl refl refl k
 
 -- ---- what is possible
 
@@ -102,15 +104,16 @@ put_answer program h p obj field x possible =
     let old = possible_some (cell_value program (Field obj field) h) (λ old. Answers Done) possible in
     ap (λ o. where_some o (λ old. Answers Done)) old.1
 
-pub put_parts : (program : NumberedProgram) (procs : ℕ) (h : History) (s s' : Contents) (seats : List Seat) (p : ℕ) (at : Place) (obj : Id) (field : ℕ) (x : Value) → p < procs → IsFormedValue x
-    → KeepsParts program procs h s seats → IsPossible (heap_answer program h p (act.PutField obj field x)) → s' ≡ with_value (cell_at obj field) x s
-    → KeepsParts program procs (record { proc = p; place = at; act = act.PutField obj field x; answer = Done } ∷ h) s' seats
-put_parts program procs h s s' seats p at obj field x inside f k possible is =
+pub put_parts : (program : NumberedProgram) (procs : ℕ) (h : History) (s s' : Contents) (seats : List Seat) (makings : List ℕ) (p : ℕ) (at : Place) (obj : Id) (field : ℕ) (x : Value) → p < procs → IsFormedValue x
+    → KeepsParts program procs h s seats makings → IsPossible (heap_answer program h p (act.PutField obj field x)) → s' ≡ with_value (cell_at obj field) x s
+    → KeepsParts program procs (record { proc = p; place = at; act = act.PutField obj field x; answer = Done } ∷ h) s' seats makings
+put_parts program procs h s s' seats makings p at obj field x inside f k possible is =
     let e : Entry = record { proc = p; place = at; act = act.PutField obj field x; answer = Done } in
     let old = possible_some (cell_value program (Field obj field) h) (λ old. Answers Done) possible in
-    subst (λ s. KeepsParts program procs (e ∷ h) s seats) (sym is) (record {
+    subst (λ s. KeepsParts program procs (e ∷ h) s seats makings) (sym is) (record {
       ours = (inside, refl, f, k.ours);
       rounds = quiet_courses procs e h seats refl refl k.rounds;
+      regions = quiet_makings procs e h makings refl k.regions;
       heap = put_field_keeps program procs e h s obj field x old.0 refl refl old.1 k.heap;
     })
 
@@ -174,10 +177,10 @@ ok_err : {A E : Type 0} (a : A) (e : E) → Ok a ≡ Err e → ⊥
 ok_err a e h = let P : ⊥ = cc in P
 
 -- an element is written
-pub put_elem_done : (program : NumberedProgram) (procs : ℕ) (h : History) (s s' : Contents) (seats : List Seat) (p : ℕ) (place : Place) (grid : Id) (at : Point) (x : Value) → p < procs → IsFormedValue x
-    → KeepsParts program procs h s seats → IsPossible (heap_answer program h p (act.PutElem grid at x)) → Writes s (grid_cell grid at s) x (Ok tt) s'
-    → (heap_answer program h p (act.PutElem grid at x) ≡ Answers Done) × KeepsParts program procs (record { proc = p; place = place; act = act.PutElem grid at x; answer = Done } ∷ h) s' seats
-put_elem_done program procs h s s' seats p place grid at x inside f k possible writes =
+pub put_elem_done : (program : NumberedProgram) (procs : ℕ) (h : History) (s s' : Contents) (seats : List Seat) (makings : List ℕ) (p : ℕ) (place : Place) (grid : Id) (at : Point) (x : Value) → p < procs → IsFormedValue x
+    → KeepsParts program procs h s seats makings → IsPossible (heap_answer program h p (act.PutElem grid at x)) → Writes s (grid_cell grid at s) x (Ok tt) s'
+    → (heap_answer program h p (act.PutElem grid at x) ≡ Answers Done) × KeepsParts program procs (record { proc = p; place = place; act = act.PutElem grid at x; answer = Done } ∷ h) s' seats makings
+put_elem_done program procs h s s' seats makings p place grid at x inside f k possible writes =
     let e : Entry = record { proc = p; place = place; act = act.PutElem grid at x; answer = Done } in
     let go : Grid → Outcome = λ g. Answers Done in
     let g = element_of h grid at go possible in
@@ -188,9 +191,10 @@ put_elem_done program procs h s s' seats p place grid at x inside f k possible w
     let written = subst (λ o. Writes s o x (Ok tt) s') cell.1 writes in
     let wrote : written_by (act.PutElem grid at x) h ≡ Some (Element g.0.block (g.0.place at), x) = ap (option_map (λ (g : Grid). (cell_of g at, x))) g.1 in (
       element_answer h grid at go g.0 g.1 g.2 ∙ ap (λ t. faults_if (not t) fault.Bounds (Answers Done)) t,
-      subst (λ s. KeepsParts program procs (e ∷ h) s seats) (sym written.1) (record {
+      subst (λ s. KeepsParts program procs (e ∷ h) s seats makings) (sym written.1) (record {
         ours = (inside, refl, f, k.ours);
         rounds = quiet_courses procs e h seats refl refl k.rounds;
+        regions = quiet_makings procs e h makings refl k.regions;
         heap = put_elem_keeps program procs e h s g.0.block (g.0.place at) g.0.zero kept.whole cell.0 x refl wrote kept.block cell.3 k.heap;
       }),
     ))
@@ -201,10 +205,10 @@ err_same : {A E : Type 0} (d e : E) → ◌≡◌ {A = Result A E} (Err d) (Err 
 err_same d e h = cc
 
 -- or it is none
-pub put_elem_fault : (program : NumberedProgram) (procs : ℕ) (h : History) (s s' : Contents) (seats : List Seat) (p : ℕ) (place : Place) (grid : Id) (at : Point) (x : Value) (kind : FaultKind) → p < procs → KeepsParts program procs h s seats
+pub put_elem_fault : (program : NumberedProgram) (procs : ℕ) (h : History) (s s' : Contents) (seats : List Seat) (makings : List ℕ) (p : ℕ) (place : Place) (grid : Id) (at : Point) (x : Value) (kind : FaultKind) → p < procs → KeepsParts program procs h s seats makings
     → IsPossible (heap_answer program h p (act.PutElem grid at x)) → Writes s (grid_cell grid at s) x (Err kind) s'
-    → (heap_answer program h p (act.PutElem grid at x) ≡ Faults kind) × KeepsParts program procs (record { proc = p; place = place; act = act.Fault kind; answer = Done } ∷ h) s' seats
-put_elem_fault program procs h s s' seats p place grid at x kind inside k possible writes =
+    → (heap_answer program h p (act.PutElem grid at x) ≡ Faults kind) × KeepsParts program procs (record { proc = p; place = place; act = act.Fault kind; answer = Done } ∷ h) s' seats makings
+put_elem_fault program procs h s s' seats makings p place grid at x kind inside k possible writes =
     let go : Grid → Outcome = λ g. Answers Done in
     let g = element_of h grid at go possible in
     ⊎_elim
@@ -214,7 +218,7 @@ put_elem_fault program procs h s s' seats p place grid at x kind inside k possib
     (λ t.
     let none = subst (λ o. Writes s o x (Err kind) s') (cell_outside program procs h s grid at g.0 k.heap g.1 t) writes in (
       element_answer h grid at go g.0 g.1 g.2 ∙ ap (λ t. faults_if (not t) fault.Bounds (Answers Done)) t ∙ ap Faults (sym (err_same kind fault.Bounds none.0)),
-      subst (λ s. KeepsParts program procs (record { proc = p; place = place; act = act.Fault kind; answer = Done } ∷ h) s seats) (sym none.1) (fault_parts program procs h s seats p place kind inside k),
+      subst (λ s. KeepsParts program procs (record { proc = p; place = place; act = act.Fault kind; answer = Done } ∷ h) s seats makings) (sym none.1) (fault_parts program procs h s seats makings p place kind inside k),
     ))
     (cases_Bool (is_in g.0.domain at))
 
@@ -334,29 +338,30 @@ object_answer program procs h p class region zeros ours r is =
 object_cost : (program : NumberedProgram) (class region : ℕ) (zeros : List Zero) → zeros_of_class program class ≡ Some zeros → cost_of_making program (act.NewObj class region) ≡ 1 + length zeros
 object_cost program class region zeros is = ap (λ o. 1 + option_map_or (λ (zs : List Zero). length zs) o 0) is
 
-pub object_done : (program : NumberedProgram) (procs : ℕ) (h : History) (s s' : Contents) (seats : List Seat) (p : ℕ) (at : Place) (class region : ℕ) (zeros : List Zero) (id : Id) → p < procs
-    → KeepsParts program procs h s seats → IsPossible (heap_answer program h p (act.NewObj class region)) → zeros_of_class program class ≡ Some zeros → new_fault p (length zeros) s ≡ None → id ≡ own_id p region s
+pub object_done : (program : NumberedProgram) (procs : ℕ) (h : History) (s s' : Contents) (seats : List Seat) (makings : List ℕ) (p : ℕ) (at : Place) (class region : ℕ) (zeros : List Zero) (id : Id) → p < procs
+    → KeepsParts program procs h s seats makings → IsPossible (heap_answer program h p (act.NewObj class region)) → zeros_of_class program class ≡ Some zeros → new_fault p (length zeros) s ≡ None → id ≡ own_id p region s
     → s' ≡ with_thing id (map zero_value zeros) None s
     → (heap_answer program h p (act.NewObj class region) ≡ Answers (Val (v.Obj (Some id))))
-    × KeepsParts program procs (record { proc = p; place = at; act = act.NewObj class region; answer = Val (v.Obj (Some id)) } ∷ h) s' seats
-object_done program procs h s s' seats p at class region zeros id inside k r is none named made =
+    × KeepsParts program procs (record { proc = p; place = at; act = act.NewObj class region; answer = Val (v.Obj (Some id)) } ∷ h) s' seats makings
+object_done program procs h s s' seats makings p at class region zeros id inside k r is none named made =
     let new = new_id p region h in
     let name : id ≡ new = named ∙ own_name program procs h s p region k.heap in
     let e : Entry = record { proc = p; place = at; act = act.NewObj class region; answer = Val (v.Obj (Some new)) } in
     let room = makes_room program procs h s p (act.NewObj class region) (length zeros) (v.Obj (Some new)) k.ours k.heap (object_cost program class region zeros is) none in
-    let kept : KeepsParts program procs (e ∷ h) (with_thing new (map zero_value zeros) None s) seats = record {
+    let kept : KeepsParts program procs (e ∷ h) (with_thing new (map zero_value zeros) None s) seats makings = record {
       ours = (inside, refl, tt, k.ours);
       rounds = quiet_courses procs e h seats refl refl k.rounds;
+      regions = quiet_makings procs e h makings refl k.regions;
       heap = object_keeps program procs h s p at class region zeros k.heap is room.1;
     } in (
       object_answer program procs h p class region zeros k.ours r is ∙ room.0 ∙ ap (λ i. Answers (Val (v.Obj (Some i)))) (sym name),
-      subst (λ s. KeepsParts program procs (record { proc = p; place = at; act = act.NewObj class region; answer = Val (v.Obj (Some id)) } ∷ h) s seats) (sym made)
-          (subst (λ i. KeepsParts program procs (record { proc = p; place = at; act = act.NewObj class region; answer = Val (v.Obj (Some i)) } ∷ h) (with_thing i (map zero_value zeros) None s) seats) (sym name) kept),
+      subst (λ s. KeepsParts program procs (record { proc = p; place = at; act = act.NewObj class region; answer = Val (v.Obj (Some id)) } ∷ h) s seats makings) (sym made)
+          (subst (λ i. KeepsParts program procs (record { proc = p; place = at; act = act.NewObj class region; answer = Val (v.Obj (Some i)) } ∷ h) (with_thing i (map zero_value zeros) None s) seats makings) (sym name) kept),
     )
 
-pub object_full : (program : NumberedProgram) (procs : ℕ) (h : History) (s : Contents) (seats : List Seat) (p class region : ℕ) (zeros : List Zero) (kind : FaultKind) → KeepsParts program procs h s seats
+pub object_full : (program : NumberedProgram) (procs : ℕ) (h : History) (s : Contents) (seats : List Seat) (makings : List ℕ) (p class region : ℕ) (zeros : List Zero) (kind : FaultKind) → KeepsParts program procs h s seats makings
     → IsPossible (heap_answer program h p (act.NewObj class region)) → zeros_of_class program class ≡ Some zeros → new_fault p (length zeros) s ≡ Some kind → heap_answer program h p (act.NewObj class region) ≡ Faults kind
-object_full program procs h s seats p class region zeros kind k r is some =
+object_full program procs h s seats makings p class region zeros kind k r is some =
     object_answer program procs h p class region zeros k.ours r is
     ∙ makes_full program procs h s p (act.NewObj class region) (length zeros) (v.Obj (Some (new_id p region h))) kind k.ours k.heap (object_cost program class region zeros is) some
 
@@ -371,33 +376,34 @@ grid_answer program procs h p zero domain region ours possible =
 grid_cost : (program : NumberedProgram) (zero : Zero) (domain : Rect) (region : ℕ) → cost_of_making program (act.NewGrid zero domain region) ≡ 1 + length (points_of domain)
 grid_cost program zero domain region = ap (λ n. 1 + n) (sym (length_points domain))
 
-pub grid_done : (program : NumberedProgram) (procs : ℕ) (h : History) (s s' : Contents) (seats : List Seat) (p : ℕ) (at : Place) (zero : Zero) (domain : Rect) (region : ℕ) (id : Id) → p < procs
-    → KeepsParts program procs h s seats → IsFormedZero zero × IsRect domain → IsPossible (heap_answer program h p (act.NewGrid zero domain region))
+pub grid_done : (program : NumberedProgram) (procs : ℕ) (h : History) (s s' : Contents) (seats : List Seat) (makings : List ℕ) (p : ℕ) (at : Place) (zero : Zero) (domain : Rect) (region : ℕ) (id : Id) → p < procs
+    → KeepsParts program procs h s seats makings → IsFormedZero zero × IsRect domain → IsPossible (heap_answer program h p (act.NewGrid zero domain region))
     → new_fault p (length (points_of domain)) s ≡ None → id ≡ own_id p region s
     → s' ≡ with_thing id (replicate (length (points_of domain)) (zero_value zero)) (Some (whole_map id domain)) s
     → (heap_answer program h p (act.NewGrid zero domain region) ≡ Answers (Val (v.Grid (Some id))))
-    × KeepsParts program procs (record { proc = p; place = at; act = act.NewGrid zero domain region; answer = Val (v.Grid (Some id)) } ∷ h) s' seats
-grid_done program procs h s s' seats p at zero domain region id inside k form possible none named made =
+    × KeepsParts program procs (record { proc = p; place = at; act = act.NewGrid zero domain region; answer = Val (v.Grid (Some id)) } ∷ h) s' seats makings
+grid_done program procs h s s' seats makings p at zero domain region id inside k form possible none named made =
     let new = new_id p region h in
     let name : id ≡ new = named ∙ own_name program procs h s p region k.heap in
     let values = replicate (length (points_of domain)) (zero_value zero) in
     let e : Entry = record { proc = p; place = at; act = act.NewGrid zero domain region; answer = Val (v.Grid (Some new)) } in
     let room = makes_room program procs h s p (act.NewGrid zero domain region) (length (points_of domain)) (v.Grid (Some new)) k.ours k.heap (grid_cost program zero domain region) none in
-    let kept : KeepsParts program procs (e ∷ h) (with_thing new values (Some (whole_map new domain)) s) seats = record {
+    let kept : KeepsParts program procs (e ∷ h) (with_thing new values (Some (whole_map new domain)) s) seats makings = record {
       ours = (inside, refl, form, k.ours);
       rounds = quiet_courses procs e h seats refl refl k.rounds;
+      regions = quiet_makings procs e h makings refl k.regions;
       heap = grid_keeps program procs h s p at zero domain region k.heap form.1 room.1;
     } in (
       grid_answer program procs h p zero domain region k.ours possible ∙ room.0 ∙ ap (λ i. Answers (Val (v.Grid (Some i)))) (sym name),
-      subst (λ s. KeepsParts program procs (record { proc = p; place = at; act = act.NewGrid zero domain region; answer = Val (v.Grid (Some id)) } ∷ h) s seats) (sym made)
-          (subst (λ i. KeepsParts program procs (record { proc = p; place = at; act = act.NewGrid zero domain region; answer = Val (v.Grid (Some i)) } ∷ h) (with_thing i values (Some (whole_map i domain)) s) seats)
+      subst (λ s. KeepsParts program procs (record { proc = p; place = at; act = act.NewGrid zero domain region; answer = Val (v.Grid (Some id)) } ∷ h) s seats makings) (sym made)
+          (subst (λ i. KeepsParts program procs (record { proc = p; place = at; act = act.NewGrid zero domain region; answer = Val (v.Grid (Some i)) } ∷ h) (with_thing i values (Some (whole_map i domain)) s) seats makings)
           (sym name) kept),
     )
 
-pub grid_full : (program : NumberedProgram) (procs : ℕ) (h : History) (s : Contents) (seats : List Seat) (p : ℕ) (zero : Zero) (domain : Rect) (region : ℕ) (kind : FaultKind) → KeepsParts program procs h s seats
+pub grid_full : (program : NumberedProgram) (procs : ℕ) (h : History) (s : Contents) (seats : List Seat) (makings : List ℕ) (p : ℕ) (zero : Zero) (domain : Rect) (region : ℕ) (kind : FaultKind) → KeepsParts program procs h s seats makings
     → IsPossible (heap_answer program h p (act.NewGrid zero domain region)) → new_fault p (length (points_of domain)) s ≡ Some kind
     → heap_answer program h p (act.NewGrid zero domain region) ≡ Faults kind
-grid_full program procs h s seats p zero domain region kind k possible some =
+grid_full program procs h s seats makings p zero domain region kind k possible some =
     grid_answer program procs h p zero domain region k.ours possible
     ∙ makes_full program procs h s p (act.NewGrid zero domain region) (length (points_of domain)) (v.Grid (Some (new_id p region h))) kind k.ours k.heap (grid_cost program zero domain region) some
 
@@ -433,12 +439,12 @@ first_none : (a b : Option FaultKind) → first_fault a b ≡ None → (a ≡ No
 first_none None b e = (refl, e)
 first_none (Some x) b e = cc
 
-pub view_done : (program : NumberedProgram) (procs : ℕ) (h : History) (s s' : Contents) (seats : List Seat) (p : ℕ) (at : Place) (grid : Id) (how : ViewHow) (id : Id) → p < procs
-    → KeepsParts program procs h s seats → IsFormedView how → IsPossible (heap_answer program h p (act.MakeView grid how))
+pub view_done : (program : NumberedProgram) (procs : ℕ) (h : History) (s s' : Contents) (seats : List Seat) (makings : List ℕ) (p : ℕ) (at : Place) (grid : Id) (how : ViewHow) (id : Id) → p < procs
+    → KeepsParts program procs h s seats makings → IsFormedView how → IsPossible (heap_answer program h p (act.MakeView grid how))
     → IsSomeAnd (s.grid grid) (λ m. seen_fault p how m s ≡ None) → id ≡ heap.view_id p grid s → s' ≡ with_thing id [] (option_map (seen_map how) (s.grid grid)) s
     → (heap_answer program h p (act.MakeView grid how) ≡ Answers (Val (v.Grid (Some id))))
-    × KeepsParts program procs (record { proc = p; place = at; act = act.MakeView grid how; answer = Val (v.Grid (Some id)) } ∷ h) s' seats
-view_done program procs h s s' seats p at grid how id inside k form possible none named made =
+    × KeepsParts program procs (record { proc = p; place = at; act = act.MakeView grid how; answer = Val (v.Grid (Some id)) } ∷ h) s' seats makings
+view_done program procs h s s' seats makings p at grid how id inside k form possible none named made =
     let g = viewed_of program h p grid how possible in
     let old = k.heap.grids grid g.0 g.1 in
     let both = first_none (view_fault how old.map.domain) (new_fault p 0 s) (subst (λ o. IsSomeAnd o (λ (m : GridMap). seen_fault p how m s ≡ None)) old.there none) in
@@ -448,27 +454,28 @@ view_done program procs h s s' seats p at grid how id inside k form possible non
     let e : Entry = record { proc = p; place = at; act = act.MakeView grid how; answer = Val (v.Grid (Some new)) } in
     let room = makes_room program procs h s p (act.MakeView grid how) 0 (v.Grid (Some new)) k.ours k.heap refl both.1 in
     let gm : Option GridMap = option_map (seen_map how) (s.grid grid) in
-    let kept : KeepsParts program procs (e ∷ h) (with_thing new [] gm s) seats = record {
+    let kept : KeepsParts program procs (e ∷ h) (with_thing new [] gm s) seats makings = record {
       ours = (inside, refl, form, k.ours);
       rounds = quiet_courses procs e h seats refl refl k.rounds;
+      regions = quiet_makings procs e h makings refl k.regions;
       heap = view_keeps program procs h s p at grid how g.0 k.heap g.1 (view_formed how form) g.2 sound room.1;
     } in (
       view_answer program h p grid how g.0 g.1 g.2
           ∙ ap (λ o. views o (makes program h p (act.MakeView grid how) (v.Grid (Some new)))) sound
           ∙ room.0
           ∙ ap (λ i. Answers (Val (v.Grid (Some i)))) (sym name),
-      subst (λ s. KeepsParts program procs (record { proc = p; place = at; act = act.MakeView grid how; answer = Val (v.Grid (Some id)) } ∷ h) s seats) (sym made)
-          (subst (λ i. KeepsParts program procs (record { proc = p; place = at; act = act.MakeView grid how; answer = Val (v.Grid (Some i)) } ∷ h) (with_thing i [] gm s) seats) (sym name) kept),
+      subst (λ s. KeepsParts program procs (record { proc = p; place = at; act = act.MakeView grid how; answer = Val (v.Grid (Some id)) } ∷ h) s seats makings) (sym made)
+          (subst (λ i. KeepsParts program procs (record { proc = p; place = at; act = act.MakeView grid how; answer = Val (v.Grid (Some i)) } ∷ h) (with_thing i [] gm s) seats makings) (sym name) kept),
     )
 
 views_fault : (a b : Option FaultKind) (kind : FaultKind) (o : Outcome) → first_fault a b ≡ Some kind → (b ≡ Some kind → o ≡ Faults kind) → views a o ≡ Faults kind
 views_fault None b kind o e h = h e
 views_fault (Some x) b kind o e h = ap Faults (some_same x kind e)
 
-pub view_full : (program : NumberedProgram) (procs : ℕ) (h : History) (s : Contents) (seats : List Seat) (p : ℕ) (grid : Id) (how : ViewHow) (kind : FaultKind) → KeepsParts program procs h s seats
+pub view_full : (program : NumberedProgram) (procs : ℕ) (h : History) (s : Contents) (seats : List Seat) (makings : List ℕ) (p : ℕ) (grid : Id) (how : ViewHow) (kind : FaultKind) → KeepsParts program procs h s seats makings
     → IsPossible (heap_answer program h p (act.MakeView grid how)) → IsSomeAnd (s.grid grid) (λ m. seen_fault p how m s ≡ Some kind)
     → heap_answer program h p (act.MakeView grid how) ≡ Faults kind
-view_full program procs h s seats p grid how kind k possible some =
+view_full program procs h s seats makings p grid how kind k possible some =
     let g = viewed_of program h p grid how possible in
     let old = k.heap.grids grid g.0 g.1 in
     let first : first_fault (view_fault how g.0.domain) (new_fault p 0 s) ≡ Some kind =

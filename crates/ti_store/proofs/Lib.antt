@@ -3,10 +3,11 @@ pub mod Courses
 pub mod Doing
 pub mod Forming
 pub mod HeapSteps
-pub mod Makings
 pub mod Meeting
-pub mod NoRegions
+pub mod NewThings
+pub mod NoneGone
 pub mod OneMore
+pub mod RegionRounds
 pub mod Replies
 pub mod Running
 pub mod Stepping

@@ -4,10 +4,12 @@ use Rattle.std.specs.Option.{option_map, option_and_then, option_map_or}
 use Rattle.std.proofs.lemmas.Bool.{and_parts}
 use Rattle.ti_base.specs.declared.place.Place.{Place}
 use Rattle.ti_base.specs.declared.value.Value.{Value}
+use Rattle.ti_base.specs.declared.value.Value.TheVariants.{Region}
 use Rattle.ti_base.specs.declared.action.Action.TheVariants as act
 use Rattle.ti_base.specs.declared.action.CollKind.{CollKind}
 use Rattle.ti_base.specs.declared.action.CollKind.TheVariants as coll
 use Rattle.ti_base.specs.declared.action.Deposit.TheVariants as deposit
+use Rattle.ti_base.specs.declared.entry.Answer.TheVariants.{Val}
 use Rattle.ti_base.specs.declared.entry.Entry.{Entry}
 use Rattle.ti_rounds.specs.declared.arrival.Arrival.{Arrival}
 use Rattle.ti_rounds.specs.declared.seat.Seat.{Seat}
@@ -16,14 +18,14 @@ use Rattle.ti_rounds.specs.Courses.{Course, course_at, deposit_of, given_at, sai
 use Rattle.ti_rounds.specs.Courses as rounds
 use Rattle.ti_lang.specs.Program.Classes.{NumberedProgram}
 use Rattle.ti_lang.specs.Meaning.Histories.{History, history_of, is_arrival, is_departure, arrivals, departures}
-use Rattle.ti_lang.specs.Meaning.RoundsOf.{arrival_in, arrival_at, last_arrival, value_in, given}
+use Rattle.ti_lang.specs.Meaning.RoundsOf.{arrival_in, arrival_at, last_arrival, value_in, given, rounds_making}
 use Rattle.ti_lang.specs.Meaning.RoundsOf as lang
 use Rattle.ti_lang.specs.Meaning.HeapAnswers.{Answers, where_some, answers_value, departs, heap_answer}
-use Rattle.ti_store.specs.Conditions.{is_regionless_kind}
+use Rattle.ti_store.specs.Conditions.{is_delete_kind}
 use Rattle.ti_store.specs.MirrorsRounds.{arrivals_said, AreCourses, KeepsRounds}
 use Rattle.ti_store.specs.MirrorsLedger.{AreOurs, IsPossible, collective_at, AllArrived, AgreesWith, answer_given}
-use Rattle.ti_store.proofs.OneMore.{one, counted_own, counted_few, counted_back}
-use Rattle.ti_store.proofs.NoRegions.{kind_regionless}
+use Rattle.ti_store.proofs.OneMore.{one, some_same, counted_own, counted_few, counted_back}
+use Rattle.ti_store.proofs.NoneGone.{kind_kept}
 use Rattle.ti_store.proofs.Courses.{length_said, round_is, left_is, count_is, heard, heard_at, collective_met, given_said, latest_at}
 
 -- ---- where processes are
@@ -123,20 +125,21 @@ gave_ours program procs h p who ours possible =
 -- ---- departures
 
 departs_answer : (program : NumberedProgram) (procs : ℕ) (h : History) (courses : List Course) (p round : ℕ) → AreCourses procs h courses → round ≡ arrivals p h
-    → (kind : CollKind) (arg : Option ℕ) → is_regionless_kind kind ≡ true → IsPossible (departs program h p kind arg)
+    → (kind : CollKind) (arg : Option ℕ) → is_delete_kind kind ≡ false → (kind ≡ coll.MakeRegion → ⊥)
+    → IsPossible (departs program h p kind arg)
     → departs program h p kind arg ≡ Answers (answer_given (handed_at courses round kind arg))
-departs_answer program procs h courses p round are is coll.Barrier arg k possible = refl
-departs_answer program procs h courses p round are is coll.Exchange arg k possible = refl
-departs_answer program procs h courses p round are is coll.Broadcast None k possible = absurd possible
-departs_answer program procs h courses p round are is coll.Broadcast (Some root) k possible =
+departs_answer program procs h courses p round are is coll.Barrier arg k apart possible = refl
+departs_answer program procs h courses p round are is coll.Exchange arg k apart possible = refl
+departs_answer program procs h courses p round are is coll.Broadcast None k apart possible = absurd possible
+departs_answer program procs h courses p round are is coll.Broadcast (Some root) k apart possible =
     let v = possible_value (given p root h) possible in
     ap answers_value v.1 ∙ ap (λ d. Answers (answer_given d)) (sym (given_course procs h courses p root round v.0 are is v.1))
-departs_answer program procs h courses p round are is coll.MakeRegion arg k possible = cc
-departs_answer program procs h courses p round are is coll.DeleteRegion arg k possible = cc
+departs_answer program procs h courses p round are is coll.MakeRegion arg k apart possible = absurd (apart refl)
+departs_answer program procs h courses p round are is coll.DeleteRegion arg k apart possible = cc
 
 pub depart_answer : (program : NumberedProgram) (procs : ℕ) (h : History) (courses : List Course) (p : ℕ) → AreOurs procs h → AreCourses procs h courses
-    → IsPossible (heap_answer program h p act.Depart) → heap_answer program h p act.Depart ≡ Answers (answer_given (departure_of courses p))
-depart_answer program procs h courses p ours are possible =
+    → ((b : lang.Arrival) → last_arrival p h ≡ Some b → b.kind ≡ coll.MakeRegion → ⊥) → IsPossible (heap_answer program h p act.Depart) → heap_answer program h p act.Depart ≡ Answers (answer_given (departure_of courses p))
+depart_answer program procs h courses p ours are apart possible =
     let said = arrivals_said p h in
     let size = length_said p h in
     let last : option_map heard (rounds.arrival_at (length said) said) ≡ last_arrival p h = ap (λ n. option_map heard (rounds.arrival_at n said)) size ∙ heard_at p (arrivals p h) h in
@@ -147,8 +150,8 @@ depart_answer program procs h courses p ours are possible =
     by (Some a) first last =
         let round = length (arrivals_said p h) in
         let here : heap_answer program h p act.Depart ≡ departs program h p a.kind a.arg = ap (λ x. where_some x (λ a. departs program h p a.kind a.arg)) last in
-        let kind = kind_regionless procs p (arrivals p h) h (heard a) ours last in
-        let answer = departs_answer program procs h courses p round are (length_said p h) a.kind a.arg kind (subst IsPossible here possible) in
+        let kind = kind_kept procs p (arrivals p h) h (heard a) ours last in
+        let answer = departs_answer program procs h courses p round are (length_said p h) a.kind a.arg kind (apart (heard a) last) (subst IsPossible here possible) in
         let handed : departure_of courses p ≡ handed_at courses round a.kind a.arg =
         ap (λ (c : Course). option_map_or (λ (a : Arrival). handed_at courses (length c.arrivals) a.kind a.arg) (slice_get c.arrivals 0) deposit.Nothing) (are.each p)
         ∙ ap (λ o. option_map_or (λ (a : Arrival). handed_at courses round a.kind a.arg) o deposit.Nothing) first in
@@ -162,3 +165,18 @@ left_round procs es seats p k w =
 pub left_positive : (procs : ℕ) (es : List Entry) (seats : List Seat) (p : ℕ) → KeepsRounds procs (history_of es) seats → arrivals p es ≡ departures p es + 0 → 0 < arrivals p (history_of es)
     → 0 < left_by seats p
 left_positive procs es seats p k w some = omega (arith, left_round procs es seats p k w)
+
+-- the round that a process leaves is that of its last arrival
+pub last_said : (procs : ℕ) (h : History) (courses : List Course) (p round : ℕ) (said : CollKind × Place × Option ℕ) → AreCourses procs h courses → round ≡ arrivals p h → said_at courses p round ≡ Some said
+    → (a : lang.Arrival) × (last_arrival p h ≡ Some a) × (a.kind ≡ said.0)
+last_said procs h courses p round said are is k =
+    by (rounds.arrival_at (arrivals p h) (arrivals_said p h)) (heard_at p (arrivals p h) h)
+    (sym (ap (option_map collective_of) (arrival_of procs h courses round p are ∙ ap (λ n. rounds.arrival_at n (arrivals_said p h)) is)) ∙ k)
+  where
+    by : (o : Option Arrival) → option_map heard o ≡ last_arrival p h → option_map collective_of o ≡ Some said → (a : lang.Arrival) × (last_arrival p h ≡ Some a) × (a.kind ≡ said.0)
+    by None x y = cc
+    by (Some a) x y = (heard a, sym x, ap (λ (s : CollKind × Place × Option ℕ). s.0) (some_same (collective_of a) said y))
+
+-- a departure from a round that makes a region gives its number
+pub region_answer : (program : NumberedProgram) (h : History) (p : ℕ) (a : lang.Arrival) → last_arrival p h ≡ Some a → a.kind ≡ coll.MakeRegion → heap_answer program h p act.Depart ≡ Answers (Val (Region (rounds_making p h)))
+region_answer program h p a is k = ap (λ x. where_some x (λ (a : lang.Arrival). departs program h p a.kind a.arg)) is ∙ ap (λ kind. departs program h p kind a.arg) k

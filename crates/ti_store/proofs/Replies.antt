@@ -19,7 +19,7 @@ pub read_does : (l : Ledger) (p : ℕ) (at : Place) (a : Action) (answer : Answe
     → heap_answer (program_in l) (history_in l) p a ≡ Answers answer → Does l p at a (Answered answer) l
 read_does l p at a answer r m w x y is = record {
   answer = is;
-  kept = quiet_parts (program_in l) l.procs (entry_after p at a (Answered answer)) (history_in l) (contents l.heap) l.rounds r.process r.may.regionless r.may.formed m w x y r.kept;
+  kept = quiet_parts (program_in l) l.procs (entry_after p at a (Answered answer)) (history_in l) (contents l.heap) l.rounds l.makings r.process r.may.keeps_regions r.may.formed m w x y r.kept;
   same = refl;
 }
 
@@ -28,7 +28,7 @@ pub fault_does : (l : Ledger) (s : List (List Thing)) (p : ℕ) (at : Place) (a 
     → heap_answer (program_in l) (history_in l) p a ≡ Faults kind → Does l p at a (Faulted kind) (record l { heap = s })
 fault_does l s p at a kind r same is = record {
   answer = is;
-  kept = subst (λ s. KeepsParts (program_in l) l.procs (entry_after p at a (Faulted kind) ∷ history_in l) (contents s) l.rounds) (sym same)
-      (fault_parts (program_in l) l.procs (history_in l) (contents l.heap) l.rounds p at kind r.process r.kept);
+  kept = subst (λ s. KeepsParts (program_in l) l.procs (entry_after p at a (Faulted kind) ∷ history_in l) (contents s) l.rounds l.makings) (sym same)
+      (fault_parts (program_in l) l.procs (history_in l) (contents l.heap) l.rounds l.makings p at kind r.process r.kept);
   same = refl;
 }

@@ -20,11 +20,12 @@ use Rattle.ti_lang.specs.Meaning.Histories.{History, history_of, is_end, is_faul
 use Rattle.ti_lang.specs.Meaning.HeapAnswers.{Outcome, Answers, Faults, Impossible, arrives, heap_answer}
 use Rattle.ti_lang.specs.Meaning.Runs.{World, IsReady, entry_with, entry_of, CanTake, IsRun, none, more}
 use Rattle.ti_lang.proofs.MeaningLaws.Running.{history_grows, taker}
-use Rattle.ti_store.specs.Conditions.{IsWithin, HasNext, IsFormed, is_regionless, is_regionless_kind, ArrivesAt, ArrivalsAgree, ElementsFormed, SuitsRun, SuitsStore}
+use Rattle.ti_store.specs.Conditions.{IsWithin, HasNext, IsFormed, is_delete, is_delete_kind, ArrivesAt, ArrivalsAgree, ElementsFormed, SuitsRun, SuitsStore}
 use Rattle.ti_store.specs.Stores.{next_of}
 use Rattle.ti_store.specs.MirrorsRounds.{arrivals_said}
 use Rattle.ti_store.specs.MirrorsLedger.{AllFormed, IsPossible, collective_in, collective_at, AllArrived, AgreesWith, MayDo}
 use Rattle.ti_store.proofs.OneMore.{one, some_same, counted_own, counted_back}
+use Rattle.ti_store.proofs.RegionRounds.{makings_few}
 use Rattle.ti_store.proofs.Courses.{length_said, collective_met, none_beyond}
 
 -- ---- one step more
@@ -54,11 +55,11 @@ ready_when s es i at _ h = tt
 
 -- ---- arrivals agree
 
-pub arrives_done : (h : History) (kind : CollKind) (arg : Option ℕ) → is_regionless_kind kind ≡ true → arrives h kind arg ≡ Answers Done
+pub arrives_done : (h : History) (kind : CollKind) (arg : Option ℕ) → is_delete_kind kind ≡ false → arrives h kind arg ≡ Answers Done
 arrives_done h coll.Barrier arg k = refl
 arrives_done h coll.Broadcast arg k = refl
 arrives_done h coll.Exchange arg k = refl
-arrives_done h coll.MakeRegion arg k = cc
+arrives_done h coll.MakeRegion arg k = refl
 arrives_done h coll.DeleteRegion arg k = cc
 
 -- the new arrival is at the next round
@@ -212,7 +213,7 @@ pub suits : (s : Setting) (es : List Entry) → IsWithin s.procs s.fuel → Suit
 suits s es w all run = all.runs s.procs s.fuel es w run
 
 agrees : (s : Setting) (es : List Entry) (p : ℕ) (at : Place) (a : Action) → IsWithin s.procs s.fuel → SuitsStore s.program → IsRun s es → p < s.procs → has_fault es ≡ false
-    → HasNext s p (entries_of p es) (next.Act at a) → is_regionless a ≡ true
+    → HasNext s p (entries_of p es) (next.Act at a) → is_delete a ≡ false
     → (said : CollKind × Place × Option ℕ) → collective_in at a ≡ Some said → AgreesWith p es said
 agrees s es p at (act.Arrive kind arg d) w all run inside goes has k said is =
     let e : Entry = record { proc = p; place = at; act = act.Arrive kind arg d; answer = Done } in
@@ -233,14 +234,15 @@ all_formed s es p q at (act.NewGrid zero domain region) known world is form = (k
 all_formed s es p q at _ known world is form = form
 
 pub may_do : (s : Setting) (es : List Entry) (p : ℕ) (at : Place) (a : Action) → IsWithin s.procs s.fuel → SuitsStore s.program → IsRun s es → p < s.procs → has_fault es ≡ false
-    → HasNext s p (entries_of p es) (next.Act at a) → IsReady s es p (next.Act at a) → (is_departure a ≡ true → AllArrived s.procs p es) → IsFormed a → is_regionless a ≡ true
+    → HasNext s p (entries_of p es) (next.Act at a) → IsReady s es p (next.Act at a) → (is_departure a ≡ true → AllArrived s.procs p es) → IsFormed a → is_delete a ≡ false
     → MayDo s.program s.procs es p at a
-may_do s es p at a w all run inside goes has ready arrived form regionless =
+may_do s es p at a w all run inside goes has ready arrived form no_delete =
     let known = suits s es w all run in record {
-      possible = possible_from (heap_answer s.program (history_of es) p a) (known.possible p has.process at a has.world has.is_next ready regionless);
+      possible = possible_from (heap_answer s.program (history_of es) p a) (known.possible p has.process at a has.world has.is_next ready no_delete);
       formed = all_formed s es p has.process at a known.elements has.world has.is_next form;
-      regionless = regionless;
+      keeps_regions = no_delete;
+      few = makings_few es p s.fuel (known.few p) w.limited;
       balance = known.balance p has.process at a has.world has.is_next;
       arrived = arrived;
-      agrees = agrees s es p at a w all run inside goes has regionless;
+      agrees = agrees s es p at a w all run inside goes has no_delete;
     }

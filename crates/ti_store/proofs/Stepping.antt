@@ -22,7 +22,7 @@ use Rattle.ti_eval.specs.Forms.{IsFormedAnswer}
 use Rattle.ti_store.specs.declared.ledger.Ledger.{Ledger}
 use Rattle.ti_store.specs.declared.ledger.Reply.{Reply}
 use Rattle.ti_store.specs.declared.ledger.Reply.TheVariants.{Answered, Faulted}
-use Rattle.ti_store.specs.Conditions.{IsWithin, HasNext, IsFormed, is_regionless, SuitsStore}
+use Rattle.ti_store.specs.Conditions.{IsWithin, HasNext, IsFormed, is_delete, SuitsStore}
 use Rattle.ti_store.specs.Stores.{next_of}
 use Rattle.ti_store.specs.MirrorsLedger.{AllArrived}
 use Rattle.ti_store.specs.MirrorsParts.{program_in, history_in, KeepsParts, IsKept, outcome_of, entry_after, Does, came_of, MayAct, Comes, Steps, SameLedger}
@@ -44,14 +44,14 @@ comes_from l l' p at a reply f d = record { answer = came_acts (program_in l) (h
 pub end_comes : (l : Ledger) (p : ℕ) (at : Place) (a : Action) → p < l.procs → IsKept l (history_in l) → a ≡ act.End → Comes l p at a (Answered Done) l
 end_comes l p at a inside k is = subst (λ a. Comes l p at a (Answered Done) l) (sym is) (record {
   answer = refl;
-  kept = quiet_parts (program_in l) l.procs (entry_after p at act.End (Answered Done)) (history_in l) (contents l.heap) l.rounds inside refl tt refl refl refl refl k;
+  kept = quiet_parts (program_in l) l.procs (entry_after p at act.End (Answered Done)) (history_in l) (contents l.heap) l.rounds l.makings inside refl tt refl refl refl refl k;
   same = refl;
 })
 
 pub fault_comes : (l : Ledger) (p : ℕ) (at : Place) (a : Action) (kind : FaultKind) → p < l.procs → IsKept l (history_in l) → a ≡ act.Fault kind → Comes l p at a (Faulted kind) l
 fault_comes l p at a kind inside k is = subst (λ a. Comes l p at a (Faulted kind) l) (sym is) (record {
   answer = refl;
-  kept = fault_parts (program_in l) l.procs (history_in l) (contents l.heap) l.rounds p at kind inside k;
+  kept = fault_parts (program_in l) l.procs (history_in l) (contents l.heap) l.rounds l.makings p at kind inside k;
   same = refl;
 })
 
@@ -78,22 +78,23 @@ entry_is s es p at a (Faulted k) e = ap (entry_with p at a) e
 
 -- ---- ledgers
 
-along : (a b : NumberedProgram) (m n : ℕ) (g h : History) (s t : Contents) (u v : List Seat) → a ≡ b → m ≡ n → g ≡ h → s ≡ t → u ≡ v → KeepsParts a m g s u → KeepsParts b n h t v
-along a b m n g h s t u v x y z w o k =
-    subst (λ v. KeepsParts b n h t v) o (subst (λ t. KeepsParts b n h t u) w (subst (λ h. KeepsParts b n h s u) z (subst (λ n. KeepsParts b n g s u) y (subst (λ b. KeepsParts b m g s u) x k))))
+along : (a b : NumberedProgram) (m n : ℕ) (g h : History) (s t : Contents) (u v : List Seat) (x y : List ℕ) → a ≡ b → m ≡ n → g ≡ h → s ≡ t → u ≡ v → x ≡ y
+    → KeepsParts a m g s u x → KeepsParts b n h t v y
+along a b m n g h s t u v x y i j l o q r k =
+    subst (λ y. KeepsParts b n h t v y) r (subst (λ v. KeepsParts b n h t v x) q (subst (λ t. KeepsParts b n h t u x) o (subst (λ h. KeepsParts b n h s u x) l (subst (λ n. KeepsParts b n g s u x) j (subst (λ b. KeepsParts b m g s u x) i k)))))
 
 -- the entry is added
 pub steps_from : (l l0 l1 l2 : Ledger) (p : ℕ) (at : Place) (a : Action) (reply : Reply) → SameLedger l l0 → Comes l0 p at a reply l1 → l2.program ≡ l1.program → l2.procs ≡ l1.procs → l2.heap ≡ l1.heap
-    → l2.rounds ≡ l1.rounds → l2.entries.items ≡ l1.entries.items ++ entry_after p at a reply ∷ [] → Steps l p at a reply l2
-steps_from l l0 l1 l2 p at a reply same c program procs heap rounds items =
+    → l2.rounds ≡ l1.rounds → l2.makings ≡ l1.makings → l2.entries.items ≡ l1.entries.items ++ entry_after p at a reply ∷ [] → Steps l p at a reply l2
+steps_from l l0 l1 l2 p at a reply same c program procs heap rounds makings items =
     let e = entry_after p at a reply in
     let inner : l1.entries.items ≡ l0.entries.items = ap (λ (k : Ledger). k.entries.items) c.same in
     let grown : l2.entries.items ≡ l0.entries.items ++ e ∷ [] = items ∙ ap (λ xs. xs ++ e ∷ []) inner in
     let history : history_in l2 ≡ e ∷ history_in l0 = ap history_of grown ∙ history_grows l0.entries.items e in
     record {
       answer = (λ j. came_of (program_of (sym same.program j).parts) (history_of (sym same.entries j)) p a) ∙ c.answer;
-      kept = along (program_in l1) (program_in l2) l1.procs l2.procs (e ∷ history_in l0) (history_in l2) (contents l1.heap) (contents l2.heap) l1.rounds l2.rounds
-          (λ j. program_of (sym program j).parts) (sym procs) (sym history) (ap contents (sym heap)) (sym rounds) c.kept;
+      kept = along (program_in l1) (program_in l2) l1.procs l2.procs (e ∷ history_in l0) (history_in l2) (contents l1.heap) (contents l2.heap) l1.rounds l2.rounds l1.makings l2.makings
+          (λ j. program_of (sym program j).parts) (sym procs) (sym history) (ap contents (sym heap)) (sym rounds) (sym makings) c.kept;
       entries = grown ∙ ap (λ xs. xs ++ e ∷ []) same.entries;
       program = program ∙ ap (λ (k : Ledger). k.program) c.same ∙ same.program;
       procs = procs ∙ ap (λ (k : Ledger). k.procs) c.same ∙ same.procs;
@@ -121,11 +122,11 @@ waits_before l fuel p at a k inside n d =
     (suits s es k.within k.suits k.run).balance p has.process at a has.world has.is_next ∙ ap (λ t. departures p es + cond t 1 0) d
 
 pub may_act : (l : Ledger) (fuel p : ℕ) (at : Place) (a : Action) → IsLedger l fuel false → p < l.procs → HasNext (setting_in l fuel) p (entries_of p l.entries.items) (next_of at a)
-    → (is_departure a ≡ true → AllArrived l.procs p l.entries.items) → IsFormed a → is_regionless a ≡ true → MayAct l p at a
-may_act l fuel p at a k inside n arrived form regionless e f =
+    → (is_departure a ≡ true → AllArrived l.procs p l.entries.items) → IsFormed a → is_delete a ≡ false → MayAct l p at a
+may_act l fuel p at a k inside n arrived form no_delete e f =
     let es = l.entries.items in
     let s = setting_in l fuel in
-    may_do s es p at a k.within k.suits k.run inside (sym k.faulted_is) (next_act s es p at a e f n) (subst (IsReady s es p) (next_acts at a e f) (ready_when s es p at a arrived)) arrived form regionless
+    may_do s es p at a k.within k.suits k.run inside (sym k.faulted_is) (next_act s es p at a e f n) (subst (IsReady s es p) (next_acts at a e f) (ready_when s es p at a arrived)) arrived form no_delete
 
 -- a fault ends the run
 abbrev pub is_faulted : Reply → Bool

@@ -84,29 +84,32 @@ IsFormed (act.MakeView grid how) = IsFormedView how
 IsFormed (act.Arrive kind arg given) = IsFormedDeposit given
 IsFormed a = Unit {0}
 
--- a collective that makes no region and deletes none
-abbrev pub is_regionless_kind : CollKind → Bool
-is_regionless_kind coll.MakeRegion = false
-is_regionless_kind coll.DeleteRegion = false
-is_regionless_kind kind = true
+-- the delete of a region
+abbrev pub is_delete_kind : CollKind → Bool
+is_delete_kind coll.DeleteRegion = true
+is_delete_kind kind = false
 
--- the action makes no region and deletes none
-abbrev pub is_regionless : Action → Bool
-is_regionless (act.Arrive kind arg given) = is_regionless_kind kind
-is_regionless a = true
+-- an arrival at the delete of a region
+abbrev pub is_delete : Action → Bool
+is_delete (act.Arrive kind arg given) = is_delete_kind kind
+is_delete a = false
 
 -- ---- what is known of every run
 
--- nothing impossible is asked: each action for which its process needn't wait comes to an answer or a fault, but for makings and deletes of regions
+-- nothing impossible is asked: each action for which its process needn't wait comes to an answer or a fault, but for deletes of regions
 abbrev pub NothingImpossible : Setting → List Entry → Type 0
 NothingImpossible s es =
-    (i : ℕ) (p : Process) (at : Place) (a : Action) → World s es i p → IsNext p (next.Act at a) → IsReady s es i (next.Act at a) → is_regionless a ≡ true
+    (i : ℕ) (p : Process) (at : Place) (a : Action) → World s es i p → IsNext p (next.Act at a) → IsReady s es i (next.Act at a) → is_delete a ≡ false
     → heap_answer s.program (history_of es) i a ≡ Impossible → ⊥
 
 -- a departure leaves the round that its process reached last; a process that has anything else next has left each round that it reached
 abbrev pub RoundsBalance : Setting → List Entry → Type 0
 RoundsBalance s es =
     (i : ℕ) (p : Process) (at : Place) (a : Action) → World s es i p → IsNext p (next.Act at a) → arrivals i es ≡ departures i es + (if is_departure a then 1 else 0)
+
+-- no process arrives at more collectives than it has ticks
+abbrev pub ArrivalsFew : Setting → List Entry → Type 0
+ArrivalsFew s es = (i : ℕ) → arrivals i es ≤ s.fuel
 
 -- in these entries, arrival number k of process i, counted from 0, is at this place, of this kind and with this argument
 pub record ArrivesAt (s : Setting) (es : List Entry) (i k : ℕ) (at : Place) (kind : CollKind) (arg : Option ℕ) : Type 0 where
@@ -143,6 +146,7 @@ ElementsFormed s es =
 pub record SuitsRun (s : Setting) (es : List Entry) : Type 0 where
   pub possible : NothingImpossible s es
   pub balance : RoundsBalance s es
+  pub few : ArrivalsFew s es
   pub agree : ArrivalsAgree s es
   pub elements : ElementsFormed s es
 

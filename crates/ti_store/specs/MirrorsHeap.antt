@@ -31,7 +31,7 @@ pub record KeepsGrid (h : History) (s : Contents) (id : Id) (g : Grid) : Type 0 
   pub inside : (p : Point) → is_in g.domain p ≡ true → (n : ℕ) × (map.cell p ≡ Some (cell_at g.block n)) × (place_in (points_of whole) (g.place p) ≡ Some n)
   pub outside : (p : Point) → is_in g.domain p ≡ false → map.cell p ≡ None
 
--- the heap of a history without regions
+-- the heap of a history that deletes no region
 pub record KeepsHeap (program : NumberedProgram) (procs : ℕ) (h : History) (s : Contents) : Type 0 where
   pub procs_are : s.procs ≡ procs
   pub counts : (p : ℕ) → length (s.made p) ≡ things_made p h

@@ -1,5 +1,5 @@
 -- Nobody has to believe what stands here: it mirrors the code, and only contracts of private functions and the invariant speak of it.
-use Rattle.std.specs.Prelude.{◌≡◌, ℕ, ◌+◌, ◌<◌, ◌==◌, true, ◌&&◌, if◌then◌else◌, List, [], ◌∷◌, Option, None, Some, IfSome}
+use Rattle.std.specs.Prelude.{◌≡◌, ℕ, ◌+◌, ◌-◌, ◌^◌, ◌<◌, ◌==◌, true, false, ◌&&◌, if◌then◌else◌, List, [], ◌∷◌, Option, None, Some, IfSome}
 use Rattle.ti_base.specs.declared.place.Place.{Place}
 use Rattle.ti_base.specs.declared.action.Action.{Action}
 use Rattle.ti_base.specs.declared.action.Action.TheVariants as act
@@ -12,18 +12,19 @@ use Rattle.ti_base.specs.declared.entry.Entry.{Entry}
 use Rattle.ti_base.specs.Rects.{IsRect}
 use Rattle.ti_lang.specs.Program.Classes.{NumberedProgram}
 use Rattle.ti_lang.specs.Meaning.Histories.{History, history_of, is_arrival, is_departure, arrivals, departures}
+use Rattle.ti_lang.specs.Meaning.RoundsOf.{rounds_making}
 use Rattle.ti_lang.specs.Meaning.HeapAnswers.{Outcome, Impossible, heap_answer}
-use Rattle.ti_store.specs.Conditions.{IsFormed, IsFormedZero, is_regionless}
+use Rattle.ti_store.specs.Conditions.{IsFormed, IsFormedZero, is_delete}
 
 -- the values and domains that an action hands in are in their form, and so is the first value of a new grid's elements
 abbrev pub AllFormed : Action → Type 0
 AllFormed (act.NewGrid zero domain region) = IsFormedZero zero × IsRect domain
 AllFormed a = IsFormed a
 
--- every entry is one of these processes, makes no region and deletes none, and handed in what is in its form
+-- every entry is one of these processes, deletes no region, and handed in what is in its form
 abbrev pub AreOurs : ℕ → History → Type 0
 AreOurs procs [] = Unit {0}
-AreOurs procs (e ∷ h) = (e.proc < procs) × (is_regionless e.act ≡ true) × AllFormed e.act × AreOurs procs h
+AreOurs procs (e ∷ h) = (e.proc < procs) × (is_delete e.act ≡ false) × AllFormed e.act × AreOurs procs h
 
 -- the step is possible
 abbrev pub IsPossible : Outcome → Type 0
@@ -53,7 +54,8 @@ AgreesWith p es said = (q : ℕ) → IfSome (collective_at q (arrivals p es + 1)
 pub record MayDo (program : NumberedProgram) (procs : ℕ) (es : List Entry) (p : ℕ) (at : Place) (a : Action) : Type 0 where
   pub possible : IsPossible (heap_answer program (history_of es) p a)
   pub formed : AllFormed a
-  pub regionless : is_regionless a ≡ true
+  pub keeps_regions : is_delete a ≡ false
+  pub few : rounds_making p (history_of es) < 2 ^ 32 - 1
   pub balance : arrivals p es ≡ departures p es + (if is_departure a then 1 else 0)
   pub arrived : is_departure a ≡ true → AllArrived procs p es
   pub agrees : (said : CollKind × Place × Option ℕ) → collective_in at a ≡ Some said → AgreesWith p es said

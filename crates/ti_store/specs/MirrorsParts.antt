@@ -20,7 +20,7 @@ use Rattle.ti_lang.specs.Meaning.HeapAnswers.{Outcome, Answers, Faults, heap_ans
 use Rattle.ti_store.specs.declared.ledger.Ledger.{Ledger}
 use Rattle.ti_store.specs.declared.ledger.Reply.{Reply}
 use Rattle.ti_store.specs.declared.ledger.Reply.TheVariants.{Answered, Faulted}
-use Rattle.ti_store.specs.MirrorsRounds.{KeepsRounds}
+use Rattle.ti_store.specs.MirrorsRounds.{KeepsRounds, KeepsMakings}
 use Rattle.ti_store.specs.MirrorsHeap.{KeepsHeap}
 use Rattle.ti_store.specs.MirrorsLedger.{AreOurs, MayDo}
 
@@ -34,14 +34,15 @@ program_in l = program_of l.program.parts
 abbrev pub history_in : Ledger → History
 history_in l = history_of l.entries.items
 
--- heap and rounds are those of the history, which makes no region and deletes none
-pub record KeepsParts (program : NumberedProgram) (procs : ℕ) (h : History) (s : Contents) (seats : List Seat) : Type 0 where
+-- heap and rounds are those of the history, which deletes no region
+pub record KeepsParts (program : NumberedProgram) (procs : ℕ) (h : History) (s : Contents) (seats : List Seat) (makings : List ℕ) : Type 0 where
   pub ours : AreOurs procs h
   pub rounds : KeepsRounds procs h seats
+  pub regions : KeepsMakings procs h makings
   pub heap : KeepsHeap program procs h s
 
 abbrev pub IsKept : Ledger → History → Type 0
-IsKept l h = KeepsParts (program_in l) l.procs h (contents l.heap) l.rounds
+IsKept l h = KeepsParts (program_in l) l.procs h (contents l.heap) l.rounds l.makings
 
 -- process p may do this, and there is room for its entry
 pub record IsReadyFor (l : Ledger) (p : ℕ) (at : Place) (a : Action) : Type 0 where
@@ -64,7 +65,7 @@ entry_after p at a (Faulted kind) = record { proc = p; place = at; act = act.Fau
 pub record Does (old : Ledger) (p : ℕ) (at : Place) (a : Action) (reply : Reply) (new : Ledger) : Type 0 where
   pub answer : heap_answer (program_in old) (history_in old) p a ≡ outcome_of reply
   pub kept : IsKept new (entry_after p at a reply ∷ history_in old)
-  pub same : new ≡ record old { heap = new.heap; rounds = new.rounds }
+  pub same : new ≡ record old { heap = new.heap; rounds = new.rounds; makings = new.makings }
 
 -- what a read of an element comes to
 abbrev pub read_outcome : Result Value FaultKind → Outcome
@@ -86,7 +87,7 @@ MayAct l p at a = is_end a ≡ false → is_fault a ≡ false → MayDo (program
 pub record Comes (old : Ledger) (p : ℕ) (at : Place) (a : Action) (reply : Reply) (new : Ledger) : Type 0 where
   pub answer : came_of (program_in old) (history_in old) p a ≡ outcome_of reply
   pub kept : IsKept new (entry_after p at a reply ∷ history_in old)
-  pub same : new ≡ record old { heap = new.heap; rounds = new.rounds }
+  pub same : new ≡ record old { heap = new.heap; rounds = new.rounds; makings = new.makings }
 
 -- and its entry was added
 pub record Steps (old : Ledger) (p : ℕ) (at : Place) (a : Action) (reply : Reply) (new : Ledger) : Type 0 where
@@ -103,3 +104,4 @@ pub record SameLedger (old new : Ledger) : Type 0 where
   pub procs : new.procs ≡ old.procs
   pub heap : new.heap ≡ old.heap
   pub rounds : new.rounds ≡ old.rounds
+  pub makings : new.makings ≡ old.makings

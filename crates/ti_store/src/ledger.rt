@@ -1,5 +1,6 @@
 // What a store keeps of a run.
 
+use crate::makings::Makings;
 use ti_base::{Answer, Entry, FaultKind};
 use ti_heap::Heap;
 use ti_lang::program::Program;
@@ -13,6 +14,7 @@ pub struct Ledger {
     pub entries: Vec<Entry>,
     pub heap: Heap,
     pub rounds: Rounds,
+    pub makings: Makings,
 }
 
 /// What comes of an action.

@@ -4,6 +4,7 @@
 mod act_err;
 mod ledger;
 mod makers;
+mod makings;
 mod meets;
 mod perform;
 mod reads;

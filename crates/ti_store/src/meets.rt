@@ -8,7 +8,7 @@ ghost use Rattle.ti_store.specs.MirrorsLedger.{AllArrived, answer_given};
 ghost use Rattle.ti_store.specs.MirrorsParts.{history_in, IsReadyFor, Does};
 
 use crate::ledger::{Ledger, Reply};
-use ti_base::{Answer, CollKind, Deposit, Place};
+use ti_base::{Answer, CollKind, Deposit, Place, Value};
 
 /// The answer that hands out what was deposited.
 fn answer_given(given: Deposit) -> Answer
@@ -45,6 +45,7 @@ impl Ledger {
     {
         // There is room for an entry more, so the arrivals can be counted.
         let _room = self.entries.capacity();
+        self.makings.count(p, kind);
         self.rounds.arrive(p, kind, place, arg, given);
         Reply::Answered(Answer::Done)
     }
@@ -54,7 +55,15 @@ impl Ledger {
         requires { IsReadyFor self.old p place act.Depart }
         ensures { Does self.old p place act.Depart result self.new }
     {
-        Reply::Answered(answer_given(self.rounds.depart(p)))
+        let (kind, _, _) = self.rounds.round_of(p);
+        let given = self.rounds.depart(p);
+        match kind {
+            CollKind::MakeRegion => {
+                let region = self.makings.of(p);
+                Reply::Answered(Answer::Val(Value::Region(region)))
+            }
+            _ => Reply::Answered(answer_given(given)),
+        }
     }
 
     /// What another process gave in the round that the process left last.

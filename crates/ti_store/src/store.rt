@@ -4,11 +4,12 @@ ghost use Rattle.std.specs.Prelude.{◌≡◌, ◌<◌, [], false, true, IfOk, I
 ghost use Rattle.ti_lang.specs.Program.Views.{program_of};
 ghost use Rattle.ti_lang.specs.Meaning.Runs.{IsRun};
 ghost use Rattle.ti_eval.specs.Forms.{IsFormedAnswer};
-ghost use Rattle.ti_store.specs.Conditions.{IsWithin, IsFormed, is_regionless, SuitsStore};
+ghost use Rattle.ti_store.specs.Conditions.{IsWithin, IsFormed, is_delete, SuitsStore};
 ghost use Rattle.ti_store.specs.Stores.{setting_of, IsNextOf, IsDone, IsRefused};
 
 use crate::act_err::ActErr;
 use crate::ledger::{Ledger, Reply};
+use crate::makings::Makings;
 use std::alloc::Global;
 use std::marker::Model;
 use ti_base::{Action, Answer, Entry, Memory, Place};
@@ -60,12 +61,14 @@ impl Store {
         let program = c.program.copy(alloc)?;
         let heap = Heap::new(alloc, procs)?;
         let rounds = Rounds::new(alloc, procs)?;
+        let makings = Makings::new(alloc, procs)?;
         let ledger = Ledger {
             program,
             procs,
             entries: Vec::new(alloc),
             heap,
             rounds,
+            makings,
         };
         Ok(Store {
             ledger,
@@ -76,7 +79,7 @@ impl Store {
     }
 
     /// The process does what it has next: an action, its end or a fault of its own. What it hands in is in its
-    /// form, and it makes no shared region and deletes none.
+    /// form, and it deletes no shared region.
     ///
     /// Its entry is added, with its answer or as the fault that comes of it. `Halted` comes exactly where
     /// the history ends with a fault or the store was halted; else `NotYet` exactly where this is a departure
@@ -87,7 +90,7 @@ impl Store {
         requires process { p < self.old.procs }
         requires next { IsNextOf self.old p place a }
         requires form { IsFormed a }
-        requires regionless { is_regionless a ≡ true }
+        requires keeps_regions { is_delete a ≡ false }
         ensures ok { IfOk result (λ answer. IsDone self.old p place a answer self.new) }
         ensures form { IfOk result IsFormedAnswer }
         ensures err { IfErr result (λ why. IsRefused self.old p place a why self.new) }
@@ -140,6 +143,7 @@ impl Store {
             entries,
             heap: _,
             rounds: _,
+            makings: _,
         } = ledger;
         entries
     }

@@ -28,7 +28,7 @@ pub returns-in-Ok-clause-ok : goal.returns-in-Ok-clause-ok
 returns-in-Ok-clause-ok c =
     let l = c.args.self.now in
     let e = c.in-Ok.ensures in
-    let done = view_done (program_in l) l.procs (history_in l) (contents l.heap) (contents c.make_view.new.self) l.rounds c.args.p c.args.place c.args.grid c.args.how c.in-Ok.id
+    let done = view_done (program_in l) l.procs (history_in l) (contents l.heap) (contents c.make_view.new.self) l.rounds l.makings c.args.p c.args.place c.args.grid c.args.how c.in-Ok.id
     c.requires.process c.requires.kept c.requires.may.formed c.requires.may.possible e.fault e.id e.made in
     record { answer = done.0; kept = done.1; same = refl }
 
@@ -38,4 +38,4 @@ returns-in-Err-Faulted-clause-ok c =
     let e = c.in-Err-Faulted.ensures in
     let told = subst (λ (x : HeapErr). IsSomeAnd ((contents l.heap).grid c.args.grid) (λ m. FaultsAs (seen_fault c.args.p c.args.how m (contents l.heap)) (Err x))) c.in-Err-Faulted.field-0-is e.fault in
     fault_does l c.make_view.new.self c.args.p c.args.place (act.MakeView c.args.grid c.args.how) c.in-Err-Faulted.kind c.requires e.err
-    (view_full (program_in l) l.procs (history_in l) (contents l.heap) l.rounds c.args.p c.args.grid c.args.how c.in-Err-Faulted.kind c.requires.kept c.requires.may.possible told)
+    (view_full (program_in l) l.procs (history_in l) (contents l.heap) l.rounds l.makings c.args.p c.args.grid c.args.how c.in-Err-Faulted.kind c.requires.kept c.requires.may.possible told)

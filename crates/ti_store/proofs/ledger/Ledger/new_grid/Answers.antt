@@ -20,7 +20,7 @@ pub returns-in-Ok-clause-ok : goal.returns-in-Ok-clause-ok
 returns-in-Ok-clause-ok c =
     let l = c.args.self.now in
     let e = c.in-Ok.ensures in
-    let done = grid_done (program_in l) l.procs (history_in l) (contents l.heap) (contents c.new_grid.new.self) l.rounds c.args.p c.args.place c.args.zero c.args.dom c.args.region c.in-Ok.id
+    let done = grid_done (program_in l) l.procs (history_in l) (contents l.heap) (contents c.new_grid.new.self) l.rounds l.makings c.args.p c.args.place c.args.zero c.args.dom c.args.region c.in-Ok.id
     c.requires.process c.requires.kept c.requires.may.formed c.requires.may.possible e.fault e.id e.made in
     record { answer = done.0; kept = done.1; same = refl }
 
@@ -30,5 +30,5 @@ returns-in-Err-Faulted-clause-ok c =
     let e = c.in-Err-Faulted.ensures in
     let told = subst (λ (x : HeapErr). FaultsAs (new_fault c.args.p (length (points_of c.args.dom)) (contents l.heap)) (Err x)) c.in-Err-Faulted.field-0-is e.fault in
     fault_does l c.new_grid.new.self c.args.p c.args.place (act.NewGrid c.args.zero c.args.dom c.args.region) c.in-Err-Faulted.kind c.requires e.err
-    (grid_full (program_in l) l.procs (history_in l) (contents l.heap) l.rounds c.args.p c.args.zero c.args.dom c.args.region c.in-Err-Faulted.kind c.requires.kept
+    (grid_full (program_in l) l.procs (history_in l) (contents l.heap) l.rounds l.makings c.args.p c.args.zero c.args.dom c.args.region c.in-Err-Faulted.kind c.requires.kept
     c.requires.may.possible told)

@@ -29,7 +29,7 @@ returns-in-Ok-clause-ok c =
     let zeros : c.deref-3.result.now ≡ field_zeros c.in-Some.class.now.fields.items = c.deref-3.ensures.value ∙ c.in_ok-zeros.ensures ∙ ap field_zeros c.deref-2.ensures.value in
     let is : zeros_of_class (program_in l) c.args.class ≡ Some c.deref-3.result.now =
     class_zeros l.program.parts c.args.class ∙ ap (option_map (λ (c : Class). field_zeros c.fields.items)) found ∙ ap Some (sym zeros) in
-    let done = object_done (program_in l) l.procs (history_in l) (contents l.heap) (contents c.new_obj.new.self) l.rounds c.args.p c.args.place c.args.class c.args.region c.deref-3.result.now c.in-Ok.id
+    let done = object_done (program_in l) l.procs (history_in l) (contents l.heap) (contents c.new_obj.new.self) l.rounds l.makings c.args.p c.args.place c.args.class c.args.region c.deref-3.result.now c.in-Ok.id
     c.requires.process c.requires.kept c.requires.may.possible is e.fault e.id e.made in
     record { answer = done.0; kept = done.1; same = refl }
 
@@ -45,5 +45,5 @@ returns-in-Err-Faulted-clause-ok c =
     class_zeros l.program.parts c.args.class ∙ ap (option_map (λ (c : Class). field_zeros c.fields.items)) found ∙ ap Some (sym zeros) in
     let told = subst (λ (x : HeapErr). FaultsAs (new_fault c.args.p (length c.deref-3.result.now) (contents l.heap)) (Err x)) c.in-Err-Faulted.field-0-is e.fault in
     fault_does l c.new_obj.new.self c.args.p c.args.place (act.NewObj c.args.class c.args.region) c.in-Err-Faulted.kind c.requires e.err
-    (object_full (program_in l) l.procs (history_in l) (contents l.heap) l.rounds c.args.p c.args.class c.args.region c.deref-3.result.now c.in-Err-Faulted.kind c.requires.kept
+    (object_full (program_in l) l.procs (history_in l) (contents l.heap) l.rounds l.makings c.args.p c.args.class c.args.region c.deref-3.result.now c.in-Err-Faulted.kind c.requires.kept
     c.requires.may.possible is told)

@@ -12,13 +12,13 @@ put_elem-requires c =
 pub returns-in-Ok : goal.returns-in-Ok
 returns-in-Ok c =
     let l = c.args.self.now in
-    let done = put_elem_done (program_in l) l.procs (history_in l) (contents l.heap) (contents c.put_elem.new.self) l.rounds c.args.p c.args.place c.args.grid c.args.at c.args.value
+    let done = put_elem_done (program_in l) l.procs (history_in l) (contents l.heap) (contents c.put_elem.new.self) l.rounds l.makings c.args.p c.args.place c.args.grid c.args.at c.args.value
     c.requires.process c.requires.may.formed c.requires.kept c.requires.may.possible c.in-Ok.ensures.value in
     record { answer = done.0; kept = done.1; same = refl }
 
 pub returns-in-Err : goal.returns-in-Err
 returns-in-Err c =
     let l = c.args.self.now in
-    let done = put_elem_fault (program_in l) l.procs (history_in l) (contents l.heap) (contents c.put_elem.new.self) l.rounds c.args.p c.args.place c.args.grid c.args.at c.args.value c.in-Err.kind
+    let done = put_elem_fault (program_in l) l.procs (history_in l) (contents l.heap) (contents c.put_elem.new.self) l.rounds l.makings c.args.p c.args.place c.args.grid c.args.at c.args.value c.in-Err.kind
     c.requires.process c.requires.kept c.requires.may.possible c.in-Err.ensures.value in
     record { answer = done.0; kept = done.1; same = refl }

@@ -14,7 +14,7 @@ returns c =
     let l = c.args.self.now in
     record {
       answer = put_answer (program_in l) (history_in l) c.args.p c.args.obj c.args.field c.args.value c.requires.may.possible;
-      kept = put_parts (program_in l) l.procs (history_in l) (contents l.heap) (contents c.put_field.new.self) l.rounds c.args.p c.args.place c.args.obj c.args.field c.args.value
+      kept = put_parts (program_in l) l.procs (history_in l) (contents l.heap) (contents c.put_field.new.self) l.rounds l.makings c.args.p c.args.place c.args.obj c.args.field c.args.value
           c.requires.process c.requires.may.formed c.requires.kept c.requires.may.possible c.put_field.ensures;
       same = refl;
     }

@@ -13,12 +13,12 @@ pub invariant_of-result : goal.invariant_of-result
 invariant_of-result c =
     let program = program_of c.in_ok-program.program.parts in
     let s : Setting = record { program = program; procs = c.args.procs; fuel = c.args.fuel } in
-    let empty = c.new-3.ensures.items in
+    let empty = c.new-4.ensures.items in
     record {
       within = c.requires.within;
       suits = subst SuitsStore (sym c.in_ok-program.ensures) c.requires.suits;
       run = subst (IsRun s) (sym empty) none;
       faulted_is = sym (ap has_fault empty);
-      kept = subst (λ es. KeepsParts program c.args.procs (history_of es) (contents c.in_ok-heap.heap) c.in_ok-rounds.rounds) (sym empty)
-          (new_parts program c.args.procs (contents c.in_ok-heap.heap) c.in_ok-rounds.rounds c.in_ok-heap.ensures c.in_ok-rounds.ensures);
+      kept = subst (λ es. KeepsParts program c.args.procs (history_of es) (contents c.in_ok-heap.heap) c.in_ok-rounds.rounds c.in_ok-makings.makings) (sym empty)
+          (new_parts program c.args.procs (contents c.in_ok-heap.heap) c.in_ok-rounds.rounds c.in_ok-heap.ensures c.in_ok-rounds.ensures c.in_ok-makings.makings c.in_ok-makings.ensures);
     }

@@ -1,4 +1,4 @@
--- In a history without regions nothing is gone, and nothing costs less than it did.
+-- In a history that deletes no region nothing is gone, and nothing costs less than it did.
 use Rattle.std.proofs.Common.{◌≡◌, ℕ, ◌==◌, ◌&&◌, ◌||◌, Bool, true, false, cond, [], ◌∷◌, sum_by, Option, Some, None, refl, subst}
 use Rattle.ti_base.specs.declared.action.Action.{Action}
 use Rattle.ti_base.specs.declared.action.Action.TheVariants as act
@@ -10,34 +10,34 @@ use Rattle.ti_lang.specs.Meaning.Histories.{History, is_arrival, is_departure, e
 use Rattle.ti_lang.specs.Meaning.RoundsOf.{Arrival, arrival_in, arrival_at, round_of, last_arrival, deletes, is_delete_of}
 use Rattle.ti_lang.specs.Meaning.RegionsOf.{is_gone}
 use Rattle.ti_lang.specs.Meaning.HeapOf.{cost_of_making, region_made_in, cost_of}
-use Rattle.ti_store.specs.Conditions.{is_regionless, is_regionless_kind}
+use Rattle.ti_store.specs.Conditions.{is_delete, is_delete_kind}
 use Rattle.ti_store.specs.MirrorsHeap.{full_cost}
 use Rattle.ti_store.specs.MirrorsLedger.{AreOurs}
 
 -- ---- arrivals
 
-arrival_regionless : (a : Action) (x : Arrival) → is_regionless a ≡ true → arrival_in a ≡ Some x → is_regionless_kind x.kind ≡ true
-arrival_regionless (act.Arrive kind arg given) x k h =
+arrival_kept : (a : Action) (x : Arrival) → is_delete a ≡ false → arrival_in a ≡ Some x → is_delete_kind x.kind ≡ false
+arrival_kept (act.Arrive kind arg given) x k h =
     let same : record { kind = kind; arg = arg; deposit = given } ≡ x = cc in
-    subst (λ (y : Arrival). is_regionless_kind y.kind ≡ true) same k
-arrival_regionless _ x k h = cc
+    subst (λ (y : Arrival). is_delete_kind y.kind ≡ false) same k
+arrival_kept _ x k h = cc
 
--- no arrival makes a region or deletes one
-pub kind_regionless : (procs i round : ℕ) (h : History) (x : Arrival) → AreOurs procs h → arrival_at i round h ≡ Some x → is_regionless_kind x.kind ≡ true
-kind_regionless procs i round [] x ours e = cc
-kind_regionless procs i round (d ∷ h) x ours e = by (d.proc == i && is_arrival d.act && arrivals i (d ∷ h) == round) (kind_regionless procs i round h x ours.3) e
+-- no arrival deletes a region
+pub kind_kept : (procs i round : ℕ) (h : History) (x : Arrival) → AreOurs procs h → arrival_at i round h ≡ Some x → is_delete_kind x.kind ≡ false
+kind_kept procs i round [] x ours e = cc
+kind_kept procs i round (d ∷ h) x ours e = by (d.proc == i && is_arrival d.act && arrivals i (d ∷ h) == round) (kind_kept procs i round h x ours.3) e
   where
-    by : (t : Bool) → (arrival_at i round h ≡ Some x → is_regionless_kind x.kind ≡ true) → cond t (arrival_in d.act) (arrival_at i round h) ≡ Some x → is_regionless_kind x.kind ≡ true
-    by true go k = arrival_regionless d.act x ours.1 k
+    by : (t : Bool) → (arrival_at i round h ≡ Some x → is_delete_kind x.kind ≡ false) → cond t (arrival_in d.act) (arrival_at i round h) ≡ Some x → is_delete_kind x.kind ≡ false
+    by true go k = arrival_kept d.act x ours.1 k
     by false go k = go k
 
 -- ---- regions
 
-deletes_none : (kind : CollKind) (arg : Option ℕ) (r : ℕ) → is_regionless_kind kind ≡ true → deletes r kind arg ≡ false
+deletes_none : (kind : CollKind) (arg : Option ℕ) (r : ℕ) → is_delete_kind kind ≡ false → deletes r kind arg ≡ false
 deletes_none coll.Barrier arg r k = refl
 deletes_none coll.Broadcast arg r k = refl
 deletes_none coll.Exchange arg r k = refl
-deletes_none coll.MakeRegion arg r k = cc
+deletes_none coll.MakeRegion arg r k = refl
 deletes_none coll.DeleteRegion arg r k = cc
 
 none_deleted : (procs i r : ℕ) (h : History) → AreOurs procs h → is_delete_of r (last_arrival i h) ≡ false
@@ -45,7 +45,7 @@ none_deleted procs i r h ours = by (last_arrival i h) refl
   where
     by : (o : Option Arrival) → last_arrival i h ≡ o → is_delete_of r o ≡ false
     by None e = refl
-    by (Some x) e = deletes_none x.kind x.arg r (kind_regionless procs i (round_of i h) h x ours e)
+    by (Some x) e = deletes_none x.kind x.arg r (kind_kept procs i (round_of i h) h x ours e)
 
 and_or : (a b c : Bool) → b ≡ false → c ≡ false → (a && b || c) ≡ false
 and_or true b c h k = rw h k
