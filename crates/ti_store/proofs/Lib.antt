@@ -11,3 +11,4 @@ pub mod RegionRounds
 pub mod Replies
 pub mod Running
 pub mod Stepping
+pub mod Ticks

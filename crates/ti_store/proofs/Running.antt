@@ -25,6 +25,7 @@ use Rattle.ti_store.specs.Stores.{next_of}
 use Rattle.ti_store.specs.MirrorsRounds.{arrivals_said}
 use Rattle.ti_store.specs.MirrorsLedger.{AllFormed, IsPossible, collective_in, collective_at, AllArrived, AgreesWith, MayDo}
 use Rattle.ti_store.proofs.OneMore.{one, some_same, counted_own, counted_back}
+use Rattle.ti_store.proofs.Ticks.{arrivals_few}
 use Rattle.ti_store.proofs.RegionRounds.{makings_few}
 use Rattle.ti_store.proofs.Courses.{length_said, collective_met, none_beyond}
 
@@ -241,7 +242,7 @@ may_do s es p at a w all run inside goes has ready arrived form no_delete =
       possible = possible_from (heap_answer s.program (history_of es) p a) (known.possible p has.process at a has.world has.is_next ready no_delete);
       formed = all_formed s es p has.process at a known.elements has.world has.is_next form;
       keeps_regions = no_delete;
-      few = makings_few es p s.fuel (known.few p) w.limited;
+      few = makings_few es p s.fuel (arrivals_few s es p has.process has.world) w.limited;
       balance = known.balance p has.process at a has.world has.is_next;
       arrived = arrived;
       agrees = agrees s es p at a w all run inside goes has no_delete;

@@ -107,10 +107,6 @@ abbrev pub RoundsBalance : Setting → List Entry → Type 0
 RoundsBalance s es =
     (i : ℕ) (p : Process) (at : Place) (a : Action) → World s es i p → IsNext p (next.Act at a) → arrivals i es ≡ departures i es + (if is_departure a then 1 else 0)
 
--- no process arrives at more collectives than it has ticks
-abbrev pub ArrivalsFew : Setting → List Entry → Type 0
-ArrivalsFew s es = (i : ℕ) → arrivals i es ≤ s.fuel
-
 -- in these entries, arrival number k of process i, counted from 0, is at this place, of this kind and with this argument
 pub record ArrivesAt (s : Setting) (es : List Entry) (i k : ℕ) (at : Place) (kind : CollKind) (arg : Option ℕ) : Type 0 where
   pub before : List Entry
@@ -146,7 +142,6 @@ ElementsFormed s es =
 pub record SuitsRun (s : Setting) (es : List Entry) : Type 0 where
   pub possible : NothingImpossible s es
   pub balance : RoundsBalance s es
-  pub few : ArrivalsFew s es
   pub agree : ArrivalsAgree s es
   pub elements : ElementsFormed s es
 
