@@ -74,6 +74,11 @@ module _ (p : NumberedProgram) where
   sound_guarded P w true kind at a h = value a h (λ rest. refl)
   sound_guarded P w false kind at a h = fault kind at (λ rest. refl)
 
+  -- where the test holds
+  pub sound_tested : {A : Type 0} (P : Things → A → Type 0) (w : Things) (test : Bool) (kind : FaultKind) (at : Place) (a : A) → (test ≡ true → P w a) → Sound p P w (guarded test kind at a)
+  sound_tested P w true kind at a h = value a (h refl) (λ rest. refl)
+  sound_tested P w false kind at a h = fault kind at (λ rest. refl)
+
   pub sound_found : {A : Type 0} (P : Things → A → Type 0) (w : Things) (kind : FaultKind) (at : Place) (o : Option A) → ((a : A) → o ≡ Some a → P w a) → Sound p P w (found_or kind at o)
   sound_found P w kind at None h = fault kind at (λ rest. refl)
   sound_found P w kind at (Some a) h = value a (h a refl) (λ rest. refl)

@@ -1,8 +1,8 @@
 -- What a typed expression comes to is a value of its type, and all that it asks for is there.
-use Rattle.std.proofs.Common.{◌≡◌, ℕ, ℤ, pos, suc, pred, ◌+◌, ◌-◌, ◌<◌, ◌≤◌, nat_lt, ◌==◌, int_le, ◌⊎◌, inl, inr, Bool, true, false, not, ◌&&◌, cond, if◌then◌else◌, length, find, position, slice_get, slice_index_or, unwrap_or, option_map, option_and_then, Option, Some, None, List, [], ◌∷◌, ◌++◌, refl, ap, ap₂, sym, ◌∙◌, subst, arith, eqb-true, eq-eqb}
+use Rattle.std.proofs.Common.{w32, ◌≡◌, ℕ, ℤ, pos, suc, pred, ◌+◌, ◌-◌, ◌^◌, ◌<◌, ◌≤◌, nat_lt, ◌==◌, int_le, ◌⊎◌, inl, inr, Bool, true, false, not, ◌&&◌, cond, if◌then◌else◌, length, find, position, slice_get, slice_index_or, unwrap_or, option_map, option_and_then, Option, Some, None, List, [], ◌∷◌, ◌++◌, refl, ap, ap₂, sym, ◌∙◌, subst, arith, eqb-true}
 use Rattle.std.specs.List.{list_all, position_or_len}
 use Rattle.std.specs.Option.{option_map_or}
-use Rattle.std.proofs.lemmas.Bool.{lt-ltb, ltb-true, le-leb}
+use Rattle.std.proofs.lemmas.Bool.{lt-ltb, ltb-true, leb-true}
 use Rattle.std.proofs.lemmas.List.{length-append, length-map, length-take-le}
 use Rattle.std.proofs.lemmas.List.Folds.{find_at}
 use Rattle.std.proofs.lemmas.Option.{slice_get_within}
@@ -15,14 +15,15 @@ use Rattle.ti_base.specs.declared.fault.FaultKind.TheVariants as fault
 use Rattle.ti_base.specs.declared.action.Action.TheVariants as act
 use Rattle.ti_base.specs.declared.action.ViewHow.{ViewHow}
 use Rattle.ti_base.specs.declared.action.ViewHow.TheVariants as how
-use Rattle.ti_base.specs.Ranges.{natural, tidy}
+use Rattle.ti_base.specs.Ranges.{natural}
 use Rattle.ti_syntax.specs.declared.tree.exprs.UnaryOperator.{UnaryOperator}
 use Rattle.ti_syntax.specs.declared.tree.exprs.UnaryOperator.TheVariants as un
 use Rattle.ti_syntax.specs.declared.tree.exprs.BinaryOperator.{BinaryOperator}
 use Rattle.ti_syntax.specs.declared.tree.exprs.BinaryOperator.TheVariants as op
 use Rattle.std.specs.Option.{option_or}
 use Rattle.ti_base.specs.Points.{IsDim}
-use Rattle.ti_base.specs.Rects.{made, used, empty_rect}
+use Rattle.ti_base.specs.Rects.{size_of}
+use Rattle.ti_base.specs.WholeNumbers.{Fits}
 use Rattle.ti_lang.specs.Members.{only_if}
 use Rattle.ti_lang.specs.Program.Types.{ValueType, Declaration, VariableUse}
 use Rattle.ti_lang.specs.Program.Types as t
@@ -39,21 +40,22 @@ use Rattle.ti_lang.specs.Typing.Expressions.{Typed, plain, operand, both, joined
 use Rattle.ti_lang.specs.Typing.Expressions as typing
 use Rattle.ti_lang.specs.Typing.TextTypes.{operator_type, used_type, how_many, field_seen, element_seen, sliced, built_in_type, member_seen}
 use Rattle.ti_lang.specs.Typing.Called.{member_called}
-use Rattle.ti_lang.specs.Meaning.Held.{Held, Plain, zero_of, nothing, thing_of, point_of, rect_of, int_of, is_dim, where_dim}
+use Rattle.ti_lang.specs.Meaning.Held.{Held, Plain, zero_of, nothing, thing_of, point_of, rect_of, int_of, where_dim}
 use Rattle.ti_lang.specs.Meaning.Asking.{ValueOf, NewThing, Reference, request_through, Asking, found_or, needed}
-use Rattle.ti_lang.specs.Meaning.Literals.{coordinates_of, numbers_in, point_of_numbers, is_even, rect_of_bounds, rect_within}
-use Rattle.ti_lang.specs.Meaning.Literals as literal
-use Rattle.ti_lang.specs.Meaning.Conversions.{converted}
+use Rattle.ti_lang.specs.Meaning.Literals.{coordinates_of, numbers_in, point_of_numbers}
+use Rattle.ti_lang.specs.Meaning.Conversions.{most_points, converted}
 use Rattle.ti_lang.specs.Meaning.Parts.{Field, Element, fetched, domain_asked, domain_of, viewed, indexed}
-use Rattle.ti_lang.specs.Meaning.MemberForms.{sized, extreme, member}
+use Rattle.ti_lang.specs.Meaning.MemberForms.{greatest_size, sized, extreme, member}
+use Rattle.ti_lang.specs.Meaning.Answers.{IsPointOf, IsRectOf}
 use Rattle.ti_lang.specs.Meaning.Scoping.{Env, type_of, field_selected}
 use Rattle.ti_lang.specs.Meaning.Evaluation.{eval, eval_all, eval_numbers, eval_range, eval_ranges}
-use Rattle.ti_align.specs.Things.{Things, Grows, HasDims, IsGridOf, IsOf, DimsFine}
+use Rattle.ti_align.specs.Things.{Things, Grows, IsGridOf, IsOf, DimsFine}
 use Rattle.ti_align.specs.Sound.{Sound, SuitsView, dims_viewed}
 use Rattle.ti_align.specs.Fitting.{EnvFits, FieldsFit, IsWritten, AreWritten, IsRangeWritten, AreRangesWritten}
 use Rattle.ti_align.proofs.Vars.{true_false, and_left, and_right}
-use Rattle.ti_align.proofs.Computing.{grid_stays, of_stays, sound_then, weaker, sound_value, sound_guarded, sound_found, sound_asked}
-use Rattle.ti_align.proofs.Operating.{none_some, some_same, where_some, Seen, seen_same, type_same, ranges_dims, operated_fine, right_fine, alone_fine, cast_fine}
+use Rattle.ti_align.proofs.Computing.{grid_stays, of_stays, sound_then, weaker, sound_value, sound_guarded, sound_tested, sound_found, sound_asked}
+use Rattle.ti_align.proofs.Forms.{zero_fits, long_zero, natural_fits, AllFit, both_fit, get_fits, coordinates_fit, dim_is, numbers_point, origin_point, empty_form, AreOf, bounds_form}
+use Rattle.ti_align.proofs.Operating.{none_some, some_same, where_some, Seen, seen_same, type_same, operated_fine, right_fine, alone_fine, cast_fine}
 
 -- ---- what there is
 
@@ -154,7 +156,7 @@ module _ (p : NumberedProgram) where
       (λ u g r z. sound_asked p _ u (request_through r at (act.GetField r.thing field) (ValueOf type)) (of, (class, z, f)) (λ x i answer q. q of (class, i.classes r.thing class z, f)))
 
   -- an element of a grid of such elements
-  pub element_fine : (w : Things) (at : Place) (type through : ValueType) (h : Held) (index : Point) (element : ValueType) (n : ℕ) → ((id : Id) → thing_of h ≡ Some id → IsGridOf w element n id) → index.dim ≡ n
+  pub element_fine : (w : Things) (at : Place) (type through : ValueType) (h : Held) (index : Point) (element : ValueType) (n : ℕ) → ((id : Id) → thing_of h ≡ Some id → IsGridOf w element n id) → IsPointOf n index
       → Sound p (λ u k. IsOf u element k) w (fetched at type (Element h through index))
   element_fine w at type through h index element n k d =
       sound_then p (λ u (r : Reference). IsGridOf u element n r.thing) (λ u k. IsOf u element k) w (needed at through h) _
@@ -186,13 +188,9 @@ abbrev pub count_of : ValueType → ℕ
 count_of (t.Pt n) = n
 count_of type = 1
 
--- one to three dimensions, as a test
-dim_is : (n : ℕ) → IsDim n → is_dim n ≡ true
-dim_is n d = ap₂ (λ a b. a && b) (le-leb 1 n d.0) (le-leb n 3 d.1)
-
--- a point of one to three numbers has as many dimensions
-pub point_dim : (zs : List ℤ) (n : ℕ) → length zs ≡ n → IsDim n → (point_of_numbers zs).dim ≡ n
-point_dim zs n h d = (rw (dim_is (length zs) (subst IsDim (sym h) d)) refl) ∙ h
+-- so many numbers, of 32 bits
+abbrev pub Numbers : ℕ → List ℤ → Type 0
+Numbers n zs = (length zs ≡ n) × AllFit zs
 
 abbrev pub counts : List ValueType → ℕ
 counts [] = 0
@@ -205,7 +203,7 @@ numbers_count : (w : Things) (type : ValueType) (h : Held) → is_void type ≡ 
 numbers_count w t.Int h z d k = ap (λ x. length (numbers_in x)) k.1
 numbers_count w t.Long h z d k = ap (λ x. length (numbers_in x)) k.1
 numbers_count w t.Boolean h z d k = ap (λ x. length (numbers_in x)) k.1
-numbers_count w (t.Pt n) h z d k = ap (λ x. length (numbers_in x)) k.1 ∙ three k.0 (subst (λ m. m ≤ 3) (sym k.2) d.1) ∙ k.2
+numbers_count w (t.Pt n) h z d k = ap (λ x. length (numbers_in x)) k.1 ∙ three k.0 (subst (λ m. m ≤ 3) (sym k.2.dim_is) d.1) ∙ k.2.dim_is
 numbers_count w (t.Rc n) h z d k = ap (λ x. length (numbers_in x)) k.1
 numbers_count w (t.Dm n) h z d k = ap (λ x. length (numbers_in x)) k.1
 numbers_count w t.Region h z d k = ap (λ x. length (numbers_in x)) k.1
@@ -213,6 +211,20 @@ numbers_count w (t.Class c l) h z d k = ap (λ x. length (numbers_in x)) k.1
 numbers_count w (t.Grid e n l) h z d k = ap (λ x. length (numbers_in x)) k.1
 numbers_count w t.Null h z d k = ap (λ x. length (numbers_in x)) k
 numbers_count w t.Void h z d k = absurd (true_false z)
+
+-- they are of 32 bits
+numbers_fit : (w : Things) (type : ValueType) (h : Held) → is_void type ≡ false → IsOf w type h → AllFit (numbers_in h)
+numbers_fit w t.Int h z k = subst (λ x. AllFit (numbers_in x)) (sym k.1) (k.2, tt)
+numbers_fit w t.Long h z k = subst (λ x. AllFit (numbers_in x)) (sym k.1) (zero_fits, tt)
+numbers_fit w t.Boolean h z k = subst (λ x. AllFit (numbers_in x)) (sym k.1) (zero_fits, tt)
+numbers_fit w (t.Pt n) h z k = subst (λ x. AllFit (numbers_in x)) (sym k.1) (coordinates_fit k.0 k.2.coordinates)
+numbers_fit w (t.Rc n) h z k = subst (λ x. AllFit (numbers_in x)) (sym k.1) (zero_fits, tt)
+numbers_fit w (t.Dm n) h z k = subst (λ x. AllFit (numbers_in x)) (sym k.1) (zero_fits, tt)
+numbers_fit w t.Region h z k = subst (λ x. AllFit (numbers_in x)) (sym k.1) (zero_fits, tt)
+numbers_fit w (t.Class c l) h z k = subst (λ x. AllFit (numbers_in x)) (sym k.1) (zero_fits, tt)
+numbers_fit w (t.Grid e n l) h z k = subst (λ x. AllFit (numbers_in x)) (sym k.1) (zero_fits, tt)
+numbers_fit w t.Null h z k = subst (λ x. AllFit (numbers_in x)) (sym k) (zero_fits, tt)
+numbers_fit w t.Void h z k = absurd (true_false z)
 
 pub ints_count : (ts : List ValueType) → all_ints ts ≡ true → counts ts ≡ length ts
 ints_count [] h = refl
@@ -253,10 +265,6 @@ literal_counts ranges ts r h = by (all_ints ts) refl h
     by : (b : Bool) → all_ints ts ≡ b → (if b then Some (t.Rc ranges) else if ranges == 1 then range_of_points ts else None) ≡ Some r → (c : ℕ) × AllCount c ts
     by true a h = (1, ints_each ts a)
     by false a h = one_range (ranges == 1) h
-
--- bounds and steps of so many coordinates
-abbrev AreOf : ℕ → literal.Bounds → Type 0
-AreOf n b = (length b.low ≡ n) × (length b.high ≡ n) × (length b.step ≡ n)
 
 all_both : (test : ValueType → Bool) (xs ys : List ValueType) → list_all test (xs ++ ys) ≡ true → (list_all test xs ≡ true) × (list_all test ys ≡ true)
 all_both test [] ys h = (refl, h)
@@ -371,15 +379,31 @@ AllOfTypes w (x ∷ xs) (h ∷ hs) = IsOf w x h × AllOfTypes w xs hs
 AllOfTypes w xs hs = ⊥
 
 module _ (p : NumberedProgram) (w : Things) where
+  few : (n : ℕ) → n ≤ greatest_size → n < 2 ^ 31
+  few n h = omega (arith, h)
+
+  fewer : (n : ℕ) → n ≤ most_points → n < 2 ^ 31
+  fewer n h = few n (omega (arith, h))
+
   sized_fine : (at : Place) (h : Held) (n : ℕ) → (IsOf w (t.Rc n) h) ⊎ (IsOf w (t.Dm n) h) → Sound p (λ u k. IsOf u t.Int k) w (sized at h)
-  sized_fine at h n (inl k) = subst (λ z. Sound p (λ u k. IsOf u t.Int k) w (sized at z)) (sym k.1) (sound_guarded p _ w _ _ at _ (_, refl))
-  sized_fine at h n (inr k) = subst (λ z. Sound p (λ u k. IsOf u t.Int k) w (sized at z)) (sym k.1) (sound_value p _ w _ (_, refl))
+  sized_fine at h n (inl k) = subst (λ z. Sound p (λ u k. IsOf u t.Int k) w (sized at z)) (sym k.1) (sound_tested p _ w _ _ at _ (λ q. (_, refl, natural_fits (size_of k.0) (few (size_of k.0) (leb-true (size_of k.0) greatest_size q)))))
+  sized_fine at h n (inr k) = subst (λ z. Sound p (λ u k. IsOf u t.Int k) w (sized at z)) (sym k.1) (sound_value p _ w _ (_, refl, natural_fits (length k.0) (fewer (length k.0) k.2.few)))
 
-  dims_of : (n : ℕ) (h : Held) → IsOf w (t.Rc n) h → HasDims n (rect_of h)
-  dims_of n h k = subst (HasDims n) (sym (ap rect_of k.1)) k.2
+  rect_is : (n : ℕ) (h : Held) → IsOf w (t.Rc n) h → IsRectOf n (rect_of h)
+  rect_is n h k = subst (IsRectOf n) (sym (ap rect_of k.1)) k.2
 
-  point_dims : (n : ℕ) (h : Held) → IsOf w (t.Pt n) h → (point_of h).dim ≡ n
-  point_dims n h k = ap (λ z. (point_of z).dim) k.1 ∙ k.2
+  point_is : (n : ℕ) (h : Held) → IsOf w (t.Pt n) h → IsPointOf n (point_of h)
+  point_is n h k = subst (IsPointOf n) (sym (ap point_of k.1)) k.2
+
+  int_is : (h : Held) → IsOf w t.Int h → Fits w32 (int_of h)
+  int_is h k = subst (λ z. Fits w32 (int_of z)) (sym k.1) k.2
+
+  -- two numbers
+  int_args : (hs : List Held) → AllOfTypes w (t.Int ∷ t.Int ∷ []) hs → Fits w32 (int_of (slice_index_or hs 0 nothing)) × Fits w32 (int_of (slice_index_or hs 1 nothing))
+  int_args [] a = absurd a
+  int_args (x ∷ []) a = absurd a.1
+  int_args (x ∷ y ∷ []) a = (int_is x a.0, int_is y a.1.0)
+  int_args (x ∷ y ∷ z ∷ hs) a = absurd a.1.1
 
   as_local : (element : ValueType) (n : ℕ) (l : Bool) (m : Asking Held) → Sound p (λ u k. IsOf u (t.Grid element n true) k) w m → Sound p (λ u k. IsOf u (t.Grid element n l) k) w m
   as_local element n l m k = weaker p _ _ w m k (λ u g h q. q)
@@ -389,9 +413,9 @@ module _ (p : NumberedProgram) (w : Things) where
   member_fine at wanted through Size (t.Rc n) r [] h hs e z k a = subst (λ q. Sound p (λ u k. IsOf u q k) w (sized at h)) (some_same t.Int r e) (sized_fine at h n (inl k))
   member_fine at wanted through Size (t.Dm n) r [] h hs e z k a = subst (λ q. Sound p (λ u k. IsOf u q k) w (sized at h)) (some_same t.Int r e) (sized_fine at h n (inr k))
   member_fine at wanted through Min (t.Rc n) r [] h hs e z k a =
-      subst (λ q. Sound p (λ u k. IsOf u q k) w (extreme at h (rect_of h).lo)) (some_same (t.Pt n) r e) (sound_guarded p _ w _ _ at _ ((rect_of h).lo, refl, (dims_of n h k).1))
+      subst (λ q. Sound p (λ u k. IsOf u q k) w (extreme at h (rect_of h).lo)) (some_same (t.Pt n) r e) (sound_guarded p _ w _ _ at _ ((rect_of h).lo, refl, (rect_is n h k).low))
   member_fine at wanted through Max (t.Rc n) r [] h hs e z k a =
-      subst (λ q. Sound p (λ u k. IsOf u q k) w (extreme at h (rect_of h).hi)) (some_same (t.Pt n) r e) (sound_guarded p _ w _ _ at _ ((rect_of h).hi, refl, (dims_of n h k).2))
+      subst (λ q. Sound p (λ u k. IsOf u q k) w (extreme at h (rect_of h).hi)) (some_same (t.Pt n) r e) (sound_guarded p _ w _ _ at _ ((rect_of h).hi, refl, (rect_is n h k).high))
   member_fine at wanted through Contains (t.Rc n) r (t.Pt m ∷ []) h hs e z k a =
       subst (λ q. Sound p (λ u k. IsOf u q k) w (member at wanted (Some Contains) through h hs)) (where_some (n == m) t.Boolean r e).1 (sound_value p _ w _ (_, refl))
   member_fine at wanted through Contains (t.Dm n) r (t.Pt m ∷ []) h hs e z k a =
@@ -402,15 +426,15 @@ module _ (p : NumberedProgram) (w : Things) where
   member_fine at wanted through Restrict (t.Grid x n l) r (t.Rc m ∷ []) h (c ∷ []) e z k a =
       let q = where_some (n == m) (t.Grid x n l) r e in
       subst (λ o. Sound p (λ u k. IsOf u o k) w (viewed at wanted (how.Restrict (rect_of c)) through h)) q.1
-      (as_local x n l _ (viewed_fine p w at wanted (how.Restrict (rect_of c)) through h x n (grid_in w x n l h k) ((dims_of m c a.0).0 ∙ sym (eqb-true n m q.0))))
+      (as_local x n l _ (viewed_fine p w at wanted (how.Restrict (rect_of c)) through h x n (grid_in w x n l h k) (subst (λ d. IsRectOf d (rect_of c)) (sym (eqb-true n m q.0)) (rect_is m c a.0))))
   member_fine at wanted through Translate (t.Grid x n l) r (t.Pt m ∷ []) h (c ∷ []) e z k a =
       let q = where_some (n == m) (t.Grid x n l) r e in
       subst (λ o. Sound p (λ u k. IsOf u o k) w (viewed at wanted (how.Translate (point_of c)) through h)) q.1
-      (as_local x n l _ (viewed_fine p w at wanted (how.Translate (point_of c)) through h x n (grid_in w x n l h k) (point_dims m c a.0 ∙ sym (eqb-true n m q.0))))
+      (as_local x n l _ (viewed_fine p w at wanted (how.Translate (point_of c)) through h x n (grid_in w x n l h k) (subst (λ d. IsPointOf d (point_of c)) (sym (eqb-true n m q.0)) (point_is m c a.0))))
   member_fine at wanted through Slice (t.Grid x n l) r (t.Int ∷ t.Int ∷ []) h hs e z k a =
       let q = where_some (nat_lt 1 n) (t.Grid x (n - 1) l) r e in
       subst (λ o. Sound p (λ u k. IsOf u o k) w (member at wanted (Some Slice) through h hs)) q.1
-      (as_local x (n - 1) l _ (viewed_fine p w at wanted (how.Slice (int_of (slice_index_or hs 0 nothing)) (int_of (slice_index_or hs 1 nothing))) through h x n (grid_in w x n l h k) (ltb-true 1 n q.0)))
+      (as_local x (n - 1) l _ (viewed_fine p w at wanted (how.Slice (int_of (slice_index_or hs 0 nothing)) (int_of (slice_index_or hs 1 nothing))) through h x n (grid_in w x n l h k) (let two = int_args hs a in (ltb-true 1 n q.0, two.0, two.1))))
   member_fine at wanted through Restrict (t.Grid x n l) r (t.Rc m ∷ []) h [] e z k a = absurd a
   member_fine at wanted through Restrict (t.Grid x n l) r (t.Rc m ∷ []) h (c ∷ d ∷ hs) e z k a = absurd a.1
   member_fine at wanted through Translate (t.Grid x n l) r (t.Pt m ∷ []) h [] e z k a = absurd a
@@ -430,6 +454,8 @@ pub record Evaluates (w : Things) (env : Env) (x : NumberedExp) (type : ValueTyp
 
 pub env_stays : (uses : VariableUse → Bool) (s : ScopeContents) (u w : Things) (env : Env) → Grows u w → EnvFits uses s u env → EnvFits uses s w env
 env_stays uses s u w env g f = record {
+  number = f.number;
+  procs = f.procs;
   this_class = f.this_class;
   this = λ c z id k. g.classes id c (f.this c z id k);
   variables = λ x type b z. of_stays u w type _ g (f.variables x type b z);
@@ -444,16 +470,20 @@ types_stay u w [] (h ∷ hs) g a = absurd a
 types_stay u w (x ∷ xs) [] g a = absurd a
 
 -- an index: a coordinate, or an element of a grid
-indexed_fine : (p : NumberedProgram) (w : Things) (at : Place) (wanted u type r : ValueType) (ts : List ValueType) (h : Held) (zs : List ℤ) → index_type type ts ≡ Some r → Seen type u → DimsFine type → IsOf w type h → length zs ≡ counts ts
+indexed_fine : (p : NumberedProgram) (w : Things) (at : Place) (wanted u type r : ValueType) (ts : List ValueType) (h : Held) (zs : List ℤ) → index_type type ts ≡ Some r → Seen type u → DimsFine type → IsOf w type h → Numbers (counts ts) zs
     → Sound p (λ x k. IsOf x r k) w (indexed (is_point u) at wanted u h zs) × DimsFine r × Seen r (element_seen u)
 indexed_fine p w at wanted u (t.Pt n) r (t.Int ∷ []) h zs e i d k l =
     subst (λ q. Sound p (λ x k. IsOf x q k) w (indexed (is_point u) at wanted u h zs) × DimsFine q × Seen q (element_seen u)) (some_same t.Int r e) (
       subst (λ b. Sound p (λ x k. IsOf x t.Int k) w (indexed b at wanted u h zs)) (sym (ap is_point i.1))
-          (sound_then p (λ x (y : ℤ). Unit {0}) _ w (found_or fault.Bounds at (if int_le (pos 1) (slice_index_or zs 0 (pos 0)) then slice_get (coordinates_of (point_of h)) (pred (natural (slice_index_or zs 0 (pos 0)))) else None)) _
-          (sound_found p _ w fault.Bounds at _ (λ y z. tt)) (λ x g y z. sound_value p _ x _ (y, refl))),
+          (sound_then p (λ x (y : ℤ). Fits w32 y) _ w (found_or fault.Bounds at (if int_le (pos 1) (slice_index_or zs 0 (pos 0)) then slice_get (coordinates_of (point_of h)) (pred (natural (slice_index_or zs 0 (pos 0)))) else None)) _
+          (sound_found p _ w fault.Bounds at _ (λ y z. coordinate_fits (int_le (pos 1) (slice_index_or zs 0 (pos 0))) (pred (natural (slice_index_or zs 0 (pos 0)))) y z)) (λ x g y z. sound_value p _ x _ (y, refl, z))),
       tt,
       ap element_seen i.1,
     )
+  where
+    coordinate_fits : (b : Bool) (c : ℕ) (y : ℤ) → (if b then slice_get (coordinates_of (point_of h)) c else None) ≡ Some y → Fits w32 y
+    coordinate_fits true c y z = get_fits (coordinates_of (point_of h)) c y (coordinates_fit (point_of h) (subst (λ q. IsPointOf n (point_of q)) (sym k.1) k.2).coordinates) z
+    coordinate_fits false c y z = absurd (none_some y z)
 indexed_fine p w at wanted u (t.Grid element n l) r ts h zs e i d k c = by (dims_are ts e)
   where
     dims_are : (ts : List ValueType) → index_type (t.Grid element n l) ts ≡ Some r → (counts ts ≡ n) × (read_through l element ≡ r)
@@ -467,7 +497,7 @@ indexed_fine p w at wanted u (t.Grid element n l) r ts h zs e i d k c = by (dims
     by q =
         subst (λ z. Sound p (λ x k. IsOf x z k) w (indexed (is_point u) at wanted u h zs) × DimsFine z × Seen z (element_seen u)) q.1 (
           subst (λ b. Sound p (λ x k. IsOf x (read_through l element) k) w (indexed b at wanted u h zs)) (sym (ap is_point i))
-              (weaker p _ _ w _ (element_fine p w at wanted u h (point_of_numbers zs) element n (grid_in w element n l h k) (point_dim zs n (c ∙ q.0) d.0)) (λ x g y o. read_of x l element y o)),
+              (weaker p _ _ w _ (element_fine p w at wanted u h (point_of_numbers zs) element n (grid_in w element n l h k) (numbers_point zs n (c.0 ∙ q.0) d.0 c.1)) (λ x g y o. read_of x l element y o)),
           read_dims l element d.1,
           subst (λ z. Seen (read_through l element) (element_seen z)) (sym i) (seen_same (read_through l element)),
         )
@@ -507,12 +537,12 @@ zero_there n h d = ap (λ b. if b then h else nothing) (dim_is n d)
 
 -- a zero of each type
 pub zero_fine : (w : Things) (type : ValueType) → DimsFine type → IsOf w type (zero_of type)
-zero_fine w t.Int d = (_, refl)
-zero_fine w t.Long d = (_, refl)
+zero_fine w t.Int d = (_, refl, zero_fits)
+zero_fine w t.Long d = (_, refl, long_zero)
 zero_fine w t.Boolean d = (_, refl)
-zero_fine w (t.Pt n) d = (_, zero_there n _ d, refl)
-zero_fine w (t.Rc n) d = (_, zero_there n _ d, (refl, refl, refl))
-zero_fine w (t.Dm n) d = ([], zero_there n _ d, tt)
+zero_fine w (t.Pt n) d = (_, zero_there n _ d, origin_point n d)
+zero_fine w (t.Rc n) d = (_, zero_there n _ d, empty_form n d)
+zero_fine w (t.Dm n) d = ([], zero_there n _ d, record { points = tt; rises = tt; few = omega arith })
 zero_fine w t.Region d = (0, refl, inl refl)
 zero_fine w (t.Class c l) d = (None, refl, λ id z. absurd (none_some id z))
 zero_fine w (t.Grid x n l) d = (None, refl, λ id z. absurd (none_some id z))
@@ -725,17 +755,6 @@ selected w env g at a name (t.Class c l) r h k =
     })
 selected w env g at a name _ r h k = absurd (none_some r h)
 
-made_dims : (lo hi step : Point) → HasDims lo.dim (made lo hi step)
-made_dims lo hi step =
-    ranges_dims lo.dim (tidy (record { low = lo.x1; high = hi.x1; step = natural step.x1 })) (used lo.dim 2 (record { low = lo.x2; high = hi.x2; step = natural step.x2 })) (used lo.dim 3 (record { low = lo.x3; high = hi.x3; step = natural step.x3 }))
-
--- the domain within bounds of so many coordinates
-bounds_dims : (n : ℕ) (b : literal.Bounds) → AreOf n b → IsDim n → HasDims n (rect_of_bounds b)
-bounds_dims n b h d =
-    let even : is_even b ≡ true = ap₂ (λ x y. x && y) (ap₂ (λ x y. x && y) (dim_is (length b.low) (subst IsDim (sym h.0) d)) (eq-eqb (length b.high) (length b.low) (h.1 ∙ sym h.0))) (eq-eqb (length b.step) (length b.low) (h.2 ∙ sym h.0)) in
-    subst (λ z. HasDims n (if z then made (point_of_numbers b.low) (point_of_numbers b.high) (point_of_numbers b.step) else empty_rect 1)) (sym even)
-    (subst (λ m. HasDims m (made (point_of_numbers b.low) (point_of_numbers b.high) (point_of_numbers b.step))) (point_dim b.low n h.0 d) (made_dims (point_of_numbers b.low) (point_of_numbers b.high) (point_of_numbers b.step)))
-
 counted : (p : NumberedProgram) (s : ScopeContents) (type : ValueType) (low high : NumberedExp) → operand_type p s low ≡ Some type → count_of type ≡ lows p s (e.MoreRange (e.Plain low high) e.NoRange)
 counted p s type low high h = sym (ap (λ o. maybe_count p s o + 0) h ∙ plus_zero (count_of type))
   where
@@ -747,18 +766,18 @@ lows_more p s (e.Plain low high) rest = omega arith
 lows_more p s (e.Stepped low high step) rest = omega arith
 
 -- how many numbers an operand has
-number_fine : (w : Things) (env : Env) (s : ScopeContents) (x : NumberedExp) (type : ValueType) → operand_type env.program s x ≡ Some type → (n : ℕ) → count_of type ≡ n → Evaluates w env x type → Sound env.program (λ u h. length (numbers_in h) ≡ n) w (eval env x)
-number_fine w env s x type z n c r = weaker env.program _ _ w _ r.sound (λ u i h y. numbers_count u type h (no_call (known env.program s x) type z).2 r.dims y ∙ c)
+number_fine : (w : Things) (env : Env) (s : ScopeContents) (x : NumberedExp) (type : ValueType) → operand_type env.program s x ≡ Some type → (n : ℕ) → count_of type ≡ n → Evaluates w env x type → Sound env.program (λ u h. Numbers n (numbers_in h)) w (eval env x)
+number_fine w env s x type z n c r = weaker env.program _ _ w _ r.sound (λ u i h y. let v = (no_call (known env.program s x) type z).2 in (numbers_count u type h v r.dims y ∙ c, numbers_fit u type h v y))
 
 module _ (uses : VariableUse → Bool) (s : ScopeContents) where
   mutual
     pub eval_fine : (w : Things) (env : Env) → EnvFits uses s w env → FieldsFit env.program → (x : NumberedExp) → IsWritten uses x → (type : ValueType) → operand_type env.program s x ≡ Some type → Evaluates w env x type
-    eval_fine w env f g (e.Int at n) k type z = to_type w env (e.Int at n) t.Int type (of_plain t.Int type z) (record { sound = sound_value env.program _ w _ (n, refl); dims = tt; seen = refl })
-    eval_fine w env f g (e.Long at n) k type z = to_type w env (e.Long at n) t.Long type (of_plain t.Long type z) (record { sound = sound_value env.program _ w _ (n, refl); dims = tt; seen = refl })
+    eval_fine w env f g (e.Int at n) k type z = to_type w env (e.Int at n) t.Int type (of_plain t.Int type z) (record { sound = sound_value env.program _ w _ (n, refl, k); dims = tt; seen = refl })
+    eval_fine w env f g (e.Long at n) k type z = to_type w env (e.Long at n) t.Long type (of_plain t.Long type z) (record { sound = sound_value env.program _ w _ (n, refl, k); dims = tt; seen = refl })
     eval_fine w env f g (e.Truth at b) k type z = to_type w env (e.Truth at b) t.Boolean type (of_plain t.Boolean type z) (record { sound = sound_value env.program _ w _ (b, refl); dims = tt; seen = refl })
     eval_fine w env f g (e.Null at) k type z = to_type w env (e.Null at) t.Null type (of_plain t.Null type z) (record { sound = sound_value env.program _ w _ refl; dims = tt; seen = refl })
-    eval_fine w env f g (e.ThisProc at) k type z = to_type w env (e.ThisProc at) t.Int type (of_plain t.Int type z) (record { sound = sound_value env.program _ w _ (_, refl); dims = tt; seen = refl })
-    eval_fine w env f g (e.NumProcs at) k type z = to_type w env (e.NumProcs at) t.Int type (of_plain t.Int type z) (record { sound = sound_value env.program _ w _ (_, refl); dims = tt; seen = refl })
+    eval_fine w env f g (e.ThisProc at) k type z = to_type w env (e.ThisProc at) t.Int type (of_plain t.Int type z) (record { sound = sound_value env.program _ w _ (_, refl, f.number); dims = tt; seen = refl })
+    eval_fine w env f g (e.NumProcs at) k type z = to_type w env (e.NumProcs at) t.Int type (of_plain t.Int type z) (record { sound = sound_value env.program _ w _ (_, refl, f.procs); dims = tt; seen = refl })
     eval_fine w env f g (e.This at) k type z =
         let q = mapped (λ c. t.Class c false) s.this_class type (no_call (plain (option_map (λ c. t.Class c false) s.this_class)) type z).1 in
         to_type w env (e.This at) (t.Class q.0 false) type q.2
@@ -783,7 +802,7 @@ module _ (uses : VariableUse → Bool) (s : ScopeContents) where
         let i = where_some (all_ints q.0) (t.Pt (length q.0)) type q.2 in
         let n = parts_many p s parts q.0 q.1 in
         to_type w env (e.Point at parts) (t.Pt (length q.0)) type i.1 (record {
-          sound = sound_then p (λ u zs. length zs ≡ counts q.0) _ w (eval_numbers env parts) _ (numbers_fine w env f g parts k.1 q.0 q.1) (λ u h zs y. sound_value p _ u _ (point_of_numbers zs, refl, point_dim zs (length q.0) (y ∙ ints_count q.0 i.0) (subst IsDim (sym n) k.0)));
+          sound = sound_then p (λ u zs. Numbers (counts q.0) zs) _ w (eval_numbers env parts) _ (numbers_fine w env f g parts k.1 q.0 q.1) (λ u h zs y. sound_value p _ u _ (point_of_numbers zs, refl, numbers_point zs (length q.0) (y.0 ∙ ints_count q.0 i.0) (subst IsDim (sym n) k.0) y.1));
           dims = subst IsDim (sym n) k.0;
           seen = (how_many parts, refl);
         })
@@ -795,7 +814,7 @@ module _ (uses : VariableUse → Bool) (s : ScopeContents) where
         let d = rect_dims w env f g ranges i.1 k.0 k.1 in
         to_type w env (e.Rect at ranges) (t.Rc (lows p s ranges)) type (sym i.0) (record {
           sound = sound_then p (λ u b. AreOf (lows p s ranges) b) _ w (eval_ranges env ranges) _ (ranges_fine w env f g ranges k.1 q.0 q.1 c.0 c.1)
-              (λ u h b y. sound_guarded p _ u _ _ at _ (_, refl, bounds_dims (lows p s ranges) b y d));
+              (λ u h b y. sound_tested p _ u _ _ at _ (λ q. (_, refl, bounds_form (lows p s ranges) b y d q)));
           dims = d;
           seen = (_, refl);
         })
@@ -855,7 +874,7 @@ module _ (uses : VariableUse → Bool) (s : ScopeContents) where
         let i = index_static q.0 (type_of env a) type q.1 q.4 r.seen r.dims in
         record {
           sound = sound_then p (λ u h. IsOf u q.0 h) _ w (eval env a) _ r.sound (λ u l h y.
-              sound_then p (λ u zs. length zs ≡ counts q.1) _ u (eval_numbers env parts) _ (numbers_fine u env (env_stays uses s w u env l f) g parts k.1 q.1 q.3) (λ x j zs o.
+              sound_then p (λ u zs. Numbers (counts q.1) zs) _ u (eval_numbers env parts) _ (numbers_fine u env (env_stays uses s w u env l f) g parts k.1 q.1 q.3) (λ x j zs o.
               (indexed_fine p x at (type_of env (e.Index at a parts)) (type_of env a) q.0 type q.1 h zs q.4 r.seen r.dims (of_stays u x q.0 h j y) o).0));
           dims = i.0;
           seen = i.1;
@@ -872,16 +891,18 @@ module _ (uses : VariableUse → Bool) (s : ScopeContents) where
         sound_then p (λ u hs. AllOfTypes u j.1 hs) _ u (eval_all env xs) _ (all_fine u env (env_stays uses s w u env i f) g xs k.1 j.1 j.3) (λ v l hs m.
         sound_value p _ v _ (of_stays u v o.0 h l y, m))))
 
-    pub numbers_fine : (w : Things) (env : Env) → EnvFits uses s w env → FieldsFit env.program → (xs : NumberedExps) → AreWritten uses xs → (ts : List ValueType) → operands env.program s xs ≡ Some ts → Sound env.program (λ u zs. length zs ≡ counts ts) w (eval_numbers env xs)
-    numbers_fine w env f g e.NoExp k ts z = sound_value env.program _ w [] (ap counts (some_same [] ts z))
+    pub numbers_fine : (w : Things) (env : Env) → EnvFits uses s w env → FieldsFit env.program → (xs : NumberedExps) → AreWritten uses xs → (ts : List ValueType) → operands env.program s xs ≡ Some ts → Sound env.program (λ u zs. Numbers (counts ts) zs) w (eval_numbers env xs)
+    numbers_fine w env f g e.NoExp k ts z = sound_value env.program _ w [] (ap counts (some_same [] ts z), tt)
     numbers_fine w env f g (e.MoreExp x xs) k ts z =
         let p = env.program in
         let j = joined_there (one (operand_type p s x)) (operands p s xs) ts z in
         let o = one_there (operand_type p s x) j.0 j.2 in
         let r = eval_fine w env f g x k.0 o.0 o.1 in
         sound_then p (λ u h. IsOf u o.0 h) _ w (eval env x) _ r.sound (λ u i h y.
-        sound_then p (λ u zs. length zs ≡ counts j.1) _ u (eval_numbers env xs) _ (numbers_fine u env (env_stays uses s w u env i f) g xs k.1 j.1 j.3) (λ l m zs n.
-        sound_value p _ l _ (length-append (numbers_in h) zs ∙ ap₂ (λ a b. a + b) (numbers_count u o.0 h (no_call (known p s x) o.0 o.1).2 r.dims y) n ∙ ap counts (sym (ap (λ q. q ++ j.1) o.2) ∙ j.4))))
+        sound_then p (λ u zs. Numbers (counts j.1) zs) _ u (eval_numbers env xs) _ (numbers_fine u env (env_stays uses s w u env i f) g xs k.1 j.1 j.3) (λ l m zs n.
+        let v = (no_call (known p s x) o.0 o.1).2 in
+        sound_value p _ l _
+        (length-append (numbers_in h) zs ∙ ap₂ (λ a b. a + b) (numbers_count u o.0 h v r.dims y) n.0 ∙ ap counts (sym (ap (λ q. q ++ j.1) o.2) ∙ j.4), both_fit (numbers_in h) zs (numbers_fit u o.0 h v y) n.1)))
 
     -- the bounds and steps of a range, each of so many numbers
     range_fine : (w : Things) (env : Env) → EnvFits uses s w env → FieldsFit env.program → (r : NumberedRange) → IsRangeWritten uses r → (ts : List ValueType) → bound env.program s r ≡ Some ts → (c : ℕ) → AllCount c ts
@@ -893,9 +914,9 @@ module _ (uses : VariableUse → Bool) (s : ScopeContents) where
         let h = one_there (operand_type p s high) j.1 j.3 in
         let all : AllCount c (o.0 ∷ h.0 ∷ []) = subst (AllCount c) (sym j.4 ∙ ap₂ (λ a b. a ++ b) o.2 h.2) each in
         let n : c ≡ lows p s (e.MoreRange (e.Plain low high) e.NoRange) = sym all.0 ∙ counted p s o.0 low high o.1 in
-        sound_then p (λ u a. length (numbers_in a) ≡ lows p s (e.MoreRange (e.Plain low high) e.NoRange)) _ w (eval env low) _ (number_fine w env s low o.0 o.1 _ (all.0 ∙ n) (eval_fine w env f g low k.0 o.0 o.1)) (λ u i a y.
-        sound_then p (λ u b. length (numbers_in b) ≡ lows p s (e.MoreRange (e.Plain low high) e.NoRange)) _ u (eval env high) _ (number_fine u env s high h.0 h.1 _ (all.1.0 ∙ n) (eval_fine u env (env_stays uses s w u env i f) g high k.1 h.0 h.1)) (λ l m b q.
-        sound_value p _ l _ (y, q, length-map (numbers_in a) _ ∙ y)))
+        sound_then p (λ u a. Numbers (lows p s (e.MoreRange (e.Plain low high) e.NoRange)) (numbers_in a)) _ w (eval env low) _ (number_fine w env s low o.0 o.1 _ (all.0 ∙ n) (eval_fine w env f g low k.0 o.0 o.1)) (λ u i a y.
+        sound_then p (λ u b. Numbers (lows p s (e.MoreRange (e.Plain low high) e.NoRange)) (numbers_in b)) _ u (eval env high) _ (number_fine u env s high h.0 h.1 _ (all.1.0 ∙ n) (eval_fine u env (env_stays uses s w u env i f) g high k.1 h.0 h.1)) (λ l m b q.
+        sound_value p _ l _ (record { low = y.0; high = q.0; step = length-map (numbers_in a) _ ∙ y.0; lows = y.1; highs = q.1 })))
     range_fine w env f g (e.Stepped low high step) k ts z c each =
         let p = env.program in
         let j = joined_there (joined (one (operand_type p s low)) (one (operand_type p s high))) (one (operand_type p s step)) ts z in
@@ -905,25 +926,27 @@ module _ (uses : VariableUse → Bool) (s : ScopeContents) where
         let d = one_there (operand_type p s step) j.1 j.3 in
         let all : AllCount c (o.0 ∷ h.0 ∷ d.0 ∷ []) = subst (AllCount c) (sym j.4 ∙ ap₂ (λ a b. a ++ b) (sym l.4 ∙ ap₂ (λ a b. a ++ b) o.2 h.2) d.2) each in
         let n : c ≡ lows p s (e.MoreRange (e.Stepped low high step) e.NoRange) = sym all.0 ∙ counted p s o.0 low high o.1 in
-        sound_then p (λ u a. length (numbers_in a) ≡ lows p s (e.MoreRange (e.Stepped low high step) e.NoRange)) _ w (eval env low) _ (number_fine w env s low o.0 o.1 _ (all.0 ∙ n) (eval_fine w env f g low k.0 o.0 o.1)) (λ u i a y.
-        sound_then p (λ u b. length (numbers_in b) ≡ lows p s (e.MoreRange (e.Stepped low high step) e.NoRange)) _ u (eval env high) _ (number_fine u env s high h.0 h.1 _ (all.1.0 ∙ n) (eval_fine u env (env_stays uses s w u env i f) g high k.1 h.0 h.1)) (λ x m b q.
-        sound_then p (λ u b. length (numbers_in b) ≡ lows p s (e.MoreRange (e.Stepped low high step) e.NoRange)) _ x (eval env step) _ (number_fine x env s step d.0 d.1 _ (all.1.1.0 ∙ n) (eval_fine x env (env_stays uses s u x env m (env_stays uses s w u env i f)) g step k.2 d.0 d.1)) (λ v r e t.
-        sound_value p _ v _ (y, q, t))))
+        sound_then p (λ u a. Numbers (lows p s (e.MoreRange (e.Stepped low high step) e.NoRange)) (numbers_in a)) _ w (eval env low) _ (number_fine w env s low o.0 o.1 _ (all.0 ∙ n) (eval_fine w env f g low k.0 o.0 o.1)) (λ u i a y.
+        sound_then p (λ u b. Numbers (lows p s (e.MoreRange (e.Stepped low high step) e.NoRange)) (numbers_in b)) _ u (eval env high) _ (number_fine u env s high h.0 h.1 _ (all.1.0 ∙ n) (eval_fine u env (env_stays uses s w u env i f) g high k.1 h.0 h.1)) (λ x m b q.
+        sound_then p (λ u b. Numbers (lows p s (e.MoreRange (e.Stepped low high step) e.NoRange)) (numbers_in b)) _ x (eval env step) _ (number_fine x env s step d.0 d.1 _ (all.1.1.0 ∙ n) (eval_fine x env (env_stays uses s u x env m (env_stays uses s w u env i f)) g step k.2 d.0 d.1)) (λ v r e t.
+        sound_value p _ v _ (record { low = y.0; high = q.0; step = t.0; lows = y.1; highs = q.1 }))))
 
     ranges_fine : (w : Things) (env : Env) → EnvFits uses s w env → FieldsFit env.program → (rs : NumberedRanges) → AreRangesWritten uses rs → (ts : List ValueType) → bounds env.program s rs ≡ Some ts → (c : ℕ) → AllCount c ts
         → Sound env.program (λ u b. AreOf (lows env.program s rs) b) w (eval_ranges env rs)
-    ranges_fine w env f g e.NoRange k ts z c each = sound_value env.program _ w _ (refl, refl, refl)
+    ranges_fine w env f g e.NoRange k ts z c each = sound_value env.program _ w _ (record { low = refl; high = refl; step = refl; lows = tt; highs = tt })
     ranges_fine w env f g (e.MoreRange r rest) k ts z c each =
         let p = env.program in
         let j = joined_there (bound p s r) (bounds p s rest) ts z in
         let all = counts_both c j.0 j.1 (subst (AllCount c) (sym j.4) each) in
         sound_then p (λ u b. AreOf (lows p s (e.MoreRange r e.NoRange)) b) _ w (eval_range env r) _ (range_fine w env f g r k.0 j.0 j.2 c all.0) (λ u i a y.
         sound_then p (λ u b. AreOf (lows p s rest) b) _ u (eval_ranges env rest) _ (ranges_fine u env (env_stays uses s w u env i f) g rest k.1 j.1 j.3 c all.1) (λ l m b n.
-        sound_value p _ l _ (
-          length-append a.low b.low ∙ ap₂ (λ c d. c + d) y.0 n.0 ∙ lows_more p s r rest,
-          length-append a.high b.high ∙ ap₂ (λ c d. c + d) y.1 n.1 ∙ lows_more p s r rest,
-          length-append a.step b.step ∙ ap₂ (λ c d. c + d) y.2 n.2 ∙ lows_more p s r rest,
-        )))
+        sound_value p _ l _ (record {
+          low = length-append a.low b.low ∙ ap₂ (λ c d. c + d) y.low n.low ∙ lows_more p s r rest;
+          high = length-append a.high b.high ∙ ap₂ (λ c d. c + d) y.high n.high ∙ lows_more p s r rest;
+          step = length-append a.step b.step ∙ ap₂ (λ c d. c + d) y.step n.step ∙ lows_more p s r rest;
+          lows = both_fit a.low b.low y.lows n.lows;
+          highs = both_fit a.high b.high y.highs n.highs;
+        })))
 
     -- the dimensions of a literal
     rect_dims : (w : Things) (env : Env) → EnvFits uses s w env → FieldsFit env.program → (rs : NumberedRanges) → (lows env.program s rs ≡ range_count rs) ⊎ ((n : ℕ) × (first_low env.program s rs ≡ Some (t.Pt n)) × (lows env.program s rs ≡ n))

@@ -6,7 +6,9 @@ use Rattle.ti_lang.specs.Meaning.Processes.{Setting}
 use Rattle.ti_lang.specs.Meaning.Runs.{IsRun}
 use Rattle.ti_rules.specs.ProgramRefusals.{IsChecked}
 use Rattle.ti_align.specs.Alignment.{ArrivalsAgree, NoneAfterEnd, OfEveryRun}
-use Rattle.ti_align.specs.Stopping.{NoneWaits}
+use Rattle.ti_align.specs.Stopping.{NoneWaits, NoneImpossible, RoundsBalance}
+use Rattle.ti_align.proofs.Possible.{never}
+use Rattle.ti_align.specs.Literals.{LiteralsFit}
 use Rattle.ti_align.specs.Typed.{RunTyped}
 use Rattle.ti_align.proofs.Aligning as aligning
 use Rattle.ti_align.proofs.Rounds.{same_departures}
@@ -27,12 +29,21 @@ none_after_end p c procs fuel es a b d e w =
     let fine = checked_fine p c in
     aligning.none_after_end s fine es w (same_departures s fine es w)
 
-pub run_typed : (p : NumberedProgram) → IsChecked p → OfEveryRun RunTyped p
-run_typed p c procs fuel es a b d e w =
-    holding.run_typed (record { program = p; procs = procs; fuel = fuel }) (checked_fits p c) (checked_fine p c) (λ ds r. arrivals_agree p c procs fuel ds a b d e r) es w
+pub run_typed : (p : NumberedProgram) → IsChecked p → LiteralsFit p → OfEveryRun RunTyped p
+run_typed p c l procs fuel es a b d e w =
+    holding.run_typed (record { program = p; procs = procs; fuel = fuel }) (checked_fits p c l) (checked_fine p c) b (λ ds r. arrivals_agree p c procs fuel ds a b d e r) es w
 
-pub none_waits : (p : NumberedProgram) → IsChecked p → OfEveryRun NoneWaits p
-none_waits p c procs fuel es a b d e w =
+pub none_waits : (p : NumberedProgram) → IsChecked p → LiteralsFit p → OfEveryRun NoneWaits p
+none_waits p c l procs fuel es a b d e w =
     let s : Setting = record { program = p; procs = procs; fuel = fuel } in
     let agree : (ds : List Entry) → IsRun s ds → ArrivalsAgree s ds = λ ds r. arrivals_agree p c procs fuel ds a b d e r in
-    stopping.none_waits s es w (agree es w) (holding.things_there s (checked_fits p c) (checked_fine p c) agree es w) (none_after_end p c procs fuel es a b d e w)
+    stopping.none_waits s es w (agree es w) (holding.things_there s (checked_fits p c l) (checked_fine p c) b agree es w) (none_after_end p c procs fuel es a b d e w)
+
+pub rounds_balance : (p : NumberedProgram) → OfEveryRun RoundsBalance p
+rounds_balance p procs fuel es a b d e w = stopping.rounds_balance (record { program = p; procs = procs; fuel = fuel }) es w
+
+pub none_impossible : (p : NumberedProgram) → IsChecked p → LiteralsFit p → OfEveryRun NoneImpossible p
+none_impossible p c l procs fuel es a b d e w i q at x within v n r k o =
+    let s : Setting = record { program = p; procs = procs; fuel = fuel } in
+    let agree : (ds : List Entry) → IsRun s ds → ArrivalsAgree s ds = λ ds r. arrivals_agree p c procs fuel ds a b d e r in
+    never s es w (agree es w) (holding.things_there s (checked_fits p c l) (checked_fine p c) b agree es w) i within q v at x n r k o

@@ -67,7 +67,7 @@ formed_fine (t.Class c l) h = tt
 formed_fine t.Null h = tt
 formed_fine t.Void h = tt
 
-pub storable_is : (type : ValueType) → storable type ≡ true → IsStorable type
+pub storable_is : (type : ValueType) → (storable type && formed type) ≡ true → IsStorable type
 storable_is (t.Dm n) h = absurd (true_false (sym h))
 storable_is t.Region h = absurd (true_false (sym h))
 storable_is t.Null h = absurd (true_false (sym h))
@@ -75,8 +75,8 @@ storable_is t.Void h = absurd (true_false (sym h))
 storable_is t.Int h = tt
 storable_is t.Long h = tt
 storable_is t.Boolean h = tt
-storable_is (t.Pt n) h = tt
-storable_is (t.Rc n) h = tt
+storable_is (t.Pt n) h = dims_are n h
+storable_is (t.Rc n) h = dims_are n h
 storable_is (t.Class c l) h = tt
 storable_is (t.Grid x n l) h = tt
 

@@ -1,5 +1,5 @@
 -- The heap keeps to the types: what names things that are there is possible, and is answered as it should.
-use Rattle.std.proofs.Common.{◌≡◌, ℕ, ◌-◌, ◌==◌, ◌<◌, Bool, true, false, ◌&&◌, ◌||◌, ◌⊎◌, inl, inr, if◌then◌else◌, map, option_map, slice_get, Option, Some, None, List, [], ◌∷◌, refl, ap, ap₂, sym, ◌∙◌, subst, arith, eq-eqb, eqb-true}
+use Rattle.std.proofs.Common.{◌≡◌, ℕ, ◌==◌, Bool, true, false, ◌&&◌, ◌||◌, ◌⊎◌, inl, inr, if◌then◌else◌, map, option_map, slice_get, Option, Some, None, List, [], ◌∷◌, refl, ap, ap₂, sym, ◌∙◌, subst, arith, eq-eqb, eqb-true}
 use Rattle.std.specs.Option.{option_and_then, option_map_or}
 use Rattle.std.proofs.lemmas.Bool.{lt-ltb}
 use Rattle.std.proofs.lemmas.Option.{slice_get-map}
@@ -13,21 +13,19 @@ use Rattle.ti_base.specs.declared.value.Zero.{Zero}
 use Rattle.ti_base.specs.declared.fault.FaultKind.{FaultKind}
 use Rattle.ti_base.specs.declared.fault.FaultKind.TheVariants as fault
 use Rattle.ti_base.specs.declared.action.ViewHow.{ViewHow}
-use Rattle.ti_base.specs.declared.action.ViewHow.TheVariants.{Restrict, Translate, Slice}
 use Rattle.ti_base.specs.declared.action.Action.{Action}
 use Rattle.ti_base.specs.declared.action.Action.TheVariants as act
 use Rattle.ti_base.specs.declared.entry.Answer.{Answer}
 use Rattle.ti_base.specs.declared.entry.Answer.TheVariants.{Done, Val}
 use Rattle.ti_base.specs.declared.entry.Entry.{Entry}
 use Rattle.ti_base.specs.Points.{IsDim}
-use Rattle.ti_base.specs.Cells.{Cell, Field, Element, Grid, same_id, same_cell, zero_value, cell_of, suits, whole_grid, view, view_domain}
-use Rattle.ti_base.specs.Ranges.{natural, shifted, unused}
-use Rattle.ti_base.specs.Rects.{is_empty, first_range, second_range, third_range, of_ranges, without}
+use Rattle.ti_base.specs.Cells.{Cell, Field, Element, Grid, same_id, same_cell, zero_value, cell_of, whole_grid, view, view_fault}
 use Rattle.ti_lang.specs.Program.Types.{ValueType}
 use Rattle.ti_lang.specs.Program.Types as t
 use Rattle.ti_lang.specs.Program.Classes.{NumberedField, NumberedClass, NumberedProgram}
 use Rattle.ti_lang.specs.Typing.Declared.{field_type}
 use Rattle.ti_lang.specs.Meaning.Held.{Plain}
+use Rattle.ti_lang.specs.Meaning.Answers.{IsPointOf, IsRectOf}
 use Rattle.ti_lang.specs.Meaning.Zeros.{zero_of_type, zeros_of_class}
 use Rattle.ti_lang.specs.Meaning.Histories.{History, is_making, is_departure}
 use Rattle.ti_align.proofs.Computing.{of_stays, grid_stays}
@@ -36,11 +34,12 @@ use Rattle.ti_lang.specs.Meaning.Asking.{Wanted, NewThing, told}
 use Rattle.ti_lang.specs.Meaning.RegionsOf.{is_region, is_made, is_place}
 use Rattle.ti_lang.specs.Meaning.HeapAnswers.{Outcome, Answers, Impossible, where_some, possible_if, faults_if, makes, places, is_dim, at_point, views, heap_answer, IsAnswered, more}
 use Rattle.ti_lang.proofs.MeaningLaws.Things.{made_once}
-use Rattle.ti_align.specs.Things.{Things, Grows, HasDims, IsStorable, IsGridOf, IsPlaced, IsOf}
+use Rattle.ti_align.specs.Things.{Things, Grows, IsStorable, IsGridOf, IsPlaced, IsOf}
 use Rattle.ti_align.specs.Sound.{SuitsView, dims_viewed, IsFieldOf, IsThere, FitsAsked}
 use Rattle.ti_align.specs.Heap.{Elements, things_of, IsBlock, FieldsStorable, HeapFits, is_of_heap, elements_behind, MayHold, KeepsTypes}
 use Rattle.ti_align.proofs.Vars.{true_false, and_left, and_right, if_true, if_false}
-use Rattle.ti_align.proofs.Operating.{none_some, some_same, ranges_dims, meet_dims}
+use Rattle.ti_align.proofs.Operating.{none_some, some_same}
+use Rattle.ti_align.proofs.Forms.{zero_fits, long_zero, origin_point, empty_form, rect_dims, suits_is, view_form}
 
 -- ---- names
 
@@ -109,11 +108,11 @@ grid_of_stays p h e id g a z = by (is_making e.act && is_grid id e.answer) refl
 -- ---- zeros
 
 zero_of_storable : (w : Things) (type : ValueType) → IsStorable type → IsOf w type (Plain (zero_value (zero_of_type type)))
-zero_of_storable w t.Int s = (_, refl)
-zero_of_storable w t.Long s = (_, refl)
+zero_of_storable w t.Int s = (_, refl, zero_fits)
+zero_of_storable w t.Long s = (_, refl, long_zero)
 zero_of_storable w t.Boolean s = (_, refl)
-zero_of_storable w (t.Pt n) s = (_, refl, refl)
-zero_of_storable w (t.Rc n) s = (_, refl, (refl, refl, refl))
+zero_of_storable w (t.Pt n) s = (_, refl, origin_point n s)
+zero_of_storable w (t.Rc n) s = (_, refl, empty_form n s)
 zero_of_storable w (t.Class c l) s = (None, refl, λ id z. absurd (none_some id z))
 zero_of_storable w (t.Grid x n l) s = (None, refl, λ id z. absurd (none_some id z))
 zero_of_storable w (t.Dm n) s = absurd s
@@ -157,7 +156,7 @@ field_stays p u w obj field t g a = (a.0, g.classes obj a.0 a.1, a.2)
 grid_same : (w : Things) (id : Id) (s t : ValueType) (m n : ℕ) → IsGridOf w s m id → IsGridOf w t n id → (s ≡ t) × (m ≡ n)
 grid_same w id s t m n a b =
     let g = some_same a.0 b.0 (sym a.1 ∙ b.1) in
-    (some_same s t (sym a.3 ∙ ap (λ (x : Grid). w.element_at x.block) g ∙ b.3), sym a.2.0 ∙ ap (λ (x : Grid). x.domain.dim) g ∙ b.2.0)
+    (some_same s t (sym a.3 ∙ ap (λ (x : Grid). w.element_at x.block) g ∙ b.3), sym a.2.dim_is ∙ ap (λ (x : Grid). x.domain.dim) g ∙ b.2.dim_is)
 
 module _ (p : NumberedProgram) (elements : Elements) (h : History) (fits : HeapFits p elements h) (store : FieldsStorable p) where
   pub field_value : (obj : Id) (field : ℕ) (type : ValueType) → IsFieldOf p (things_of elements h) obj field type → (x : Value) × (cell_value p (Field obj field) h ≡ Some x) × IsOf (things_of elements h) type (Plain x)
@@ -219,11 +218,6 @@ place_is elements h r (inr z) = by (r == 0)
 dim_is : (n : ℕ) → IsDim n → is_dim n ≡ true
 dim_is n d = ap₂ (λ a b. a && b) (lt-ltb 0 n (omega (arith, d))) (lt-ltb n 4 (omega (arith, d)))
 
-suits_is : (how : ViewHow) (n : ℕ) (r : Rect) → SuitsView how n → HasDims n r → suits how r ≡ true
-suits_is (Restrict s) n r k d = eq-eqb s.dim r.dim (k ∙ sym d.0)
-suits_is (Translate by) n r k d = eq-eqb by.dim r.dim (k ∙ sym d.0)
-suits_is (Slice c j) n r k d = lt-ltb 1 r.dim (subst (λ m. 1 < m) (sym d.0) k)
-
 module _ (p : NumberedProgram) (elements : Elements) (h : History) (fits : HeapFits p elements h) (store : FieldsStorable p) (i : ℕ) where
   makes_not : (a : Action) (made : Value) → makes p h i a made ≡ Impossible → ⊥
   makes_not a made z = faults_not _ fault.HeapFull _ (answer_not _) z
@@ -231,8 +225,8 @@ module _ (p : NumberedProgram) (elements : Elements) (h : History) (fits : HeapF
   places_not : (r : ℕ) (o : Outcome) → IsPlaced (things_of elements h) r → (o ≡ Impossible → ⊥) → places r h o ≡ Impossible → ⊥
   places_not r o k n z = possible_not _ _ (place_is elements h r k) (faults_not _ fault.RegionGone _ n) z
 
-  point_not : (element : ValueType) (n : ℕ) (id : Id) (at : Point) (o : Outcome) → (k : IsGridOf (things_of elements h) element n id) → at.dim ≡ n → (o ≡ Impossible → ⊥) → at_point k.0 at o ≡ Impossible → ⊥
-  point_not element n id at o k d x z = possible_not _ _ (eq-eqb at.dim k.0.domain.dim (d ∙ sym k.2.0)) (faults_not _ fault.Bounds _ x) z
+  point_not : (element : ValueType) (n : ℕ) (id : Id) (at : Point) (o : Outcome) → (k : IsGridOf (things_of elements h) element n id) → IsPointOf n at → (o ≡ Impossible → ⊥) → at_point k.0 at o ≡ Impossible → ⊥
+  point_not element n id at o k d x z = possible_not _ _ (eq-eqb at.dim k.0.domain.dim (d.dim_is ∙ sym k.2.dim_is)) (faults_not _ fault.Bounds _ x) z
 
   pub is_possible : (a : Action) (wanted : Wanted) → is_of_heap a ≡ true → IsThere p (things_of elements h) a wanted → heap_answer p h i a ≡ Impossible → ⊥
   is_possible (act.GetField obj field) wanted t k z =
@@ -244,14 +238,14 @@ module _ (p : NumberedProgram) (elements : Elements) (h : History) (fits : HeapF
   is_possible (act.NewObj class region) wanted t k z =
       some_not (zeros_of_class p class) k.0 _ k.1 (places_not region _ k.2 (makes_not (act.NewObj class region) _)) z
   is_possible (act.NewGrid first domain region) wanted t k z =
-      possible_not _ _ (dim_is domain.dim (subst IsDim (sym k.4.0) k.5)) (places_not region _ k.6 (makes_not (act.NewGrid first domain region) _)) z
+      possible_not _ _ (dim_is domain.dim (subst IsDim (sym k.4.dim_is) k.5)) (places_not region _ k.6 (makes_not (act.NewGrid first domain region) _)) z
   is_possible (act.GetElem grid at) wanted t k z =
       let v = element_value p elements h fits store k.0 k.1 grid at k.2 in
       some_not (grid_of grid h) k.2.0 _ k.2.1 (point_not k.0 k.1 grid at _ k.2 k.3 (some_not (cell_value p (cell_of k.2.0 at) h) v.0 _ v.1 (answer_not _))) z
   is_possible (act.PutElem grid at value) wanted t k z =
       some_not (grid_of grid h) k.2.0 _ k.2.1 (point_not k.0 k.1 grid at _ k.2 k.3 (answer_not _)) z
   is_possible (act.MakeView grid how) wanted t k z =
-      some_not (grid_of grid h) k.2.0 _ k.2.1 (possible_not _ _ (suits_is how k.1 k.2.0.domain k.3 k.2.2) (views_not _ _ (makes_not (act.MakeView grid how) _))) z
+      some_not (grid_of grid h) k.2.0 _ k.2.1 (possible_not _ _ (suits_is how k.1 k.2.0.domain k.3 (rect_dims k.1 k.2.0.domain k.2.2)) (views_not _ _ (makes_not (act.MakeView grid how) _))) z
   is_possible (act.DomainOf grid) wanted t k z = some_not (grid_of grid h) k.2.0 _ k.2.1 (answer_not _) z
   is_possible (act.Print literal value) wanted t k z = absurd (true_false (sym t))
   is_possible (act.Arrive kind arg given) wanted t k z = absurd (true_false (sym t))
@@ -357,6 +351,10 @@ views_answer : (v : Option FaultKind) (o : Outcome) (r : Answer) → views v o �
 views_answer None o r z = z
 views_answer (Some kind) o r z = cc
 
+no_fault : (v : Option FaultKind) (o : Outcome) (r : Answer) → views v o ≡ Answers r → v ≡ None
+no_fault None o r z = refl
+no_fault (Some kind) o r z = cc
+
 some_answer : {A : Type 0} → (o : Option A) (a : A) (go : A → Outcome) (r : Answer) → o ≡ Some a → where_some o go ≡ Answers r → go a ≡ Answers r
 some_answer o a go r s z = sym (ap (λ x. where_some x go) s) ∙ z
 
@@ -373,21 +371,6 @@ element_wanted wanted = t.Null
 abbrev dims_wanted : Wanted → ℕ
 dims_wanted (NewThing (t.Grid element n is_local)) = n
 dims_wanted wanted = 0
-
-view_dims : (how : ViewHow) (n : ℕ) (r : Rect) → HasDims n r → HasDims (dims_viewed how n) (view_domain how r)
-view_dims (Restrict s) n r d = meet_dims n r s d
-view_dims (Translate by) n r d = moved (is_empty r)
-  where
-    moved : (b : Bool) → HasDims n (if b then r else of_ranges r.dim (shifted by.x1 (first_range r)) (shifted by.x2 (second_range r)) (shifted by.x3 (third_range r)))
-    moved true = d
-    moved false = subst (λ k. HasDims k (of_ranges r.dim (shifted by.x1 (first_range r)) (shifted by.x2 (second_range r)) (shifted by.x3 (third_range r)))) d.0 (ranges_dims r.dim (shifted by.x1 (first_range r)) (shifted by.x2 (second_range r)) (shifted by.x3 (third_range r)))
-view_dims (Slice c j) n r d = subst (λ k. HasDims (k - 1) (without (natural c) r)) d.0 (by (natural c == 1) (natural c == 2))
-  where
-    by : (a b : Bool) → HasDims (r.dim - 1)
-        (if a then of_ranges (r.dim - 1) (second_range r) (third_range r) unused else if b then of_ranges (r.dim - 1) (first_range r) (third_range r) unused else of_ranges (r.dim - 1) (first_range r) (second_range r) unused)
-    by true b = ranges_dims (r.dim - 1) (second_range r) (third_range r) unused
-    by false true = ranges_dims (r.dim - 1) (first_range r) (third_range r) unused
-    by false false = ranges_dims (r.dim - 1) (first_range r) (second_range r) unused
 
 module _ (p : NumberedProgram) (elements : Elements) (h : History) (answered : IsAnswered p h) (fits : HeapFits p elements h) (store : FieldsStorable p) (i : ℕ) (place : Place) where
   -- the entry of an action
@@ -410,16 +393,16 @@ module _ (p : NumberedProgram) (elements : Elements) (h : History) (answered : I
   object_fits : (class region : ℕ) (new : Id) → IsOf (things_of elements (entry (act.NewObj class region) (Val (v.Obj (Some new))) ∷ h)) (t.Class class true) (Plain (v.Obj (Some new)))
   object_fits class region new = (Some new, refl, λ id z. if_true (same_id id new) _ _ (subst (λ x. same_id id x ≡ true) (sym (some_same new id z)) (same_self id)))
 
-  view_fits : (grid : Id) (how : ViewHow) (new : Id) (element : ValueType) (n : ℕ) → IsGridOf (things_of elements h) element n grid
+  view_fits : (grid : Id) (how : ViewHow) (new : Id) (element : ValueType) (n : ℕ) → (k : IsGridOf (things_of elements h) element n grid) → SuitsView how n → view_fault how k.0.domain ≡ None
       → IsOf (things_of elements (entry (act.MakeView grid how) (Val (v.Grid (Some new))) ∷ h)) (t.Grid element (dims_viewed how n) true) (Plain (v.Grid (Some new)))
-  view_fits grid how new element n k = (
+  view_fits grid how new element n k s f = (
     Some new,
     refl,
     λ id z.
-        (view how k.0, if_true (same_id id new) _ _ (subst (λ x. same_id id x ≡ true) (sym (some_same new id z)) (same_self id)) ∙ ap (option_map (view how)) k.1, view_dims how n k.0.domain k.2, k.3, k.4),
+        (view how k.0, if_true (same_id id new) _ _ (subst (λ x. same_id id x ≡ true) (sym (some_same new id z)) (same_self id)) ∙ ap (option_map (view how)) k.1, view_form how n k.0.domain k.2 s f, k.3, k.4),
   )
 
-  grid_behind : (element : ValueType) (n : ℕ) (first : Zero) (domain : Rect) (region : ℕ) (new : Id) → first ≡ zero_of_type element → HasDims n domain → IsStorable element
+  grid_behind : (element : ValueType) (n : ℕ) (first : Zero) (domain : Rect) (region : ℕ) (new : Id) → first ≡ zero_of_type element → IsRectOf n domain → IsStorable element
       → heap_answer p h i (act.NewGrid first domain region) ≡ Answers (Val (v.Grid (Some new)))
       → Behind (act.NewGrid first domain region) (NewThing (t.Grid element n true)) (Val (v.Grid (Some new)))
   grid_behind element n first domain region new z d s said = (
@@ -502,7 +485,7 @@ module _ (p : NumberedProgram) (elements : Elements) (h : History) (answered : I
             let g = grid_same (things_of elements (entry (act.MakeView grid how) r ∷ h)) grid k.0 element k.1 n (grid_stays (things_of elements h) (things_of elements (entry (act.MakeView grid how) r ∷ h)) k.0 k.1 grid (grown_same (act.MakeView grid how) r said) k.2) x in
             subst (λ e. IsOf (things_of elements (entry (act.MakeView grid how) r ∷ h)) (t.Grid e (dims_viewed how n) true) (told r)) g.0
             (subst (λ m. IsOf (things_of elements (entry (act.MakeView grid how) r ∷ h)) (t.Grid k.0 (dims_viewed how m) true) (told r)) g.1
-            (subst (λ r. IsOf (things_of elements (entry (act.MakeView grid how) r ∷ h)) (t.Grid k.0 (dims_viewed how k.1) true) (told r)) (sym is) (view_fits grid how (view_id i grid h) k.0 k.1 k.2))),
+            (subst (λ r. IsOf (things_of elements (entry (act.MakeView grid how) r ∷ h)) (t.Grid k.0 (dims_viewed how k.1) true) (told r)) (sym is) (view_fits grid how (view_id i grid h) k.0 k.1 k.2 k.3 (no_fault (view_fault how k.2.0.domain) _ r (possible_answer _ _ r (some_answer (grid_of grid h) k.2.0 _ r k.2.1 said)))))),
       )
   behind (act.DomainOf grid) wanted r k said = (
     kept_same (act.DomainOf grid) wanted r k said,

@@ -1,5 +1,5 @@
 -- In every run all that is there is as the types say: each entry keeps it so.
-use Rattle.std.proofs.Common.{◌≡◌, ℕ, suc, ◌==◌, Bool, true, false, not, ◌&&◌, ◌||◌, ◌⊎◌, inl, inr, filter, map, Option, Some, None, List, [], ◌∷◌, ◌++◌, refl, ap, ap₂, sym, ◌∙◌, subst, arith, append-nil, eqb-true, eq-eqb}
+use Rattle.std.proofs.Common.{◌≡◌, ℕ, ◌<◌, ◌≤◌, ◌^◌, suc, ◌==◌, Bool, true, false, not, ◌&&◌, ◌||◌, ◌⊎◌, inl, inr, filter, map, Option, Some, None, List, [], ◌∷◌, ◌++◌, refl, ap, ap₂, sym, ◌∙◌, subst, arith, append-nil, eqb-true, eq-eqb}
 use Rattle.std.specs.Option.{option_map, option_and_then}
 use Rattle.ti_base.specs.declared.place.Place.{Place}
 use Rattle.ti_base.specs.declared.value.Value.{Value}
@@ -31,12 +31,13 @@ use Rattle.ti_lang.specs.Meaning.Runs.{World, CanTake, IsRun}
 use Rattle.ti_lang.specs.Meaning.Runs as run
 use Rattle.ti_lang.proofs.MeaningLaws.Steps.{after_same}
 use Rattle.ti_lang.proofs.MeaningLaws.Running.{taker, history_grows, run_answered}
-use Rattle.ti_align.specs.Alignment.{ArrivalsAgree}
+use Rattle.ti_align.specs.Alignment.{most_procs, ArrivalsAgree}
 use Rattle.ti_align.specs.Things.{Things, Grows, IsOf}
 use Rattle.ti_align.specs.Sound.{IsThere, FitsAsked}
 use Rattle.ti_align.specs.Work.{DepositFits, IsOfRound, WantsOf}
 use Rattle.ti_align.specs.Heap.{Elements, things_of, HeapFits, elements_behind, is_of_heap, KeepsTypes}
-use Rattle.ti_align.specs.Typed.{ProgramFits, ProcessFits, ActionFits, StepFits, given_by, GivesAt, GivesLast, hands_in, RunFits, RunTyped}
+use Rattle.ti_align.specs.Typed.{ProgramFits, ProcessFits, given_by, GivesAt, GivesLast, hands_in, RunFits, RunTyped}
+use Rattle.ti_align.proofs.Steps.{ActionFits, StepFits}
 use Rattle.ti_align.proofs.Vars.{true_false, and_left}
 use Rattle.ti_align.proofs.Ways.{Asked, asking, Meeting, Way, last_from}
 use Rattle.ti_align.proofs.Ways as way
@@ -54,12 +55,13 @@ use Rattle.ti_align.proofs.Aligning.{way_next}
 use Rattle.ti_align.proofs.Computing.{of_stays}
 use Rattle.ti_align.proofs.Heaping.{keeps_types}
 use Rattle.ti_align.proofs.Staying.{stays, other_round}
-use Rattle.ti_align.proofs.Kept.{Performs, begin_fits, step_fits, reaches_fits}
+use Rattle.ti_align.proofs.Kept.{Performs, Known, begin_fits, step_fits, known_here, reaches_fits}
 use Rattle.ti_align.proofs.Framed.{frame_fine}
+use Rattle.ti_align.proofs.Forms.{natural_fits}
 
 -- what is done next in a frame that fits
 performs : Performs
-performs pr f left w x fine vars this k = frame_fine pr f left w x vars this fine.fields fine.storable fine.methods k
+performs pr f left w x known vars this k = frame_fine pr f left w x known.1 vars this known.0.fields known.0.storable known.0.methods k
 
 -- ---- who waits
 
@@ -193,7 +195,17 @@ kind_here i h a kind x y = some_kind _ _ (sym y ∙ ap (option_map (λ (a : roun
     some_kind k l z = cc
 
 module _ (s : Setting)
-    (fits : ProgramFits s.program) (fine : FineMethods s.program s.program.methods) where
+    (fits : ProgramFits s.program) (fine : FineMethods s.program s.program.methods) (few : s.procs ≤ most_procs) where
+  -- what is known of a process of the run
+  known_of : (j : ℕ) → j < s.procs → Known (begin s j)
+  known_of j l = (fits, (natural_fits j (below j s.procs l few), natural_fits s.procs (small s.procs few)))
+    where
+      small : (n : ℕ) → n ≤ most_procs → n < 2 ^ 31
+      small n h = omega (arith, h)
+
+      below : (j n : ℕ) → j < n → n ≤ most_procs → j < 2 ^ 31
+      below j n l h = small j (omega (arith, l, h))
+
   module _ (es : List Entry) (e : Entry) (ran : IsRun s es) (agree : ArrivalsAgree s es) (t : CanTake s es e.proc e) (fit : RunFits s es) where
     abbrev h : History
     h = history_of es
@@ -222,7 +234,7 @@ module _ (s : Setting)
     q_fits : ProcessFits w (GivesLast s es i) q
     q_fits =
         let k = way_next s es i t.process t.process ran t.world here in
-        (reaches_fits performs w (GivesLast s es i) s i _ t.process q fits (given_facts.stands s i t.process k.0 k.1) t.is_next.1.reaches (fit.processes i t.process t.world)).0
+        (reaches_fits performs w (GivesLast s es i) s i _ t.process q (known_of i t.within) (given_facts.stands s i t.process k.0 k.1) t.is_next.1.reaches (fit.processes i t.process t.within t.world)).0
 
     -- where what the action names is there
     module _ (wanted : Wanted) (there : IsThere s.program w e.act wanted) where
@@ -242,10 +254,10 @@ module _ (s : Setting)
       asked_fits a z k = subst (λ b. FitsAsked s.program u b wanted e.answer) z (keeps.answered e.place e.answer (ap is_of_heap z ∙ k) said_now)
 
       -- a process that did nothing
-      other_fits : (j : ℕ) (p : Process) → ((e.proc == j) && is_answered e) ≡ false → is_own j e ≡ false → World s all j p → ProcessFits u (GivesLast s all j) p
-      other_fits j p k l x =
+      other_fits : (j : ℕ) (p : Process) → j < s.procs → ((e.proc == j) && is_answered e) ≡ false → is_own j e ≡ false → World s all j p → ProcessFits u (GivesLast s all j) p
+      other_fits j p b k l x =
           other_round u (GivesLast s es j) (GivesLast s all j) p (last_more s es e j l)
-          (stays w u (GivesLast s es j) p grown (fit.processes j p (subst (λ (rs : List Answer). After (begin s j) rs p) (answers_still es e j k) x)))
+          (stays w u (GivesLast s es j) p grown (fit.processes j p b (subst (λ (rs : List Answer). After (begin s j) rs p) (answers_still es e j k) x)))
 
       -- all of it
       holds : ((p : Process) → World s all i p → ProcessFits u (GivesLast s all i) p)
@@ -254,13 +266,13 @@ module _ (s : Setting)
       holds own_now deposit_now = record {
         elements = elements;
         heap = subst (HeapFits s.program elements) (sym (history_grows es e)) (keeps.kept e.place e.answer said_now);
-        processes = λ j p x. subst (λ h. ProcessFits (things_of elements h) (GivesLast s all j) p) (sym (history_grows es e)) (process_at j p x (e.proc == j) refl);
+        processes = λ j p b x. subst (λ h. ProcessFits (things_of elements h) (GivesLast s all j) p) (sym (history_grows es e)) (process_at j p b x (e.proc == j) refl);
         deposits = λ j k a value z l m. subst (λ h. (type : ValueType) × GivesAt s all j k type × IsOf (things_of elements h) type (Plain value)) (sym (history_grows es e)) (deposit_at j k a value l m (comes j (suc k) e h a (sym (ap (arrival_at j (suc k)) (history_grows es e)) ∙ z)));
       }
         where
-          process_at : (j : ℕ) (p : Process) → World s all j p → (b : Bool) → (e.proc == j) ≡ b → ProcessFits u (GivesLast s all j) p
-          process_at j p x true z = let same : e.proc ≡ j = eqb-true e.proc j z in subst (λ n. ProcessFits u (GivesLast s all n) p) same (own_now p (subst (λ n. World s all n p) (sym same) x))
-          process_at j p x false z = other_fits j p (ap (λ b. b && is_answered e) z) (ap (λ b. b && is_arrival e.act) z) x
+          process_at : (j : ℕ) (p : Process) → j < s.procs → World s all j p → (b : Bool) → (e.proc == j) ≡ b → ProcessFits u (GivesLast s all j) p
+          process_at j p l x true z = let same : e.proc ≡ j = eqb-true e.proc j z in subst (λ n. ProcessFits u (GivesLast s all n) p) same (own_now p (subst (λ n. World s all n p) (sym same) x))
+          process_at j p l x false z = other_fits j p l (ap (λ b. b && is_answered e) z) (ap (λ b. b && is_arrival e.act) z) x
 
           deposit_at : (j k : ℕ) (a : rounds.Arrival) (value : Value) → hands_in a.kind ≡ true → value_in a.deposit ≡ Some value → Comes j (suc k) e h a → (type : ValueType) × GivesAt s all j k type × IsOf u type (Plain value)
           deposit_at j k a value l m (before z) =
@@ -284,7 +296,7 @@ module _ (s : Setting)
     unanswered_holds k =
         let c = closing e.act k in
         let no_arrival : (j : ℕ) → is_own j e ≡ false = λ j. none (e.proc == j) c.1 in
-        holds ToBeDone c.0 (λ p x. other_fits ToBeDone c.0 i p (none (e.proc == i) k) (no_arrival i) x)
+        holds ToBeDone c.0 (λ p x. other_fits ToBeDone c.0 i p t.within (none (e.proc == i) k) (no_arrival i) x)
         (λ n a value o. absurd (true_false (sym o ∙ no_arrival i)))
       where
         none : (b : Bool) {x : Bool} → x ≡ false → (b && x) ≡ false
@@ -294,7 +306,7 @@ module _ (s : Setting)
     -- an answer
     module _ (is : is_answered e ≡ true) (asked : Asked) (go : Answer → Process) (stands : step q ≡ At (asking e.place e.act asked) go) where
       step_here : StepFits w (GivesLast s es i) (GivesLast s all i) q (At (asking e.place e.act asked) go)
-      step_here = subst (StepFits w (GivesLast s es i) (GivesLast s all i) q) stands (step_fits performs w (GivesLast s es i) (GivesLast s all i) s i (last_kind i h) q (subst (λ (x : Setting). ProgramFits x.program) (sym q_stands.0) fits) q_stands q_fits)
+      step_here = subst (StepFits w (GivesLast s es i) (GivesLast s all i) q) stands (step_fits performs w (GivesLast s es i) (GivesLast s all i) s i (last_kind i h) q (known_here performs s i (last_kind i h) q (known_of i t.within) q_stands) q_stands q_fits)
 
       there : IsThere s.program w e.act asked.1
       there = subst (λ (x : Setting). IsThere x.program w e.act asked.1) q_stands.0 step_here.0
@@ -405,7 +417,7 @@ module _ (s : Setting)
   begin_holds = record {
     elements = λ id. None;
     heap = record { cells = λ cell value z. absurd (none_written cell value z); blocks = λ block type z. absurd (no_type type z) };
-    processes = λ i p x. subst (ProcessFits (things_of (λ id. None) []) (GivesLast s [] i)) (after_same (begin s i) (begin s i) p [] none x) (begin_fits performs (things_of (λ id. None) []) (GivesLast s [] i) s i fits);
+    processes = λ i p b x. subst (ProcessFits (things_of (λ id. None) []) (GivesLast s [] i)) (after_same (begin s i) (begin s i) p [] none x) (begin_fits performs (things_of (λ id. None) []) (GivesLast s [] i) s i (known_of i b));
     deposits = λ i k a value z. absurd (no_arrival a z);
   }
     where
@@ -423,16 +435,16 @@ module _ (s : Setting)
 
   -- ---- what is named
 
-  next_there : (es : List Entry) → IsRun s es → (fit : RunFits s es) → (i : ℕ) (p : Process) (at : Place) (a : Action) → World s es i p → IsNext p (next.Act at a) → (wanted : Wanted) × IsThere s.program (things_of fit.elements (history_of es)) a wanted
-  next_there es r fit i p at a x n =
+  next_there : (es : List Entry) → IsRun s es → (fit : RunFits s es) → (i : ℕ) (p : Process) (at : Place) (a : Action) → i < s.procs → World s es i p → IsNext p (next.Act at a) → (wanted : Wanted) × IsThere s.program (things_of fit.elements (history_of es)) a wanted
+  next_there es r fit i p at a b x n =
       let q = n.0 in
       let w = things_of fit.elements (history_of es) in
       let k = way_next s es i p p r x here in
       let stand = given_facts.stands s i p k.0 k.1 in
-      let reached = reaches_fits performs w (GivesLast s es i) s i _ p q fits stand n.1.reaches (fit.processes i p x) in
+      let reached = reaches_fits performs w (GivesLast s es i) s i _ p q (known_of i b) stand n.1.reaches (fit.processes i p b x) in
       let acts = at_action (step q) at a n.1.stands in
       let same = reached.1.0 in
-      let step_here = subst (StepFits w (GivesLast s es i) (GivesLast s es i) q) acts.2 (step_fits performs w (GivesLast s es i) (GivesLast s es i) s i _ q (subst (λ (y : Setting). ProgramFits y.program) (sym same) fits) reached.1 reached.0) in
+      let step_here = subst (StepFits w (GivesLast s es i) (GivesLast s es i) q) acts.2 (step_fits performs w (GivesLast s es i) (GivesLast s es i) s i _ q (known_here performs s i _ q (known_of i b) reached.1) reached.1 reached.0) in
       (acts.0.1, subst (λ (y : Setting). IsThere y.program w a acts.0.1) same step_here.0)
 
   pub run_typed : ((es : List Entry) → IsRun s es → ArrivalsAgree s es) → (es : List Entry) → IsRun s es → RunTyped s es
@@ -440,7 +452,7 @@ module _ (s : Setting)
 
   -- so the heap answers it
   pub things_there : ((es : List Entry) → IsRun s es → ArrivalsAgree s es) → (es : List Entry) → IsRun s es → ThingsThere s es
-  things_there agree es r i p at a x n of o =
+  things_there agree es r i p at a b x n of o =
       let typed = run_typed agree es r in
-      let named = typed.there i p at a x n in
+      let named = typed.there i p at a b x n in
       (keeps_types s.program typed.fits.elements (history_of es) i a named.0 fits.storable (run_answered s es r) typed.fits.heap named.1).possible of o

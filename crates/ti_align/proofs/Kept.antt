@@ -1,5 +1,5 @@
 -- Steps keep to the types: a process that fits has a step that does.
-use Rattle.std.proofs.Common.{◌≡◌, ◌⊎◌, ℕ, zero, suc, ◌+◌, nat_lt, length, slice_get, Bool, true, false, inl, inr, if◌then◌else◌, Option, Some, None, List, [], ◌∷◌, ◌++◌, refl, ap, sym, ◌∙◌, subst, append_assoc, append-nil}
+use Rattle.std.proofs.Common.{w32, ◌≡◌, ◌⊎◌, ℕ, pos, zero, suc, ◌+◌, nat_lt, length, slice_get, Bool, true, false, inl, inr, if◌then◌else◌, Option, Some, None, List, [], ◌∷◌, ◌++◌, refl, ap, sym, ◌∙◌, subst, append_assoc, append-nil}
 use Rattle.std.specs.Option.{option_map_or}
 use Rattle.ti_base.specs.declared.place.Place.{Place}
 use Rattle.ti_base.specs.declared.fault.FaultKind.TheVariants.{Depth, Fuel}
@@ -9,6 +9,7 @@ use Rattle.ti_base.specs.declared.action.CollKind.{CollKind}
 use Rattle.ti_base.specs.declared.action.Deposit.{Deposit}
 use Rattle.ti_base.specs.declared.action.Deposit.TheVariants as deposit
 use Rattle.ti_base.specs.declared.entry.Answer.{Answer}
+use Rattle.ti_base.specs.WholeNumbers.{Fits}
 use Rattle.ti_lang.specs.Program.Types.{ValueType}
 use Rattle.ti_lang.specs.Program.Types as t
 use Rattle.ti_lang.specs.Program.Statements.{numbered_stms}
@@ -27,8 +28,9 @@ use Rattle.ti_lang.specs.Meaning.NextStep.{Reaches, here, later}
 use Rattle.ti_align.specs.Things.{Things, Grows, IsOf}
 use Rattle.ti_align.specs.Sound.{FitsAsked, Sound}
 use Rattle.ti_align.specs.Sound as sound
-use Rattle.ti_align.specs.Work.{VariablesFit, scope_over, ReceiverFits, MethodFits, MethodsFit, ThisFits, DepositFits, given_type, taken_type, TakesOf, taken_behind, IsOfRound, WantsOf, WorksFit, IsAwaited, MoveFits}
-use Rattle.ti_align.specs.Typed.{ProgramFits, HandsOn, FramesFit, given_first, given_in, given_by, WorkSound, TakesFirst, WaitFits, NextFits, ProcessFits, ActionFits, StepFits}
+use Rattle.ti_align.specs.Work.{VariablesFit, scope_over, ReceiverFits, MethodFits, MethodsFit, ThisFits, HasNumber, DepositFits, given_type, taken_type, TakesOf, taken_behind, IsOfRound, WantsOf, WorksFit, IsAwaited, MoveFits}
+use Rattle.ti_align.specs.Typed.{ProgramFits, HandsOn, FramesFit, given_first, given_in, given_by, WorkSound, TakesFirst, WaitFits, NextFits, ProcessFits}
+use Rattle.ti_align.proofs.Steps.{ActionFits, StepFits}
 use Rattle.ti_align.proofs.Computing.{same_sound}
 use Rattle.ti_align.proofs.Operating.{none_some, some_same}
 use Rattle.ti_align.proofs.Asks.{Of}
@@ -41,10 +43,14 @@ abbrev pub FitsFrame : NumberedProgram → Frame → List Work → Work → Thin
 FitsFrame p f left x u move =
     MoveFits p f.method (given_type p (scope_over p (method_scope f.method) left) x) (taken_type x) (scope_over p (method_scope f.method) left) u move
 
+-- what is known of a process: its program fits, and its number has 32 bits
+abbrev pub Known : Process → Type 0
+Known pr = ProgramFits pr.setting.program × HasNumber pr
+
 -- all work is performed so that it fits, in frames that do
 abbrev pub Performs : Type 0
 Performs =
-    (pr : Process) (f : Frame) (left : List Work) (w : Things) (x : Work) → ProgramFits pr.setting.program → VariablesFit w f.variables → ThisFits w f.method f.this
+    (pr : Process) (f : Frame) (left : List Work) (w : Things) (x : Work) → Known pr → VariablesFit w f.variables → ThisFits w f.method f.this
     → WorksFit pr.setting.program f.method (method_scope f.method) w (x ∷ left) → Sound pr.setting.program (λ u move. FitsFrame pr.setting.program f left x u move) w (performed (env_of pr f left) x)
 
 -- ---- frames
@@ -77,18 +83,18 @@ handed_fits p w r type (Some h) (g ∷ fs) k i o =
 
 module _ (performs : Performs) where
   -- a piece of work without an answer yet
-  work_begun : (w : Things) (pr : Process) (f : Frame) (xs : List Work) → ProgramFits pr.setting.program → pr.answers ≡ [] → VariablesFit w f.variables → ThisFits w f.method f.this
+  work_begun : (w : Things) (pr : Process) (f : Frame) (xs : List Work) → Known pr → pr.answers ≡ [] → VariablesFit w f.variables → ThisFits w f.method f.this
       → WorksFit pr.setting.program f.method (method_scope f.method) w xs → WorkSound w pr f xs
   work_begun w pr f [] fine z v this k = tt
   work_begun w pr f (x ∷ left) fine z v this k =
       subst (λ got. Sound pr.setting.program (λ u move. FitsFrame pr.setting.program f left x u move) w (λ rest. performed (env_of pr f left) x (got ++ rest))) (sym z) (performs pr f left w x fine v this k)
 
-  next_begun : (w : Things) (G : ValueType → Type 0) (pr : Process) (fs : List Frame) → ProgramFits pr.setting.program → pr.answers ≡ [] → FramesFit pr.setting.program w fs → FirstOf G fs → NextFits w G pr None fs
+  next_begun : (w : Things) (G : ValueType → Type 0) (pr : Process) (fs : List Frame) → Known pr → pr.answers ≡ [] → FramesFit pr.setting.program w fs → FirstOf G fs → NextFits w G pr None fs
   next_begun w G pr [] fine z k i = tt
   next_begun w G pr (f ∷ fs) fine z k i = (work_begun w pr f f.left fine z k.0.0 k.0.1 k.0.2, i)
 
   -- a process that has spent so many ticks, and goes on in these frames
-  between : (w : Things) (G : ValueType → Type 0) (pr : Process) (n : ℕ) (fs : List Frame) → ProgramFits pr.setting.program → FramesFit pr.setting.program w fs → FirstOf G fs
+  between : (w : Things) (G : ValueType → Type 0) (pr : Process) (n : ℕ) (fs : List Frame) → Known pr → FramesFit pr.setting.program w fs → FirstOf G fs
       → ProcessFits w G (record pr { spent = n; frames = fs; wait = None; answers = [] })
   between w G pr n fs fine k i = (k, next_begun w G (record pr { spent = n; frames = fs; wait = None; answers = [] }) fs fine refl k i)
 
@@ -99,8 +105,8 @@ module _ (performs : Performs) where
   method_at p (x ∷ xs) zero m f z = subst (MethodFits p) (some_same x m z) f.0
   method_at p (x ∷ xs) (suc k) m f z = method_at p xs k m f.1 z
 
-  pub begin_fits : (w : Things) (G : ValueType → Type 0) (s : Setting) (i : ℕ) → ProgramFits s.program → ProcessFits w G (begin s i)
-  begin_fits w G s i fine = by (slice_get s.program.methods s.program.main) (λ m z. method_at s.program s.program.methods s.program.main m fine.methods z)
+  pub begin_fits : (w : Things) (G : ValueType → Type 0) (s : Setting) (i : ℕ) → Known (begin s i) → ProcessFits w G (begin s i)
+  begin_fits w G s i fine = by (slice_get s.program.methods s.program.main) (λ m z. method_at s.program s.program.methods s.program.main m fine.0.methods z)
     where
       by : (o : Option NumberedMethod) → ((m : NumberedMethod) → o ≡ Some m → MethodFits s.program m)
           → ProcessFits w G (record { setting = s; number = i; spent = 0; frames = option_map_or (λ (main : NumberedMethod). frame_of main None [] Nowhere ∷ []) o []; wait = None; answers = [] })
@@ -112,7 +118,7 @@ module _ (performs : Performs) where
 
   -- what is known of a frame whose first piece of work is done: it and the frames below it fit, where this work is left
   record Top (w : Things) (pr : Process) (f : Frame) (fs : List Frame) (left : List Work) : Type 0 where
-    program : ProgramFits pr.setting.program
+    program : Known pr
     variables : VariablesFit w f.variables
     this : ThisFits w f.method f.this
     works : WorksFit pr.setting.program f.method (method_scope f.method) w left
@@ -237,7 +243,7 @@ module _ (performs : Performs) where
 
   -- ---- steps
 
-  module _ (w : Things) (G H : ValueType → Type 0) (pr : Process) (last : Option CollKind) (n : ℕ) (fine : ProgramFits pr.setting.program) where
+  module _ (w : Things) (G H : ValueType → Type 0) (pr : Process) (last : Option CollKind) (n : ℕ) (fine : Known pr) where
     works_fit : (f : Frame) (fs : List Frame) (xs : List Work) → pr.wait ≡ None → pr.frames ≡ f ∷ fs → f.left ≡ xs → LeftFine n last xs → AllFree fs → FramesFit pr.setting.program w pr.frames
         → FramesFit pr.setting.program w (f ∷ fs) → WorksFit pr.setting.program f.method (method_scope f.method) w xs → WorkSound w pr f xs → TakesFirst G xs → StepFits w G H pr (works pr f fs xs)
     works_fit f fs [] z y e free others all k l sure i =
@@ -287,14 +293,21 @@ module _ (performs : Performs) where
     steps_fit (Some wait) z free k i = departs_fit wait pr.frames z refl k i.0
 
   -- a process that fits has a step that does, wherever takes stand first alone
-  pub step_fits : (w : Things) (G H : ValueType → Type 0) (s : Setting) (i : ℕ) (last : Option CollKind) (pr : Process) → ProgramFits pr.setting.program → Stands s i last pr
+  pub step_fits : (w : Things) (G H : ValueType → Type 0) (s : Setting) (i : ℕ) (last : Option CollKind) (pr : Process) → Known pr → Stands s i last pr
       → ProcessFits w G pr → StepFits w G H pr (step pr)
   step_fits w G H s i last pr fine stands k = steps_fit w G H pr last s.procs fine pr.wait refl stands.2 k.0 k.1
 
+  -- what is known of all processes of this number is known of one
+  pub known_here : (s : Setting) (i : ℕ) (last : Option CollKind) (pr : Process) → Known (begin s i) → Stands s i last pr → Known pr
+  known_here s i last pr k stands = (
+    subst (λ (k : Setting). ProgramFits k.program) (sym stands.0) k.0,
+    (subst (λ n. Fits w32 (pos n)) (sym stands.1) k.1.0, subst (λ (k : Setting). Fits w32 (pos k.procs)) (sym stands.0) k.1.1),
+  )
+
   -- silent steps lead from it to others that fit
-  pub reaches_fits : (w : Things) (G : ValueType → Type 0) (s : Setting) (i : ℕ) (last : Option CollKind) (pr q : Process) → ProgramFits s.program → Stands s i last pr → Reaches pr q
+  pub reaches_fits : (w : Things) (G : ValueType → Type 0) (s : Setting) (i : ℕ) (last : Option CollKind) (pr q : Process) → Known (begin s i) → Stands s i last pr → Reaches pr q
       → ProcessFits w G pr → ProcessFits w G q × Stands s i last q
   reaches_fits w G s i last pr q fine stands here k = (k, stands)
   reaches_fits w G s i last pr r fine stands (later {q = q} e rest) k =
-      let after = subst (StepFits w G G pr) e (step_fits w G G s i last pr (subst (λ (k : Setting). ProgramFits k.program) (sym stands.0) fine) stands k) in
+      let after = subst (StepFits w G G pr) e (step_fits w G G s i last pr (known_here s i last pr fine stands) stands k) in
       reaches_fits w G s i last q r fine (step_fine s i last pr (To q) stands e) rest after

@@ -31,9 +31,11 @@ pub mod Stated
 pub mod Framed
 pub mod Staying
 pub mod Pending
+pub mod Steps
 pub mod Kept
 pub mod Meant
 pub mod Forming
+pub mod Forms
 pub mod Written
 pub mod Stating
 pub mod Spelled

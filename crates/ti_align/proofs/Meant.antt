@@ -1,8 +1,10 @@
 -- What the text of a program says of its expressions and statements, beside the rules: what names mean, and the dimensions of literals and types.
-use Rattle.std.proofs.Common.{◌≡◌, ℕ, ◌==◌, Bool, true, false, not, ◌&&◌, List, [], ◌∷◌, Option, Some, None, is_some, is_none, option_and_then, slice_get}
+use Rattle.std.proofs.Common.{w32, w64, ◌≡◌, ℕ, ◌==◌, Bool, true, false, not, ◌&&◌, List, [], ◌∷◌, Option, Some, None, is_some, is_none, option_and_then, slice_get}
 use Rattle.std.specs.List.{list_any}
 use Rattle.std.specs.Option.{option_map_or}
 use Rattle.std.proofs.Math.Bool.{Bool-set}
+use Rattle.std.proofs.Math.Dec.{T_prop}
+use Rattle.ti_base.specs.WholeNumbers.{Fits}
 use Rattle.ti_lang.specs.Program.Types.{ValueType, Declaration}
 use Rattle.ti_lang.specs.Program.Types as t
 use Rattle.ti_lang.specs.Program.Expressions.{NumberedExp, NumberedExps, NumberedRange, NumberedRanges, numbered_ranges}
@@ -67,8 +69,10 @@ is_place x = false
 
 module _ (p : NumberedProgram) (m : NumberedMethod) where
   abbrev mutual
-    -- within these foreach loops of the method
+    -- within these foreach loops of the method; numbers are within their ranges
     pub ExpMeant : List ℕ → NumberedExp → Type 0
+    ExpMeant turns (e.Int at n) = Fits w32 n
+    ExpMeant turns (e.Long at n) = Fits w64 n
     ExpMeant turns (e.This at) = is_some (this_of m) ≡ true
     ExpMeant turns (e.Variable at v) = means m turns v.number v.declared ≡ true
     ExpMeant turns (e.OwnField at field) = is_some (option_and_then (λ c. field_type p c field) (this_of m)) ≡ true
@@ -111,7 +115,7 @@ module _ (p : NumberedProgram) (m : NumberedMethod) where
   InitMeant turns (st.Value x) = ExpMeant turns x
   InitMeant turns (st.NewRegion at) = Unit {0}
   InitMeant turns (st.NewObject at region class) = OptionMeant turns region × (is_some (slice_get p.classes class) ≡ true)
-  InitMeant turns (st.NewGrid at region element dims_at dims) = OptionMeant turns region × (storable element.type ≡ true) × DimsMeant turns dims
+  InitMeant turns (st.NewGrid at region element dims_at dims) = OptionMeant turns region × ((storable element.type && formed element.type) ≡ true) × DimsMeant turns dims
   InitMeant turns (st.Broadcast at x root) = ExpMeant turns x × ExpMeant turns root
 
   abbrev pub PrintMeant : List ℕ → NumberedPrint → Type 0
@@ -163,8 +167,8 @@ FieldsMeant p = (class field : ℕ) (type : ValueType) → field_type p class fi
 module _ (p : NumberedProgram) (m : NumberedMethod) where
   mutual
     exp_prop : (turns : List ℕ) (x : NumberedExp) → IsProp (ExpMeant p m turns x)
-    exp_prop turns (e.Int at n) = hlevel
-    exp_prop turns (e.Long at n) = hlevel
+    exp_prop turns (e.Int at n) = hlevel T_prop
+    exp_prop turns (e.Long at n) = hlevel T_prop
     exp_prop turns (e.Truth at b) = hlevel
     exp_prop turns (e.Null at) = hlevel
     exp_prop turns (e.This at) = Bool-set _ _

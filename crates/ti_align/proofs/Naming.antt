@@ -30,6 +30,7 @@ use Rattle.ti_lang.specs.Typing.TextTypes.{how_many}
 use Rattle.ti_lang.specs.Numbering as number
 use Rattle.ti_lang.specs.Numbering.{IsKnownBase, NumbersType, NumbersExp, NumbersExps, NumbersRange, NumbersRanges, NumbersMaybe, NumbersDims, NumbersInit, NumbersPrint, NumbersStm, NumbersMaybeStm, NumbersStms, NumbersFields, NumbersClasses, NumbersParamList, NumbersParams, NumbersMethod, NumbersMethods, Numbers, IsNumbered}
 use Rattle.ti_lang.specs.Meaning.HeapAnswers.{is_dim}
+use Rattle.ti_align.specs.Literals.{InExp, InExps, InRange, InRanges, InOption, InDims, InInit, InPrint}
 use Rattle.ti_align.specs.Work.{is_form_of_call}
 use Rattle.ti_align.proofs.Vars.{true_false, not_true, and_left, and_right}
 use Rattle.ti_align.proofs.Operating.{none_some, some_same}
@@ -330,66 +331,66 @@ module _ (p : NumberedProgram) (m : NumberedMethod) (turns : List ℕ) (site : S
       not_it false h = refl
 
   mutual
-    pub exp_meant : (x : Exp) (y : NumberedExp) → NumbersExp site x y → ExpFine x → ExpMeant p m turns y
-    exp_meant x y number.int f = tt
-    exp_meant x y number.long f = tt
-    exp_meant x y number.truth f = tt
-    exp_meant x y number.null f = tt
-    exp_meant x y (number.this h) f = ap is_some (k.this h)
-    exp_meant x y (number.variable {name = name} {v = v} h) f = looked m turns (bytes_eq name) site.scope v k.scope h
-    exp_meant x y (number.own_field {name = name} {field = field} h i) f = own_field_there name field i
-    exp_meant x y (number.call {name = name} {method = method} h z xs) f =
+    pub exp_meant : (x : Exp) (y : NumberedExp) → NumbersExp site x y → ExpFine x → InExp y → ExpMeant p m turns y
+    exp_meant x y number.int f l = l
+    exp_meant x y number.long f l = l
+    exp_meant x y number.truth f l = tt
+    exp_meant x y number.null f l = tt
+    exp_meant x y (number.this h) f l = ap is_some (k.this h)
+    exp_meant x y (number.variable {name = name} {v = v} h) f l = looked m turns (bytes_eq name) site.scope v k.scope h
+    exp_meant x y (number.own_field {name = name} {field = field} h i) f l = own_field_there name field i
+    exp_meant x y (number.call {name = name} {method = method} h z xs) f l =
         let q = only_if_there (λ j. members.is_static_method site.text j || not site.static) (method_named site.text site.class name) method h in
         let c = method_there site.class name method q.0 in
-        (ap is_some c.3, exps_meant _ _ xs f)
-    exp_meant x y (number.own_call {name = name} {method = method} h z xs) f = (own_call_serves name method h z, exps_meant _ _ xs f)
-    exp_meant x y number.this_proc f = tt
-    exp_meant x y number.num_procs f = tt
-    exp_meant x y (number.point {xs = xs} {ys = ys} h) f = (subst (λ n. is_dim n ≡ true) (sym (count_exps site xs ys h)) f.0, exps_meant xs ys h f.1)
-    exp_meant x y (number.rect {rs = rs} {qs = qs} h) f = (subst (λ n. is_dim n ≡ true) (sym (count_ranges site rs qs h)) f.0, ranges_meant rs qs h f.1)
-    exp_meant x y (number.unary h) f = exp_meant _ _ h f
-    exp_meant x y (number.binary h i) f = (exp_meant _ _ h f.0, exp_meant _ _ i f.1)
-    exp_meant x y (number.cast {to = to} (number.known b) h) f = ((field_value site.text to b f.0).0, exp_meant _ _ h f.1)
-    exp_meant x y (number.select h i) f = exp_meant _ _ i f
-    exp_meant x y (number.member h i xs) f = (exp_meant _ _ i f.0, exps_meant _ _ xs f.1)
-    exp_meant x y (number.class_call {name = name} {class = class} {method = method} h i xs) f =
+        (ap is_some c.3, exps_meant _ _ xs f l)
+    exp_meant x y (number.own_call {name = name} {method = method} h z xs) f l = (own_call_serves name method h z, exps_meant _ _ xs f l)
+    exp_meant x y number.this_proc f l = tt
+    exp_meant x y number.num_procs f l = tt
+    exp_meant x y (number.point {xs = xs} {ys = ys} h) f l = (subst (λ n. is_dim n ≡ true) (sym (count_exps site xs ys h)) f.0, exps_meant xs ys h f.1 l)
+    exp_meant x y (number.rect {rs = rs} {qs = qs} h) f l = (subst (λ n. is_dim n ≡ true) (sym (count_ranges site rs qs h)) f.0, ranges_meant rs qs h f.1 l)
+    exp_meant x y (number.unary h) f l = exp_meant _ _ h f l
+    exp_meant x y (number.binary h i) f l = (exp_meant _ _ h f.0 l.0, exp_meant _ _ i f.1 l.1)
+    exp_meant x y (number.cast {to = to} (number.known b) h) f l = ((field_value site.text to b f.0).0, exp_meant _ _ h f.1 l)
+    exp_meant x y (number.select h i) f l = exp_meant _ _ i f l
+    exp_meant x y (number.member h i xs) f l = (exp_meant _ _ i f.0 l.0, exps_meant _ _ xs f.1 l.1)
+    exp_meant x y (number.class_call {name = name} {class = class} {method = method} h i xs) f l =
         let q = only_if_there (members.is_static_method site.text) (method_named site.text class name) method i in
         let c = method_there class name method q.0 in
-        (ap is_some c.3, exps_meant _ _ xs f.1)
-    exp_meant x y (number.index h xs) f = (exp_meant _ _ h f.0, exps_meant _ _ xs f.1)
+        (ap is_some c.3, exps_meant _ _ xs f.1 l)
+    exp_meant x y (number.index h xs) f l = (exp_meant _ _ h f.0 l.0, exps_meant _ _ xs f.1 l.1)
 
-    exps_meant : (xs : Exps) (ys : NumberedExps) → NumbersExps site xs ys → ExpsFine xs → ExpsMeant p m turns ys
-    exps_meant xs ys number.no_exps f = tt
-    exps_meant xs ys (number.more_exps h rest) f = (exp_meant _ _ h f.0, exps_meant _ _ rest f.1)
+    exps_meant : (xs : Exps) (ys : NumberedExps) → NumbersExps site xs ys → ExpsFine xs → InExps ys → ExpsMeant p m turns ys
+    exps_meant xs ys number.no_exps f l = tt
+    exps_meant xs ys (number.more_exps h rest) f l = (exp_meant _ _ h f.0 l.0, exps_meant _ _ rest f.1 l.1)
 
-    range_meant : (r : RangeTree) (q : NumberedRange) → NumbersRange site r q → RangeFine r → RangeMeant p m turns q
-    range_meant r q (number.plain h i) f = (exp_meant _ _ h f.0, exp_meant _ _ i f.1)
-    range_meant r q (number.stepped h i j) f = (exp_meant _ _ h f.0, exp_meant _ _ i f.1, exp_meant _ _ j f.2)
+    range_meant : (r : RangeTree) (q : NumberedRange) → NumbersRange site r q → RangeFine r → InRange q → RangeMeant p m turns q
+    range_meant r q (number.plain h i) f l = (exp_meant _ _ h f.0 l.0, exp_meant _ _ i f.1 l.1)
+    range_meant r q (number.stepped h i j) f l = (exp_meant _ _ h f.0 l.0, exp_meant _ _ i f.1 l.1, exp_meant _ _ j f.2 l.2)
 
-    ranges_meant : (rs : RangeTrees) (qs : NumberedRanges) → NumbersRanges site rs qs → RangesFine rs → RangesMeant p m turns qs
-    ranges_meant rs qs number.no_ranges f = tt
-    ranges_meant rs qs (number.more_ranges h rest) f = (range_meant _ _ h f.0, ranges_meant _ _ rest f.1)
+    ranges_meant : (rs : RangeTrees) (qs : NumberedRanges) → NumbersRanges site rs qs → RangesFine rs → InRanges qs → RangesMeant p m turns qs
+    ranges_meant rs qs number.no_ranges f l = tt
+    ranges_meant rs qs (number.more_ranges h rest) f l = (range_meant _ _ h f.0 l.0, ranges_meant _ _ rest f.1 l.1)
 
-  pub option_meant : (x : Option Exp) (y : Option NumberedExp) → NumbersMaybe site x y → OptionFine x → OptionMeant p m turns y
-  option_meant x y number.none f = tt
-  option_meant x y (number.some h) f = exp_meant _ _ h f
+  pub option_meant : (x : Option Exp) (y : Option NumberedExp) → NumbersMaybe site x y → OptionFine x → InOption y → OptionMeant p m turns y
+  option_meant x y number.none f l = tt
+  option_meant x y (number.some h) f l = exp_meant _ _ h f l
 
-  dims_meant : (x : DimsTree) (y : NumberedDims) → NumbersDims site x y → fine.DimsFine x → DimsMeant p m turns y
-  dims_meant x y (number.domain h) f = exp_meant _ _ h f
-  dims_meant x y (number.ranges {rs = rs} {qs = qs} h) f = (subst (λ n. is_dim n ≡ true) (sym (count_ranges site (ranges_tree rs) (numbered_ranges qs) h)) f.0, ranges_meant (ranges_tree rs) (numbered_ranges qs) h f.1)
+  dims_meant : (x : DimsTree) (y : NumberedDims) → NumbersDims site x y → fine.DimsFine x → InDims y → DimsMeant p m turns y
+  dims_meant x y (number.domain h) f l = exp_meant _ _ h f l
+  dims_meant x y (number.ranges {rs = rs} {qs = qs} h) f l = (subst (λ n. is_dim n ≡ true) (sym (count_ranges site (ranges_tree rs) (numbered_ranges qs) h)) f.0, ranges_meant (ranges_tree rs) (numbered_ranges qs) h f.1 l)
 
-  pub init_meant : (x : InitTree) (y : NumberedInit) → NumbersInit site x y → InitFine x → InitMeant p m turns y
-  init_meant x y (number.value h) f = exp_meant _ _ h f
-  init_meant x y number.new_region f = tt
-  init_meant x y (number.new_object {name = name} {class = class} h i) f = (option_meant _ _ h f, k.text.classes name class i)
-  init_meant x y (number.new_grid {element = element} h (number.known b) d) f = (option_meant _ _ h f.0, (field_value site.text element b f.1).1, dims_meant _ _ d f.2)
-  init_meant x y (number.broadcast h i) f = (exp_meant _ _ h f.0, exp_meant _ _ i f.1)
+  pub init_meant : (x : InitTree) (y : NumberedInit) → NumbersInit site x y → InitFine x → InInit y → InitMeant p m turns y
+  init_meant x y (number.value h) f l = exp_meant _ _ h f l
+  init_meant x y number.new_region f l = tt
+  init_meant x y (number.new_object {name = name} {class = class} h i) f l = (option_meant _ _ h f l, k.text.classes name class i)
+  init_meant x y (number.new_grid {element = element} h (number.known b) d) f l = (option_meant _ _ h f.0 l.0, (let q = field_value site.text element b f.1 in ap₂ (λ a c. a && c) q.1 q.0), dims_meant _ _ d f.2 l.1)
+  init_meant x y (number.broadcast h i) f l = (exp_meant _ _ h f.0 l.0, exp_meant _ _ i f.1 l.1)
 
-  pub print_meant : (x : PrintTree) (y : NumberedPrint) → NumbersPrint site x y → PrintFine x → PrintMeant p m turns y
-  print_meant x y number.nothing f = tt
-  print_meant x y number.text f = tt
-  print_meant x y (number.expression h) f = exp_meant _ _ h f
-  print_meant x y (number.text_and_expression h) f = exp_meant _ _ h f
+  pub print_meant : (x : PrintTree) (y : NumberedPrint) → NumbersPrint site x y → PrintFine x → InPrint y → PrintMeant p m turns y
+  print_meant x y number.nothing f l = tt
+  print_meant x y number.text f l = tt
+  print_meant x y (number.expression h) f l = exp_meant _ _ h f l
+  print_meant x y (number.text_and_expression h) f l = exp_meant _ _ h f l
 
   -- targets and calls
   place_meant : (x : Exp) (y : NumberedExp) → NumbersExp site x y → is_target_tree x ≡ true → is_place y ≡ true
@@ -399,8 +400,8 @@ module _ (p : NumberedProgram) (m : NumberedMethod) (turns : List ℕ) (site : S
   place_meant x y (number.index h xs) f = refl
   place_meant x y _ f = absurd (true_false (sym f))
 
-  pub target_meant : (x : Exp) (y : NumberedExp) → NumbersExp site x y → TargetFine x → TargetMeant p m turns y
-  target_meant x y h f = (exp_meant x y h f.0, place_meant x y h f.1)
+  pub target_meant : (x : Exp) (y : NumberedExp) → NumbersExp site x y → TargetFine x → InExp y → TargetMeant p m turns y
+  target_meant x y h f l = (exp_meant x y h f.0 l, place_meant x y h f.1)
 
   pub call_meant : (x : Exp) (y : NumberedExp) → NumbersExp site x y → is_call_tree x ≡ true → is_form_of_call y ≡ true
   call_meant x y (number.call h z xs) f = refl

@@ -13,6 +13,7 @@ use Rattle.ti_lang.specs.Scopes.{Site, declares, typed_as, past, past_maybe, beh
 use Rattle.ti_lang.specs.Typing.Declared.{fields_of_class, field_type, is_static_method}
 use Rattle.ti_lang.specs.Numbering as number
 use Rattle.ti_lang.specs.Numbering.{NumbersType, NumbersStm, NumbersMaybeStm, NumbersStms, NumbersFields, NumbersClasses, NumbersParamList, NumbersParams, NumbersMethod, NumbersMethods, Numbers, IsNumbered}
+use Rattle.ti_align.specs.Literals.{InStm, InMaybe, InStms, InMethods, LiteralsFit}
 use Rattle.ti_align.proofs.Operating.{none_some, some_same}
 use Rattle.ti_align.proofs.Evaluating.{mapped}
 use Rattle.ti_align.proofs.Meant.{storable, formed, StmMeant, MaybeMeant, StmsMeant, MethodsMeant, FieldsMeant}
@@ -23,45 +24,45 @@ use Rattle.ti_align.proofs.Naming.{position_there, other_number, field_value, ty
 
 module _ (p : NumberedProgram) (m : NumberedMethod) where
   mutual
-    stm_meant : (turns : List ℕ) (site : Site) → SiteFits p m turns site → (x : Stm) (y : NumberedStm) → NumbersStm site x y → StmFine x → StmMeant p m turns y
-    stm_meant turns site k x y number.empty f = tt
-    stm_meant turns site k x y (number.declare b fresh room v) f = init_meant p m turns site k.known _ _ v f.1
-    stm_meant turns site k x y (number.assign h v) f = (target_meant p m turns site k.known _ _ h f.0, init_meant p m turns site k.known _ _ v f.1)
-    stm_meant turns site k x y (number.update h i) f = (target_meant p m turns site k.known _ _ h f.0, exp_meant p m turns site k.known _ _ i f.1)
-    stm_meant turns site k x y (number.step h) f = target_meant p m turns site k.known _ _ h f
-    stm_meant turns site k x y (number.call h) f = (exp_meant p m turns site k.known _ _ h f.0, call_meant p m turns site k.known _ _ h f.1)
-    stm_meant turns site k x y (number.print h) f = print_meant p m turns site k.known _ _ h f
-    stm_meant turns site k x y number.barrier f = tt
-    stm_meant turns site k x y number.break f = tt
-    stm_meant turns site k x y number.continue f = tt
-    stm_meant turns site k x y (number.return h) f = option_meant p m turns site k.known _ _ h f
-    stm_meant turns site k x y (number.block h) f = stms_meant turns site k _ _ h f
-    stm_meant turns site k x y (number.if_alone h i) f = (exp_meant p m turns site k.known _ _ h f.0, stm_meant turns site k _ _ i f.1)
-    stm_meant turns site k x y (number.if_else {a = a} h i j) f =
-        (exp_meant p m turns site k.known _ _ h f.0, stm_meant turns site k _ _ i f.1, stm_meant turns (past site a) (past_fits p m turns site a k) _ _ j f.2)
-    stm_meant turns site k x y (number.while h i) f = (exp_meant p m turns site k.known _ _ h f.0, stm_meant turns site k _ _ i f.1)
-    stm_meant turns site k x y (number.for {first = first} {update = update} {f = w} h c u i) f =
+    stm_meant : (turns : List ℕ) (site : Site) → SiteFits p m turns site → (x : Stm) (y : NumberedStm) → NumbersStm site x y → StmFine x → InStm y → StmMeant p m turns y
+    stm_meant turns site k x y number.empty f l = tt
+    stm_meant turns site k x y (number.declare b fresh room v) f l = init_meant p m turns site k.known _ _ v f.1 l
+    stm_meant turns site k x y (number.assign h v) f l = (target_meant p m turns site k.known _ _ h f.0 l.0, init_meant p m turns site k.known _ _ v f.1 l.1)
+    stm_meant turns site k x y (number.update h i) f l = (target_meant p m turns site k.known _ _ h f.0 l.0, exp_meant p m turns site k.known _ _ i f.1 l.1)
+    stm_meant turns site k x y (number.step h) f l = target_meant p m turns site k.known _ _ h f l
+    stm_meant turns site k x y (number.call h) f l = (exp_meant p m turns site k.known _ _ h f.0 l, call_meant p m turns site k.known _ _ h f.1)
+    stm_meant turns site k x y (number.print h) f l = print_meant p m turns site k.known _ _ h f l
+    stm_meant turns site k x y number.barrier f l = tt
+    stm_meant turns site k x y number.break f l = tt
+    stm_meant turns site k x y number.continue f l = tt
+    stm_meant turns site k x y (number.return h) f l = option_meant p m turns site k.known _ _ h f l
+    stm_meant turns site k x y (number.block h) f l = stms_meant turns site k _ _ h f l
+    stm_meant turns site k x y (number.if_alone h i) f l = (exp_meant p m turns site k.known _ _ h f.0 l.0, stm_meant turns site k _ _ i f.1 l.1)
+    stm_meant turns site k x y (number.if_else {a = a} h i j) f l =
+        (exp_meant p m turns site k.known _ _ h f.0 l.0, stm_meant turns site k _ _ i f.1 l.1, stm_meant turns (past site a) (past_fits p m turns site a k) _ _ j f.2 l.2)
+    stm_meant turns site k x y (number.while h i) f l = (exp_meant p m turns site k.known _ _ h f.0 l.0, stm_meant turns site k _ _ i f.1 l.1)
+    stm_meant turns site k x y (number.for {first = first} {update = update} {f = w} h c u i) f l =
         let inside = behind_maybe site first in
         let j = behind_maybe_fits p m turns site first w h f.0 k in (
-          maybe_meant turns site k first w h f.0,
-          option_meant p m turns inside j.known _ _ c f.1,
-          maybe_meant turns inside j update _ u f.2,
-          stm_meant turns (past_maybe inside update) (past_maybe_fits p m turns inside update j) _ _ i f.3,
+          maybe_meant turns site k first w h f.0 l.0,
+          option_meant p m turns inside j.known _ _ c f.1 l.1,
+          maybe_meant turns inside j update _ u f.2 l.2,
+          stm_meant turns (past_maybe inside update) (past_maybe_fits p m turns inside update j) _ _ i f.3 l.3,
         )
-    stm_meant turns site k x y (number.foreach {name = name} fresh room h i) f = (
-      exp_meant p m turns site k.known _ _ h f.0,
+    stm_meant turns site k x y (number.foreach {name = name} fresh room h i) f l = (
+      exp_meant p m turns site k.known _ _ h f.0 l.0,
       k.below site.variables (omega arith),
       k.fresh site.variables (omega arith),
-      stm_meant (site.variables ∷ turns) (declares site name t.Foreach) (foreach_fits p m turns site name k) _ _ i f.1,
+      stm_meant (site.variables ∷ turns) (declares site name t.Foreach) (foreach_fits p m turns site name k) _ _ i f.1 l.1,
     )
 
-    maybe_meant : (turns : List ℕ) (site : Site) → SiteFits p m turns site → (x : MaybeStm) (y : MaybeNumbered) → NumbersMaybeStm site x y → MaybeFine x → MaybeMeant p m turns y
-    maybe_meant turns site k x y number.no_stm f = tt
-    maybe_meant turns site k x y (number.some_stm h) f = stm_meant turns site k _ _ h f
+    maybe_meant : (turns : List ℕ) (site : Site) → SiteFits p m turns site → (x : MaybeStm) (y : MaybeNumbered) → NumbersMaybeStm site x y → MaybeFine x → InMaybe y → MaybeMeant p m turns y
+    maybe_meant turns site k x y number.no_stm f l = tt
+    maybe_meant turns site k x y (number.some_stm h) f l = stm_meant turns site k _ _ h f l
 
-    stms_meant : (turns : List ℕ) (site : Site) → SiteFits p m turns site → (xs : Stms) (ys : NumberedStms) → NumbersStms site xs ys → StmsFine xs → StmsMeant p m turns ys
-    stms_meant turns site k xs ys number.nil f = tt
-    stms_meant turns site k xs ys (number.cons {x = x} {y = y} h rest) f = (stm_meant turns site k x y h f.0, stms_meant turns (behind site x) (behind_fits p m turns site x y h f.0 k) _ _ rest f.1)
+    stms_meant : (turns : List ℕ) (site : Site) → SiteFits p m turns site → (xs : Stms) (ys : NumberedStms) → NumbersStms site xs ys → StmsFine xs → InStms ys → StmsMeant p m turns ys
+    stms_meant turns site k xs ys number.nil f l = tt
+    stms_meant turns site k xs ys (number.cons {x = x} {y = y} h rest) f l = (stm_meant turns site k x y h f.0 l.0, stms_meant turns (behind site x) (behind_fits p m turns site x y h f.0 k) _ _ rest f.1 l.1)
 
 -- ---- methods
 
@@ -85,21 +86,21 @@ params_mean p m site ps ys (number.more {param = param} {params = params} {ys = 
     plus a b = omega arith
 
 body_meant : (p : NumberedProgram) (m : NumberedMethod) (site : Site) (ps : ParamsTree) (q : NumberedParams) (body : List Stm) (ys : List NumberedStm) → NumbersParams site ps q → m.params ≡ q
-    → NumbersStms (body_site site ps) (stms body) (numbered_stms ys) → MethodFine ps body → SiteMeans p m [] site → site.variables ≡ 0 → StmsMeant p m [] (numbered_stms ys)
-body_meant p m site ps q body ys number.words e h f k z =
-    stms_meant p m [] site (record { known = k; below = λ i l. refl; fresh = λ i l. ap (λ q. is_none (find (λ (v : ScopeVariable). v.number == i) (parameters q))) e }) (stms body) (numbered_stms ys) h f
-body_meant p m site ps q body ys (number.params {params = params} {ys = rest} n) e h f k z =
+    → NumbersStms (body_site site ps) (stms body) (numbered_stms ys) → MethodFine ps body → InStms (numbered_stms ys) → SiteMeans p m [] site → site.variables ≡ 0 → StmsMeant p m [] (numbered_stms ys)
+body_meant p m site ps q body ys number.words e h f l k z =
+    stms_meant p m [] site (record { known = k; below = λ i l. refl; fresh = λ i l. ap (λ q. is_none (find (λ (v : ScopeVariable). v.number == i) (parameters q))) e }) (stms body) (numbered_stms ys) h f l
+body_meant p m site ps q body ys (number.params {params = params} {ys = rest} n) e h f l k z =
     let q = params_mean p m site params rest n f.0 k in
     let count = q.1 in
     stms_meant p m [] (behind_params site params) (record {
       known = q.0;
       below = λ i l. refl;
       fresh = λ i l. ap (λ q. is_none (find (λ (v : ScopeVariable). v.number == i) (parameters q))) e ∙ ap is_none (params_above 0 rest i (omega (arith, z, count, l)));
-    }) (stms body) (numbered_stms ys) h f.1
+    }) (stms body) (numbered_stms ys) h f.1 l
 
 method_meant : (p : NumberedProgram) (text : TextTree) (before : ℕ) (own : OwnMethod) (m : NumberedMethod) → TextFits p text → NumbersMethod (method_site text own before) own m
-    → MethodFine own.method.params own.method.body → StmsMeant p m [] (numbered_stms m.body)
-method_meant p text before own m k (number.method {result = result} {params = params} {body = body} r ps h) f =
+    → MethodFine own.method.params own.method.body → InStms (numbered_stms m.body) → StmsMeant p m [] (numbered_stms m.body)
+method_meant p text before own m k (number.method {result = result} {params = params} {body = body} r ps h) f l =
     let m : NumberedMethod = record {
       class = own.class;
       modifiers = own.method.modifiers;
@@ -111,7 +112,7 @@ method_meant p text before own m k (number.method {result = result} {params = pa
       body = body;
       end = own.method.end;
     } in
-    body_meant p m (method_site text own before) own.method.params params own.method.body body ps refl h f
+    body_meant p m (method_site text own before) own.method.params params own.method.body body ps refl h f l
     (record { text = k; this = λ z. ap (λ b. if b then None else Some own.class) z; scope = tt }) refl
 
 -- those of all of these
@@ -132,9 +133,9 @@ text_owns : (class : ℕ) (text : TextTree) → TextFine text → OwnsFine (meth
 text_owns class [] f = tt
 text_owns class (d ∷ rest) f = owns_both (methods_in class d.members) (methods_from (class + 1) rest) (members_owns class d.members f.0) (text_owns (class + 1) rest f.1)
 
-methods_meant : (p : NumberedProgram) (text : TextTree) (n before : ℕ) (owns : List OwnMethod) (ms : List NumberedMethod) → TextFits p text → NumbersMethods text n before owns ms → OwnsFine owns → MethodsMeant p ms
-methods_meant p text n before owns ms k number.none f = tt
-methods_meant p text n before owns ms k (number.more {own = own} {method = m} e h rest) f = (method_meant p text _ own m k h f.0, methods_meant p text _ _ _ _ k rest f.1)
+methods_meant : (p : NumberedProgram) (text : TextTree) (n before : ℕ) (owns : List OwnMethod) (ms : List NumberedMethod) → TextFits p text → NumbersMethods text n before owns ms → OwnsFine owns → InMethods ms → MethodsMeant p ms
+methods_meant p text n before owns ms k number.none f l = tt
+methods_meant p text n before owns ms k (number.more {own = own} {method = m} e h rest) f l = (method_meant p text _ own m k h f.0 l.0, methods_meant p text _ _ _ _ k rest f.1 l.1)
 
 -- ---- what there is
 
@@ -226,8 +227,8 @@ fields_meant p text n f class field type h = by (slice_get p.classes class) refl
 
 -- ---- programs
 
-pub numbered_methods : (p : NumberedProgram) → IsNumbered p → MethodsMeant p p.methods
-numbered_methods p n = methods_meant p n.0 0 0 (methods_of n.0) p.methods (text_fits p n.0 n.2) n.2.methods (text_owns 0 n.0 (spelled_fine n.0 n.1))
+pub numbered_methods : (p : NumberedProgram) → LiteralsFit p → IsNumbered p → MethodsMeant p p.methods
+numbered_methods p l n = methods_meant p n.0 0 0 (methods_of n.0) p.methods (text_fits p n.0 n.2) n.2.methods (text_owns 0 n.0 (spelled_fine n.0 n.1)) l
 
 pub numbered_fields : (p : NumberedProgram) → IsNumbered p → FieldsMeant p
 numbered_fields p n = fields_meant p n.0 n.2 (spelled_fine n.0 n.1)

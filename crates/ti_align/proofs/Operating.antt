@@ -1,19 +1,19 @@
 -- Conversions and operators keep to the types that the rules give them.
-use Rattle.std.proofs.Common.{◌≡◌, ℕ, ℤ, ◌==◌, Bool, true, false, not, ◌&&◌, ◌||◌, if◌then◌else◌, ◌⊎◌, inl, inr, option_map, Option, Some, None, List, [], ◌∷◌, ◌++◌, map, filter, flat_map, refl, ap, ap₂, sym, ◌∙◌, subst, eqb-true, eq-eqb}
+use Rattle.std.proofs.Common.{◌≡◌, ℕ, ℤ, ◌≤◌, nat_le, ◌^◌, length, ◌==◌, Bool, true, false, not, ◌&&◌, ◌||◌, if◌then◌else◌, ◌⊎◌, inl, inr, option_map, Option, Some, None, List, refl, ap, ap₂, sym, ◌∙◌, subst, eqb-true, eq-eqb}
+use Rattle.std.proofs.lemmas.Bool.{leb-true}
 use Rattle.std.specs.Int.{Width, w32, w64}
 use Rattle.std.specs.Prelude.{bit_and, bit_or, bit_xor}
-use Rattle.ti_base.specs.WholeNumbers.{shift_left, shift_right, shift_right_unsigned}
+use Rattle.ti_base.specs.WholeNumbers.{Fits, wrap, quotient, remainder, shift_count, shift_left, shift_right, shift_right_unsigned}
 use Rattle.std.specs.Option.{option_or}
 use Rattle.ti_base.specs.declared.place.Place.{Place}
 use Rattle.ti_base.specs.declared.point.Point.{Point}
 use Rattle.ti_base.specs.declared.point.Rect.{Rect}
 use Rattle.ti_base.specs.declared.value.Value.TheVariants as v
-use Rattle.ti_base.specs.Ranges.{Range, is_empty_range, numbers_on, both}
-use Rattle.ti_base.specs.PointSets.{AllOf, is_among, union, minus, meet}
+use Rattle.ti_base.specs.PointSets.{union, minus, meet}
 use Rattle.ti_base.specs.Points.{pt_sum, pt_difference}
-use Rattle.ti_base.specs.Rects.{points_of, of_ranges, empty_rect, is_empty, first_range, second_range, third_range}
+use Rattle.ti_base.specs.Rects.{points_of, size_of}
 use Rattle.ti_base.specs.Rects as rect
-use Rattle.ti_base.proofs.DomainLaws.{union_dim}
+use Rattle.ti_base.proofs.PointLaws.{length_points}
 use Rattle.ti_syntax.specs.declared.tree.exprs.UnaryOperator.{UnaryOperator}
 use Rattle.ti_syntax.specs.declared.tree.exprs.UnaryOperator.TheVariants as un
 use Rattle.ti_syntax.specs.declared.tree.exprs.BinaryOperator.{BinaryOperator}
@@ -27,15 +27,17 @@ use Rattle.ti_lang.specs.Typing.Operators.{whole_type, truth_type, point_type, r
 use Rattle.ti_lang.specs.Typing.TextTypes.{joined_type, product_type, operator_type}
 use Rattle.ti_lang.specs.Meaning.Held.{Held, Plain, Dm, truth, truth_of, points_in, dim_of, as_type}
 use Rattle.ti_lang.specs.Meaning.Asking.{Asking, ◌>>=◌, gives}
-use Rattle.ti_lang.specs.Meaning.Conversions.{to_domain, converted, domain_within, of_domains}
+use Rattle.ti_lang.specs.Meaning.Answers.{IsPointOf, IsRectOf}
+use Rattle.ti_lang.specs.Meaning.Conversions.{most_points, to_domain, converted, domain_within, of_domains}
 use Rattle.ti_lang.specs.Meaning.Operands.{Operands, Wholes, Truths, Points, Rects, Domains, Things, Regions, Others, operands, number, same_points}
 use Rattle.ti_lang.specs.Meaning.Operators.{added, subtracted, multiplied, divided, combined, shifted, compared, equal, operated, settled, operated_alone}
 use Rattle.ti_lang.specs.Meaning.Evaluation.{unless_settled, with_right}
-use Rattle.ti_align.specs.Things.{HasDims, IsOf}
+use Rattle.ti_align.specs.Things.{IsDomainOf, IsOf}
 use Rattle.ti_align.specs.Things as there
 use Rattle.ti_align.specs.Sound.{Sound}
 use Rattle.ti_align.proofs.Vars.{true_false, and_left, and_right}
-use Rattle.ti_align.proofs.Computing.{sound_then, weaker, sound_value, sound_guarded}
+use Rattle.ti_align.proofs.Computing.{sound_then, weaker, sound_value, sound_guarded, sound_tested}
+use Rattle.ti_align.proofs.Forms.{wraps_fit, widens, remainder_fits, rounded_fits, complement_fits, sum_point, difference_point, KeepsPoints, meet_points_kept, minus_points_kept, union_points_kept, points_placed, meet_form}
 
 -- ---- tests
 
@@ -111,46 +113,13 @@ seen_same (t.Grid e n l) = refl
 seen_same t.Null = refl
 seen_same t.Void = refl
 
--- ---- lists of points
+-- ---- domains
 
-all_both : (n : ℕ) (ps qs : List Point) → AllOf n ps → AllOf n qs → AllOf n (ps ++ qs)
-all_both n [] qs a b = b
-all_both n (p ∷ ps) qs a b = (a.0, all_both n ps qs a.1 b)
-
-all_map : (n : ℕ) (f : ℤ → Point) (xs : List ℤ) → ((x : ℤ) → (f x).dim ≡ n) → AllOf n (map f xs)
-all_map n f [] h = tt
-all_map n f (x ∷ xs) h = (h x, all_map n f xs h)
-
-all_flat : (n : ℕ) (f : ℤ → List Point) (xs : List ℤ) → ((x : ℤ) → AllOf n (f x)) → AllOf n (flat_map f xs)
-all_flat n f [] h = tt
-all_flat n f (x ∷ xs) h = all_both n (f x) (flat_map f xs) (h x) (all_flat n f xs h)
-
-pub points_dim : (r : Rect) → AllOf r.dim (points_of r)
-points_dim r =
-    all_flat r.dim _ (numbers_on (first_range r)) (λ x. all_flat r.dim _ (numbers_on (second_range r)) (λ y. all_map r.dim _ (numbers_on (third_range r)) (λ z. refl)))
-
-all_filter : (n : ℕ) (test : Point → Bool) (ps : List Point) → AllOf n ps → AllOf n (filter test ps)
-all_filter n test [] a = tt
-all_filter n test (p ∷ ps) a = by (test p) (all_filter n test ps a.1)
-  where
-    by : (b : Bool) → AllOf n (filter test ps) → AllOf n (if b then p ∷ filter test ps else filter test ps)
-    by true h = (a.0, h)
-    by false h = h
-
-abbrev KeepsDims : (List Point → List Point → List Point) → Type 0
-KeepsDims both = (n : ℕ) (ps qs : List Point) → AllOf n ps → AllOf n qs → AllOf n (both ps qs)
-
--- ---- rectangular domains
-
-pub ranges_dims : (n : ℕ) (a b c : Range) → HasDims n (of_ranges n a b c)
-ranges_dims n a b c = by (is_empty_range a || is_empty_range b || is_empty_range c)
-  where
-    by : (e : Bool) → HasDims n (if e then empty_rect n else record { dim = n; lo = record { dim = n; x1 = a.low; x2 = b.low; x3 = c.low }; hi = record { dim = n; x1 = a.high; x2 = b.high; x3 = c.high }; step = a.step ∷ b.step ∷ c.step ∷ [] })
-    by true = (refl, refl, refl)
-    by false = (refl, refl, refl)
-
-pub meet_dims : (n : ℕ) (r s : Rect) → HasDims n r → HasDims n (rect.meet r s)
-meet_dims n r s h = subst (λ k. HasDims k (rect.meet r s)) h.0 (ranges_dims r.dim (both (first_range r) (first_range s)) (both (second_range r) (second_range s)) (both (third_range r) (third_range s)))
+-- the points of a rectangular domain that isn't too large
+pub rect_domain : (n : ℕ) (r : Rect) → IsRectOf n r → nat_le (size_of r) most_points ≡ true → IsDomainOf n (points_of r)
+rect_domain n r k h =
+    let q = points_placed n r k in
+    record { points = q.0; rises = q.1; few = subst (λ m. m ≤ most_points) (sym (length_points r)) (leb-true (size_of r) most_points h) }
 
 module _ (p : NumberedProgram) (w : there.Things) where
   -- ---- conversions
@@ -176,7 +145,7 @@ module _ (p : NumberedProgram) (w : there.Things) where
   pub to_fine : (at : Place) (n : ℕ) (h : Held) → IsSet n h → Sound p (λ u k. IsOf u (t.Dm n) k) w (to_domain at h)
   to_fine at n h (inl k) =
       subst (λ z. Sound p (λ u k. IsOf u (t.Dm n) k) w (to_domain at z)) (sym k.1)
-      (sound_guarded p _ w _ _ at _ (points_of k.0, ap (λ d. Dm d (points_of k.0)) k.2.0, subst (λ d. AllOf d (points_of k.0)) k.2.0 (points_dim k.0)))
+      (sound_tested p _ w _ _ at _ (λ z. (points_of k.0, ap (λ d. Dm d (points_of k.0)) k.2.dim_is, rect_domain n k.0 k.2 z)))
   to_fine at n h (inr k) = subst (λ z. Sound p (λ u k. IsOf u (t.Dm n) k) w (to_domain at z)) (sym k.1) (sound_value p _ w (Dm n k.0) (k.0, refl, k.2))
 
   plainly : (type : ValueType) (k : Held) → IsOf w type k → Sound p (λ u h. IsOf u type h) w (gives k)
@@ -184,9 +153,9 @@ module _ (p : NumberedProgram) (w : there.Things) where
 
   -- a value that fits a type becomes one of it
   pub converted_fine : (at : Place) (s type u : ValueType) (h : Held) → fits s type ≡ true → Seen type u → IsOf w s h → Sound p (λ x k. IsOf x type k) w (converted at u h)
-  converted_fine at t.Int t.Int u h f z k = subst (λ y. Sound p (λ x k. IsOf x t.Int k) w (converted at y h)) (sym z) (subst (λ y. Sound p (λ x k. IsOf x t.Int k) w (gives (as_type t.Int y))) (sym k.1) (plainly t.Int _ (_, refl)))
-  converted_fine at t.Int t.Long u h f z k = subst (λ y. Sound p (λ x k. IsOf x t.Long k) w (converted at y h)) (sym z) (subst (λ y. Sound p (λ x k. IsOf x t.Long k) w (gives (as_type t.Long y))) (sym k.1) (plainly t.Long _ (_, refl)))
-  converted_fine at t.Long t.Long u h f z k = subst (λ y. Sound p (λ x k. IsOf x t.Long k) w (converted at y h)) (sym z) (subst (λ y. Sound p (λ x k. IsOf x t.Long k) w (gives (as_type t.Long y))) (sym k.1) (plainly t.Long _ (_, refl)))
+  converted_fine at t.Int t.Int u h f z k = subst (λ y. Sound p (λ x k. IsOf x t.Int k) w (converted at y h)) (sym z) (subst (λ y. Sound p (λ x k. IsOf x t.Int k) w (gives (as_type t.Int y))) (sym k.1) (plainly t.Int _ (_, refl, k.2)))
+  converted_fine at t.Int t.Long u h f z k = subst (λ y. Sound p (λ x k. IsOf x t.Long k) w (converted at y h)) (sym z) (subst (λ y. Sound p (λ x k. IsOf x t.Long k) w (gives (as_type t.Long y))) (sym k.1) (plainly t.Long _ (_, refl, widens k.0 k.2)))
+  converted_fine at t.Long t.Long u h f z k = subst (λ y. Sound p (λ x k. IsOf x t.Long k) w (converted at y h)) (sym z) (subst (λ y. Sound p (λ x k. IsOf x t.Long k) w (gives (as_type t.Long y))) (sym k.1) (plainly t.Long _ (_, refl, k.2)))
   converted_fine at t.Boolean t.Boolean u h f z k = subst (λ y. Sound p (λ x k. IsOf x t.Boolean k) w (converted at y h)) (sym z) (plainly t.Boolean h k)
   converted_fine at t.Region t.Region u h f z k = subst (λ y. Sound p (λ x k. IsOf x t.Region k) w (converted at y h)) (sym z) (plainly t.Region h k)
   converted_fine at t.Null t.Null u h f z k = subst (λ y. Sound p (λ x k. IsOf x t.Null k) w (converted at y h)) (sym z) (plainly t.Null h k)
@@ -252,35 +221,48 @@ module _ (p : NumberedProgram) (w : there.Things) where
     pub left : ℤ
     pub right : ℤ
     pub is : operands x y ≡ Wholes width left right
-    pub gives : (n : ℤ) → IsOf w r (number width n)
+    pub fits : Fits width left
+    pub gives : (n : ℤ) → Fits width n → IsOf w r (number width n)
     pub seen : joined_type t' u' ≡ r
 
   wholly : (a u r t' u' : ValueType) (x y : Held) → whole_type a u ≡ Some r → Seen a t' → Seen u u' → IsOf w a x → IsOf w u y → Wholly r t' u' x y
   wholly t.Int t.Int r t' u' x y e i j k l =
-      subst (λ (z : ValueType). Wholly z t' u' x y) (some_same t.Int r e) (record { width = w32; left = k.0; right = l.0; is = ap₂ operands k.1 l.1; gives = λ n. (n, refl); seen = ap₂ joined_type i j })
+      subst (λ (z : ValueType). Wholly z t' u' x y) (some_same t.Int r e) (record { width = w32; left = k.0; right = l.0; is = ap₂ operands k.1 l.1; fits = k.2; gives = λ n f. (n, refl, f); seen = ap₂ joined_type i j })
   wholly t.Int t.Long r t' u' x y e i j k l =
-      subst (λ (z : ValueType). Wholly z t' u' x y) (some_same t.Long r e) (record { width = w64; left = k.0; right = l.0; is = ap₂ operands k.1 l.1; gives = λ n. (n, refl); seen = ap₂ joined_type i j })
+      subst (λ (z : ValueType). Wholly z t' u' x y) (some_same t.Long r e) (record { width = w64; left = k.0; right = l.0; is = ap₂ operands k.1 l.1; fits = widens k.0 k.2; gives = λ n f. (n, refl, f); seen = ap₂ joined_type i j })
   wholly t.Long t.Int r t' u' x y e i j k l =
-      subst (λ (z : ValueType). Wholly z t' u' x y) (some_same t.Long r e) (record { width = w64; left = k.0; right = l.0; is = ap₂ operands k.1 l.1; gives = λ n. (n, refl); seen = ap₂ joined_type i j })
+      subst (λ (z : ValueType). Wholly z t' u' x y) (some_same t.Long r e) (record { width = w64; left = k.0; right = l.0; is = ap₂ operands k.1 l.1; fits = k.2; gives = λ n f. (n, refl, f); seen = ap₂ joined_type i j })
   wholly t.Long t.Long r t' u' x y e i j k l =
-      subst (λ (z : ValueType). Wholly z t' u' x y) (some_same t.Long r e) (record { width = w64; left = k.0; right = l.0; is = ap₂ operands k.1 l.1; gives = λ n. (n, refl); seen = ap₂ joined_type i j })
+      subst (λ (z : ValueType). Wholly z t' u' x y) (some_same t.Long r e) (record { width = w64; left = k.0; right = l.0; is = ap₂ operands k.1 l.1; fits = k.2; gives = λ n f. (n, refl, f); seen = ap₂ joined_type i j })
   wholly t.Int _ r t' u' x y e i j k l = absurd (none_some r e)
   wholly t.Long _ r t' u' x y e i j k l = absurd (none_some r e)
   wholly _ _ r t' u' x y e i j k l = absurd (none_some r e)
 
   -- two points
   pub record Pointly (r t' u' : ValueType) (x y : Held) : Type 0 where
+    pub dims : ℕ
     pub left : Point
     pub right : Point
     pub is : operands x y ≡ Points left right
-    pub gives : (q : Point) → q.dim ≡ left.dim → IsOf w r (Plain (v.Pt q))
+    pub left_is : IsPointOf dims left
+    pub right_is : IsPointOf dims right
+    pub gives : (q : Point) → IsPointOf dims q → IsOf w r (Plain (v.Pt q))
     pub seen : Seen r (joined_type t' u')
 
   pointly : (a u r t' u' : ValueType) (x y : Held) → point_type a u ≡ Some r → Seen a t' → Seen u u' → IsOf w a x → IsOf w u y → Pointly r t' u' x y
   pointly (t.Pt n) (t.Pt m) r t' u' x y e i j k l =
       let z = where_some (n == m) (t.Pt n) r e in
       subst (λ (z : ValueType). Pointly z t' u' x y) z.1
-      (record { left = k.0; right = l.0; is = ap₂ operands k.1 l.1 ∙ points_both k.0 l.0 (k.2 ∙ eqb-true n m z.0 ∙ sym l.2); gives = λ q d. (q, refl, d ∙ k.2); seen = (i.0, ap₂ joined_type i.1 j.1) })
+      (record {
+        dims = n;
+        left = k.0;
+        right = l.0;
+        is = ap₂ operands k.1 l.1 ∙ points_both k.0 l.0 (k.2.dim_is ∙ eqb-true n m z.0 ∙ sym l.2.dim_is);
+        left_is = k.2;
+        right_is = subst (λ d. IsPointOf d l.0) (sym (eqb-true n m z.0)) l.2;
+        gives = λ q f. (q, refl, f);
+        seen = (i.0, ap₂ joined_type i.1 j.1);
+      })
   pointly (t.Pt n) _ r t' u' x y e i j k l = absurd (none_some r e)
   pointly _ _ r t' u' x y e i j k l = absurd (none_some r e)
 
@@ -302,7 +284,7 @@ module _ (p : NumberedProgram) (w : there.Things) where
         is_domain = sym (some_same _ r e);
         left = inl k;
         right = inl (subst (λ d. IsOf w (t.Rc d) y) (sym (eqb-true n m q)) l);
-        is = inl (k.0, l.0, ap₂ operands k.1 l.1 ∙ rects_both k.0 l.0 (k.2.0 ∙ eqb-true n m q ∙ sym l.2.0));
+        is = inl (k.0, l.0, ap₂ operands k.1 l.1 ∙ rects_both k.0 l.0 (k.2.dim_is ∙ eqb-true n m q ∙ sym l.2.dim_is));
         seen = subst (λ z. Seen z (joined_type t' u')) (some_same _ r e) (i.0, ap₂ joined_type i.1 j.1);
       }
       by false q e = absurd (none_some r e)
@@ -314,7 +296,7 @@ module _ (p : NumberedProgram) (w : there.Things) where
         is_domain = sym (some_same _ r e);
         left = inl k;
         right = inr (subst (λ d. IsOf w (t.Dm d) y) (sym (eqb-true n m q)) l);
-        is = inr (ap₂ operands k.1 l.1 ∙ domains_both k.0.dim m (k.2.0 ∙ eqb-true n m q));
+        is = inr (ap₂ operands k.1 l.1 ∙ domains_both k.0.dim m (k.2.dim_is ∙ eqb-true n m q));
         seen = subst (λ z. Seen z (joined_type t' u')) (some_same _ r e) (i.0, ap₂ joined_type i.1 j.1);
       }
       by false q e = absurd (none_some r e)
@@ -326,7 +308,7 @@ module _ (p : NumberedProgram) (w : there.Things) where
         is_domain = sym (some_same _ r e);
         left = inr k;
         right = inl (subst (λ d. IsOf w (t.Rc d) y) (sym (eqb-true n m q)) l);
-        is = inr (ap₂ operands k.1 l.1 ∙ domains_both n l.0.dim (eqb-true n m q ∙ sym l.2.0));
+        is = inr (ap₂ operands k.1 l.1 ∙ domains_both n l.0.dim (eqb-true n m q ∙ sym l.2.dim_is));
         seen = subst (λ z. Seen z (joined_type t' u')) (some_same _ r e) (i.0, ap₂ joined_type i.1 j.1);
       }
       by false q e = absurd (none_some r e)
@@ -346,30 +328,24 @@ module _ (p : NumberedProgram) (w : there.Things) where
   setly (t.Dm n) _ r t' u' x y e i j k l = absurd (none_some r e)
   setly _ _ r t' u' x y e i j k l = absurd (none_some r e)
 
-  sets_fine : (both : List Point → List Point → List Point) (at : Place) (n : ℕ) (x y : Held) → KeepsDims both → IsSet n x → ((u : there.Things) → there.Grows w u → IsSet n y) → Sound p (λ u k. IsOf u (t.Dm n) k) w (of_domains both at x y)
+  sets_fine : (both : List Point → List Point → List Point) (at : Place) (n : ℕ) (x y : Held) → KeepsPoints both → IsSet n x → ((u : there.Things) → there.Grows w u → IsSet n y) → Sound p (λ u k. IsOf u (t.Dm n) k) w (of_domains both at x y)
   sets_fine both at n x y d k l =
       sound_then p (λ u h. IsOf u (t.Dm n) h) _ w (to_domain at x) _ (to_fine at n x k) (λ u g a h.
       sound_then p (λ u h. IsOf u (t.Dm n) h) _ u (to_domain at y) _ (later u (l u g)) (λ v i b j.
       subst (λ z. Sound p (λ u k. IsOf u (t.Dm n) k) v (domain_within at (dim_of z) (both (points_in z) (points_in b)))) (sym h.1)
       (subst (λ z. Sound p (λ u k. IsOf u (t.Dm n) k) v (domain_within at n (both h.0 (points_in z)))) (sym j.1)
-      (sound_guarded p _ v _ _ at (Dm n (both h.0 j.0)) (both h.0 j.0, refl, d n h.0 j.0 h.2 j.2)))))
+      (sound_tested p _ v _ _ at (Dm n (both h.0 j.0)) (λ o. (both h.0 j.0, refl, kept d h.0 j.0 h.2 j.2 o))))))
     where
+      kept : KeepsPoints both → (ps qs : List Point) → IsDomainOf n ps → IsDomainOf n qs → nat_le (length (both ps qs)) most_points ≡ true → IsDomainOf n (both ps qs)
+      kept d ps qs a b o = let q = d n ps qs (a.points, a.rises) (b.points, b.rises) in record { points = q.0; rises = q.1; few = leb-true (length (both ps qs)) most_points o }
+
       later : (u : there.Things) → IsSet n y → Sound p (λ u k. IsOf u (t.Dm n) k) u (to_domain at y)
       later u (inl k) =
           subst (λ z. Sound p (λ u k. IsOf u (t.Dm n) k) u (to_domain at z)) (sym k.1)
-          (sound_guarded p _ u _ _ at _ (points_of k.0, ap (λ d. Dm d (points_of k.0)) k.2.0, subst (λ d. AllOf d (points_of k.0)) k.2.0 (points_dim k.0)))
+          (sound_tested p _ u _ _ at _ (λ z. (points_of k.0, ap (λ d. Dm d (points_of k.0)) k.2.dim_is, rect_domain n k.0 k.2 z)))
       later u (inr k) = subst (λ z. Sound p (λ u k. IsOf u (t.Dm n) k) u (to_domain at z)) (sym k.1) (sound_value p _ u (Dm n k.0) (k.0, refl, k.2))
 
   -- ---- rows of the table
-
-  union_keeps : KeepsDims union
-  union_keeps n ps qs a b = union_dim n ps qs a b
-
-  minus_keeps : KeepsDims minus
-  minus_keeps n ps qs a b = all_filter n _ ps a
-
-  meet_keeps : KeepsDims meet
-  meet_keeps n ps qs a b = all_filter n (is_among qs) ps a
 
   -- what an operator comes to, and the type that the text gives it
   abbrev pub Operates : ValueType → ValueType → Asking Held → Type 0
@@ -393,45 +369,45 @@ module _ (p : NumberedProgram) (w : there.Things) where
   is_number _ _ r e = absurd (none_some r e)
 
   module _ (at : Place) (a u r t' u' : ValueType) (x y : Held) (i : Seen a t') (j : Seen u u') (k : IsOf w a x) (l : IsOf w u y) where
-    sets_here : (both : List Point → List Point → List Point) → KeepsDims both → (q : Setly r t' u' x y) → Sound p (λ u h. IsOf u r h) w (of_domains both at x y)
+    sets_here : (both : List Point → List Point → List Point) → KeepsPoints both → (q : Setly r t' u' x y) → Sound p (λ u h. IsOf u r h) w (of_domains both at x y)
     sets_here both d q = subst (λ z. Sound p (λ u h. IsOf u z h) w (of_domains both at x y)) (sym q.is_domain) (sets_fine both at q.dims x y d q.left (λ u g. q.right))
 
     added_fine : row_type Sum a u ≡ Some r → Operates r (joined_type t' u') (added at x y (operands x y))
     added_fine e = by (from_or (whole_type a u) _ r e)
       where
         at_sets : (q : Setly r t' u' x y) → ((c : Rect) × (b : Rect) × (operands x y ≡ Rects c b)) ⊎ (operands x y ≡ Domains) → Sound p (λ u h. IsOf u r h) w (added at x y (operands x y))
-        at_sets q (inl z) = subst (λ o. Sound p (λ u h. IsOf u r h) w (added at x y o)) (sym z.2) (sets_here union union_keeps q)
-        at_sets q (inr z) = subst (λ o. Sound p (λ u h. IsOf u r h) w (added at x y o)) (sym z) (sets_here union union_keeps q)
+        at_sets q (inl z) = subst (λ o. Sound p (λ u h. IsOf u r h) w (added at x y o)) (sym z.2) (sets_here union union_points_kept q)
+        at_sets q (inr z) = subst (λ o. Sound p (λ u h. IsOf u r h) w (added at x y o)) (sym z) (sets_here union union_points_kept q)
 
         other : (point_type a u ≡ Some r) ⊎ (domain_type a u ≡ Some r) → Operates r (joined_type t' u') (added at x y (operands x y))
         other (inl z) =
             let q = pointly a u r t' u' x y z i j k l in
-            (subst (λ o. Sound p (λ u h. IsOf u r h) w (added at x y o)) (sym q.is) (sound_value p _ w _ (q.gives (pt_sum q.left q.right) refl)), q.seen)
+            (subst (λ o. Sound p (λ u h. IsOf u r h) w (added at x y o)) (sym q.is) (sound_value p _ w _ (q.gives (pt_sum q.left q.right) (sum_point q.dims q.left q.right q.left_is q.right_is))), q.seen)
         other (inr z) = let q = setly a u r t' u' x y z i j k l in (at_sets q q.is, q.seen)
 
         by : (whole_type a u ≡ Some r) ⊎ (option_or (point_type a u) (domain_type a u) ≡ Some r) → Operates r (joined_type t' u') (added at x y (operands x y))
         by (inl z) =
             let q = wholly a u r t' u' x y z i j k l in
-            (subst (λ o. Sound p (λ u h. IsOf u r h) w (added at x y o)) (sym q.is) (sound_value p _ w _ (q.gives _)), whole_seen r _ (is_number a u r z) q.seen)
+            (subst (λ o. Sound p (λ u h. IsOf u r h) w (added at x y o)) (sym q.is) (sound_value p _ w _ (q.gives _ (wraps_fit q.width _))), whole_seen r _ (is_number a u r z) q.seen)
         by (inr z) = other (from_or (point_type a u) (domain_type a u) r z)
 
     subtracted_fine : row_type Sum a u ≡ Some r → Operates r (joined_type t' u') (subtracted at x y (operands x y))
     subtracted_fine e = by (from_or (whole_type a u) _ r e)
       where
         at_sets : (q : Setly r t' u' x y) → ((c : Rect) × (b : Rect) × (operands x y ≡ Rects c b)) ⊎ (operands x y ≡ Domains) → Sound p (λ u h. IsOf u r h) w (subtracted at x y (operands x y))
-        at_sets q (inl z) = subst (λ o. Sound p (λ u h. IsOf u r h) w (subtracted at x y o)) (sym z.2) (sets_here minus minus_keeps q)
-        at_sets q (inr z) = subst (λ o. Sound p (λ u h. IsOf u r h) w (subtracted at x y o)) (sym z) (sets_here minus minus_keeps q)
+        at_sets q (inl z) = subst (λ o. Sound p (λ u h. IsOf u r h) w (subtracted at x y o)) (sym z.2) (sets_here minus minus_points_kept q)
+        at_sets q (inr z) = subst (λ o. Sound p (λ u h. IsOf u r h) w (subtracted at x y o)) (sym z) (sets_here minus minus_points_kept q)
 
         other : (point_type a u ≡ Some r) ⊎ (domain_type a u ≡ Some r) → Operates r (joined_type t' u') (subtracted at x y (operands x y))
         other (inl z) =
             let q = pointly a u r t' u' x y z i j k l in
-            (subst (λ o. Sound p (λ u h. IsOf u r h) w (subtracted at x y o)) (sym q.is) (sound_value p _ w _ (q.gives (pt_difference q.left q.right) refl)), q.seen)
+            (subst (λ o. Sound p (λ u h. IsOf u r h) w (subtracted at x y o)) (sym q.is) (sound_value p _ w _ (q.gives (pt_difference q.left q.right) (difference_point q.dims q.left q.right q.left_is q.right_is))), q.seen)
         other (inr z) = let q = setly a u r t' u' x y z i j k l in (at_sets q q.is, q.seen)
 
         by : (whole_type a u ≡ Some r) ⊎ (option_or (point_type a u) (domain_type a u) ≡ Some r) → Operates r (joined_type t' u') (subtracted at x y (operands x y))
         by (inl z) =
             let q = wholly a u r t' u' x y z i j k l in
-            (subst (λ o. Sound p (λ u h. IsOf u r h) w (subtracted at x y o)) (sym q.is) (sound_value p _ w _ (q.gives _)), whole_seen r _ (is_number a u r z) q.seen)
+            (subst (λ o. Sound p (λ u h. IsOf u r h) w (subtracted at x y o)) (sym q.is) (sound_value p _ w _ (q.gives _ (wraps_fit q.width _))), whole_seen r _ (is_number a u r z) q.seen)
         by (inr z) = other (from_or (point_type a u) (domain_type a u) r z)
 
     multiplied_fine : option_or (whole_type a u) (option_or (rect_type a u) (domain_type a u)) ≡ Some r → Operates r (product_type t' u') (multiplied at x y (operands x y))
@@ -441,8 +417,8 @@ module _ (p : NumberedProgram) (w : there.Things) where
         rects (t.Rc n) (t.Rc m) z i j k l =
             let q = where_some (n == m) (t.Rc n) r z in
             subst (λ z. Operates z (product_type t' u') (multiplied at x y (operands x y))) q.1 (
-              subst (λ o. Sound p (λ u h. IsOf u (t.Rc n) h) w (multiplied at x y o)) (sym (ap₂ operands k.1 l.1 ∙ rects_both k.0 l.0 (k.2.0 ∙ eqb-true n m q.0 ∙ sym l.2.0)))
-                  (sound_value p _ w _ (rect.meet k.0 l.0, refl, meet_dims n k.0 l.0 k.2)),
+              subst (λ o. Sound p (λ u h. IsOf u (t.Rc n) h) w (multiplied at x y o)) (sym (ap₂ operands k.1 l.1 ∙ rects_both k.0 l.0 (k.2.dim_is ∙ eqb-true n m q.0 ∙ sym l.2.dim_is)))
+                  (sound_value p _ w _ (rect.meet k.0 l.0, refl, meet_form n k.0 l.0 k.2 (subst (λ d. IsRectOf d l.0) (sym (eqb-true n m q.0)) l.2))),
               (i.0, ap₂ product_type i.1 j.1),
             )
         rects (t.Rc n) _ z i j k l = absurd (none_some r z)
@@ -483,15 +459,15 @@ module _ (p : NumberedProgram) (w : there.Things) where
 
             no_rects : (a u : ValueType) → domain_type a u ≡ Some r → IsOf w a x → IsOf w u y → (operands x y ≡ Domains) ⊎ ((n : ℕ) × (m : ℕ) × (a ≡ t.Rc n) × (u ≡ t.Rc m))
             no_rects (t.Rc n) (t.Rc m) z k l = inr (n, m, refl, refl)
-            no_rects (t.Rc n) (t.Dm m) z k l = inl (ap₂ operands k.1 l.1 ∙ domains_both k.0.dim m (k.2.0 ∙ eqb-true n m (dims_same (n == m) n r z)))
-            no_rects (t.Dm n) (t.Rc m) z k l = inl (ap₂ operands k.1 l.1 ∙ domains_both n l.0.dim (eqb-true n m (dims_same (n == m) n r z) ∙ sym l.2.0))
+            no_rects (t.Rc n) (t.Dm m) z k l = inl (ap₂ operands k.1 l.1 ∙ domains_both k.0.dim m (k.2.dim_is ∙ eqb-true n m (dims_same (n == m) n r z)))
+            no_rects (t.Dm n) (t.Rc m) z k l = inl (ap₂ operands k.1 l.1 ∙ domains_both n l.0.dim (eqb-true n m (dims_same (n == m) n r z) ∙ sym l.2.dim_is))
             no_rects (t.Dm n) (t.Dm m) z k l = inl (ap₂ operands k.1 l.1 ∙ domains_both n m (eqb-true n m (dims_same (n == m) n r z)))
             no_rects (t.Rc n) _ z k l = absurd (none_some r z)
             no_rects (t.Dm n) _ z k l = absurd (none_some r z)
             no_rects _ _ z k l = absurd (none_some r z)
 
             found : Seen r (product_type t' u') → (operands x y ≡ Domains) ⊎ ((n : ℕ) × (m : ℕ) × (a ≡ t.Rc n) × (u ≡ t.Rc m)) → Operates r (product_type t' u') (multiplied at x y (operands x y))
-            found h (inl d) = (subst (λ o. Sound p (λ u h. IsOf u r h) w (multiplied at x y o)) (sym d) (sets_here meet meet_keeps q), h)
+            found h (inl d) = (subst (λ o. Sound p (λ u h. IsOf u r h) w (multiplied at x y o)) (sym d) (sets_here meet meet_points_kept q), h)
             found h (inr g) = two g.0 g.1 g.2 g.3
 
             go : Seen r (product_type t' u') ⊎ ((n : ℕ) × (m : ℕ) × (a ≡ t.Rc n) × (u ≡ t.Rc m)) → ((c : Rect) × (b : Rect) × (operands x y ≡ Rects c b)) ⊎ (operands x y ≡ Domains) → Operates r (product_type t' u') (multiplied at x y (operands x y))
@@ -514,13 +490,13 @@ module _ (p : NumberedProgram) (w : there.Things) where
         by : (whole_type a u ≡ Some r) ⊎ (option_or (rect_type a u) (domain_type a u) ≡ Some r) → Operates r (product_type t' u') (multiplied at x y (operands x y))
         by (inl z) =
             let q = wholly a u r t' u' x y z i j k l in
-            (subst (λ o. Sound p (λ u h. IsOf u r h) w (multiplied at x y o)) (sym q.is) (sound_value p _ w _ (q.gives _)), whole_seen r _ (is_number a u r z) (sym (numbers a u z i j) ∙ q.seen))
+            (subst (λ o. Sound p (λ u h. IsOf u r h) w (multiplied at x y o)) (sym q.is) (sound_value p _ w _ (q.gives _ (wraps_fit q.width _))), whole_seen r _ (is_number a u r z) (sym (numbers a u z i j) ∙ q.seen))
         by (inr z) = other (rect_type a u) refl z
 
-    divided_fine : (f : Width → ℤ → ℤ → ℤ) → whole_type a u ≡ Some r → Operates r (joined_type t' u') (divided f at (operands x y))
-    divided_fine f z =
+    divided_fine : (f : Width → ℤ → ℤ → ℤ) → ((w : Width) (m n : ℤ) → Fits w m → Fits w (f w m n)) → whole_type a u ≡ Some r → Operates r (joined_type t' u') (divided f at (operands x y))
+    divided_fine f d z =
         let q = wholly a u r t' u' x y z i j k l in
-        (subst (λ o. Sound p (λ u h. IsOf u r h) w (divided f at o)) (sym q.is) (sound_guarded p _ w _ _ at _ (q.gives _)), whole_seen r _ (is_number a u r z) q.seen)
+        (subst (λ o. Sound p (λ u h. IsOf u r h) w (divided f at o)) (sym q.is) (sound_guarded p _ w _ _ at _ (q.gives _ (d q.width q.left q.right q.fits))), whole_seen r _ (is_number a u r z) q.seen)
 
     combined_fine : (f : ℕ → ℕ → ℕ) (g : Bool → Bool → Bool) → option_or (whole_type a u) (truth_type a u) ≡ Some r → Operates r (joined_type t' u') (gives (combined f g (operands x y)))
     combined_fine f g e = by (from_or (whole_type a u) _ r e)
@@ -535,15 +511,15 @@ module _ (p : NumberedProgram) (w : there.Things) where
         by : (whole_type a u ≡ Some r) ⊎ (truth_type a u ≡ Some r) → Operates r (joined_type t' u') (gives (combined f g (operands x y)))
         by (inl z) =
             let q = wholly a u r t' u' x y z i j k l in
-            (subst (λ o. Sound p (λ u h. IsOf u r h) w (gives (combined f g o))) (sym q.is) (sound_value p _ w _ (q.gives _)), whole_seen r _ (is_number a u r z) q.seen)
+            (subst (λ o. Sound p (λ u h. IsOf u r h) w (gives (combined f g o))) (sym q.is) (sound_value p _ w _ (q.gives _ (wraps_fit q.width _))), whole_seen r _ (is_number a u r z) q.seen)
         by (inr z) = truths a u z i j k l
 
-    shifted_fine : (f : Width → ℤ → ℤ → ℤ) → where_true (is_whole a && is_whole u) a ≡ Some r → Operates r t' (gives (shifted f x y))
-    shifted_fine f e = let z = where_some (is_whole a && is_whole u) a r e in subst (λ q. Operates q t' (gives (shifted f x y))) z.1 (by a (and_left _ _ z.0) k, i)
+    shifted_fine : (f : Width → ℤ → ℤ → ℤ) → ((w : Width) (m n : ℤ) → Fits w m → Fits w (f w m n)) → where_true (is_whole a && is_whole u) a ≡ Some r → Operates r t' (gives (shifted f x y))
+    shifted_fine f d e = let z = where_some (is_whole a && is_whole u) a r e in subst (λ q. Operates q t' (gives (shifted f x y))) z.1 (by a (and_left _ _ z.0) k, i)
       where
         by : (a : ValueType) → is_whole a ≡ true → IsOf w a x → Sound p (λ u h. IsOf u a h) w (gives (shifted f x y))
-        by t.Int h k = sound_value p _ w _ (f w32 k.0 _, ap (λ z. shifted f z y) k.1)
-        by t.Long h k = sound_value p _ w _ (f w64 k.0 _, ap (λ z. shifted f z y) k.1)
+        by t.Int h k = sound_value p _ w _ (f w32 k.0 _, ap (λ z. shifted f z y) k.1, d w32 k.0 _ k.2)
+        by t.Long h k = sound_value p _ w _ (f w64 k.0 _, ap (λ z. shifted f z y) k.1, d w64 k.0 _ k.2)
         by _ h k = false_true h
 
     compared_fine : (test : ℤ → ℤ → Bool) (b : Bool) → where_true b t.Boolean ≡ Some r → Operates r t.Boolean (gives (compared test (operands x y)))
@@ -606,14 +582,14 @@ module _ (p : NumberedProgram) (w : there.Things) where
     operated_fine op.LessEqual e = compared_fine _ _ e
     operated_fine op.Greater e = compared_fine _ _ e
     operated_fine op.GreaterEqual e = compared_fine _ _ e
-    operated_fine op.ShiftLeft e = shifted_fine shift_left e
-    operated_fine op.ShiftRight e = shifted_fine shift_right e
-    operated_fine op.UnsignedShiftRight e = shifted_fine shift_right_unsigned e
+    operated_fine op.ShiftLeft e = shifted_fine shift_left (λ w m n f. wraps_fit w _) e
+    operated_fine op.ShiftRight e = shifted_fine shift_right (λ w m n f. rounded_fits w m (2 ^ shift_count w n) f) e
+    operated_fine op.UnsignedShiftRight e = shifted_fine shift_right_unsigned (λ w m n f. wraps_fit w _) e
     operated_fine op.Add e = added_fine e
     operated_fine op.Subtract e = subtracted_fine e
     operated_fine op.Multiply e = multiplied_fine e
-    operated_fine op.Divide e = divided_fine _ e
-    operated_fine op.Remainder e = divided_fine _ e
+    operated_fine op.Divide e = divided_fine (λ w m n. wrap w (quotient m n)) (λ w m n f. wraps_fit w _) e
+    operated_fine op.Remainder e = divided_fine (λ w m n. remainder m n) (λ w m n f. remainder_fits w m n f) e
 
   -- ---- operators in expressions
 
@@ -654,14 +630,14 @@ module _ (p : NumberedProgram) (w : there.Things) where
   alone_fine un.Minus a r t' x e i k = let z = where_some (is_whole a) a r e in subst (λ q. IsOf w q (operated_alone un.Minus x) × Seen q t') z.1 (by a z.0 k, i)
     where
       by : (a : ValueType) → is_whole a ≡ true → IsOf w a x → IsOf w a (operated_alone un.Minus x)
-      by t.Int h k = (_, ap (operated_alone un.Minus) k.1)
-      by t.Long h k = (_, ap (operated_alone un.Minus) k.1)
+      by t.Int h k = (_, ap (operated_alone un.Minus) k.1, wraps_fit w32 _)
+      by t.Long h k = (_, ap (operated_alone un.Minus) k.1, wraps_fit w64 _)
       by _ h k = false_true h
   alone_fine un.Complement a r t' x e i k = let z = where_some (is_whole a) a r e in subst (λ q. IsOf w q (operated_alone un.Complement x) × Seen q t') z.1 (by a z.0 k, i)
     where
       by : (a : ValueType) → is_whole a ≡ true → IsOf w a x → IsOf w a (operated_alone un.Complement x)
-      by t.Int h k = (_, ap (operated_alone un.Complement) k.1)
-      by t.Long h k = (_, ap (operated_alone un.Complement) k.1)
+      by t.Int h k = (_, ap (operated_alone un.Complement) k.1, complement_fits w32 k.0 k.2)
+      by t.Long h k = (_, ap (operated_alone un.Complement) k.1, complement_fits w64 k.0 k.2)
       by _ h k = false_true h
 
   -- ---- casts
@@ -673,10 +649,10 @@ module _ (p : NumberedProgram) (w : there.Things) where
   cast_fine at to a h f k = by (or_either _ _ f)
     where
       whole : (to a : ValueType) → (is_whole to && is_whole a) ≡ true → IsOf w a h → Sound p (λ x k. IsOf x to k) w (converted at to h)
-      whole t.Int t.Int f k = sound_value p _ w _ (k.0, ap (as_type t.Int) k.1)
-      whole t.Int t.Long f k = sound_value p _ w _ (_, ap (as_type t.Int) k.1)
-      whole t.Long t.Int f k = sound_value p _ w _ (_, ap (as_type t.Long) k.1)
-      whole t.Long t.Long f k = sound_value p _ w _ (k.0, ap (as_type t.Long) k.1)
+      whole t.Int t.Int f k = sound_value p _ w _ (k.0, ap (as_type t.Int) k.1, k.2)
+      whole t.Int t.Long f k = sound_value p _ w _ (_, ap (as_type t.Int) k.1, wraps_fit w32 _)
+      whole t.Long t.Int f k = sound_value p _ w _ (_, ap (as_type t.Long) k.1, widens k.0 k.2)
+      whole t.Long t.Long f k = sound_value p _ w _ (k.0, ap (as_type t.Long) k.1, k.2)
       whole t.Int _ f k = false_true f
       whole t.Long _ f k = false_true f
       whole _ _ f k = false_true f
@@ -706,8 +682,8 @@ module _ (p : NumberedProgram) (w : there.Things) where
           outer t.Void k = k
 
       same : (to : ValueType) → IsOf w (as_global to) h → Sound p (λ x k. IsOf x to k) w (converted at to h)
-      same t.Int k = sound_value p _ w _ (k.0, ap (as_type t.Int) k.1)
-      same t.Long k = sound_value p _ w _ (k.0, ap (as_type t.Long) k.1)
+      same t.Int k = sound_value p _ w _ (k.0, ap (as_type t.Int) k.1, k.2)
+      same t.Long k = sound_value p _ w _ (k.0, ap (as_type t.Long) k.1, k.2)
       same t.Boolean k = sound_value p _ w h k
       same (t.Pt n) k = sound_value p _ w h k
       same (t.Rc n) k = sound_value p _ w h k

@@ -161,7 +161,7 @@ exchange_value procs i kind arg d k f = subst (λ c. ArrivalFine procs i c arg d
 
 -- what actions of the heap name is there, so that they are possible
 abbrev pub ThingsThere : Setting → List Entry → Type 0
-ThingsThere s es = (i : ℕ) (p : Process) (at : Place) (a : Action) → World s es i p → IsNext p (next.Act at a) → is_of_heap a ≡ true → heap_answer s.program (history_of es) i a ≡ Impossible → ⊥
+ThingsThere s es = (i : ℕ) (p : Process) (at : Place) (a : Action) → i < s.procs → World s es i p → IsNext p (next.Act at a) → is_of_heap a ≡ true → heap_answer s.program (history_of es) i a ≡ Impossible → ⊥
 
 module _ (s : Setting) (es : List Entry) (w : IsRun s es) (agree : ArrivalsAgree s es) where
   come_to : (i n : ℕ) → arrivals i es ≡ suc n → (a : Arrival) × (arrival_at i (suc n) (history_of es) ≡ Some a)
@@ -240,22 +240,22 @@ module _ (s : Setting) (es : List Entry) (w : IsRun s es) (agree : ArrivalsAgree
       later : (aw ah ai bi d x n : ℕ) → aw ≡ ah → ai ≡ bi → bi ≡ d + x → x ≡ 0 → d ≤ ah → ai ≡ suc n → n < aw
       later aw ah ai bi d x n p q r t u v = omega arith
 
-  pub never : ThingsThere s es → (i : ℕ) (p : Process) → World s es i p → (at : Place) (a : Action) → IsNext p (next.Act at a) → IsReady s es i (next.Act at a) → is_delete a ≡ false → heap_answer s.program (history_of es) i a ≡ Impossible → ⊥
-  never there i p v at act.Depart n r k o = depart_possible i p v at n r o
-  never there i p v at (act.Take who) n r k o = take_possible i who p v at n o
-  never there i p v at (act.Print literal value) n r k o = answered _ o
-  never there i p v at act.End n r k o = answered _ o
-  never there i p v at (act.Fault kind) n r k o = answered _ o
-  never there i p v at (act.Arrive coll.Barrier arg d) n r k o = answered _ o
-  never there i p v at (act.Arrive coll.Broadcast arg d) n r k o = answered _ o
-  never there i p v at (act.Arrive coll.Exchange arg d) n r k o = answered _ o
-  never there i p v at (act.Arrive coll.MakeRegion arg d) n r k o = answered _ o
-  never there i p v at (act.Arrive coll.DeleteRegion arg d) n r k o = absurd (true_false k)
-  never there i p v at (act.GetField obj field) n r k o = there i p at (act.GetField obj field) v n refl o
-  never there i p v at (act.PutField obj field value) n r k o = there i p at (act.PutField obj field value) v n refl o
-  never there i p v at (act.NewObj class region) n r k o = there i p at (act.NewObj class region) v n refl o
-  never there i p v at (act.NewGrid element domain region) n r k o = there i p at (act.NewGrid element domain region) v n refl o
-  never there i p v at (act.GetElem grid index) n r k o = there i p at (act.GetElem grid index) v n refl o
-  never there i p v at (act.PutElem grid index value) n r k o = there i p at (act.PutElem grid index value) v n refl o
-  never there i p v at (act.MakeView grid how) n r k o = there i p at (act.MakeView grid how) v n refl o
-  never there i p v at (act.DomainOf grid) n r k o = there i p at (act.DomainOf grid) v n refl o
+  pub never : ThingsThere s es → (i : ℕ) → i < s.procs → (p : Process) → World s es i p → (at : Place) (a : Action) → IsNext p (next.Act at a) → IsReady s es i (next.Act at a) → is_delete a ≡ false → heap_answer s.program (history_of es) i a ≡ Impossible → ⊥
+  never there i l p v at act.Depart n r k o = depart_possible i p v at n r o
+  never there i l p v at (act.Take who) n r k o = take_possible i who p v at n o
+  never there i l p v at (act.Print literal value) n r k o = answered _ o
+  never there i l p v at act.End n r k o = answered _ o
+  never there i l p v at (act.Fault kind) n r k o = answered _ o
+  never there i l p v at (act.Arrive coll.Barrier arg d) n r k o = answered _ o
+  never there i l p v at (act.Arrive coll.Broadcast arg d) n r k o = answered _ o
+  never there i l p v at (act.Arrive coll.Exchange arg d) n r k o = answered _ o
+  never there i l p v at (act.Arrive coll.MakeRegion arg d) n r k o = answered _ o
+  never there i l p v at (act.Arrive coll.DeleteRegion arg d) n r k o = absurd (true_false k)
+  never there i l p v at (act.GetField obj field) n r k o = there i p at (act.GetField obj field) l v n refl o
+  never there i l p v at (act.PutField obj field value) n r k o = there i p at (act.PutField obj field value) l v n refl o
+  never there i l p v at (act.NewObj class region) n r k o = there i p at (act.NewObj class region) l v n refl o
+  never there i l p v at (act.NewGrid element domain region) n r k o = there i p at (act.NewGrid element domain region) l v n refl o
+  never there i l p v at (act.GetElem grid index) n r k o = there i p at (act.GetElem grid index) l v n refl o
+  never there i l p v at (act.PutElem grid index value) n r k o = there i p at (act.PutElem grid index value) l v n refl o
+  never there i l p v at (act.MakeView grid how) n r k o = there i p at (act.MakeView grid how) l v n refl o
+  never there i l p v at (act.DomainOf grid) n r k o = there i p at (act.DomainOf grid) l v n refl o

@@ -9,10 +9,11 @@ use Rattle.ti_rules.specs.TypeRules.{class_refusals, head_refusals, end_refusals
 use Rattle.ti_rules.specs.ProgramRefusals.{IsChecked}
 use Rattle.ti_rules.proofs.Sound.Refused.{nil_left, nil_right}
 use Rattle.ti_align.specs.Fitting.{FieldsFit}
+use Rattle.ti_align.specs.Literals.{LiteralsFit}
 use Rattle.ti_align.specs.Work.{MethodFits, MethodsFit}
 use Rattle.ti_align.specs.Heap.{FieldsStorable}
 use Rattle.ti_align.specs.Typed.{ProgramFits}
-use Rattle.ti_align.proofs.Vars.{and_left, and_right}
+use Rattle.ti_align.proofs.Vars.{and_right}
 use Rattle.ti_align.proofs.Meant.{storable, formed, StmsMeant, MethodsMeant, FieldsMeant, methods_prop, fields_prop}
 use Rattle.ti_align.proofs.Forming.{formed_fine, storable_is}
 use Rattle.ti_align.proofs.Written.{surrounds_method}
@@ -27,7 +28,7 @@ pub fields_fit : (p : NumberedProgram) → IsChecked p → FieldsFit p
 fields_fit p c class field type z = formed_fine type (and_right (storable type) (formed type) (fields_mean p c class field type z))
 
 pub fields_storable : (p : NumberedProgram) → IsChecked p → FieldsStorable p
-fields_storable p c class field type z = storable_is type (and_left (storable type) (formed type) (fields_mean p c class field type z))
+fields_storable p c class field type z = storable_is type (fields_mean p c class field type z)
 
 -- methods in which no rule is broken fit the types
 method_fits : (p : NumberedProgram) → FieldsMeant p → (m : NumberedMethod) → StmsMeant p m [] (numbered_stms m.body) → method_refusals p m ≡ [] → MethodFits p m
@@ -43,11 +44,11 @@ methods_fit p f (m ∷ ms) k h = (
 )
 
 -- a checked program fits its types
-pub checked_fits : (p : NumberedProgram) → IsChecked p → ProgramFits p
-checked_fits p c = record {
+pub checked_fits : (p : NumberedProgram) → IsChecked p → LiteralsFit p → ProgramFits p
+checked_fits p c l = record {
   fields = fields_fit p c;
   storable = fields_storable p c;
   methods =
-      methods_fit p (fields_mean p c) p.methods (∥∥₁_elim c.numbered (methods_prop p p.methods) (numbered_methods p))
+      methods_fit p (fields_mean p c) p.methods (∥∥₁_elim c.numbered (methods_prop p p.methods) (numbered_methods p l))
       (nil_right (flat_map class_refusals p.classes) (flat_map (method_refusals p) p.methods) c.unbroken.types);
 }

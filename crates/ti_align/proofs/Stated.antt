@@ -1,10 +1,9 @@
 -- Statements that fit come to moves that fit, and so does all work.
-use Rattle.std.proofs.Common.{◌≡◌, ℕ, ◌==◌, slice_index_or, Bool, true, false, ◌&&◌, inl, inr, if◌then◌else◌, option_map, option_and_then, Option, Some, None, List, [], ◌∷◌, refl, ap, sym, ◌∙◌, subst, eqb-true}
+use Rattle.std.proofs.Common.{◌≡◌, ℕ, zero, suc, ◌+◌, ◌<◌, ◌^◌, arith, ◌==◌, slice_index_or, Bool, true, false, ◌&&◌, inl, inr, if◌then◌else◌, option_map, option_and_then, Option, Some, None, List, [], ◌∷◌, refl, ap, sym, ◌∙◌, subst, eqb-true}
 use Rattle.ti_base.specs.declared.place.Place.{Place}
 use Rattle.ti_base.specs.declared.fault.FaultKind.TheVariants as faults
 use Rattle.ti_base.specs.declared.point.Point.{Point}
-use Rattle.ti_base.specs.Rects.{points_of, meet}
-use Rattle.ti_base.specs.PointSets.{AllOf}
+use Rattle.ti_base.specs.Rects.{meet}
 use Rattle.ti_lang.specs.Program.Types.{ValueType}
 use Rattle.ti_lang.specs.Program.Types as t
 use Rattle.ti_lang.specs.Program.Expressions.{NumberedExp, NumberedExps}
@@ -28,21 +27,22 @@ use Rattle.ti_lang.specs.Meaning.Parts.{domain_asked}
 use Rattle.ti_lang.specs.Meaning.Processes.{Nowhere, Declared, Assigned, Updated, Work, Do, End, Before, Behind, Receive, CopyAll, TakeAll}
 use Rattle.ti_lang.specs.Meaning.Scoping.{Env, type_of}
 use Rattle.ti_lang.specs.Meaning.Evaluation.{eval, eval_all}
-use Rattle.ti_lang.specs.Meaning.Copies.{first_type, copies}
+use Rattle.ti_lang.specs.Meaning.Copies.{first_type, copies, counted}
 use Rattle.ti_lang.specs.Meaning.Collectives.{exchanges, deletes}
 use Rattle.ti_lang.specs.Meaning.Calls as call
 use Rattle.ti_lang.specs.Meaning.Moves.{Goes, receives}
 use Rattle.ti_lang.specs.Meaning.Statements.{declared_as, member_alone, alone, statement}
 use Rattle.ti_lang.specs.Meaning.Performing.{declared_in, performed}
-use Rattle.ti_align.specs.Things.{Things, Grows, IsStorable, IsGridOf, IsPlaced, IsOf}
+use Rattle.ti_lang.specs.Meaning.Answers.{IsRectOf}
+use Rattle.ti_align.specs.Things.{Things, Grows, ArePoints, IsStorable, IsGridOf, IsPlaced, IsOf}
 use Rattle.ti_align.specs.Sound.{Sound, value, fault, asks}
 use Rattle.ti_align.specs.Fitting.{IsWritten}
-use Rattle.ti_align.specs.Work.{uses_of, is_form_of_call, WholeFits, StmFits, given_type, taken_type, WorkFits}
+use Rattle.ti_align.specs.Work.{uses_of, is_form_of_call, WholeFits, StmFits, given_type, taken_type, AreCounted, WorkFits}
 use Rattle.ti_align.proofs.Vars.{true_false, and_left, and_right}
 use Rattle.ti_align.proofs.Computing
-use Rattle.ti_align.specs.Things
 use Rattle.ti_align.proofs.Computing.{grows_not, grows_then, grid_stays, of_stays, sound_then, sound_value, sound_guarded}
-use Rattle.ti_align.proofs.Operating.{none_some, some_same, where_some, type_same, seen_same, converted_fine, points_dim, meet_dims}
+use Rattle.ti_align.proofs.Operating.{none_some, some_same, where_some, type_same, seen_same, converted_fine}
+use Rattle.ti_align.proofs.Forms.{natural_fits, one_fits, natural_from, points_placed, meet_form}
 use Rattle.ti_align.proofs.Evaluating.{and_then, AllOfTypes, needed_fine, domain_fine, grid_in, not_object, eval_fine, all_fine}
 use Rattle.ti_align.proofs.Storing.{plain_is, variables_stay, without_fits}
 use Rattle.ti_align.proofs.Performed.{Ready, ready_stays, Fine, CalledOr, inner_fine, receives_fine, calling_fine, called_or}
@@ -103,9 +103,13 @@ read_value Exchange a u ts k z = absurd (true_false (sym k))
 read_value Delete a u ts k z = absurd (true_false (sym k))
 read_value _ a u ts k z = absurd (none_some u z)
 
-common_dims : (b : Bool) (n : ℕ) (ps : List Point) → AllOf n ps → AllOf n (if b then ps else [])
-common_dims true n ps k = k
-common_dims false n ps k = tt
+common_points : (b : Bool) (n : ℕ) (ps : List Point) → ArePoints n ps → ArePoints n (if b then ps else [])
+common_points true n ps k = k
+common_points false n ps k = tt
+
+counted_fit : (i n : ℕ) → i + n < 2 ^ 31 → AreCounted (counted i n)
+counted_fit i zero h = tt
+counted_fit i (suc n) h = (natural_fits i (omega (arith, h)), counted_fit (i + 1) n (omega (arith, h)))
 
 module _ (s : ScopeContents) (env : Env) where
   abbrev p : NumberedProgram
@@ -137,10 +141,10 @@ module _ (s : ScopeContents) (env : Env) where
       sound_then p (λ u h. IsOf u (t.Rc n) h) _ f3 (domain_asked at from) _ (domain_fine p f3 at from d n (grid_stays f2 f3 d n from.thing v3 z2)) (λ f4 v4 h4 y4.
       let all = grows_then f f3 f4 (grows_then f f2 f3 v2 v3) v4 in
       let from_w = grows_then w b f4 (grows_then w a b g o) (grows_then b f f4 v all) in
-      let dims = meet_dims n (rect_of h3) (rect_of h4) (subst (λ x. Things.HasDims n x) (sym (ap rect_of y3.1)) y3.2) in
+      let both = meet_form n (rect_of h3) (rect_of h4) (subst (IsRectOf n) (sym (ap rect_of y3.1)) y3.2) (subst (IsRectOf n) (sym (ap rect_of y4.1)) y4.2) in
       sound_value p _ f4 _ (
         variables_stay w f4 env.variables from_w r.variables,
-        ((d, n, grid_stays f f4 d n to.thing all z, grid_stays f2 f4 d n from.thing (grows_then f2 f3 f4 v3 v4) z2, common_dims ((rect_of h3).dim == (rect_of h4).dim) n _ (subst (λ k. AllOf k (points_of (meet (rect_of h3) (rect_of h4)))) dims.0 (points_dim (meet (rect_of h3) (rect_of h4))))), tt),
+        ((d, n, grid_stays f f4 d n to.thing all z, grid_stays f2 f4 d n from.thing (grows_then f2 f3 f4 v3 v4) z2, common_points ((rect_of h3).dim == (rect_of h4).dim) n _ (points_placed n (meet (rect_of h3) (rect_of h4)) both).0), tt),
         tt,
       )))))))
   copies_fine handed untaken w r at x args _ u (y ∷ []) z k j q = absurd (true_false (sym (where_some _ t.Void u z).0))
@@ -164,7 +168,7 @@ module _ (s : ScopeContents) (env : Env) where
       let held = of_stays b f2 c _ (grows_then b f f2 v v2) (one_held b c hs ys) in
       sound_guarded p _ f2 _ faults.ExchangeDomain at _ (
         (d, tt, subst (λ b. IsOf f2 d (Plain (plain_of (as_type b (slice_index_or hs 0 nothing))))) (sym of) (plain_is f2 d _ grid.4 (as_fine p f2 c d _ grid.4 (and_right (n == 1) (fits c d) can) held)), ap (option_map element_of) j, refl, (ap Some (sym (of_to ∙ of)), tt)),
-        (subst (λ d. IsGridOf f2 d 1 to.thing) (sym (of_to ∙ of)) (subst (λ n. IsGridOf f2 d n to.thing) n_is grid), tt),
+        ((subst (λ d. IsGridOf f2 d 1 to.thing) (sym (of_to ∙ of)) (subst (λ n. IsGridOf f2 d n to.thing) n_is grid), counted_fit 0 env.procs (omega (arith, natural_from env.procs r.fits.procs))), tt),
       )))))
     where
       needed_typed : (w : Things) (at : Place) (through : ValueType) (h : Held) (d : ValueType) (n : ℕ) → ((id : _) → thing_of h ≡ Some id → IsGridOf w d n id) → Sound p (λ u (g : Reference). (g.type ≡ through) × IsGridOf u d n g.thing) w (needed at through h)
@@ -257,7 +261,7 @@ module _ (s : ScopeContents) (env : Env) where
   statement_fine w r (st.Declare at type variable right) k = init_fine s env None w r (Declared at (declared_as type variable)) right k.0 k.1 k.2
   statement_fine w r (st.Assign at target right) k = init_fine s env None w r (Assigned at target) right k.0 k.1 k.2
   statement_fine w r (st.Update at op target x) k = init_fine s env None w r (Updated at op target) (st.Value x) k.0 k.1 k.2
-  statement_fine w r (st.Step at op target) k = init_fine s env None w r (Updated at _ target) (st.Value (e.Int at _)) t.Int ((refl, tt), refl) k
+  statement_fine w r (st.Step at op target) k = init_fine s env None w r (Updated at _ target) (st.Value (e.Int at _)) t.Int ((refl, one_fits), refl) k
   statement_fine w r (st.Call x) k = alone_fine None w r x k.0 k.1 k.2
   statement_fine w r (st.Print at what) k = print_fine s env None None w r at what k
   statement_fine w r (st.Barrier at) k = sound_value p _ w _ ((t.Void, tt, tt, tt, refl, tt), tt)

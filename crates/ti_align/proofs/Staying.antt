@@ -43,7 +43,7 @@ module _ (p : NumberedProgram) (m : NumberedMethod) where
   work_stays s u w (Behind loop) g k = k
   work_stays s u w (Receive receiver h) g k = (k.0, of_stays u w k.0 h g k.1, k.2)
   work_stays s u w (CopyAll at to from points) g k = (k.0, k.1, grid_stays u w k.0 k.1 to.thing g k.2, grid_stays u w k.0 k.1 from.thing g k.3, k.4)
-  work_stays s u w (TakeAll at grid procs) g k = grid_stays u w (element_of grid.type) 1 grid.thing g k
+  work_stays s u w (TakeAll at grid procs) g k = (grid_stays u w (element_of grid.type) 1 grid.thing g k.0, k.1)
 
   pub works_stay : (s : ScopeContents) (u w : Things) (xs : List Work) → Grows u w → WorksFit p m s u xs → WorksFit p m s w xs
   works_stay s u w [] g k = tt

@@ -1,5 +1,5 @@
 -- Where no process can take an entry, none waits: all have their end, or some action is impossible.
-use Rattle.std.proofs.Common.{◌≡◌, ℕ, zero, suc, ◌+◌, ◌<◌, ◌≤◌, nat_lt, Bool, true, false, ◌⊎◌, inl, inr, length, filter, Some, List, refl, ap, sym, ◌∙◌, subst, arith, ltb-true}
+use Rattle.std.proofs.Common.{◌≡◌, ℕ, zero, suc, ◌+◌, ◌<◌, ◌≤◌, nat_lt, Bool, true, false, if◌then◌else◌, ◌⊎◌, inl, inr, length, filter, Some, List, refl, ap, sym, ◌∙◌, subst, arith, ltb-true}
 use Rattle.std.proofs.lemmas.Bool.{ltb-false}
 use Rattle.std.proofs.lemmas.List.{length-map}
 use Rattle.std.proofs.lemmas.List.Sums.{length-filter}
@@ -11,15 +11,16 @@ use Rattle.ti_base.specs.declared.entry.Next.{Next}
 use Rattle.ti_base.specs.declared.entry.Next.TheVariants as next
 use Rattle.ti_lang.specs.Meaning.Processes.{Setting, Process}
 use Rattle.ti_lang.specs.Meaning.NextStep.{IsNext}
-use Rattle.ti_lang.specs.Meaning.Steps.{step}
+use Rattle.ti_base.specs.declared.entry.Answer.{Answer}
+use Rattle.ti_lang.specs.Meaning.Steps.{At, step}
 use Rattle.ti_lang.specs.Meaning.Histories.{history_of, is_departure, entries_of, arrivals, departures, has_end, has_fault}
 use Rattle.ti_lang.specs.Meaning.HeapAnswers.{Outcome, Answers, Faults, Impossible, heap_answer}
 use Rattle.ti_lang.specs.Meaning.Runs.{World, IsReady, CanTake, IsRun, entry_with, entry_of}
 use Rattle.ti_lang.proofs.MeaningLaws.Total.{next_some}
 use Rattle.ti_align.specs.Alignment.{ArrivalsAgree, NoneAfterEnd}
-use Rattle.ti_align.specs.Stopping.{is_delete, DeletesNothing, NoneWaits}
-use Rattle.ti_align.proofs.Ways.{answers_at_departures, waiting}
-use Rattle.ti_align.proofs.Balance.{balanced}
+use Rattle.ti_align.specs.Stopping.{is_delete, DeletesNothing, NoneWaits, RoundsBalance}
+use Rattle.ti_align.proofs.Ways.{Asked, asking, answers_at_departures, waiting}
+use Rattle.ti_align.proofs.Balance.{step_waits, balanced}
 use Rattle.ti_align.proofs.Running.{on_way, at_action}
 use Rattle.ti_align.proofs.Aligning.{way_next}
 use Rattle.ti_align.proofs.Rounds.{left_one}
@@ -89,7 +90,7 @@ ready_fate s es i run agree there l f u p w at a n r = by (heap_answer s.program
       where
         named : (b : Bool) → is_delete a ≡ b → Fate s es i
         named true k = stuck (record { within = l; unended = u; process = p; world = w; place = at; action = a; is_next = n; deletes = k; impossible = z })
-        named false k = absurd (never s es run agree there i p w at a n r k z)
+        named false k = absurd (never s es run agree there i l p w at a n r k z)
 
 earlier : (a d b : ℕ) → a ≡ suc d → b ≤ d → b < a
 earlier a d b h k = omega arith
@@ -144,11 +145,11 @@ module _ (s : Setting) (es : List Entry) (run : IsRun s es) (agree : ArrivalsAgr
       by (ended z) ih = inl z
       by (goes e t) ih = absurd (none i e t)
       by (stuck x) ih = inr (i, x)
-      by (waits j m k) ih = then (ih j m (lower _ _ n k h))
+      by (waits j m k) ih = onward (ih j m (lower _ _ n k h))
         where
-          then : (has_end j es ≡ true) ⊎ ((i : ℕ) × DeletesNothing s es i) → (has_end i es ≡ true) ⊎ ((i : ℕ) × DeletesNothing s es i)
-          then (inl z) = absurd (not_both _ _ k (after j i m l z))
-          then (inr x) = inr x
+          onward : (has_end j es ≡ true) ⊎ ((i : ℕ) × DeletesNothing s es i) → (has_end i es ≡ true) ⊎ ((i : ℕ) × DeletesNothing s es i)
+          onward (inl z) = absurd (not_both _ _ k (after j i m l z))
+          onward (inr x) = inr x
 
   -- all of the first processes
   firsts : (n : ℕ) → n ≤ s.procs → ((i : ℕ) → i < n → has_end i es ≡ true) ⊎ ((i : ℕ) × DeletesNothing s es i)
@@ -181,3 +182,29 @@ none_waits s es run agree there after f none = firsts s es run agree there after
   where
     same : (k : ℕ) → k ≤ k
     same k = omega arith
+
+-- ---- rounds
+
+-- who waits leaves next, and nobody else does
+waits_as : (q : Process) (at : Place) (a : Action) (v : Asked) (go : Answer → Process) → step q ≡ At (asking at a v) go → waiting q.wait ≡ (if is_departure a then 1 else 0)
+waits_as q at act.Depart v go e = ap waiting (step_waits q (At (asking at act.Depart v) go) e).1
+waits_as q at (act.Arrive kind arg given) v go e = ap waiting (step_waits q (At (asking at (act.Arrive kind arg given) v) go) e).0
+waits_as q at (act.GetField obj field) v go e = ap waiting (step_waits q (At (asking at (act.GetField obj field) v) go) e).0
+waits_as q at (act.PutField obj field value) v go e = ap waiting (step_waits q (At (asking at (act.PutField obj field value) v) go) e).0
+waits_as q at (act.NewObj class region) v go e = ap waiting (step_waits q (At (asking at (act.NewObj class region) v) go) e).0
+waits_as q at (act.NewGrid element domain region) v go e = ap waiting (step_waits q (At (asking at (act.NewGrid element domain region) v) go) e).0
+waits_as q at (act.GetElem grid index) v go e = ap waiting (step_waits q (At (asking at (act.GetElem grid index) v) go) e).0
+waits_as q at (act.PutElem grid index value) v go e = ap waiting (step_waits q (At (asking at (act.PutElem grid index value) v) go) e).0
+waits_as q at (act.MakeView grid how) v go e = ap waiting (step_waits q (At (asking at (act.MakeView grid how) v) go) e).0
+waits_as q at (act.DomainOf grid) v go e = ap waiting (step_waits q (At (asking at (act.DomainOf grid) v) go) e).0
+waits_as q at (act.Print literal value) v go e = ap waiting (step_waits q (At (asking at (act.Print literal value) v) go) e).0
+waits_as q at (act.Take who) v go e = ap waiting (step_waits q (At (asking at (act.Take who) v) go) e).0
+waits_as q at (act.Fault kind) v go e = ap waiting (step_waits q (At (asking at (act.Fault kind) v) go) e).0
+waits_as q at act.End v go e = ap waiting (step_waits q (At (asking at act.End v) go) e).0
+
+pub rounds_balance : (s : Setting) (es : List Entry) → IsRun s es → RoundsBalance s es
+rounds_balance s es run i p at a v n =
+    let x = at_action (step n.0) at a n.1.stands in
+    let y = way_next s es i p n.0 run v n.1.reaches in
+    sym y.2 ∙ balanced s i n.0 y.0 y.1 ∙ ap (λ xs. length xs + waiting n.0.wait) y.3 ∙ ap (λ k. k + waiting n.0.wait) (left_count i es)
+    ∙ ap (λ k. departures i es + k) (waits_as n.0 at a x.0 x.1 x.2)

@@ -4,6 +4,7 @@ use Rattle.std.specs.List.{list_any}
 use Rattle.ti_base.specs.declared.place.Place.{Place}
 use Rattle.ti_base.specs.declared.value.Id.{Id}
 use Rattle.ti_base.specs.declared.action.Action.TheVariants as act
+use Rattle.ti_base.specs.declared.value.Value.{Value}
 use Rattle.ti_lang.specs.Program.Types.{ValueType, Declaration, VariableUse}
 use Rattle.ti_lang.specs.Program.Types as t
 use Rattle.ti_lang.specs.Program.Expressions.{NumberedExp, place_of_numbered}
@@ -26,7 +27,8 @@ use Rattle.ti_lang.specs.Meaning.Evaluation.{eval, eval_numbers}
 use Rattle.ti_lang.specs.Meaning.Targets.{Target, InVariable, InPart, located, held_in, stored, into}
 use Rattle.ti_rules.specs.Broken.Targets.{is_foreach_use}
 use Rattle.ti_rules.specs.Broken.Statements.{narrows}
-use Rattle.ti_align.specs.Things.{Things, Grows, IsStorable, IsGridOf, IsOf, DimsFine}
+use Rattle.ti_lang.specs.Meaning.Answers.{IsPointOf, HasForm}
+use Rattle.ti_align.specs.Things.{Things, Grows, NamesNothing, IsStorable, IsGridOf, IsOf, DimsFine}
 use Rattle.ti_align.specs.Sound.{IsFieldOf, Sound}
 use Rattle.ti_align.specs.Fitting.{EnvFits, FieldsFit}
 use Rattle.ti_align.specs.Heap.{FieldsStorable}
@@ -34,7 +36,8 @@ use Rattle.ti_align.specs.Work.{VariablesFit, uses_of, IsTarget, ReceiverFits}
 use Rattle.ti_align.proofs.Vars.{true_false, and_left, and_right}
 use Rattle.ti_align.proofs.Computing.{grows_not, grows_then, grid_stays, of_stays, sound_then, sound_value, sound_asked}
 use Rattle.ti_align.proofs.Operating.{none_some, some_same, where_some, or_either, type_same, Seen, seen_same, converted_fine, cast_fine, operated_fine}
-use Rattle.ti_align.proofs.Evaluating.{and_then, mapped, both_there, no_call, named_field, needed_fine, object_of, grid_in, ints_count, counts, Evaluates, env_stays, point_dim, zero_fine, eval_fine, numbers_fine}
+use Rattle.ti_align.proofs.Evaluating.{and_then, mapped, both_there, no_call, named_field, needed_fine, object_of, grid_in, ints_count, counts, Evaluates, env_stays, Numbers, zero_fine, eval_fine, numbers_fine}
+use Rattle.ti_align.proofs.Forms.{numbers_point}
 
 -- ---- types that are alike
 
@@ -86,8 +89,8 @@ read_alike false a = global_twice a
 
 -- what goes into a cell
 pub plain_is : (w : Things) (a : ValueType) (h : Held) → IsStorable a → IsOf w a h → IsOf w a (Plain (plain_of h))
-plain_is w t.Int h s k = (k.0, ap (λ y. Plain (plain_of y)) k.1)
-plain_is w t.Long h s k = (k.0, ap (λ y. Plain (plain_of y)) k.1)
+plain_is w t.Int h s k = (k.0, ap (λ y. Plain (plain_of y)) k.1, k.2)
+plain_is w t.Long h s k = (k.0, ap (λ y. Plain (plain_of y)) k.1, k.2)
 plain_is w t.Boolean h s k = (k.0, ap (λ y. Plain (plain_of y)) k.1)
 plain_is w (t.Pt n) h s k = (k.0, ap (λ y. Plain (plain_of y)) k.1, k.2)
 plain_is w (t.Rc n) h s k = (k.0, ap (λ y. Plain (plain_of y)) k.1, k.2)
@@ -97,6 +100,20 @@ plain_is w (t.Dm n) h s k = absurd s
 plain_is w t.Region h s k = absurd s
 plain_is w t.Null h s k = absurd s
 plain_is w t.Void h s k = absurd s
+
+-- a value of a type that names nothing has the form of the type
+pub has_form : (w : Things) (type : ValueType) (value : Value) → NamesNothing type → IsOf w type (Plain value) → HasForm type value
+has_form w t.Int value n k = subst (HasForm t.Int) (sym (ap plain_of k.1)) k.2
+has_form w t.Long value n k = subst (HasForm t.Long) (sym (ap plain_of k.1)) k.2
+has_form w t.Boolean value n k = subst (HasForm t.Boolean) (sym (ap plain_of k.1)) tt
+has_form w (t.Pt m) value n k = subst (HasForm (t.Pt m)) (sym (ap plain_of k.1)) k.2
+has_form w (t.Rc m) value n k = subst (HasForm (t.Rc m)) (sym (ap plain_of k.1)) k.2
+has_form w t.Region value n k = absurd n
+has_form w (t.Dm m) value n k = absurd n
+has_form w (t.Class c l) value n k = absurd n
+has_form w (t.Grid x m l) value n k = absurd n
+has_form w t.Null value n k = absurd n
+has_form w t.Void value n k = absurd n
 
 -- ---- variables
 
@@ -144,7 +161,7 @@ without_fits w xs (y ∷ ys) f = by (not (list_any (λ x. same_variable x y.name
 abbrev TargetFits : NumberedProgram → Things → ValueType → Target → Type 0
 TargetFits p w u (InVariable x) = u ≡ declared_type x.declared
 TargetFits p w u (InPart (Field object through field)) = (id : Id) → thing_of object ≡ Some id → (a : ValueType) × (as_global u ≡ as_global a) × IsFieldOf p w id field a
-TargetFits p w u (InPart (Element grid through index)) = (id : Id) → thing_of grid ≡ Some id → (a : ValueType) × (n : ℕ) × (as_global u ≡ as_global a) × IsGridOf w a n id × (index.dim ≡ n)
+TargetFits p w u (InPart (Element grid through index)) = (id : Id) → thing_of grid ≡ Some id → (a : ValueType) × (n : ℕ) × (as_global u ≡ as_global a) × IsGridOf w a n id × IsPointOf n index
 
 target_stays : (p : NumberedProgram) (u w : Things) (type : ValueType) (x : Target) → Grows u w → TargetFits p u type x → TargetFits p w type x
 target_stays p u w type (InVariable x) g f = f
@@ -165,20 +182,20 @@ module _ (s : ScopeContents) (w : Things) (env : Env) (f : EnvFits (uses_of env.
       by (t.Typed l a) z i = sym (some_same a u z)
       by t.Foreach z i = absurd (true_false i)
 
-  index_dims : (a u : ValueType) (ts : List ValueType) (h : Held) (zs : List ℤ) (through : ValueType) (x : Things) → index_type a ts ≡ Some u → DimsFine a → IsOf x a h → length zs ≡ counts ts → TargetFits p x u (InPart (Element h through (point_of_numbers zs)))
+  index_dims : (a u : ValueType) (ts : List ValueType) (h : Held) (zs : List ℤ) (through : ValueType) (x : Things) → index_type a ts ≡ Some u → DimsFine a → IsOf x a h → Numbers (counts ts) zs → TargetFits p x u (InPart (Element h through (point_of_numbers zs)))
   index_dims (t.Pt n) u ts h zs through x z d k c = λ id q. absurd (none_some id (sym (ap thing_of k.1) ∙ q))
   index_dims (t.Grid a n l) u ts h zs through x z d k c = λ id q. by ts z c (grid_in x a n l h k id q)
     where
-      by : (ts : List ValueType) → index_type (t.Grid a n l) ts ≡ Some u → length zs ≡ counts ts → {id : Id} → IsGridOf x a n id → (b : ValueType) × (m : ℕ) × (as_global u ≡ as_global b) × IsGridOf x b m id × ((point_of_numbers zs).dim ≡ m)
+      by : (ts : List ValueType) → index_type (t.Grid a n l) ts ≡ Some u → Numbers (counts ts) zs → {id : Id} → IsGridOf x a n id → (b : ValueType) × (m : ℕ) × (as_global u ≡ as_global b) × IsGridOf x b m id × IsPointOf m (point_of_numbers zs)
       by (t.Pt m ∷ []) z c i =
           let q = where_some (n == m) (read_through l a) u z in
-          (a, n, ap as_global (sym q.1) ∙ read_alike l a, i, point_dim zs n (c ∙ plus_zero m ∙ sym (eqb-true n m q.0)) d.0)
+          (a, n, ap as_global (sym q.1) ∙ read_alike l a, i, numbers_point zs n (c.0 ∙ plus_zero m ∙ sym (eqb-true n m q.0)) d.0 c.1)
         where
           plus_zero : (m : ℕ) → m + 0 ≡ m
           plus_zero m = omega arith
       by ts z c i =
           let q = where_some (all_ints ts && (length ts == n)) (read_through l a) u z in
-          (a, n, ap as_global (sym q.1) ∙ read_alike l a, i, point_dim zs n (c ∙ ints_count ts (and_left (all_ints ts) (length ts == n) q.0) ∙ eqb-true (length ts) n (and_right (all_ints ts) (length ts == n) q.0)) d.0)
+          (a, n, ap as_global (sym q.1) ∙ read_alike l a, i, numbers_point zs n (c.0 ∙ ints_count ts (and_left (all_ints ts) (length ts == n) q.0) ∙ eqb-true (length ts) n (and_right (all_ints ts) (length ts == n) q.0)) d.0 c.1)
   index_dims _ u ts h zs through x z d k c = absurd (none_some u z)
 
   located_fine : (target : NumberedExp) (u : ValueType) → IsTarget p env.method s target u → Sound p (λ x y. TargetFits p x u y) w (located env target)
@@ -204,7 +221,7 @@ module _ (s : ScopeContents) (w : Things) (env : Env) (f : EnvFits (uses_of env.
       let q = both_there index_type (operand_type p s a) (operands p s parts) u (plainly _ u k.0.1) in
       let r = eval_fine (uses_of env.method) s w env f g a k.0.0.0 q.0 q.2 in
       sound_then p (λ x h. IsOf x q.0 h) _ w (eval env a) _ r.sound (λ x j h y.
-      sound_then p (λ z zs. length zs ≡ counts q.1) _ x (eval_numbers env parts) _ (numbers_fine (uses_of env.method) s x env (env_stays (uses_of env.method) s w x env j f) g parts k.0.0.1 q.1 q.3) (λ z l zs c.
+      sound_then p (λ z zs. Numbers (counts q.1) zs) _ x (eval_numbers env parts) _ (numbers_fine (uses_of env.method) s x env (env_stays (uses_of env.method) s w x env j f) g parts k.0.0.1 q.1 q.3) (λ z l zs c.
       sound_value p _ z _ (index_dims q.0 u q.1 h zs (type_of env a) z q.4 r.dims (of_stays x z q.0 h l y) c)))
   located_fine _ u k = sound_value p _ w _ (λ id z. absurd (none_some id z))
 
@@ -215,7 +232,7 @@ module _ (s : ScopeContents) (w : Things) (env : Env) (f : EnvFits (uses_of env.
       sound_then p (λ x (r : Reference). (a : ValueType) × (as_global u ≡ as_global a) × IsFieldOf p x r.thing field a) _ w (needed at through object) _ (needed_fine p w at through object (λ x id. (a : ValueType) × (as_global u ≡ as_global a) × IsFieldOf p x id field a) k) (λ x j r z.
       sound_asked p _ x (request_through r at (act.GetField r.thing field) (ValueOf type)) (z.0, z.2) (λ y l answer q. alike y z.0 u _ (sym z.1) (q z.0 (z.2.0, l.classes r.thing z.2.0 z.2.1, z.2.2))))
   held_fine at u type (InPart (Element grid through index)) d k v =
-      sound_then p (λ x (r : Reference). (a : ValueType) × (n : ℕ) × (as_global u ≡ as_global a) × IsGridOf x a n r.thing × (index.dim ≡ n)) _ w (needed at through grid) _ (needed_fine p w at through grid (λ x id. (a : ValueType) × (n : ℕ) × (as_global u ≡ as_global a) × IsGridOf x a n id × (index.dim ≡ n)) k) (λ x j r z.
+      sound_then p (λ x (r : Reference). (a : ValueType) × (n : ℕ) × (as_global u ≡ as_global a) × IsGridOf x a n r.thing × IsPointOf n index) _ w (needed at through grid) _ (needed_fine p w at through grid (λ x id. (a : ValueType) × (n : ℕ) × (as_global u ≡ as_global a) × IsGridOf x a n id × IsPointOf n index) k) (λ x j r z.
       sound_asked p _ x (request_through r at (act.GetElem r.thing index) (ValueOf type)) (z.0, z.1, z.3, z.4) (λ y l answer q. alike y z.0 u _ (sym z.2) (q z.0 z.1 (grid_stays x y z.0 z.1 r.thing l z.3))))
 
   -- what a target takes
@@ -227,7 +244,7 @@ module _ (s : ScopeContents) (w : Things) (env : Env) (f : EnvFits (uses_of env.
       (sound_asked p _ x (request_through r at (act.PutField r.thing field (plain_of h)) ToBeDone) (z.0, z.2, plain_is x z.0 h (d z.2.0 field z.0 z.2.2) (alike x u z.0 h z.1 (of_stays w x u h j i))) (λ y l answer q. tt)) (λ y l o q.
       sound_value p _ y _ (variables_stay x y env.variables l (variables_stay w x env.variables j v))))
   stored_fine d at u (InPart (Element grid through index)) h k v i =
-      sound_then p (λ x (r : Reference). (a : ValueType) × (n : ℕ) × (as_global u ≡ as_global a) × IsGridOf x a n r.thing × (index.dim ≡ n)) _ w (needed at through grid) _ (needed_fine p w at through grid (λ x id. (a : ValueType) × (n : ℕ) × (as_global u ≡ as_global a) × IsGridOf x a n id × (index.dim ≡ n)) k) (λ x j r z.
+      sound_then p (λ x (r : Reference). (a : ValueType) × (n : ℕ) × (as_global u ≡ as_global a) × IsGridOf x a n r.thing × IsPointOf n index) _ w (needed at through grid) _ (needed_fine p w at through grid (λ x id. (a : ValueType) × (n : ℕ) × (as_global u ≡ as_global a) × IsGridOf x a n id × IsPointOf n index) k) (λ x j r z.
       sound_then p (λ y o. Unit {0}) _ x (asked (request_through r at (act.PutElem r.thing index (plain_of h)) ToBeDone)) _
       (sound_asked p _ x (request_through r at (act.PutElem r.thing index (plain_of h)) ToBeDone) (z.0, z.1, z.3, z.4, plain_is x z.0 h z.3.4 (alike x u z.0 h z.2 (of_stays w x u h j i))) (λ y l answer q. tt)) (λ y l o q.
       sound_value p _ y _ (variables_stay x y env.variables l (variables_stay w x env.variables j v))))

@@ -1,12 +1,12 @@
 -- Each piece of work that fits comes to a move that fits.
-use Rattle.std.proofs.Common.{◌≡◌, ℕ, ◌==◌, Bool, true, false, inl, if◌then◌else◌, option_map, Option, Some, None, List, [], ◌∷◌, ◌++◌, refl, ap, sym, subst}
+use Rattle.std.proofs.Common.{w32, ◌≡◌, ℕ, pos, arith, ◌==◌, Bool, true, false, inl, if◌then◌else◌, option_map, Option, Some, None, List, [], ◌∷◌, ◌++◌, refl, ap, sym, subst}
 use Rattle.ti_base.specs.declared.place.Place.{Place}
 use Rattle.ti_base.specs.declared.value.Value.{Value}
 use Rattle.ti_base.specs.declared.fault.FaultKind.TheVariants as fault
 use Rattle.ti_base.specs.declared.action.Action.TheVariants as act
 use Rattle.ti_base.specs.declared.action.Deposit.TheVariants as deposit
-use Rattle.ti_base.specs.PointSets.{AllOf}
-use Rattle.ti_base.specs.Rects.{points_of}
+use Rattle.ti_base.specs.Points.{IsDim}
+use Rattle.ti_base.specs.WholeNumbers.{Fits}
 use Rattle.ti_lang.specs.Program.Types.{ValueType}
 use Rattle.ti_lang.specs.Program.Types as t
 use Rattle.ti_lang.specs.Program.Expressions.{NumberedExp}
@@ -18,6 +18,7 @@ use Rattle.ti_lang.specs.Typing.Declared.{result_type}
 use Rattle.ti_lang.specs.Typing.Kinds.{element_of, as_global, domain_dim}
 use Rattle.ti_lang.specs.Meaning.Held.{Held, Plain, rect_of, region_of, plain_of, points_in, truth_of}
 use Rattle.ti_lang.specs.Meaning.Asking.{ToBeDone, ValueOf, NewThing, request, request_through, Asking, ◌>>=◌, gives, asked}
+use Rattle.ti_lang.specs.Meaning.Answers.{IsPointOf, IsRectOf}
 use Rattle.ti_lang.specs.Meaning.Conversions.{converted}
 use Rattle.ti_lang.specs.Meaning.Zeros.{zero_of_type}
 use Rattle.ti_lang.specs.Meaning.Makers.{region_for, spread, new_object, new_grid}
@@ -30,13 +31,14 @@ use Rattle.ti_lang.specs.Meaning.Copies.{element_at, copied, taken}
 use Rattle.ti_lang.specs.Meaning.Statements.{made_first, initialized, prints, printed, returns}
 use Rattle.ti_lang.specs.Meaning.Performing.{condition, before_turn, update_of, turned}
 use Rattle.ti_rules.specs.InitialTypes.{can_broadcast}
-use Rattle.ti_align.specs.Things.{Things, Grows, HasDims, IsPlaced, IsOf}
+use Rattle.ti_align.specs.Things.{Things, Grows, ArePoints, IsPlaced, IsOf}
 use Rattle.ti_align.specs.Sound.{Sound}
 use Rattle.ti_align.specs.Work
 use Rattle.ti_lang.specs.Meaning.Processes
 use Rattle.ti_align.specs.Work.{VariablesFit, uses_of, scope_inside, scope_over, domain_written, IsInner, ReceiverFits, RegionFits, InitFits, PrintFits, ConditionFits, DomainFits, StmFits, MaybeFits, StmsFit, LoopFits, given_at, TakesOf, WorksFit}
 use Rattle.ti_align.proofs.Computing.{grows_then, grid_stays, place_stays, of_stays, sound_then, sound_value, sound_guarded, sound_asked}
-use Rattle.ti_align.proofs.Operating.{some_same, none_some, seen_same, converted_fine, points_dim}
+use Rattle.ti_align.proofs.Operating.{some_same, none_some, seen_same, converted_fine}
+use Rattle.ti_align.proofs.Forms.{numbers_point, points_placed}
 use Rattle.ti_align.proofs.Evaluating.{eval_fine}
 use Rattle.ti_align.proofs.Storing.{plain_is, variables_stay}
 use Rattle.ti_align.proofs.Performed.{Ready, ready_stays, Fine, inner_fine, receives_fine, whole_fine}
@@ -45,8 +47,8 @@ sent : (w : Things) (u : ValueType) (h : Held) → can_broadcast u ≡ true → 
 sent w t.Int h z k = plain_is w t.Int h tt k
 sent w t.Long h z k = plain_is w t.Long h tt k
 sent w t.Boolean h z k = plain_is w t.Boolean h tt k
-sent w (t.Pt n) h z k = plain_is w (t.Pt n) h tt k
-sent w (t.Rc n) h z k = plain_is w (t.Rc n) h tt k
+sent w (t.Pt n) h z k = plain_is w (t.Pt n) h (subst IsDim k.2.dim_is k.2.form.dim) k
+sent w (t.Rc n) h z k = plain_is w (t.Rc n) h (subst IsDim k.2.dim_is k.2.form.0) k
 sent w (t.Class c l) h z k = plain_is w (t.Class c l) h tt k
 sent w (t.Grid x n l) h z k = plain_is w (t.Grid x n l) h tt k
 sent w t.Null h z k = ap (λ y. Plain (plain_of y)) k
@@ -55,10 +57,14 @@ sent w t.Region h z k = cc
 sent w t.Void h z k = cc
 
 -- the points of a domain
-pub points_fit : (w : Things) (u : ValueType) (n : ℕ) (h : Held) → domain_dim u ≡ Some n → IsOf w u h → AllOf n (points_in h)
-points_fit w (t.Rc m) n h z k = subst (λ i. AllOf i (points_in h)) (some_same m n z) (subst (λ y. AllOf m (points_in y)) (sym k.1) (subst (λ i. AllOf i (points_of k.0)) k.2.0 (points_dim k.0)))
-points_fit w (t.Dm m) n h z k = subst (λ i. AllOf i (points_in h)) (some_same m n z) (subst (λ y. AllOf m (points_in y)) (sym k.1) k.2)
+pub points_fit : (w : Things) (u : ValueType) (n : ℕ) (h : Held) → domain_dim u ≡ Some n → IsOf w u h → ArePoints n (points_in h)
+points_fit w (t.Rc m) n h z k = subst (λ i. ArePoints i (points_in h)) (some_same m n z) (subst (λ y. ArePoints m (points_in y)) (sym k.1) (points_placed m k.0 k.2).0)
+points_fit w (t.Dm m) n h z k = subst (λ i. ArePoints i (points_in h)) (some_same m n z) (subst (λ y. ArePoints m (points_in y)) (sym k.1) k.2.points)
 points_fit w _ n h z k = absurd (none_some n z)
+
+-- the point of a process in a grid of one dimension
+element_point : (i : ℕ) → Fits w32 (pos i) → IsPointOf 1 (element_at i)
+element_point i f = numbers_point (pos i ∷ []) 1 refl (omega arith, omega arith) (f, tt)
 
 module _ (s : ScopeContents) (env : Env) where
   abbrev p : NumberedProgram
@@ -101,11 +107,11 @@ module _ (s : ScopeContents) (env : Env) where
       made_fine None untaken w r receiver type (new_grid env at region element.type dims_at dims) q (subst (λ y. Sound p (λ u h. IsOf u y h) w (new_grid env at region element.type dims_at dims)) (sym k.1) (
       sound_then p (λ u r. IsPlaced u r) _ w (region_for env region) _ (region_fine w r region k.2) (λ u g i y.
       sound_then p (λ u h. IsOf u (t.Rc k.0) h) _ u (spread env dims_at dims) _ (spread_fine u (ready_stays s w u env g r) dims_at dims k.0 k.3) (λ x j h o.
-      let dims_are : HasDims k.0 (rect_of h) = subst (HasDims k.0) (sym (ap rect_of o.1)) o.2 in
+      let is_rect : IsRectOf k.0 (rect_of h) = subst (IsRectOf k.0) (sym (ap rect_of o.1)) o.2 in
       let fine = (eval_fine (uses_of env.method) s w env r.fits r.fields (domain_written dims_at dims) k.3.0 (t.Rc k.0) k.3.1).dims in
       sound_asked p _ x (request at (act.NewGrid (zero_of_type element.type) (rect_of h) i) (NewThing (t.Grid element.type (rect_of h).dim true)))
-      (element.type, k.0, ap (λ n. NewThing (t.Grid element.type n true)) dims_are.0, refl, dims_are, fine, place_stays u x i j y, k.4)
-      (λ z l answer c. c element.type k.0 (ap (λ n. NewThing (t.Grid element.type n true)) dims_are.0))))
+      (element.type, k.0, ap (λ n. NewThing (t.Grid element.type n true)) is_rect.dim_is, refl, is_rect, fine, place_stays u x i j y, k.4)
+      (λ z l answer c. c element.type k.0 (ap (λ n. NewThing (t.Grid element.type n true)) is_rect.dim_is))))
       ))
   init_fine untaken w r receiver (st.Broadcast at x root) type k q =
       sound_then p (λ u h. IsOf u t.Int h) _ w (eval env root) _ (inner_fine s env w r root t.Int k.3.0 k.3.1) (λ u g h y.
@@ -171,9 +177,9 @@ module _ (s : ScopeContents) (env : Env) where
       let a = element_of grid.type in
       sound_then p (λ u h. IsOf u a h) _ w (asked (request at (act.Take i) (ValueOf a))) _ (sound_asked p _ w (request at (act.Take i) (ValueOf a)) tt (λ u g answer o. o a refl)) (λ u g h y.
       sound_then p (λ u h. Unit {0}) _ u (asked (request_through grid at (act.PutElem grid.thing (element_at i) (plain_of h)) ToBeDone)) _
-      (sound_asked p _ u (request_through grid at (act.PutElem grid.thing (element_at i) (plain_of h)) ToBeDone) (a, 1, grid_stays w u a 1 grid.thing g k, refl, plain_is u a h k.4 y) (λ b j answer o. tt)) (λ b j z o.
+      (sound_asked p _ u (request_through grid at (act.PutElem grid.thing (element_at i) (plain_of h)) ToBeDone) (a, 1, grid_stays w u a 1 grid.thing g k.0, element_point i k.1.0, plain_is u a h k.0.4 y) (λ b j answer o. tt)) (λ b j z o.
       let all = grows_then w u b g j in
-      sound_value p _ b _ (variables_stay w b env.variables all r.variables, (grid_stays w b a 1 grid.thing all k, tt), (refl, tt))))
+      sound_value p _ b _ (variables_stay w b env.variables all r.variables, ((grid_stays w b a 1 grid.thing all k.0, k.1.1), tt), (refl, tt))))
 
   -- ---- blocks
 

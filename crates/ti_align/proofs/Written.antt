@@ -187,8 +187,8 @@ module _ (p : NumberedProgram) (fields : FieldsMeant p) (m : NumberedMethod) (s 
   mutual
     -- what is meant is written so
     pub written : (x : NumberedExp) → ExpMeant p m turns x → IsWritten (uses_of m) x
-    written (e.Int at n) k = tt
-    written (e.Long at n) k = tt
+    written (e.Int at n) k = k
+    written (e.Long at n) k = k
     written (e.Truth at b) k = tt
     written (e.Null at) k = tt
     written (e.This at) k = tt

@@ -1,6 +1,8 @@
 -- Where an expression is evaluated, and when that fits the scope by which it is judged.
-use Rattle.std.specs.Prelude.{◌≡◌, ℕ, Bool, true, Some}
+use Rattle.std.specs.Prelude.{◌≡◌, ℕ, pos, Bool, true, Some}
+use Rattle.std.specs.Int.{w32, w64}
 use Rattle.ti_base.specs.declared.value.Id.{Id}
+use Rattle.ti_base.specs.WholeNumbers.{Fits}
 use Rattle.ti_base.specs.Points.{IsDim}
 use Rattle.ti_lang.specs.Program.Types.{ValueType, Foreach, VariableUse}
 use Rattle.ti_lang.specs.Program.Types as t
@@ -14,8 +16,11 @@ use Rattle.ti_lang.specs.Typing.Expressions.{range_count}
 use Rattle.ti_lang.specs.Meaning.Scoping.{Env, value_by}
 use Rattle.ti_align.specs.Things.{Things, IsOf, DimsFine}
 
--- `this` is an object of its class, and each variable that is used holds a value of its type; one of a foreach is a point
+-- The number of the process and how many there are have 32 bits, `this` is an object of its class, and each variable that is used holds
+-- a value of its type; one of a foreach is a point.
 pub record EnvFits (uses : VariableUse → Bool) (s : ScopeContents) (w : Things) (env : Env) : Type 0 where
+  pub number : Fits w32 (pos env.number)
+  pub procs : Fits w32 (pos env.procs)
   pub this_class : s.this_class ≡ this_of env.method
   pub this : (class : ℕ) → s.this_class ≡ Some class → (id : Id) → env.this ≡ Some id → w.class_at id ≡ Some class
   pub variables : (x : VariableUse) (type : ValueType) → uses x ≡ true → variable_type s x ≡ Some type → IsOf w type (value_by x.declared env x)
@@ -28,8 +33,11 @@ FieldsFit p = (class field : ℕ) (type : ValueType) → field_type p class fiel
 
 module _ (uses : VariableUse → Bool) where
   abbrev mutual
-    -- points and rectangular domains are written with one to three dimensions, and so are the types in casts; these variables are used
+    -- numbers are written within their ranges, points and rectangular domains with one to three dimensions, and so are the types in casts;
+    -- these variables are used
     pub IsWritten : NumberedExp → Type 0
+    IsWritten (e.Int at n) = Fits w32 n
+    IsWritten (e.Long at n) = Fits w64 n
     IsWritten (e.Variable at v) = uses v ≡ true
     IsWritten (e.Point at parts) = IsDim (how_many parts) × AreWritten parts
     IsWritten (e.Rect at ranges) = IsDim (range_count ranges) × AreRangesWritten ranges

@@ -3,6 +3,7 @@ pub mod Alignment
 pub mod Stopping
 pub mod Things
 pub mod Sound
+pub mod Literals
 pub mod Fitting
 pub mod Heap
 pub mod Work

@@ -1,5 +1,6 @@
 -- Computations that ask only for what is there, and come to what they should, whatever fitting answers they get.
 use Rattle.std.specs.Prelude.{◌≡◌, ℕ, ◌<◌, ◌-◌, true, List, [], ◌∷◌, Some}
+use Rattle.std.specs.Int.{w32}
 use Rattle.ti_base.specs.declared.place.Place.{Place}
 use Rattle.ti_base.specs.declared.value.Id.{Id}
 use Rattle.ti_base.specs.declared.fault.FaultKind.{FaultKind}
@@ -9,6 +10,7 @@ use Rattle.ti_base.specs.declared.action.ViewHow.{ViewHow}
 use Rattle.ti_base.specs.declared.action.ViewHow.TheVariants.{Restrict, Translate, Slice}
 use Rattle.ti_base.specs.declared.entry.Answer.{Answer}
 use Rattle.ti_base.specs.declared.value.Zero.{Zero}
+use Rattle.ti_base.specs.WholeNumbers.{Fits}
 use Rattle.ti_base.specs.Points.{IsDim}
 use Rattle.ti_lang.specs.Program.Types.{ValueType}
 use Rattle.ti_lang.specs.Program.Types as t
@@ -16,16 +18,17 @@ use Rattle.ti_lang.specs.Program.Classes.{NumberedProgram}
 use Rattle.ti_lang.specs.Typing.Declared.{field_type}
 use Rattle.ti_lang.specs.Meaning.Held.{Plain}
 use Rattle.ti_lang.specs.Meaning.Zeros.{zeros_of_class, zero_of_type}
+use Rattle.ti_lang.specs.Meaning.Answers.{IsPointOf, IsRectOf}
 use Rattle.ti_lang.specs.Meaning.Asking.{Wanted, ValueOf, NewThing, Request, Asking, Gives, Asks, Fails, told}
-use Rattle.ti_align.specs.Things.{Things, Grows, HasDims, IsStorable, IsGridOf, IsPlaced, IsOf}
+use Rattle.ti_align.specs.Things.{Things, Grows, IsStorable, IsGridOf, IsPlaced, IsOf}
 
 -- ---- what is asked for
 
--- how a view is taken of a grid of so many dimensions
+-- how a view is taken of a grid of so many dimensions: what it says is in its form
 abbrev pub SuitsView : ViewHow → ℕ → Type 0
-SuitsView (Restrict r) n = r.dim ≡ n
-SuitsView (Translate by) n = by.dim ≡ n
-SuitsView (Slice k j) n = 1 < n
+SuitsView (Restrict r) n = IsRectOf n r
+SuitsView (Translate by) n = IsPointOf n by
+SuitsView (Slice k j) n = (1 < n) × Fits w32 k × Fits w32 j
 
 -- the dimensions of the view
 abbrev pub dims_viewed : ViewHow → ℕ → ℕ
@@ -42,9 +45,9 @@ IsThere p w (act.GetField obj field) wanted = (type : ValueType) × IsFieldOf p 
 IsThere p w (act.PutField obj field value) wanted = (type : ValueType) × IsFieldOf p w obj field type × IsOf w type (Plain value)
 IsThere p w (act.NewObj class region) wanted = (zeros : List Zero) × (zeros_of_class p class ≡ Some zeros) × IsPlaced w region
 IsThere p w (act.NewGrid zero domain region) wanted =
-    (element : ValueType) × (n : ℕ) × (wanted ≡ NewThing (t.Grid element n true)) × (zero ≡ zero_of_type element) × HasDims n domain × IsDim n × IsPlaced w region × IsStorable element
-IsThere p w (act.GetElem grid at) wanted = (element : ValueType) × (n : ℕ) × IsGridOf w element n grid × (at.dim ≡ n)
-IsThere p w (act.PutElem grid at value) wanted = (element : ValueType) × (n : ℕ) × IsGridOf w element n grid × (at.dim ≡ n) × IsOf w element (Plain value)
+    (element : ValueType) × (n : ℕ) × (wanted ≡ NewThing (t.Grid element n true)) × (zero ≡ zero_of_type element) × IsRectOf n domain × IsDim n × IsPlaced w region × IsStorable element
+IsThere p w (act.GetElem grid at) wanted = (element : ValueType) × (n : ℕ) × IsGridOf w element n grid × IsPointOf n at
+IsThere p w (act.PutElem grid at value) wanted = (element : ValueType) × (n : ℕ) × IsGridOf w element n grid × IsPointOf n at × IsOf w element (Plain value)
 IsThere p w (act.MakeView grid how) wanted = (element : ValueType) × (n : ℕ) × IsGridOf w element n grid × SuitsView how n
 IsThere p w (act.DomainOf grid) wanted = (element : ValueType) × (n : ℕ) × IsGridOf w element n grid
 IsThere p w a wanted = Unit {0}

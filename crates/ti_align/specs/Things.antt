@@ -1,15 +1,19 @@
--- What is there at a moment of a run, and which values are of which type then. Ranges of numbers are no part of it.
-use Rattle.std.specs.Prelude.{◌≡◌, ◌⊎◌, ℕ, ℤ, Bool, true, List, Option, Some, None}
+-- What is there at a moment of a run, and which values are of which type then.
+use Rattle.std.specs.Prelude.{◌≡◌, ◌⊎◌, ◌≤◌, ℕ, ℤ, Bool, true, List, [], ◌∷◌, length, Option, Some, None}
+use Rattle.std.specs.Int.{w32, w64}
 use Rattle.ti_base.specs.declared.point.Point.{Point}
 use Rattle.ti_base.specs.declared.point.Rect.{Rect}
 use Rattle.ti_base.specs.declared.value.Id.{Id}
 use Rattle.ti_base.specs.declared.value.Value.TheVariants as v
-use Rattle.ti_base.specs.PointSets.{AllOf}
+use Rattle.ti_base.specs.WholeNumbers.{Fits}
+use Rattle.ti_base.specs.PointSets.{Rises}
 use Rattle.ti_base.specs.Points.{IsDim}
 use Rattle.ti_base.specs.Cells.{Grid}
 use Rattle.ti_lang.specs.Program.Types.{ValueType}
 use Rattle.ti_lang.specs.Program.Types as t
 use Rattle.ti_lang.specs.Meaning.Held.{Held, Plain, Dm}
+use Rattle.ti_lang.specs.Meaning.Answers.{IsPointOf, IsRectOf}
+use Rattle.ti_lang.specs.Meaning.Conversions.{most_points}
 
 -- ---- things
 
@@ -29,12 +33,21 @@ pub record Grows (u w : Things) : Type 0 where
 
 -- ---- values of types
 
--- a rectangular domain of so many dimensions
-abbrev pub HasDims : ℕ → Rect → Type 0
-HasDims n r = (r.dim ≡ n) × (r.lo.dim ≡ n) × (r.hi.dim ≡ n)
+-- all points are of this dimension, with coordinates of 32 bits
+abbrev pub ArePoints : ℕ → List Point → Type 0
+ArePoints n [] = Unit {0}
+ArePoints n (p ∷ ps) = IsPointOf n p × ArePoints n ps
 
--- a type that a field or an element may have
+-- a domain of this dimension: its list rises, and isn't longer than it may be
+pub record IsDomainOf (n : ℕ) (ps : List Point) : Type 0 where
+  pub points : ArePoints n ps
+  pub rises : Rises ps
+  pub few : length ps ≤ most_points
+
+-- a type that a field or an element may have; one to three dimensions, wherever it has any
 abbrev pub IsStorable : ValueType → Type 0
+IsStorable (t.Pt n) = IsDim n
+IsStorable (t.Rc n) = IsDim n
 IsStorable (t.Dm n) = ⊥
 IsStorable t.Region = ⊥
 IsStorable t.Null = ⊥
@@ -43,25 +56,34 @@ IsStorable type = Unit {0}
 
 -- the thing is a grid of so many dimensions, whose elements have this type
 abbrev pub IsGridOf : Things → ValueType → ℕ → Id → Type 0
-IsGridOf w element n id = (g : Grid) × (w.grid_at id ≡ Some g) × HasDims n g.domain × (w.element_at g.block ≡ Some element) × IsStorable element
+IsGridOf w element n id = (g : Grid) × (w.grid_at id ≡ Some g) × IsRectOf n g.domain × (w.element_at g.block ≡ Some element) × IsStorable element
 
 -- things are placed there: in none, or in a region that was made
 abbrev pub IsPlaced : Things → ℕ → Type 0
 IsPlaced w r = (r ≡ 0) ⊎ (w.is_made r ≡ true)
 
--- a value of the type; a reference names nothing, or a thing of the class, or of the element type and dimensions
+-- a value of the type, in the form of its type; a reference names nothing, or a thing of the class, or of the element type and dimensions
 abbrev pub IsOf : Things → ValueType → Held → Type 0
-IsOf w t.Int h = (n : ℤ) × (h ≡ Plain (v.Int n))
-IsOf w t.Long h = (n : ℤ) × (h ≡ Plain (v.Long n))
+IsOf w t.Int h = (n : ℤ) × (h ≡ Plain (v.Int n)) × Fits w32 n
+IsOf w t.Long h = (n : ℤ) × (h ≡ Plain (v.Long n)) × Fits w64 n
 IsOf w t.Boolean h = (b : Bool) × (h ≡ Plain (v.Bool b))
-IsOf w (t.Pt n) h = (p : Point) × (h ≡ Plain (v.Pt p)) × (p.dim ≡ n)
-IsOf w (t.Rc n) h = (r : Rect) × (h ≡ Plain (v.Rc r)) × HasDims n r
-IsOf w (t.Dm n) h = (ps : List Point) × (h ≡ Dm n ps) × AllOf n ps
+IsOf w (t.Pt n) h = (p : Point) × (h ≡ Plain (v.Pt p)) × IsPointOf n p
+IsOf w (t.Rc n) h = (r : Rect) × (h ≡ Plain (v.Rc r)) × IsRectOf n r
+IsOf w (t.Dm n) h = (ps : List Point) × (h ≡ Dm n ps) × IsDomainOf n ps
 IsOf w t.Region h = (r : ℕ) × (h ≡ Plain (v.Region r)) × IsPlaced w r
 IsOf w (t.Class class is_local) h = (o : Option Id) × (h ≡ Plain (v.Obj o)) × ((id : Id) → o ≡ Some id → w.class_at id ≡ Some class)
 IsOf w (t.Grid element n is_local) h = (o : Option Id) × (h ≡ Plain (v.Grid o)) × ((id : Id) → o ≡ Some id → IsGridOf w element n id)
 IsOf w t.Null h = h ≡ Plain (v.Obj None)
 IsOf w t.Void h = Unit {0}
+
+-- a type whose values name no thing and no region
+abbrev pub NamesNothing : ValueType → Type 0
+NamesNothing t.Int = Unit {0}
+NamesNothing t.Long = Unit {0}
+NamesNothing t.Boolean = Unit {0}
+NamesNothing (t.Pt n) = Unit {0}
+NamesNothing (t.Rc n) = Unit {0}
+NamesNothing type = ⊥
 
 -- one to three dimensions, wherever there are any
 abbrev pub DimsFine : ValueType → Type 0

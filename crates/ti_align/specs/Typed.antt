@@ -1,11 +1,9 @@
 -- Types of runs: what each process of a run holds, where what is there is as the types say.
-use Rattle.std.specs.Prelude.{◌≡◌, ◌⊎◌, ℕ, suc, Bool, true, false, List, [], ◌∷◌, ◌++◌, Option, Some, None}
+use Rattle.std.specs.Prelude.{◌≡◌, ◌<◌, ℕ, suc, Bool, true, false, List, [], ◌∷◌, ◌++◌, Option, Some, None}
 use Rattle.ti_base.specs.declared.value.Value.{Value}
 use Rattle.ti_base.specs.declared.action.Action.{Action}
-use Rattle.ti_base.specs.declared.action.Action.TheVariants as act
 use Rattle.ti_base.specs.declared.action.CollKind.{CollKind}
 use Rattle.ti_base.specs.declared.action.CollKind.TheVariants as coll
-use Rattle.ti_base.specs.declared.entry.Answer.{Answer}
 use Rattle.ti_base.specs.declared.entry.Entry.{Entry}
 use Rattle.ti_base.specs.declared.entry.Next.TheVariants as next
 use Rattle.ti_base.specs.declared.place.Place.{Place}
@@ -15,21 +13,20 @@ use Rattle.ti_lang.specs.Program.Scope.{method_scope}
 use Rattle.ti_lang.specs.Typing.Declared.{result_type}
 use Rattle.ti_lang.specs.Typing.Kinds.{element_of}
 use Rattle.ti_lang.specs.Meaning.Held.{Plain}
-use Rattle.ti_lang.specs.Meaning.Asking.{Wanted, ToBeDone, Request, told}
+use Rattle.ti_lang.specs.Meaning.Asking.{Wanted}
 use Rattle.ti_lang.specs.Meaning.Processes.{Setting, Frame, Work, TakeAll, Wait, Process}
 use Rattle.ti_lang.specs.Meaning.Scoping.{env_of}
 use Rattle.ti_lang.specs.Meaning.Performing.{performed}
-use Rattle.ti_lang.specs.Meaning.Steps.{Step, To, At}
 use Rattle.ti_lang.specs.Meaning.NextStep.{IsNext}
 use Rattle.ti_lang.specs.Meaning.Histories.{arrivals, history_of}
 use Rattle.ti_lang.specs.Meaning.RoundsOf as rounds
 use Rattle.ti_lang.specs.Meaning.RoundsOf.{arrival_at, value_in}
 use Rattle.ti_lang.specs.Meaning.Runs.{World}
 use Rattle.ti_align.specs.Alignment.{Arrival, ArrivesAt}
-use Rattle.ti_align.specs.Things.{Things, Grows, IsOf}
-use Rattle.ti_align.specs.Sound.{IsThere, FitsAsked, Sound}
+use Rattle.ti_align.specs.Things.{Things, IsOf}
+use Rattle.ti_align.specs.Sound.{IsThere, Sound}
 use Rattle.ti_align.specs.Fitting.{FieldsFit}
-use Rattle.ti_align.specs.Work.{VariablesFit, scope_over, MethodsFit, ReceiverFits, ThisFits, DepositFits, given_type, taken_type, TakesOf, taken_behind, IsOfRound, WantsOf, WorksFit, IsAwaited, MoveFits}
+use Rattle.ti_align.specs.Work.{VariablesFit, scope_over, MethodsFit, ReceiverFits, ThisFits, given_type, taken_type, TakesOf, taken_behind, IsOfRound, WantsOf, WorksFit, IsAwaited, MoveFits}
 use Rattle.ti_align.specs.Heap.{Elements, things_of, FieldsStorable, HeapFits}
 
 -- ---- programs
@@ -100,27 +97,6 @@ NextFits w G pr None (f ∷ fs) = WorkSound w pr f f.left × TakesFirst G f.left
 abbrev pub ProcessFits : Things → (ValueType → Type 0) → Process → Type 0
 ProcessFits w G pr = FramesFit pr.setting.program w pr.frames × NextFits w G pr pr.wait pr.frames
 
--- ---- steps
-
--- What an action says fits, and behind an answer that fits the process does: behind an arrival with the second kind of types, as what
--- was handed in at its last collective is then of these.
-abbrev pub ActionFits : Things → (ValueType → Type 0) → (ValueType → Type 0) → Process → Request → Action → (Answer → Process) → Type 0
-ActionFits w G H pr request (act.Arrive kind arg given) go =
-    (type : ValueType) × DepositFits w type given × IsOfRound (λ u. given_by pr ≡ Some u) kind type
-    × (IsOfRound H kind type → (u : Things) → Grows w u → (r : Answer) → ProcessFits u H (go r))
-ActionFits w G H pr request act.Depart go =
-    (wait : Wait) × (type : ValueType) × (pr.wait ≡ Some wait) × IsOfRound G wait.kind type × WantsOf wait.kind wait.wanted
-    × ((u : Things) → Grows w u → (r : Answer) → (wait.wanted ≡ ToBeDone) ⊎ IsOf u type (told r) → ProcessFits u G (go r))
-ActionFits w G H pr request (act.Take who) go =
-    (type : ValueType) × G type × ((u : Things) → Grows w u → (r : Answer) → IsOf u type (told r) → ProcessFits u G (go r))
-ActionFits w G H pr request a go = (u : Things) → Grows w u → (r : Answer) → FitsAsked pr.setting.program u a request.wanted r → ProcessFits u G (go r)
-
--- a step fits: what an action names is there, and the process goes on so that it fits
-abbrev pub StepFits : Things → (ValueType → Type 0) → (ValueType → Type 0) → Process → Step → Type 0
-StepFits w G H pr (To q) = ProcessFits w G q
-StepFits w G H pr (At request go) = IsThere pr.setting.program w request.action request.wanted × ActionFits w G H pr request request.action go
-StepFits w G H pr step = Unit {0}
-
 -- ---- runs
 
 -- values of this type are handed in at the nth arrival of a process, counted from 0
@@ -143,11 +119,11 @@ hands_in kind = false
 pub record RunFits (s : Setting) (es : List Entry) : Type 0 where
   pub elements : Elements
   pub heap : HeapFits s.program elements (history_of es)
-  pub processes : (i : ℕ) (pr : Process) → World s es i pr → ProcessFits (things_of elements (history_of es)) (GivesLast s es i) pr
+  pub processes : (i : ℕ) (pr : Process) → i < s.procs → World s es i pr → ProcessFits (things_of elements (history_of es)) (GivesLast s es i) pr
   pub deposits : (i k : ℕ) (a : rounds.Arrival) (value : Value) → arrival_at i (suc k) (history_of es) ≡ Some a → hands_in a.kind ≡ true → value_in a.deposit ≡ Some value
       → (type : ValueType) × GivesAt s es i k type × IsOf (things_of elements (history_of es)) type (Plain value)
 
 -- The same, and what each process names in the action that it has next is there.
 pub record RunTyped (s : Setting) (es : List Entry) : Type 0 where
   pub fits : RunFits s es
-  pub there : (i : ℕ) (pr : Process) (at : Place) (a : Action) → World s es i pr → IsNext pr (next.Act at a) → (wanted : Wanted) × IsThere s.program (things_of fits.elements (history_of es)) a wanted
+  pub there : (i : ℕ) (pr : Process) (at : Place) (a : Action) → i < s.procs → World s es i pr → IsNext pr (next.Act at a) → (wanted : Wanted) × IsThere s.program (things_of fits.elements (history_of es)) a wanted

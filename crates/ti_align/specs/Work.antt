@@ -1,5 +1,5 @@
 -- Work that fits the types: pieces of work that are left in a frame, and the moves that they come to.
-use Rattle.std.specs.Prelude.{◌≡◌, ℕ, Bool, true, false, ◌&&◌, ◌||◌, is_none, List, [], ◌∷◌, Option, Some, None, option_map, slice_get}
+use Rattle.std.specs.Prelude.{◌≡◌, ℕ, pos, Bool, true, false, ◌&&◌, ◌||◌, is_none, List, [], ◌∷◌, Option, Some, None, option_map, slice_get}
 use Rattle.ti_base.specs.declared.place.Place.{Place}
 use Rattle.ti_base.specs.declared.value.Id.{Id}
 use Rattle.ti_base.specs.declared.value.Zero.{Zero}
@@ -8,7 +8,8 @@ use Rattle.ti_base.specs.declared.action.CollKind.TheVariants as coll
 use Rattle.ti_base.specs.declared.action.Deposit.{Deposit}
 use Rattle.ti_base.specs.declared.action.Deposit.TheVariants as deposit
 use Rattle.ti_base.specs.Points.{IsDim}
-use Rattle.ti_base.specs.PointSets.{AllOf}
+use Rattle.std.specs.Int.{w32}
+use Rattle.ti_base.specs.WholeNumbers.{Fits}
 use Rattle.ti_lang.specs.Program.Types.{ValueType, Declaration, VariableUse}
 use Rattle.ti_lang.specs.Program.Types as t
 use Rattle.ti_lang.specs.Program.Expressions.{NumberedExp, numbered_ranges}
@@ -26,7 +27,7 @@ use Rattle.ti_lang.specs.Meaning.Held.{Plain}
 use Rattle.ti_lang.specs.Meaning.Asking.{Wanted, ToBeDone, ValueOf, NewThing}
 use Rattle.ti_lang.specs.Meaning.Zeros.{zeros_of_class}
 use Rattle.ti_lang.specs.Meaning.HeapAnswers.{is_dim}
-use Rattle.ti_lang.specs.Meaning.Processes.{Variable, Receiver, Nowhere, Declared, Assigned, Updated, Loop, While, Foreach, Work, Do, End, Before, Behind, Receive, CopyAll, TakeAll}
+use Rattle.ti_lang.specs.Meaning.Processes.{Variable, Receiver, Nowhere, Declared, Assigned, Updated, Loop, While, Foreach, Work, Do, End, Before, Behind, Receive, CopyAll, TakeAll, Process}
 use Rattle.ti_lang.specs.Meaning.Scoping.{declared_type}
 use Rattle.ti_lang.specs.Meaning.Statements.{one_more}
 use Rattle.ti_lang.specs.Meaning.Moves.{Move, Goes, Turns, Calls, Returns, Meets, Deletes}
@@ -34,7 +35,7 @@ use Rattle.ti_rules.specs.InitialTypes.{can_broadcast}
 use Rattle.ti_rules.specs.Standing.{variables_inside}
 use Rattle.ti_rules.specs.Broken.Targets.{is_foreach_variable}
 use Rattle.ti_rules.specs.Broken.Statements.{narrows}
-use Rattle.ti_align.specs.Things.{Things, IsStorable, IsGridOf, IsPlaced, IsOf}
+use Rattle.ti_align.specs.Things.{Things, ArePoints, IsStorable, IsGridOf, IsPlaced, IsOf}
 use Rattle.ti_align.specs.Fitting.{IsWritten, AreWritten}
 
 -- ---- variables
@@ -173,7 +174,7 @@ module _ (p : NumberedProgram) (m : NumberedMethod) where
   abbrev pub LoopFits : ScopeContents → Loop → Type 0
   LoopFits s (While at c update body) = ConditionFits s c × MaybeFits s update × StmFits s body
   LoopFits s (Foreach at number domain points body) =
-      ((n : ℕ) × DomainFits s number domain n × AllOf n points) × StmFits (record s { variables = variables_inside p s number domain }) body
+      ((n : ℕ) × DomainFits s number domain n × ArePoints n points) × StmFits (record s { variables = variables_inside p s number domain }) body
 
 -- a foreach in a turn stands at a point
 abbrev pub IsTurning : Loop → Type 0
@@ -199,6 +200,12 @@ ThisFits w m this = (class : ℕ) → this_of m ≡ Some class → (id : Id) →
 abbrev pub DepositFits : Things → ValueType → Deposit → Type 0
 DepositFits w type (deposit.One value) = IsOf w type (Plain value)
 DepositFits w type given = Unit {0}
+
+-- ---- processes
+
+-- the number of a process, and how many there are, have 32 bits
+abbrev pub HasNumber : Process → Type 0
+HasNumber pr = Fits w32 (pos pr.number) × Fits w32 (pos pr.setting.procs)
 
 -- ---- what is handed in at collectives, and taken
 
@@ -244,6 +251,11 @@ WantsOf coll.Broadcast wanted = Unit {0}
 WantsOf coll.MakeRegion wanted = Unit {0}
 WantsOf kind wanted = wanted ≡ ToBeDone
 
+-- each number is one of 32 bits
+abbrev pub AreCounted : List ℕ → Type 0
+AreCounted [] = Unit {0}
+AreCounted (i ∷ is) = Fits w32 (pos i) × AreCounted is
+
 module _ (p : NumberedProgram) (m : NumberedMethod) where
   -- a piece of work
   abbrev pub WorkFits : ScopeContents → Things → Work → Type 0
@@ -252,8 +264,8 @@ module _ (p : NumberedProgram) (m : NumberedMethod) where
   WorkFits s w (Before loop) = LoopFits p m s loop
   WorkFits s w (Behind loop) = LoopFits p m s loop × IsTurning loop
   WorkFits s w (Receive receiver h) = (type : ValueType) × IsOf w type h × ReceiverFits p m s receiver type
-  WorkFits s w (CopyAll at to from points) = (element : ValueType) × (n : ℕ) × IsGridOf w element n to.thing × IsGridOf w element n from.thing × AllOf n points
-  WorkFits s w (TakeAll at grid procs) = IsGridOf w (element_of grid.type) 1 grid.thing
+  WorkFits s w (CopyAll at to from points) = (element : ValueType) × (n : ℕ) × IsGridOf w element n to.thing × IsGridOf w element n from.thing × ArePoints n points
+  WorkFits s w (TakeAll at grid procs) = IsGridOf w (element_of grid.type) 1 grid.thing × AreCounted procs
 
   -- all that is left
   abbrev pub WorksFit : ScopeContents → Things → List Work → Type 0

@@ -1,6 +1,7 @@
-// Laws of the alignment: functions that do nothing, whose contracts are the laws.
+// Laws of the alignment: functions whose contracts are the laws; they do nothing, but that two read the numbers of the program.
 ghost use Rattle.std.specs.Prelude.{◌≡◌, ◌∷◌, ℕ, Bool, List, Some};
 ghost use Rattle.ti_base.specs.declared.action.Action.{Action};
+ghost use Rattle.ti_base.specs.declared.value.Value.{Value};
 ghost use Rattle.ti_lang.specs.Program.Types.{ValueType, VariableUse};
 ghost use Rattle.ti_lang.specs.Program.Expressions.{NumberedExp};
 ghost use Rattle.ti_lang.specs.Program.Classes.{NumberedProgram};
@@ -9,20 +10,23 @@ ghost use Rattle.ti_lang.specs.Program.Views.{program_of};
 ghost use Rattle.ti_lang.specs.Typing.Expressions.{operand_type};
 ghost use Rattle.ti_lang.specs.Meaning.Scoping.{Env, env_of};
 ghost use Rattle.ti_lang.specs.Meaning.Evaluation.{eval};
+ghost use Rattle.ti_lang.specs.Meaning.Held.{Plain};
+ghost use Rattle.ti_lang.specs.Meaning.Answers.{HasForm};
 ghost use Rattle.ti_lang.specs.Meaning.Asking.{Wanted};
 ghost use Rattle.ti_lang.specs.Meaning.Processes.{Process, Frame, Work};
 ghost use Rattle.ti_lang.specs.Meaning.Performing.{performed};
 ghost use Rattle.ti_lang.specs.Meaning.Histories.{History};
 ghost use Rattle.ti_lang.specs.Meaning.HeapAnswers.{IsAnswered};
 ghost use Rattle.ti_align.specs.Alignment.{ArrivalsAgree, NoneAfterEnd, OfEveryRun};
-ghost use Rattle.ti_align.specs.Stopping.{NoneWaits};
-ghost use Rattle.ti_align.specs.Things.{Things, IsOf};
+ghost use Rattle.ti_align.specs.Stopping.{NoneWaits, NoneImpossible, RoundsBalance};
+ghost use Rattle.ti_align.specs.Things.{Things, IsOf, NamesNothing};
 ghost use Rattle.ti_align.specs.Sound.{IsThere, Sound};
 ghost use Rattle.ti_align.specs.Fitting.{EnvFits, FieldsFit, IsWritten};
-ghost use Rattle.ti_align.specs.Work.{VariablesFit, scope_over, MethodsFit, ThisFits, given_type, taken_type, WorksFit, MoveFits};
+ghost use Rattle.ti_align.specs.Work.{VariablesFit, scope_over, MethodsFit, ThisFits, HasNumber, given_type, taken_type, WorksFit, MoveFits};
 ghost use Rattle.ti_align.specs.Typed.{RunTyped};
 ghost use Rattle.ti_align.specs.Heap.{Elements, things_of, FieldsStorable, HeapFits, KeepsTypes};
 
+use crate::reading::literals_fit;
 use ti_rules::Checked;
 
 /// In every run of a checked program, for every n, the nth arrivals of any two processes are at the
@@ -43,15 +47,44 @@ pub fn none_after_end(c: &Checked)
 /// that isn't there. The third part of alignment, but for such deletes.
 pub fn none_waits(c: &Checked)
     ensures { OfEveryRun NoneWaits (program_of c.now.program.parts) }
+{
+    literals_fit(c.program());
+}
+
+/// In every run of a checked program each action for which its process needn't wait comes to an answer
+/// or a fault, but for the delete of a region that isn't there.
+pub fn none_impossible(c: &Checked)
+    ensures { OfEveryRun NoneImpossible (program_of c.now.program.parts) }
+{
+    literals_fit(c.program());
+}
+
+/// The fields of a checked program have types with one to three dimensions, wherever they have any.
+pub fn fields_fit(c: &Checked)
+    ensures { FieldsFit (program_of c.now.program.parts) }
+{}
+
+/// In every run of a checked program a process has left each round that it reached, but for the round
+/// that it leaves next.
+pub fn rounds_balance(c: &Checked)
+    ensures { OfEveryRun RoundsBalance (program_of c.now.program.parts) }
 {}
 
 /// In every run of a checked program all that is there is as the types say: each field, each element
-/// and each variable holds a value of its type, what is handed in at a broadcast or an exchange is of
-/// the type at which it is taken, and what a process names in the action that it has next is there: an
-/// object of a class with that field, a grid of these elements and dimensions, a region that was made
-/// or none.
+/// and each variable holds a value of its type, in the form of this type, what is handed in at a
+/// broadcast or an exchange is of the type at which it is taken, and what a process names in the action
+/// that it has next is there: an object of a class with that field, a grid of these elements and
+/// dimensions, a region that was made or none. Its points and domains are in their forms.
 pub fn run_typed(c: &Checked)
     ensures { OfEveryRun RunTyped (program_of c.now.program.parts) }
+{
+    literals_fit(c.program());
+}
+
+/// A value of a type that names no thing and no region has the form of the type: a number is within its
+/// range, a point has coordinates of 32 bits, and a rectangular domain is in its one form.
+pub fn values_have_forms()
+    ensures { (w : Things) (type : ValueType) (value : Value) → NamesNothing type → IsOf w type (Plain value) → HasForm type value }
 {}
 
 /// What an expression comes to inside another is a value of the type that the rules give it, and all
@@ -72,7 +105,7 @@ pub fn heap_fits()
 /// What is to be done next in a frame that fits the types comes to a move that fits them, whatever
 /// fitting answers it gets: variables keep to their types, and so do parameters, results and deposits.
 pub fn work_fits()
-    ensures { (p : Process) (f : Frame) (left : List Work) (w : Things) (x : Work) → VariablesFit w f.variables → ThisFits w f.method f.this → FieldsFit p.setting.program
+    ensures { (p : Process) (f : Frame) (left : List Work) (w : Things) (x : Work) → HasNumber p → VariablesFit w f.variables → ThisFits w f.method f.this → FieldsFit p.setting.program
         → FieldsStorable p.setting.program → MethodsFit p.setting.program p.setting.program.methods → WorksFit p.setting.program f.method (method_scope f.method) w (x ∷ left)
         → Sound p.setting.program (λ u move. MoveFits p.setting.program f.method (given_type p.setting.program (scope_over p.setting.program (method_scope f.method) left) x) (taken_type x) (scope_over p.setting.program (method_scope f.method) left) u move) w (performed (env_of p f left) x) }
 {}

@@ -2,7 +2,10 @@
 #![tactic(auto)]
 
 mod laws;
+mod reading;
 
 pub use laws::{
-    arrivals_agree, expressions_fit, heap_fits, none_after_end, none_waits, run_typed, work_fits,
+    arrivals_agree, expressions_fit, fields_fit, heap_fits, none_after_end, none_impossible,
+    none_waits, rounds_balance, run_typed, values_have_forms, work_fits,
 };
+pub use reading::literals_fit;

@@ -1,0 +1,32 @@
+-- When a step of a process fits the types.
+use Rattle.std.specs.Prelude.{◌≡◌, ◌⊎◌, Some}
+use Rattle.ti_base.specs.declared.action.Action.{Action}
+use Rattle.ti_base.specs.declared.action.Action.TheVariants as act
+use Rattle.ti_base.specs.declared.entry.Answer.{Answer}
+use Rattle.ti_lang.specs.Program.Types.{ValueType}
+use Rattle.ti_lang.specs.Meaning.Asking.{ToBeDone, Request, told}
+use Rattle.ti_lang.specs.Meaning.Processes.{Wait, Process}
+use Rattle.ti_lang.specs.Meaning.Steps.{Step, To, At}
+use Rattle.ti_align.specs.Things.{Things, Grows, IsOf}
+use Rattle.ti_align.specs.Sound.{IsThere, FitsAsked}
+use Rattle.ti_align.specs.Work.{DepositFits, IsOfRound, WantsOf}
+use Rattle.ti_align.specs.Typed.{ProcessFits, given_by}
+
+-- What an action says fits, and behind an answer that fits the process does: behind an arrival with the second kind of types, as what
+-- was handed in at its last collective is then of these.
+abbrev pub ActionFits : Things → (ValueType → Type 0) → (ValueType → Type 0) → Process → Request → Action → (Answer → Process) → Type 0
+ActionFits w G H pr request (act.Arrive kind arg given) go =
+    (type : ValueType) × DepositFits w type given × IsOfRound (λ u. given_by pr ≡ Some u) kind type
+    × (IsOfRound H kind type → (u : Things) → Grows w u → (r : Answer) → ProcessFits u H (go r))
+ActionFits w G H pr request act.Depart go =
+    (wait : Wait) × (type : ValueType) × (pr.wait ≡ Some wait) × IsOfRound G wait.kind type × WantsOf wait.kind wait.wanted
+    × ((u : Things) → Grows w u → (r : Answer) → (wait.wanted ≡ ToBeDone) ⊎ IsOf u type (told r) → ProcessFits u G (go r))
+ActionFits w G H pr request (act.Take who) go =
+    (type : ValueType) × G type × ((u : Things) → Grows w u → (r : Answer) → IsOf u type (told r) → ProcessFits u G (go r))
+ActionFits w G H pr request a go = (u : Things) → Grows w u → (r : Answer) → FitsAsked pr.setting.program u a request.wanted r → ProcessFits u G (go r)
+
+-- a step fits: what an action names is there, and the process goes on so that it fits
+abbrev pub StepFits : Things → (ValueType → Type 0) → (ValueType → Type 0) → Process → Step → Type 0
+StepFits w G H pr (To q) = ProcessFits w G q
+StepFits w G H pr (At request go) = IsThere pr.setting.program w request.action request.wanted × ActionFits w G H pr request request.action go
+StepFits w G H pr step = Unit {0}

@@ -1,0 +1,5 @@
+use Rattle.ti_align.proofs.Storing.{has_form}
+use Rattle.ti_align.proofs.laws.values_have_forms.Goals as goal
+
+pub returns : goal.returns
+returns c w type value n k = has_form w type value n k

@@ -1,0 +1,233 @@
+// The numbers that are written in a program are within the ranges of their types: reading them shows it.
+ghost use Rattle.std.specs.Prelude.{map};
+ghost use Rattle.std.specs.Option.{option_map};
+ghost use Rattle.ti_syntax.specs.Trees.Views.{maybe_of};
+ghost use Rattle.ti_lang.specs.Program.Expressions.{numbered_exps, numbered_ranges};
+ghost use Rattle.ti_lang.specs.Program.Statements.{numbered_stms};
+ghost use Rattle.ti_lang.specs.Program.Views.{program_of, expression_of, bound_of, extent_of, initial_of, printed_of, statement_of, numbered_method_of};
+ghost use Rattle.ti_align.specs.Literals.{InExp, InExps, InRange, InRanges, InOption, InDims, InInit, InPrint, InStm, InStms, InMethods, LiteralsFit};
+
+use ti_lang::program::{Dims, Expr, Init, Method, Printed, Program, Range, Stmt};
+
+// ---- expressions
+
+#[cycle(read)]
+fn read_all(xs: &[Expr])
+    ensures { InExps (numbered_exps (map expression_of xs.now)) }
+{
+    for x in xs {
+        read(x);
+    }
+}
+
+#[cycle(read)]
+fn read_range(range: &Range)
+    ensures { InRange (bound_of range.now) }
+{
+    match range {
+        Range::Plain { low, high } => {
+            read(low);
+            read(high);
+        }
+        Range::Stepped { low, high, step } => {
+            read(low);
+            read(high);
+            read(step);
+        }
+    }
+}
+
+#[cycle(read)]
+fn read_ranges(ranges: &[Range])
+    ensures { InRanges (numbered_ranges (map bound_of ranges.now)) }
+{
+    for range in ranges {
+        read_range(range);
+    }
+}
+
+#[cycle(read)]
+#[tactic(auto, using(ti_lang::proofs::ProgramBridges::program_bridges))]
+fn read(e: &Expr)
+    ensures { InExp (expression_of e.now) }
+{
+    match e {
+        Expr::Int(_, number) => {
+            let _number = *number;
+        }
+        Expr::Long(_, number) => {
+            let _number = *number;
+        }
+        Expr::Call { args, .. } => read_all(args),
+        Expr::OwnCall { args, .. } => read_all(args),
+        Expr::Point(_, parts) => read_all(parts),
+        Expr::Rect(_, ranges) => read_ranges(ranges),
+        Expr::Unary { operand, .. } => read(operand),
+        Expr::Binary { left, right, .. } => {
+            read(left);
+            read(right);
+        }
+        Expr::Cast { operand, .. } => read(operand),
+        Expr::Select { receiver, .. } => read(receiver),
+        Expr::Member { receiver, args, .. } => {
+            read(receiver);
+            read_all(args);
+        }
+        Expr::Index {
+            receiver,
+            indices,
+            ..
+        } => {
+            read(receiver);
+            read_all(indices);
+        }
+        Expr::Truth(_, _)
+        | Expr::Null(_)
+        | Expr::This(_)
+        | Expr::Variable(_, _)
+        | Expr::OwnField(_, _)
+        | Expr::ThisProc(_)
+        | Expr::NumProcs(_) => {}
+    }
+}
+
+fn read_option(e: &Option<Expr>)
+    ensures { InOption (maybe_of expression_of e.now) }
+{
+    match e {
+        Some(e) => read(e),
+        None => {}
+    }
+}
+
+// ---- statements
+
+fn read_dims(dims: &Dims)
+    ensures { InDims (extent_of dims.now) }
+{
+    match dims {
+        Dims::Domain(e) => read(e),
+        Dims::Ranges(ranges) => read_ranges(ranges),
+    }
+}
+
+fn read_initial(value: &Init)
+    ensures { InInit (initial_of value.now) }
+{
+    match value {
+        Init::Value(e) => read(e),
+        Init::NewRegion(_) => {}
+        Init::NewObject { region, .. } => read_option(region),
+        Init::NewGrid { region, dims, .. } => {
+            read_option(region);
+            read_dims(dims);
+        }
+        Init::Broadcast { value, root, .. } => {
+            read(value);
+            read(root);
+        }
+    }
+}
+
+fn read_printed(what: &Printed)
+    ensures { InPrint (printed_of what.now) }
+{
+    match what {
+        Printed::Value(e) => read(e),
+        Printed::TextAndValue(_, e) => read(e),
+        Printed::Nothing | Printed::Text(_) => {}
+    }
+}
+
+#[cycle(read_statement)]
+fn read_statements(xs: &[Stmt])
+    ensures { InStms (numbered_stms (map statement_of xs.now)) }
+{
+    for x in xs {
+        read_statement(x);
+    }
+}
+
+#[cycle(read_statement)]
+#[tactic(auto, using(ti_lang::proofs::ProgramBridges::program_bridges))]
+fn read_statement(x: &Stmt)
+    ensures { InStm (statement_of x.now) }
+{
+    match x {
+        Stmt::Declare { value, .. } => read_initial(value),
+        Stmt::Assign { target, value, .. } => {
+            read(target);
+            read_initial(value);
+        }
+        Stmt::Update { target, value, .. } => {
+            read(target);
+            read(value);
+        }
+        Stmt::Step { target, .. } => read(target),
+        Stmt::Call(e) => read(e),
+        Stmt::Print(_, what) => read_printed(what),
+        Stmt::Return(_, value) => read_option(value),
+        Stmt::Block(body) => read_statements(body),
+        Stmt::If {
+            condition,
+            then,
+            otherwise,
+            ..
+        } => {
+            read(condition);
+            read_statement(then);
+            match otherwise {
+                Some(otherwise) => read_statement(otherwise),
+                None => {}
+            }
+        }
+        Stmt::While {
+            condition,
+            body,
+            ..
+        } => {
+            read(condition);
+            read_statement(body);
+        }
+        Stmt::For {
+            first,
+            condition,
+            update,
+            body,
+            ..
+        } => {
+            match first {
+                Some(first) => read_statement(first),
+                None => {}
+            }
+            read_option(condition);
+            match update {
+                Some(update) => read_statement(update),
+                None => {}
+            }
+            read_statement(body);
+        }
+        Stmt::Foreach { domain, body, .. } => {
+            read(domain);
+            read_statement(body);
+        }
+        Stmt::Empty | Stmt::Barrier(_) | Stmt::Break(_) | Stmt::Continue(_) => {}
+    }
+}
+
+// ---- programs
+
+fn read_methods(methods: &[Method])
+    ensures { InMethods (map numbered_method_of methods.now) }
+{
+    for method in methods {
+        read_statements(&method.body);
+    }
+}
+
+/// All numbers that are written in a program are within the ranges of their types.
+pub fn literals_fit(p: &Program)
+    ensures { LiteralsFit (program_of p.now.parts) }
+{
+    read_methods(&p.parts.methods)
+}
