@@ -38,9 +38,10 @@ use Rattle.ti_lang.specs.Meaning.RegionsOf.{is_gone, is_place}
 use Rattle.ti_lang.specs.Meaning.HeapOf.{new_id, view_id, grid_of, written_by, cell_value, cost_of, cost_of_making, most_cells}
 use Rattle.ti_lang.specs.Meaning.HeapAnswers.{Outcome, Answers, Faults, where_some, possible_if, faults_if, answers_value, makes, places, is_dim, at_point, views, heap_answer}
 use Rattle.ti_eval.specs.Forms.{IsFormedValue}
-use Rattle.ti_store.specs.Conditions.{IsFormedZero, IsFormedView, is_delete}
+use Rattle.ti_align.specs.Stopping.{is_delete}
+use Rattle.ti_store.specs.Conditions.{IsFormedView}
 use Rattle.ti_store.specs.MirrorsHeap.{full_cost, KeepsHeap}
-use Rattle.ti_store.specs.MirrorsLedger.{AllFormed, AreOurs, IsPossible}
+use Rattle.ti_store.specs.MirrorsLedger.{IsFormedZero, AllFormed, AreOurs, IsPossible}
 use Rattle.ti_store.specs.MirrorsParts.{field_zeros, KeepsParts, read_outcome}
 use Rattle.ti_store.proofs.OneMore.{some_same, one}
 use Rattle.ti_store.proofs.NoneGone.{none_gone, cost_full}

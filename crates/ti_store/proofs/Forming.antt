@@ -23,6 +23,7 @@ use Rattle.ti_base.specs.Cells.{Cell, Field, Element, same_cell, zero_value, Gri
 use Rattle.ti_base.specs.Rects.{is_in}
 use Rattle.ti_heap.specs.Contents.{Contents}
 use Rattle.ti_lang.specs.Program.Types.{ValueType}
+use Rattle.ti_lang.specs.Program.Types as t
 use Rattle.ti_lang.specs.Program.Classes.{NumberedField, NumberedClass, NumberedProgram}
 use Rattle.ti_lang.specs.Meaning.Zeros.{zero_of_type, zeros_of_class}
 use Rattle.ti_lang.specs.Meaning.Histories.{History, is_making, is_arrival, arrivals}
@@ -32,9 +33,11 @@ use Rattle.ti_lang.specs.Meaning.RegionUse.{is_in_use}
 use Rattle.ti_lang.specs.Meaning.HeapOf.{new_id, view_id, is_grid, class_of, grid_made, grid_of, written_by, written_to, or_else, last_written, zero_of, cell_value}
 use Rattle.ti_lang.specs.Meaning.HeapAnswers.{Outcome, Answers, where_some, possible_if, faults_if, answers_value, makes, places, is_dim, at_point, views, leaves_delete, departs, arrives, heap_answer}
 use Rattle.ti_eval.specs.Forms.{IsFormedValue, IsFormedAnswer}
-use Rattle.ti_store.specs.Conditions.{IsFormedZero, IsFormedDeposit, FieldsFormed}
+use Rattle.ti_align.specs.Things.{DimsFine, IsStorable}
+use Rattle.ti_align.specs.Fitting.{FieldsFit}
+use Rattle.ti_store.specs.Conditions.{IsFormedDeposit}
 use Rattle.ti_store.specs.MirrorsHeap.{KeepsHeap}
-use Rattle.ti_store.specs.MirrorsLedger.{AllFormed, AreOurs}
+use Rattle.ti_store.specs.MirrorsLedger.{IsFormedZero, AllFormed, AreOurs}
 use Rattle.ti_store.specs.MirrorsParts.{came_of}
 use Rattle.ti_store.proofs.OneMore.{some_same}
 
@@ -49,13 +52,30 @@ zero_formed (z.Rc dim) f = (f, inl refl)
 zero_formed z.Obj f = tt
 zero_formed z.Grid f = tt
 
+-- what a field or an element of a fitting type holds first
+pub dims_formed : (type : ValueType) → DimsFine type → IsFormedZero (zero_of_type type)
+dims_formed (t.Pt n) f = f
+dims_formed (t.Rc n) f = f
+dims_formed t.Int f = tt
+dims_formed t.Long f = tt
+dims_formed t.Boolean f = tt
+dims_formed _ f = tt
+
+pub storable_formed : (type : ValueType) → IsStorable type → IsFormedZero (zero_of_type type)
+storable_formed (t.Pt n) f = f
+storable_formed (t.Rc n) f = f
+storable_formed t.Int f = tt
+storable_formed t.Long f = tt
+storable_formed t.Boolean f = tt
+storable_formed _ f = tt
+
 field_zero : (o : Option NumberedField) (y : Zero) → ((type : ValueType) → option_map (λ (f : NumberedField). f.ty.type) o ≡ Some type → IsFormedZero (zero_of_type type))
     → option_map (λ (f : NumberedField). zero_of_type f.ty.type) o ≡ Some y → IsFormedZero y
 field_zero None y h e = cc
 field_zero (Some f) y h e = subst IsFormedZero (some_same (zero_of_type f.ty.type) y e) (h f.ty.type refl)
 
-class_zero : (program : NumberedProgram) (class field : ℕ) (zeros : List Zero) (y : Zero) → FieldsFormed program → zeros_of_class program class ≡ Some zeros → slice_get zeros field ≡ Some y → IsFormedZero y
-class_zero program class field zeros y formed is at = by (slice_get program.classes class) (formed class field) is
+class_zero : (program : NumberedProgram) (class field : ℕ) (zeros : List Zero) (y : Zero) → FieldsFit program → zeros_of_class program class ≡ Some zeros → slice_get zeros field ≡ Some y → IsFormedZero y
+class_zero program class field zeros y formed is at = by (slice_get program.classes class) (λ type is. dims_formed type (formed class field type is)) is
   where
     by : (o : Option NumberedClass)
         → ((type : ValueType) → option_map (λ (f : NumberedField). f.ty.type) (slice_get (option_map_or (λ (c : NumberedClass). c.fields) o []) field) ≡ Some type → IsFormedZero (zero_of_type type))
@@ -116,7 +136,7 @@ grid_zero procs (d ∷ h) id g ours e = by (is_making d.act && is_grid id d.answ
 
 -- ---- cells
 
-zero_cell : (program : NumberedProgram) (procs : ℕ) (h : History) (cell : Cell) (y : Value) → FieldsFormed program → AreOurs procs h → zero_of program cell h ≡ Some y → IsFormedValue y
+zero_cell : (program : NumberedProgram) (procs : ℕ) (h : History) (cell : Cell) (y : Value) → FieldsFit program → AreOurs procs h → zero_of program cell h ≡ Some y → IsFormedValue y
 zero_cell program procs h (Field obj field) y formed ours e = classed (class_of obj h) e
   where
     valued : (o : Option Zero) → ((x : Zero) → o ≡ Some x → IsFormedZero x) → option_map zero_value o ≡ Some y → IsFormedValue y
@@ -136,7 +156,7 @@ zero_cell program procs h (Element b at) y formed ours e = by (grid_of b h) refl
     by None w k = cc
     by (Some g) w k = subst IsFormedValue (some_same (zero_value g.zero) y k) (zero_formed g.zero (grid_zero procs h b g ours w))
 
-pub cell_formed : (program : NumberedProgram) (procs : ℕ) (h : History) (cell : Cell) (y : Value) → FieldsFormed program → AreOurs procs h → cell_value program cell h ≡ Some y → IsFormedValue y
+pub cell_formed : (program : NumberedProgram) (procs : ℕ) (h : History) (cell : Cell) (y : Value) → FieldsFit program → AreOurs procs h → cell_value program cell h ≡ Some y → IsFormedValue y
 cell_formed program procs h cell y formed ours e = by (last_written cell h) refl (zero_of program cell h) refl e
   where
     by : (w : Option Value) → last_written cell h ≡ w → (o : Option Value) → zero_of program cell h ≡ o → option_map (λ zero. option_map_or (λ value. value) w zero) o ≡ Some y → IsFormedValue y
@@ -225,7 +245,7 @@ arrives_out h coll.Broadcast arg = tt
 arrives_out h coll.Exchange arg = tt
 arrives_out h coll.MakeRegion arg = tt
 
-pub outcome_formed : (program : NumberedProgram) (procs : ℕ) (h : History) (s : Contents) (i : ℕ) (a : Action) → FieldsFormed program → AreOurs procs h → KeepsHeap program procs h s → IsFormedOutcome (heap_answer program h i a)
+pub outcome_formed : (program : NumberedProgram) (procs : ℕ) (h : History) (s : Contents) (i : ℕ) (a : Action) → FieldsFit program → AreOurs procs h → KeepsHeap program procs h s → IsFormedOutcome (heap_answer program h i a)
 outcome_formed program procs h s i (act.GetField obj field) f ours k = value_out (cell_value program (Field obj field) h) (λ y e. cell_formed program procs h (Field obj field) y f ours e)
 outcome_formed program procs h s i (act.PutField obj field x) f ours k = some_out (cell_value program (Field obj field) h) (λ old. Answers Done) (λ old e. tt)
 outcome_formed program procs h s i (act.NewObj class region) f ours k =
@@ -253,10 +273,10 @@ outcome_formed program procs h s i (act.Take who) f ours k = value_out (given i 
 outcome_formed program procs h s i act.End f ours k = tt
 outcome_formed program procs h s i (act.Fault kind) f ours k = tt
 
-came_formed : (program : NumberedProgram) (procs : ℕ) (h : History) (s : Contents) (i : ℕ) (a : Action) → FieldsFormed program → AreOurs procs h → KeepsHeap program procs h s → IsFormedOutcome (came_of program h i a)
+came_formed : (program : NumberedProgram) (procs : ℕ) (h : History) (s : Contents) (i : ℕ) (a : Action) → FieldsFit program → AreOurs procs h → KeepsHeap program procs h s → IsFormedOutcome (came_of program h i a)
 came_formed program procs h s i (act.Fault kind) f ours k = tt
 came_formed program procs h s i a f ours k = outcome_formed program procs h s i a f ours k
 
-pub answer_formed : (program : NumberedProgram) (procs : ℕ) (h : History) (s : Contents) (i : ℕ) (a : Action) (r : Answer) → FieldsFormed program → AreOurs procs h → KeepsHeap program procs h s
+pub answer_formed : (program : NumberedProgram) (procs : ℕ) (h : History) (s : Contents) (i : ℕ) (a : Action) (r : Answer) → FieldsFit program → AreOurs procs h → KeepsHeap program procs h s
     → came_of program h i a ≡ Answers r → IsFormedAnswer r
 answer_formed program procs h s i a r f ours k is = subst IsFormedOutcome is (came_formed program procs h s i a f ours k)

@@ -21,11 +21,10 @@ use Rattle.ti_lang.specs.Meaning.Histories.{History, history_of, is_arrival, is_
 use Rattle.ti_lang.specs.Meaning.RoundsOf.{arrival_in, arrival_at, last_arrival, value_in, given, rounds_making}
 use Rattle.ti_lang.specs.Meaning.RoundsOf as lang
 use Rattle.ti_lang.specs.Meaning.HeapAnswers.{Answers, where_some, answers_value, departs, heap_answer}
-use Rattle.ti_store.specs.Conditions.{is_delete_kind}
 use Rattle.ti_store.specs.MirrorsRounds.{arrivals_said, AreCourses, KeepsRounds}
 use Rattle.ti_store.specs.MirrorsLedger.{AreOurs, IsPossible, collective_at, AllArrived, AgreesWith, answer_given}
 use Rattle.ti_store.proofs.OneMore.{one, some_same, counted_own, counted_few, counted_back}
-use Rattle.ti_store.proofs.NoneGone.{kind_kept}
+use Rattle.ti_store.proofs.NoneGone.{is_delete_kind, kind_kept}
 use Rattle.ti_store.proofs.Courses.{length_said, round_is, left_is, count_is, heard, heard_at, collective_met, given_said, latest_at}
 
 -- ---- where processes are

@@ -1,25 +1,38 @@
 -- In a history that deletes no region nothing is gone, and nothing costs less than it did.
-use Rattle.std.proofs.Common.{◌≡◌, ℕ, ◌==◌, ◌&&◌, ◌||◌, Bool, true, false, cond, [], ◌∷◌, sum_by, Option, Some, None, refl, subst}
+use Rattle.std.proofs.Common.{◌≡◌, ℕ, ◌==◌, ◌&&◌, ◌||◌, Bool, true, false, cond, [], ◌∷◌, sum_by, Option, Some, None, refl, sym, subst, ◌∙◌}
 use Rattle.ti_base.specs.declared.action.Action.{Action}
 use Rattle.ti_base.specs.declared.action.Action.TheVariants as act
 use Rattle.ti_base.specs.declared.action.CollKind.{CollKind}
 use Rattle.ti_base.specs.declared.action.CollKind.TheVariants as coll
+use Rattle.ti_base.specs.declared.action.Deposit.{Deposit}
 use Rattle.ti_base.specs.declared.entry.Entry.{Entry}
 use Rattle.ti_lang.specs.Program.Classes.{NumberedProgram}
 use Rattle.ti_lang.specs.Meaning.Histories.{History, is_arrival, is_departure, entries_of, arrivals}
 use Rattle.ti_lang.specs.Meaning.RoundsOf.{Arrival, arrival_in, arrival_at, round_of, last_arrival, deletes, is_delete_of}
 use Rattle.ti_lang.specs.Meaning.RegionsOf.{is_gone}
 use Rattle.ti_lang.specs.Meaning.HeapOf.{cost_of_making, region_made_in, cost_of}
-use Rattle.ti_store.specs.Conditions.{is_delete, is_delete_kind}
+use Rattle.ti_align.specs.Stopping.{is_delete}
 use Rattle.ti_store.specs.MirrorsHeap.{full_cost}
 use Rattle.ti_store.specs.MirrorsLedger.{AreOurs}
 
 -- ---- arrivals
 
+-- the delete of a region
+abbrev pub is_delete_kind : CollKind → Bool
+is_delete_kind coll.DeleteRegion = true
+is_delete_kind kind = false
+
+pub kind_told : (kind : CollKind) (arg : Option ℕ) (given : Deposit) → is_delete (act.Arrive kind arg given) ≡ is_delete_kind kind
+kind_told coll.Barrier arg given = refl
+kind_told coll.Broadcast arg given = refl
+kind_told coll.Exchange arg given = refl
+kind_told coll.MakeRegion arg given = refl
+kind_told coll.DeleteRegion arg given = refl
+
 arrival_kept : (a : Action) (x : Arrival) → is_delete a ≡ false → arrival_in a ≡ Some x → is_delete_kind x.kind ≡ false
 arrival_kept (act.Arrive kind arg given) x k h =
     let same : record { kind = kind; arg = arg; deposit = given } ≡ x = cc in
-    subst (λ (y : Arrival). is_delete_kind y.kind ≡ false) same k
+    subst (λ (y : Arrival). is_delete_kind y.kind ≡ false) same (sym (kind_told kind arg given) ∙ k)
 arrival_kept _ x k h = cc
 
 -- no arrival deletes a region

@@ -3,6 +3,8 @@ use Rattle.std.proofs.Common.{◌≡◌, ⊎_elim, ℕ, ◌+◌, ◌<◌, ◌==�
 use Rattle.std.specs.Option.{option_map}
 use Rattle.std.proofs.lemmas.Bool.{and_parts, ne_eqb, cases_eq}
 use Rattle.ti_base.specs.declared.place.Place.{Place}
+use Rattle.ti_base.specs.declared.point.Rect.{Rect}
+use Rattle.ti_base.specs.declared.value.Zero.{Zero}
 use Rattle.ti_base.specs.declared.action.Action.{Action}
 use Rattle.ti_base.specs.declared.action.Action.TheVariants as act
 use Rattle.ti_base.specs.declared.action.CollKind.{CollKind}
@@ -14,20 +16,31 @@ use Rattle.ti_base.specs.declared.entry.Entry.{Entry}
 use Rattle.ti_base.specs.declared.entry.Next.{Next}
 use Rattle.ti_base.specs.declared.entry.Next.TheVariants as next
 use Rattle.ti_rounds.specs.Seats.{collective_of}
+use Rattle.ti_lang.specs.Program.Classes.{NumberedProgram}
+use Rattle.ti_lang.specs.Meaning.Asking.{Wanted}
 use Rattle.ti_lang.specs.Meaning.Processes.{Setting, Process}
 use Rattle.ti_lang.specs.Meaning.NextStep.{IsNext, Settles}
 use Rattle.ti_lang.specs.Meaning.Histories.{History, history_of, is_end, is_fault, is_arrival, is_departure, entries_of, arrivals, has_fault}
 use Rattle.ti_lang.specs.Meaning.HeapAnswers.{Outcome, Answers, Faults, Impossible, arrives, heap_answer}
 use Rattle.ti_lang.specs.Meaning.Runs.{World, IsReady, entry_with, entry_of, CanTake, IsRun, none, more}
 use Rattle.ti_lang.proofs.MeaningLaws.Running.{history_grows, taker}
-use Rattle.ti_store.specs.Conditions.{IsWithin, HasNext, IsFormed, is_delete, is_delete_kind, ArrivesAt, ArrivalsAgree, ElementsFormed, SuitsRun, SuitsStore}
+use Rattle.ti_align.specs.SinglePart.{SingleFrame, single_part}
+use Rattle.ti_align.specs.Alignment.{Arrival, ArrivesAt, ArrivalsAgree, OfEveryRun}
+use Rattle.ti_align.specs.Stopping.{is_delete, RoundsBalance, NoneImpossible}
+use Rattle.ti_align.specs.Things.{Things}
+use Rattle.ti_align.specs.Sound.{IsThere}
+use Rattle.ti_align.specs.Heap.{things_of}
+use Rattle.ti_align.specs.Typed.{RunTyped}
+use Rattle.ti_store.specs.Conditions.{IsWithin, HasNext, IsFormed}
 use Rattle.ti_store.specs.Stores.{next_of}
 use Rattle.ti_store.specs.MirrorsRounds.{arrivals_said}
-use Rattle.ti_store.specs.MirrorsLedger.{AllFormed, IsPossible, collective_in, collective_at, AllArrived, AgreesWith, MayDo}
+use Rattle.ti_store.specs.MirrorsLedger.{IsFormedZero, AllFormed, IsPossible, collective_in, collective_at, AllArrived, AgreesWith, MayDo}
+use Rattle.ti_store.specs.MirrorsStore.{KeepsLaws}
 use Rattle.ti_store.proofs.OneMore.{one, some_same, counted_own, counted_back}
 use Rattle.ti_store.proofs.Ticks.{arrivals_few}
 use Rattle.ti_store.proofs.RegionRounds.{makings_few}
 use Rattle.ti_store.proofs.Courses.{length_said, collective_met, none_beyond}
+use Rattle.ti_store.proofs.Forming.{storable_formed}
 
 -- ---- one step more
 
@@ -56,12 +69,12 @@ ready_when s es i at _ h = tt
 
 -- ---- arrivals agree
 
-pub arrives_done : (h : History) (kind : CollKind) (arg : Option ℕ) → is_delete_kind kind ≡ false → arrives h kind arg ≡ Answers Done
-arrives_done h coll.Barrier arg k = refl
-arrives_done h coll.Broadcast arg k = refl
-arrives_done h coll.Exchange arg k = refl
-arrives_done h coll.MakeRegion arg k = refl
-arrives_done h coll.DeleteRegion arg k = cc
+pub arrives_done : (h : History) (kind : CollKind) (arg : Option ℕ) (d : Deposit) → is_delete (act.Arrive kind arg d) ≡ false → arrives h kind arg ≡ Answers Done
+arrives_done h coll.Barrier arg d k = refl
+arrives_done h coll.Broadcast arg d k = refl
+arrives_done h coll.Exchange arg d k = refl
+arrives_done h coll.MakeRegion arg d k = refl
+arrives_done h coll.DeleteRegion arg d k = cc
 
 -- the new arrival is at the next round
 met_now : (p : ℕ) (at : Place) (kind : CollKind) (arg : Option ℕ) (d : Deposit) (h : History) (round : ℕ) → round ≡ arrivals p h + 1
@@ -90,6 +103,10 @@ if_some (Some other) said h = h other refl
 
 -- ---- arrivals of a run
 
+-- an arrival with what its process then has in common with the others
+abbrev arrival_with : CollKind × Place × Option ℕ → List SingleFrame → Arrival
+arrival_with said single = record { place = said.1; kind = said.0; arg = said.2; single = single }
+
 some_entry : (d e : Entry) → Some d ≡ Some e → d ≡ e
 some_entry d e h = cc
 
@@ -107,7 +124,7 @@ came_next s es i (next.Fault kind at) e h k = let same : is_arrival (act.Fault k
 -- the process of an entry that is an arrival arrives there
 arrives_now : (s : Setting) (es all : List Entry) (q k : ℕ) (at : Place) (kind : CollKind) (arg : Option ℕ) (d : Deposit) (r : Answer)
     → (t : CanTake s es q (record { proc = q; place = at; act = act.Arrive kind arg d; answer = r })) → all ≡ es ++ record { proc = q; place = at; act = act.Arrive kind arg d; answer = r } ∷ []
-    → arrivals q es ≡ k → ArrivesAt s all q k at kind arg
+    → arrivals q es ≡ k → ArrivesAt s all q k (arrival_with (kind, at, arg) (single_part t.is_next.0))
 arrives_now s es all q k at kind arg d r t split count =
     let e : Entry = record { proc = q; place = at; act = act.Arrive kind arg d; answer = r } in
     let n : t.next ≡ next.Act at (act.Arrive kind arg d) = came_next s es q t.next e t.entry refl in
@@ -122,12 +139,13 @@ arrives_now s es all q k at kind arg d r t split count =
       world = t.world;
       settled = t.is_next.0;
       settles = subst (Settles t.process t.is_next.0) n t.is_next.1;
+      single = refl;
     }
 
 -- and so does each that came before
-arrives_later : (s : Setting) (es all : List Entry) (q k : ℕ) (at : Place) (kind : CollKind) (arg : Option ℕ) (e : Entry) → all ≡ es ++ e ∷ [] → ArrivesAt s es q k at kind arg → ArrivesAt s all q k at kind arg
-arrives_later s es all q k at kind arg e split x =
-    let d : Entry = record { proc = q; place = at; act = act.Arrive kind arg x.deposit; answer = x.answer } in
+arrives_later : (s : Setting) (es all : List Entry) (q k : ℕ) (a : Arrival) (e : Entry) → all ≡ es ++ e ∷ [] → ArrivesAt s es q k a → ArrivesAt s all q k a
+arrives_later s es all q k a e split x =
+    let d : Entry = record { proc = q; place = a.place; act = act.Arrive a.kind a.arg x.deposit; answer = x.answer } in
     record {
       before = x.before;
       rest = x.rest ++ e ∷ [];
@@ -139,11 +157,12 @@ arrives_later s es all q k at kind arg e split x =
       world = x.world;
       settled = x.settled;
       settles = x.settles;
+      single = x.single;
     }
 
 -- the arrival of a process at a round, counted from 1
 abbrev ArrivesIn : Setting → List Entry → ℕ → ℕ → CollKind × Place × Option ℕ → Type 0
-ArrivesIn s es q round said = (k : ℕ) × (round ≡ k + 1) × ArrivesAt s es q k said.1 said.0 said.2
+ArrivesIn s es q round said = (k : ℕ) × (round ≡ k + 1) × (single : List SingleFrame) × ArrivesAt s es q k (arrival_with said single)
 
 entry_arrives : (s : Setting) (es all : List Entry) (q round : ℕ) (e : Entry) (said : CollKind × Place × Option ℕ) → CanTake s es q e → e.proc ≡ q → all ≡ es ++ e ∷ []
     → (n : ℕ) → n ≡ one (is_arrival e.act) + arrivals q es → n ≡ round → collective_in e.place e.act ≡ Some said → ArrivesIn s all q round said
@@ -154,8 +173,9 @@ entry_arrives s es all q round e said t who split n count here is = by e.act ref
         let d' : Entry = record { proc = q; place = e.place; act = act.Arrive kind arg d; answer = e.answer } in
         let entry : e ≡ d' = λ j. record { proc = who j; place = e.place; act = same j; answer = e.answer } in
         let at = some_same (kind, e.place, arg) said is in
+        let taken = subst (CanTake s es q) entry t in
         subst (λ x. ArrivesIn s all q round x) at
-        (arrivals q es, omega (arith, count, here), arrives_now s es all q (arrivals q es) e.place kind arg d e.answer (subst (CanTake s es q) entry t) (split ∙ ap (λ x. es ++ x ∷ []) entry) refl)
+        (arrivals q es, omega (arith, count, here), single_part taken.is_next.0, arrives_now s es all q (arrivals q es) e.place kind arg d e.answer taken (split ∙ ap (λ x. es ++ x ∷ []) entry) refl)
     by _ same is count = cc
 
 pub met_arrives : (s : Setting) (es : List Entry) → IsRun s es → (q round : ℕ) (said : CollKind × Place × Option ℕ) → collective_at q round (history_of es) ≡ Some said → ArrivesIn s es q round said
@@ -175,7 +195,7 @@ met_arrives s all (more {es = es} {i = i} {e = e} run t split) q round said is =
         counted_own is_arrival q e (history_of es) who ∙ ap (λ m. one (is_arrival e.act) + m) (counted_back is_arrival q es) in
         entry_arrives s es all q round e said (subst (λ j. CanTake s es j e) mine t) who split (arrivals q (e ∷ history_of es)) count
         (eqb-true (arrivals q (e ∷ history_of es)) round t1.1) x
-    by false b go x = let y = go x in (y.0, y.1, arrives_later s es all q y.0 said.1 said.0 said.2 e split y.2)
+    by false b go x = let y = go x in (y.0, y.1, y.2, arrives_later s es all q y.0 (arrival_with said y.2) e split y.3)
 
 same_number : (m n r : ℕ) → r ≡ m + 1 → r ≡ n + 1 → m ≡ n
 same_number m n r x y = omega arith
@@ -187,8 +207,8 @@ rounds_agree s es run agree i j round a b x y =
     let k = met_arrives s es run i round a x in
     let l = met_arrives s es run j round b y in
     let same = same_number k.0 l.0 round k.1 l.1 in
-    let z = agree i j l.0 a.1 b.1 a.0 b.0 a.2 b.2 (subst (λ n. ArrivesAt s es i n a.1 a.0 a.2) same k.2) l.2 in
-    λ t. (z.1 t, z.0 t, z.2 t)
+    let z = agree i j l.0 (arrival_with a k.2) (arrival_with b l.2) (subst (λ n. ArrivesAt s es i n (arrival_with a k.2)) same k.3) l.3 in
+    λ t. ((z t).kind, (z t).place, (z t).arg)
 
 -- where all arrivals of a run agree that has one arrival more, that arrival agrees with those before it
 agree_now : (s : Setting) (es : List Entry) (p : ℕ) (at : Place) (kind : CollKind) (arg : Option ℕ) (d : Deposit)
@@ -210,18 +230,18 @@ agree_now s es p at kind arg d run agree q =
 
 -- ---- what is known of an action
 
-pub suits : (s : Setting) (es : List Entry) → IsWithin s.procs s.fuel → SuitsStore s.program → IsRun s es → SuitsRun s es
-suits s es w all run = all.runs s.procs s.fuel es w run
+pub law_of : (fact : Setting → List Entry → Type 0) (s : Setting) (es : List Entry) → OfEveryRun fact s.program → IsWithin s.procs s.fuel → IsRun s es → fact s es
+law_of fact s es all w run = all s.procs s.fuel es w.some w.few w.fueled w.limited run
 
-agrees : (s : Setting) (es : List Entry) (p : ℕ) (at : Place) (a : Action) → IsWithin s.procs s.fuel → SuitsStore s.program → IsRun s es → p < s.procs → has_fault es ≡ false
+agrees : (s : Setting) (es : List Entry) (p : ℕ) (at : Place) (a : Action) → IsWithin s.procs s.fuel → KeepsLaws s.program → IsRun s es → p < s.procs → has_fault es ≡ false
     → HasNext s p (entries_of p es) (next.Act at a) → is_delete a ≡ false
     → (said : CollKind × Place × Option ℕ) → collective_in at a ≡ Some said → AgreesWith p es said
 agrees s es p at (act.Arrive kind arg d) w all run inside goes has k said is =
     let e : Entry = record { proc = p; place = at; act = act.Arrive kind arg d; answer = Done } in
-    let entry : entry_of s es p (next.Act at (act.Arrive kind arg d)) ≡ Some e = ap (entry_with p at (act.Arrive kind arg d)) (arrives_done (history_of es) kind arg k) in
+    let entry : entry_of s es p (next.Act at (act.Arrive kind arg d)) ≡ Some e = ap (entry_with p at (act.Arrive kind arg d)) (arrives_done (history_of es) kind arg d k) in
     let grown = run_more s es p (next.Act at (act.Arrive kind arg d)) e run inside goes has tt entry in
     let same : (kind, at, arg) ≡ said = cc in
-    subst (AgreesWith p es) same (agree_now s es p at kind arg d grown (suits s (es ++ e ∷ []) w all grown).agree)
+    subst (AgreesWith p es) same (agree_now s es p at kind arg d grown (law_of ArrivalsAgree s (es ++ e ∷ []) all.agree w grown))
 agrees s es p at _ w all run inside goes has k said is = cc
 
 possible_from : (o : Outcome) → (o ≡ Impossible → ⊥) → IsPossible o
@@ -229,21 +249,29 @@ possible_from Impossible h = h refl
 possible_from (Answers r) h = tt
 possible_from (Faults kind) h = tt
 
--- what a new grid's elements hold first is in its form in each run
-all_formed : (s : Setting) (es : List Entry) (p : ℕ) (q : Process) (at : Place) (a : Action) → ElementsFormed s es → World s es p q → IsNext q (next.Act at a) → IsFormed a → AllFormed a
-all_formed s es p q at (act.NewGrid zero domain region) known world is form = (known p q at zero domain region world is, form)
-all_formed s es p q at _ known world is form = form
+-- what a new grid's elements hold first is in its form
+grid_formed : (program : NumberedProgram) (w : Things) (zero : Zero) (domain : Rect) (region : ℕ) (wanted : Wanted) → IsThere program w (act.NewGrid zero domain region) wanted → IsFormedZero zero
+grid_formed program w zero domain region wanted x = subst IsFormedZero (sym x.3) (storable_formed x.0 x.7)
 
-pub may_do : (s : Setting) (es : List Entry) (p : ℕ) (at : Place) (a : Action) → IsWithin s.procs s.fuel → SuitsStore s.program → IsRun s es → p < s.procs → has_fault es ≡ false
+all_formed : (program : NumberedProgram) (w : Things) (a : Action) (wanted : Wanted) → IsThere program w a wanted → IsFormed a → AllFormed a
+all_formed program w (act.NewGrid zero domain region) wanted x form = (grid_formed program w zero domain region wanted x, form)
+all_formed program w _ wanted x form = form
+
+run_formed : (s : Setting) (es : List Entry) (p : ℕ) (q : Process) (at : Place) (a : Action) → RunTyped s es → p < s.procs → World s es p q → IsNext q (next.Act at a) → IsFormed a → AllFormed a
+run_formed s es p q at a typed inside world is form =
+    let there = typed.there p q at a inside world is in
+    all_formed s.program (things_of typed.fits.elements (history_of es)) a there.0 there.1 form
+
+pub may_do : (s : Setting) (es : List Entry) (p : ℕ) (at : Place) (a : Action) → IsWithin s.procs s.fuel → KeepsLaws s.program → IsRun s es → p < s.procs → has_fault es ≡ false
     → HasNext s p (entries_of p es) (next.Act at a) → IsReady s es p (next.Act at a) → (is_departure a ≡ true → AllArrived s.procs p es) → IsFormed a → is_delete a ≡ false
     → MayDo s.program s.procs es p at a
 may_do s es p at a w all run inside goes has ready arrived form no_delete =
-    let known = suits s es w all run in record {
-      possible = possible_from (heap_answer s.program (history_of es) p a) (known.possible p has.process at a has.world has.is_next ready no_delete);
-      formed = all_formed s es p has.process at a known.elements has.world has.is_next form;
+    record {
+      possible = possible_from (heap_answer s.program (history_of es) p a) (law_of NoneImpossible s es all.possible w run p has.process at a inside has.world has.is_next ready no_delete);
+      formed = run_formed s es p has.process at a (law_of RunTyped s es all.typed w run) inside has.world has.is_next form;
       keeps_regions = no_delete;
       few = makings_few es p s.fuel (arrivals_few s es p has.process has.world) w.limited;
-      balance = known.balance p has.process at a has.world has.is_next;
+      balance = law_of RoundsBalance s es all.balance w run p has.process at a has.world has.is_next;
       arrived = arrived;
       agrees = agrees s es p at a w all run inside goes has no_delete;
     }

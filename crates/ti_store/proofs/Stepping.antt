@@ -22,14 +22,15 @@ use Rattle.ti_eval.specs.Forms.{IsFormedAnswer}
 use Rattle.ti_store.specs.declared.ledger.Ledger.{Ledger}
 use Rattle.ti_store.specs.declared.ledger.Reply.{Reply}
 use Rattle.ti_store.specs.declared.ledger.Reply.TheVariants.{Answered, Faulted}
-use Rattle.ti_store.specs.Conditions.{IsWithin, HasNext, IsFormed, is_delete, SuitsStore}
+use Rattle.ti_align.specs.Stopping.{is_delete, RoundsBalance}
+use Rattle.ti_store.specs.Conditions.{IsWithin, HasNext, IsFormed}
 use Rattle.ti_store.specs.Stores.{next_of}
 use Rattle.ti_store.specs.MirrorsLedger.{AllArrived}
 use Rattle.ti_store.specs.MirrorsParts.{program_in, history_in, KeepsParts, IsKept, outcome_of, entry_after, Does, came_of, MayAct, Comes, Steps, SameLedger}
-use Rattle.ti_store.specs.MirrorsStore.{setting_in, IsLedger}
+use Rattle.ti_store.specs.MirrorsStore.{KeepsLaws, setting_in, IsLedger}
 use Rattle.ti_store.proofs.OneMore.{fault_more}
 use Rattle.ti_store.proofs.Doing.{quiet_parts, fault_parts}
-use Rattle.ti_store.proofs.Running.{run_more, next_acts, ready_when, suits, may_do}
+use Rattle.ti_store.proofs.Running.{run_more, next_acts, ready_when, law_of, may_do}
 use Rattle.ti_store.proofs.Forming.{answer_formed}
 
 -- ---- what comes of it
@@ -119,14 +120,14 @@ waits_before l fuel p at a k inside n d =
     let s = setting_in l fuel in
     let acts = departure_acts a d in
     let has = next_act s es p at a acts.0 acts.1 n in
-    (suits s es k.within k.suits k.run).balance p has.process at a has.world has.is_next ∙ ap (λ t. departures p es + cond t 1 0) d
+    law_of RoundsBalance s es k.laws.balance k.within k.run p has.process at a has.world has.is_next ∙ ap (λ t. departures p es + cond t 1 0) d
 
 pub may_act : (l : Ledger) (fuel p : ℕ) (at : Place) (a : Action) → IsLedger l fuel false → p < l.procs → HasNext (setting_in l fuel) p (entries_of p l.entries.items) (next_of at a)
     → (is_departure a ≡ true → AllArrived l.procs p l.entries.items) → IsFormed a → is_delete a ≡ false → MayAct l p at a
 may_act l fuel p at a k inside n arrived form no_delete e f =
     let es = l.entries.items in
     let s = setting_in l fuel in
-    may_do s es p at a k.within k.suits k.run inside (sym k.faulted_is) (next_act s es p at a e f n) (subst (IsReady s es p) (next_acts at a e f) (ready_when s es p at a arrived)) arrived form no_delete
+    may_do s es p at a k.within k.laws k.run inside (sym k.faulted_is) (next_act s es p at a e f n) (subst (IsReady s es p) (next_acts at a e f) (ready_when s es p at a arrived)) arrived form no_delete
 
 -- a fault ends the run
 abbrev pub is_faulted : Reply → Bool
@@ -154,7 +155,7 @@ ledger_steps l l' fuel p at a reply k inside n arrived st =
     let program : program_in l ≡ program_in l' = λ j. program_of (sym st.program j).parts in
     record {
       within = subst (λ n. IsWithin n fuel) (sym st.procs) k.within;
-      suits = subst SuitsStore program k.suits;
+      laws = subst KeepsLaws program k.laws;
       run = subst (IsRun (setting_in l' fuel)) (sym st.entries) (subst (λ s. IsRun s (es ++ e ∷ [])) same (grown_run l l' fuel p at a reply k inside n arrived st));
       faulted_is = sym (ap has_fault st.entries ∙ fault_more es e ∙ ap (λ t. t || is_fault e.act) (sym k.faulted_is) ∙ fault_told (program_in l) (history_in l) p at a reply st.answer);
       kept = st.kept;
@@ -162,7 +163,7 @@ ledger_steps l l' fuel p at a reply k inside n arrived st =
 
 -- what is answered is in its form
 pub form_answered : (l l' : Ledger) (fuel p : ℕ) (at : Place) (a : Action) (answer : Answer) → IsLedger l fuel false → Steps l p at a (Answered answer) l' → IsFormedAnswer answer
-form_answered l l' fuel p at a answer k st = answer_formed (program_in l) l.procs (history_in l) (contents l.heap) p a answer k.suits.fields k.kept.ours k.kept.heap st.answer
+form_answered l l' fuel p at a answer k st = answer_formed (program_in l) l.procs (history_in l) (contents l.heap) p a answer k.laws.fields k.kept.ours k.kept.heap st.answer
 
 pub answered_no_fault : (l l' : Ledger) (p : ℕ) (at : Place) (a : Action) (answer : Answer) → Steps l p at a (Answered answer) l' → is_fault a ≡ false
 answered_no_fault l l' p at a answer st = answered_acts (program_in l) (history_in l) p a answer st.answer

@@ -9,12 +9,22 @@ use Rattle.ti_base.specs.declared.action.Deposit.TheVariants as deposit
 use Rattle.ti_base.specs.declared.entry.Answer.{Answer}
 use Rattle.ti_base.specs.declared.entry.Answer.TheVariants.{Done, Val}
 use Rattle.ti_base.specs.declared.entry.Entry.{Entry}
+use Rattle.ti_base.specs.declared.value.Zero.{Zero}
+use Rattle.ti_base.specs.declared.value.Zero.TheVariants as z
+use Rattle.ti_base.specs.Points.{IsDim}
 use Rattle.ti_base.specs.Rects.{IsRect}
 use Rattle.ti_lang.specs.Program.Classes.{NumberedProgram}
 use Rattle.ti_lang.specs.Meaning.Histories.{History, history_of, is_arrival, is_departure, arrivals, departures}
 use Rattle.ti_lang.specs.Meaning.RoundsOf.{rounds_making}
 use Rattle.ti_lang.specs.Meaning.HeapAnswers.{Outcome, Impossible, heap_answer}
-use Rattle.ti_store.specs.Conditions.{IsFormed, IsFormedZero, is_delete}
+use Rattle.ti_align.specs.Stopping.{is_delete}
+use Rattle.ti_store.specs.Conditions.{IsFormed}
+
+-- the first value of a field or an element has one to three dimensions, where it has any
+abbrev pub IsFormedZero : Zero → Type 0
+IsFormedZero (z.Pt dim) = IsDim dim
+IsFormedZero (z.Rc dim) = IsDim dim
+IsFormedZero zero = Unit {0}
 
 -- the values and domains that an action hands in are in their form, and so is the first value of a new grid's elements
 abbrev pub AllFormed : Action → Type 0

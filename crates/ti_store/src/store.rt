@@ -4,7 +4,8 @@ ghost use Rattle.std.specs.Prelude.{◌≡◌, ◌<◌, [], false, true, IfOk, I
 ghost use Rattle.ti_lang.specs.Program.Views.{program_of};
 ghost use Rattle.ti_lang.specs.Meaning.Runs.{IsRun};
 ghost use Rattle.ti_eval.specs.Forms.{IsFormedAnswer};
-ghost use Rattle.ti_store.specs.Conditions.{IsWithin, IsFormed, is_delete, SuitsStore};
+ghost use Rattle.ti_align.specs.Stopping.{is_delete};
+ghost use Rattle.ti_store.specs.Conditions.{IsWithin, IsFormed};
 ghost use Rattle.ti_store.specs.Stores.{setting_of, IsNextOf, IsDone, IsRefused};
 
 use crate::act_err::ActErr;
@@ -12,6 +13,7 @@ use crate::ledger::{Ledger, Reply};
 use crate::makings::Makings;
 use std::alloc::Global;
 use std::marker::Model;
+use ti_align::{arrivals_agree, fields_fit, none_impossible, rounds_balance, run_typed};
 use ti_base::{Action, Answer, Entry, Memory, Place};
 use ti_heap::Heap;
 use ti_rounds::Rounds;
@@ -49,15 +51,18 @@ impl Model for Store {
 impl Store {
     /// The store of a program with so many processes and so much fuel for each, before the first entry.
     ///
-    /// It keeps a copy of the program. In every run of the program what a process asks for is possible, but for
-    /// deletes of shared regions, and all meet the same collectives.
+    /// It keeps a copy of the program.
     pub fn new(alloc: Global, c: &Checked, procs: u32, fuel: u32) -> Result<Self, Memory>
         requires within { IsWithin procs fuel }
-        requires suits { SuitsStore (program_of c.now.program.parts) }
         ensures setting { IfOk result (λ s. setting_of s ≡ record { program = program_of c.now.program.parts; procs = procs; fuel = fuel }) }
         ensures entries { IfOk result (λ s. s.entries ≡ []) }
         ensures halted { IfOk result (λ s. s.halted ≡ false) }
     {
+        none_impossible(c);
+        rounds_balance(c);
+        arrivals_agree(c);
+        run_typed(c);
+        fields_fit(c);
         let program = c.program.copy(alloc)?;
         let heap = Heap::new(alloc, procs)?;
         let rounds = Rounds::new(alloc, procs)?;

@@ -45,7 +45,7 @@ returns c =
     let k = c.requires.kept in
     let e : Entry = record { proc = c.args.p; place = c.args.place; act = act.Arrive c.args.kind c.args.arg c.args.given; answer = Done } in
     record {
-      answer = arrives_done (history_in l) c.args.kind c.args.arg c.requires.may.keeps_regions;
+      answer = arrives_done (history_in l) c.args.kind c.args.arg c.args.given c.requires.may.keeps_regions;
       kept = record {
         ours = (c.requires.process, c.requires.may.keeps_regions, c.requires.may.formed, k.ours);
         rounds = record {

@@ -4,8 +4,8 @@ use Rattle.ti_lang.specs.Program.Views.{program_of}
 use Rattle.ti_lang.specs.Meaning.Histories.{history_of, has_fault}
 use Rattle.ti_lang.specs.Meaning.Processes.{Setting}
 use Rattle.ti_lang.specs.Meaning.Runs.{IsRun, none}
-use Rattle.ti_store.specs.Conditions.{SuitsStore}
 use Rattle.ti_store.specs.MirrorsParts.{KeepsParts}
+use Rattle.ti_store.specs.MirrorsStore.{KeepsLaws}
 use Rattle.ti_store.proofs.Beginning.{new_parts}
 use Rattle.ti_store.proofs.store.Store.new.Goals as goal
 
@@ -16,7 +16,13 @@ invariant_of-result c =
     let empty = c.new-4.ensures.items in
     record {
       within = c.requires.within;
-      suits = subst SuitsStore (sym c.in_ok-program.ensures) c.requires.suits;
+      laws = subst KeepsLaws (sym c.in_ok-program.ensures) (record {
+        possible = c.none_impossible.ensures;
+        balance = c.rounds_balance.ensures;
+        agree = c.arrivals_agree.ensures;
+        typed = c.run_typed.ensures;
+        fields = c.fields_fit.ensures;
+      });
       run = subst (IsRun s) (sym empty) none;
       faulted_is = sym (ap has_fault empty);
       kept = subst (λ es. KeepsParts program c.args.procs (history_of es) (contents c.in_ok-heap.heap) c.in_ok-rounds.rounds c.in_ok-makings.makings) (sym empty)
