@@ -1,0 +1,14 @@
+pub mod Beginning
+pub mod Courses
+pub mod Doing
+pub mod Forming
+pub mod HeapSteps
+pub mod Meeting
+pub mod NewThings
+pub mod NoneGone
+pub mod OneMore
+pub mod RegionRounds
+pub mod Replies
+pub mod Running
+pub mod Stepping
+pub mod Ticks

@@ -1,0 +1,77 @@
+-- What contracts see of a store, and how it answers an action.
+use Rattle.std.specs.Prelude.{◌≡◌, ℕ, Bool, false, true, ◌||◌, List, ◌∷◌, ◌++◌, [], Some}
+use Rattle.ti_base.specs.declared.place.Place.{Place}
+use Rattle.ti_base.specs.declared.fault.FaultKind.{FaultKind}
+use Rattle.ti_base.specs.declared.action.Action.{Action}
+use Rattle.ti_base.specs.declared.action.Action.TheVariants as act
+use Rattle.ti_base.specs.declared.entry.Answer.{Answer}
+use Rattle.ti_base.specs.declared.entry.Answer.TheVariants.{Done}
+use Rattle.ti_base.specs.declared.entry.Entry.{Entry}
+use Rattle.ti_base.specs.declared.entry.Next.{Next}
+use Rattle.ti_base.specs.declared.entry.Next.TheVariants as next
+use Rattle.ti_lang.specs.declared.program.classes.Parts.{Parts}
+use Rattle.ti_lang.specs.Program.Views.{program_of}
+use Rattle.ti_lang.specs.Meaning.Processes.{Setting}
+use Rattle.ti_lang.specs.Meaning.Histories.{is_fault, has_fault, entries_of}
+use Rattle.ti_lang.specs.Meaning.Runs.{IsReady, entry_of}
+use Rattle.ti_store.specs.declared.act_err.ActErr.{ActErr}
+use Rattle.ti_store.specs.declared.act_err.ActErr.TheVariants.{Faulted, NotYet, Halted, Memory}
+use Rattle.ti_store.specs.Conditions.{HasNext}
+
+-- the program of a store, its number of processes, their fuel, the entries so far, and whether want of memory halted it
+pub record StoreState : Type 0 where
+  pub program : Parts
+  pub procs : ℕ
+  pub fuel : ℕ
+  pub entries : List Entry
+  pub halted : Bool
+
+-- what the processes of a store share
+abbrev pub setting_of : StoreState → Setting
+setting_of s = record { program = program_of s.program; procs = s.procs; fuel = s.fuel }
+
+-- nothing more is done: the history ends with a fault, or want of memory halted the store
+abbrev pub is_halted : StoreState → Bool
+is_halted s = s.halted || has_fault s.entries
+
+-- what a process does, as what it has next: an end and a fault of its own are no actions
+abbrev pub next_of : Place → Action → Next
+next_of at act.End = next.End at
+next_of at (act.Fault kind) = next.Fault kind at
+next_of at a = next.Act at a
+
+-- process p has this next, after its own entries
+abbrev pub IsNextOf : StoreState → ℕ → Place → Action → Type 0
+IsNextOf s p at a = HasNext (setting_of s) p (entries_of p s.entries) (next_of at a)
+
+-- process p needn't wait
+abbrev pub NeedNotWait : StoreState → ℕ → Place → Action → Type 0
+NeedNotWait s p at a = IsReady (setting_of s) s.entries p (next_of at a)
+
+-- what process p does is done: this entry comes of it
+pub record Becomes (s : StoreState) (p : ℕ) (at : Place) (a : Action) (e : Entry) : Type 0 where
+  pub goes_on : is_halted s ≡ false
+  pub ready : NeedNotWait s p at a
+  pub entry : entry_of (setting_of s) s.entries p (next_of at a) ≡ Some e
+
+-- the store with one entry more
+abbrev pub grown : StoreState → Entry → StoreState
+grown s e = record s { entries = s.entries ++ e ∷ [] }
+
+-- process p did what it had next, and was answered
+pub record IsDone (old : StoreState) (p : ℕ) (at : Place) (a : Action) (answer : Answer) (new : StoreState) : Type 0 where
+  pub becomes : Becomes old p at a (record { proc = p; place = at; act = a; answer = answer })
+  pub no_fault : is_fault a ≡ false
+  pub after : new ≡ grown old (record { proc = p; place = at; act = a; answer = answer })
+
+-- the entry of a fault of process p
+abbrev pub fault_entry : ℕ → Place → FaultKind → Entry
+fault_entry p at kind = record { proc = p; place = at; act = act.Fault kind; answer = Done }
+
+-- Process p did not do what it had next: a fault came of it; or it has to wait, or the store is halted, or memory was wanting, and
+-- nothing changed.
+abbrev pub IsRefused : StoreState → ℕ → Place → Action → ActErr → StoreState → Type 0
+IsRefused old p at a (Faulted kind) new = Becomes old p at a (fault_entry p at kind) × (new ≡ grown old (fault_entry p at kind))
+IsRefused old p at a NotYet new = (is_halted old ≡ false) × (NeedNotWait old p at a → ⊥) × (new ≡ old)
+IsRefused old p at a Halted new = (is_halted old ≡ true) × (new ≡ old)
+IsRefused old p at a Memory new = (is_halted old ≡ false) × NeedNotWait old p at a × (new ≡ old)

@@ -1,0 +1,155 @@
+// The store of a run.
+
+ghost use Rattle.std.specs.Prelude.{◌≡◌, ◌<◌, [], false, true, IfOk, IfErr};
+ghost use Rattle.ti_lang.specs.Program.Views.{program_of};
+ghost use Rattle.ti_lang.specs.Meaning.Runs.{IsRun};
+ghost use Rattle.ti_eval.specs.Forms.{IsFormedAnswer};
+ghost use Rattle.ti_align.specs.Stopping.{is_delete};
+ghost use Rattle.ti_store.specs.Conditions.{IsWithin, IsFormed};
+ghost use Rattle.ti_store.specs.Stores.{setting_of, IsNextOf, IsDone, IsRefused};
+
+use crate::act_err::ActErr;
+use crate::ledger::{Ledger, Reply};
+use crate::makings::Makings;
+use std::alloc::Global;
+use std::marker::Model;
+use ti_align::{arrivals_agree, fields_fit, none_impossible, rounds_balance, run_typed};
+use ti_base::{Action, Answer, Entry, Memory, Place};
+use ti_heap::Heap;
+use ti_rounds::Rounds;
+use ti_rules::Checked;
+
+/// The history of a run, with the heap and the rounds that it makes.
+///
+/// Contracts see the program, the number of processes, the fuel of each, the entries so far, and whether
+/// want of memory halted the store. The entries are always a run of the program.
+#[derive(Drop)]
+pub struct Store {
+    ledger: Ledger,
+    fuel: u32,
+    faulted: bool,
+    halted: bool,
+}
+
+impl Model for Store {
+    ghost use Rattle.ti_base.specs.contracts.entry.Entry as entry;
+    ghost use Rattle.ti_lang.specs.contracts.program.classes.Parts as parts;
+    ghost use Rattle.ti_store.specs.Stores.{StoreState};
+    ghost use Rattle.ti_store.specs.MirrorsState.{state_code};
+
+    ghost Value = { StoreState };
+
+    ghost coded = { state_code parts.the_row.coded entry.the_row.coded };
+
+    ghost use Rattle.ti_store.specs.MirrorsStore.{state_in, IsStore};
+
+    ghost view = { state_in };
+
+    ghost invariant = { IsStore };
+}
+
+impl Store {
+    /// The store of a program with so many processes and so much fuel for each, before the first entry.
+    ///
+    /// It keeps a copy of the program.
+    pub fn new(alloc: Global, c: &Checked, procs: u32, fuel: u32) -> Result<Self, Memory>
+        requires within { IsWithin procs fuel }
+        ensures setting { IfOk result (λ s. setting_of s ≡ record { program = program_of c.now.program.parts; procs = procs; fuel = fuel }) }
+        ensures entries { IfOk result (λ s. s.entries ≡ []) }
+        ensures halted { IfOk result (λ s. s.halted ≡ false) }
+    {
+        none_impossible(c);
+        rounds_balance(c);
+        arrivals_agree(c);
+        run_typed(c);
+        fields_fit(c);
+        let program = c.program.copy(alloc)?;
+        let heap = Heap::new(alloc, procs)?;
+        let rounds = Rounds::new(alloc, procs)?;
+        let makings = Makings::new(alloc, procs)?;
+        let ledger = Ledger {
+            program,
+            procs,
+            entries: Vec::new(alloc),
+            heap,
+            rounds,
+            makings,
+        };
+        Ok(Store {
+            ledger,
+            fuel,
+            faulted: false,
+            halted: false,
+        })
+    }
+
+    /// The process does what it has next: an action, its end or a fault of its own. What it hands in is in its
+    /// form, and it deletes no shared region.
+    ///
+    /// Its entry is added, with its answer or as the fault that comes of it. `Halted` comes exactly where
+    /// the history ends with a fault or the store was halted; else `NotYet` exactly where this is a departure
+    /// and not all have arrived at the round; else `Faulted` exactly where a fault comes of it, which is then
+    /// the last entry. Want of memory may come in place of an answer or a fault. But for `Faulted`, nothing
+    /// changes on an error.
+    pub fn act(&mut self, alloc: Global, p: u32, place: Place, a: Action) -> Result<Answer, ActErr>
+        requires process { p < self.old.procs }
+        requires next { IsNextOf self.old p place a }
+        requires form { IsFormed a }
+        requires keeps_regions { is_delete a ≡ false }
+        ensures ok { IfOk result (λ answer. IsDone self.old p place a answer self.new) }
+        ensures form { IfOk result IsFormedAnswer }
+        ensures err { IfErr result (λ why. IsRefused self.old p place a why self.new) }
+    {
+        if self.halted || self.faulted {
+            return Err(ActErr::Halted);
+        }
+        if !self.ledger.may_go(p, a) {
+            return Err(ActErr::NotYet);
+        }
+        match self.ledger.step(alloc, p, place, a) {
+            Ok(Reply::Answered(answer)) => Ok(answer),
+            Ok(Reply::Faulted(kind)) => {
+                self.faulted = true;
+                Err(ActErr::Faulted(kind))
+            }
+            Err(_) => Err(ActErr::Memory),
+        }
+    }
+
+    /// Halts the store, for want of memory elsewhere: nothing more is done.
+    pub fn halt_for_memory(&mut self)
+        ensures { self.new ≡ record self.old { halted = true } }
+    {
+        self.halted = true;
+    }
+
+    /// The entries so far, which are a run.
+    pub fn history(&self) -> &[Entry]
+        ensures entries { result.now ≡ self.now.entries }
+        ensures run { IsRun (setting_of self.now) self.now.entries }
+    {
+        &self.ledger.entries
+    }
+
+    /// The entries, which are a run.
+    pub fn into_history(self) -> Vec<Entry>
+        ensures entries { result.items ≡ self.entries }
+        ensures run { IsRun (setting_of self) self.entries }
+    {
+        let Store {
+            ledger,
+            fuel: _,
+            faulted: _,
+            halted: _,
+        } = self;
+        let Ledger {
+            program: _,
+            procs: _,
+            entries,
+            heap: _,
+            rounds: _,
+            makings: _,
+        } = ledger;
+        entries
+    }
+}
