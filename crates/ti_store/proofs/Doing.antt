@@ -19,6 +19,7 @@ use Rattle.ti_base.specs.declared.action.ViewHow.{ViewHow}
 use Rattle.ti_base.specs.declared.action.ViewHow.TheVariants.{Restrict, Translate, Slice}
 use Rattle.ti_base.specs.declared.entry.Answer.TheVariants.{Done, Val}
 use Rattle.ti_base.specs.declared.entry.Entry.{Entry}
+use Rattle.ti_base.specs.Points.{IsPoint}
 use Rattle.ti_base.specs.Rects.{IsRect, is_in, points_of}
 use Rattle.ti_base.specs.Cells.{Field, Element, zero_value, Grid, cell_of, suits, view_fault}
 use Rattle.ti_base.proofs.PointLaws.{length_points}
@@ -37,9 +38,8 @@ use Rattle.ti_lang.specs.Meaning.Histories.{History, is_making, is_arrival, is_d
 use Rattle.ti_lang.specs.Meaning.RegionsOf.{is_gone, is_place}
 use Rattle.ti_lang.specs.Meaning.HeapOf.{new_id, view_id, grid_of, written_by, cell_value, cost_of, cost_of_making, most_cells}
 use Rattle.ti_lang.specs.Meaning.HeapAnswers.{Outcome, Answers, Faults, where_some, possible_if, faults_if, answers_value, makes, places, is_dim, at_point, views, heap_answer}
-use Rattle.ti_eval.specs.Forms.{IsFormedValue}
 use Rattle.ti_align.specs.Stopping.{is_delete}
-use Rattle.ti_store.specs.Conditions.{IsFormedView}
+use Rattle.ti_align.specs.Formed.{IsFormed, IsFormedView}
 use Rattle.ti_store.specs.MirrorsHeap.{full_cost, KeepsHeap}
 use Rattle.ti_store.specs.MirrorsLedger.{IsFormedZero, AllFormed, AreOurs, IsPossible}
 use Rattle.ti_store.specs.MirrorsParts.{field_zeros, KeepsParts, read_outcome}
@@ -105,7 +105,7 @@ put_answer program h p obj field x possible =
     let old = possible_some (cell_value program (Field obj field) h) (λ old. Answers Done) possible in
     ap (λ o. where_some o (λ old. Answers Done)) old.1
 
-pub put_parts : (program : NumberedProgram) (procs : ℕ) (h : History) (s s' : Contents) (seats : List Seat) (makings : List ℕ) (p : ℕ) (at : Place) (obj : Id) (field : ℕ) (x : Value) → p < procs → IsFormedValue x
+pub put_parts : (program : NumberedProgram) (procs : ℕ) (h : History) (s s' : Contents) (seats : List Seat) (makings : List ℕ) (p : ℕ) (at : Place) (obj : Id) (field : ℕ) (x : Value) → p < procs → IsFormed x
     → KeepsParts program procs h s seats makings → IsPossible (heap_answer program h p (act.PutField obj field x)) → s' ≡ with_value (cell_at obj field) x s
     → KeepsParts program procs (record { proc = p; place = at; act = act.PutField obj field x; answer = Done } ∷ h) s' seats makings
 put_parts program procs h s s' seats makings p at obj field x inside f k possible is =
@@ -178,7 +178,7 @@ ok_err : {A E : Type 0} (a : A) (e : E) → Ok a ≡ Err e → ⊥
 ok_err a e h = let P : ⊥ = cc in P
 
 -- an element is written
-pub put_elem_done : (program : NumberedProgram) (procs : ℕ) (h : History) (s s' : Contents) (seats : List Seat) (makings : List ℕ) (p : ℕ) (place : Place) (grid : Id) (at : Point) (x : Value) → p < procs → IsFormedValue x
+pub put_elem_done : (program : NumberedProgram) (procs : ℕ) (h : History) (s s' : Contents) (seats : List Seat) (makings : List ℕ) (p : ℕ) (place : Place) (grid : Id) (at : Point) (x : Value) → p < procs → IsPoint at × IsFormed x
     → KeepsParts program procs h s seats makings → IsPossible (heap_answer program h p (act.PutElem grid at x)) → Writes s (grid_cell grid at s) x (Ok tt) s'
     → (heap_answer program h p (act.PutElem grid at x) ≡ Answers Done) × KeepsParts program procs (record { proc = p; place = place; act = act.PutElem grid at x; answer = Done } ∷ h) s' seats makings
 put_elem_done program procs h s s' seats makings p place grid at x inside f k possible writes =

@@ -35,11 +35,19 @@ use Rattle.ti_lang.specs.Meaning.HeapAnswers.{Outcome, Answers, where_some, poss
 use Rattle.ti_eval.specs.Forms.{IsFormedValue, IsFormedAnswer}
 use Rattle.ti_align.specs.Things.{DimsFine, IsStorable}
 use Rattle.ti_align.specs.Fitting.{FieldsFit}
-use Rattle.ti_store.specs.Conditions.{IsFormedDeposit}
+use Rattle.ti_align.specs.Formed.{IsFormed, IsFormedDeposit}
 use Rattle.ti_store.specs.MirrorsHeap.{KeepsHeap}
 use Rattle.ti_store.specs.MirrorsLedger.{IsFormedZero, AllFormed, AreOurs}
 use Rattle.ti_store.specs.MirrorsParts.{came_of}
 use Rattle.ti_store.proofs.OneMore.{some_same}
+
+-- ---- values
+
+-- what is in its form where it is handed in is so where it is evaluated
+value_formed : (x : Value) → IsFormed x → IsFormedValue x
+value_formed (v.Pt p) f = f
+value_formed (v.Rc r) f = f
+value_formed _ f = tt
 
 -- ---- zeros
 
@@ -99,8 +107,8 @@ element_put None at c x y e = cc
 element_put (Some g) at c x y e = put_value (cell_of g at) c x y e
 
 written_formed : (a : Action) (h : History) (c : Cell) (y : Value) → AllFormed a → written_by a h ≡ Some (c, y) → IsFormedValue y
-written_formed (act.PutField obj field x) h c y f e = subst IsFormedValue (put_value (Field obj field) c x y e) f
-written_formed (act.PutElem grid at x) h c y f e = subst IsFormedValue (element_put (grid_of grid h) at c x y e) f
+written_formed (act.PutField obj field x) h c y f e = subst IsFormedValue (put_value (Field obj field) c x y e) (value_formed x f)
+written_formed (act.PutElem grid at x) h c y f e = subst IsFormedValue (element_put (grid_of grid h) at c x y e) (value_formed x f.1)
 written_formed _ h c y f e = cc
 
 pub last_formed : (procs : ℕ) (h : History) (cell : Cell) (y : Value) → AreOurs procs h → last_written cell h ≡ Some y → IsFormedValue y
@@ -179,7 +187,7 @@ deposit_formed procs i round (d ∷ h) x ours e = by (d.proc == i && is_arrival 
     by false go k = go k
 
 deposit_value : (d : Deposit) (y : Value) → IsFormedDeposit d → value_in d ≡ Some y → IsFormedValue y
-deposit_value (deposit.One x) y f e = subst IsFormedValue (some_same x y e) f
+deposit_value (deposit.One x) y f e = subst IsFormedValue (some_same x y e) (value_formed x f)
 deposit_value _ y f e = cc
 
 pub given_formed : (procs i who : ℕ) (h : History) (y : Value) → AreOurs procs h → given i who h ≡ Some y → IsFormedValue y

@@ -31,7 +31,8 @@ use Rattle.ti_align.specs.Things.{Things}
 use Rattle.ti_align.specs.Sound.{IsThere}
 use Rattle.ti_align.specs.Heap.{things_of}
 use Rattle.ti_align.specs.Typed.{RunTyped}
-use Rattle.ti_store.specs.Conditions.{IsWithin, HasNext, IsFormed}
+use Rattle.ti_align.specs.Formed.{IsFormedAction, ActionsFormed}
+use Rattle.ti_store.specs.Conditions.{IsWithin, HasNext}
 use Rattle.ti_store.specs.Stores.{next_of}
 use Rattle.ti_store.specs.MirrorsRounds.{arrivals_said}
 use Rattle.ti_store.specs.MirrorsLedger.{IsFormedZero, AllFormed, IsPossible, collective_in, collective_at, AllArrived, AgreesWith, MayDo}
@@ -253,22 +254,22 @@ possible_from (Faults kind) h = tt
 grid_formed : (program : NumberedProgram) (w : Things) (zero : Zero) (domain : Rect) (region : ℕ) (wanted : Wanted) → IsThere program w (act.NewGrid zero domain region) wanted → IsFormedZero zero
 grid_formed program w zero domain region wanted x = subst IsFormedZero (sym x.3) (storable_formed x.0 x.7)
 
-all_formed : (program : NumberedProgram) (w : Things) (a : Action) (wanted : Wanted) → IsThere program w a wanted → IsFormed a → AllFormed a
+all_formed : (program : NumberedProgram) (w : Things) (a : Action) (wanted : Wanted) → IsThere program w a wanted → IsFormedAction a → AllFormed a
 all_formed program w (act.NewGrid zero domain region) wanted x form = (grid_formed program w zero domain region wanted x, form)
 all_formed program w _ wanted x form = form
 
-run_formed : (s : Setting) (es : List Entry) (p : ℕ) (q : Process) (at : Place) (a : Action) → RunTyped s es → p < s.procs → World s es p q → IsNext q (next.Act at a) → IsFormed a → AllFormed a
-run_formed s es p q at a typed inside world is form =
+run_formed : (s : Setting) (es : List Entry) (p : ℕ) (q : Process) (at : Place) (a : Action) → RunTyped s es → ActionsFormed s es → p < s.procs → World s es p q → IsNext q (next.Act at a) → AllFormed a
+run_formed s es p q at a typed formed inside world is =
     let there = typed.there p q at a inside world is in
-    all_formed s.program (things_of typed.fits.elements (history_of es)) a there.0 there.1 form
+    all_formed s.program (things_of typed.fits.elements (history_of es)) a there.0 there.1 (formed p q at a inside world is)
 
 pub may_do : (s : Setting) (es : List Entry) (p : ℕ) (at : Place) (a : Action) → IsWithin s.procs s.fuel → KeepsLaws s.program → IsRun s es → p < s.procs → has_fault es ≡ false
-    → HasNext s p (entries_of p es) (next.Act at a) → IsReady s es p (next.Act at a) → (is_departure a ≡ true → AllArrived s.procs p es) → IsFormed a → is_delete a ≡ false
+    → HasNext s p (entries_of p es) (next.Act at a) → IsReady s es p (next.Act at a) → (is_departure a ≡ true → AllArrived s.procs p es) → is_delete a ≡ false
     → MayDo s.program s.procs es p at a
-may_do s es p at a w all run inside goes has ready arrived form no_delete =
+may_do s es p at a w all run inside goes has ready arrived no_delete =
     record {
       possible = possible_from (heap_answer s.program (history_of es) p a) (law_of NoneImpossible s es all.possible w run p has.process at a inside has.world has.is_next ready no_delete);
-      formed = run_formed s es p has.process at a (law_of RunTyped s es all.typed w run) inside has.world has.is_next form;
+      formed = run_formed s es p has.process at a (law_of RunTyped s es all.typed w run) (law_of ActionsFormed s es all.formed w run) inside has.world has.is_next;
       keeps_regions = no_delete;
       few = makings_few es p s.fuel (arrivals_few s es p has.process has.world) w.limited;
       balance = law_of RoundsBalance s es all.balance w run p has.process at a has.world has.is_next;

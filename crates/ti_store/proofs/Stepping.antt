@@ -23,7 +23,7 @@ use Rattle.ti_store.specs.declared.ledger.Ledger.{Ledger}
 use Rattle.ti_store.specs.declared.ledger.Reply.{Reply}
 use Rattle.ti_store.specs.declared.ledger.Reply.TheVariants.{Answered, Faulted}
 use Rattle.ti_align.specs.Stopping.{is_delete, RoundsBalance}
-use Rattle.ti_store.specs.Conditions.{IsWithin, HasNext, IsFormed}
+use Rattle.ti_store.specs.Conditions.{IsWithin, HasNext}
 use Rattle.ti_store.specs.Stores.{next_of}
 use Rattle.ti_store.specs.MirrorsLedger.{AllArrived}
 use Rattle.ti_store.specs.MirrorsParts.{program_in, history_in, KeepsParts, IsKept, outcome_of, entry_after, Does, came_of, MayAct, Comes, Steps, SameLedger}
@@ -123,11 +123,11 @@ waits_before l fuel p at a k inside n d =
     law_of RoundsBalance s es k.laws.balance k.within k.run p has.process at a has.world has.is_next ∙ ap (λ t. departures p es + cond t 1 0) d
 
 pub may_act : (l : Ledger) (fuel p : ℕ) (at : Place) (a : Action) → IsLedger l fuel false → p < l.procs → HasNext (setting_in l fuel) p (entries_of p l.entries.items) (next_of at a)
-    → (is_departure a ≡ true → AllArrived l.procs p l.entries.items) → IsFormed a → is_delete a ≡ false → MayAct l p at a
-may_act l fuel p at a k inside n arrived form no_delete e f =
+    → (is_departure a ≡ true → AllArrived l.procs p l.entries.items) → is_delete a ≡ false → MayAct l p at a
+may_act l fuel p at a k inside n arrived no_delete e f =
     let es = l.entries.items in
     let s = setting_in l fuel in
-    may_do s es p at a k.within k.laws k.run inside (sym k.faulted_is) (next_act s es p at a e f n) (subst (IsReady s es p) (next_acts at a e f) (ready_when s es p at a arrived)) arrived form no_delete
+    may_do s es p at a k.within k.laws k.run inside (sym k.faulted_is) (next_act s es p at a e f n) (subst (IsReady s es p) (next_acts at a e f) (ready_when s es p at a arrived)) arrived no_delete
 
 -- a fault ends the run
 abbrev pub is_faulted : Reply → Bool

@@ -18,7 +18,7 @@ use Rattle.ti_lang.specs.Meaning.Histories.{History, history_of, is_arrival, is_
 use Rattle.ti_lang.specs.Meaning.RoundsOf.{rounds_making}
 use Rattle.ti_lang.specs.Meaning.HeapAnswers.{Outcome, Impossible, heap_answer}
 use Rattle.ti_align.specs.Stopping.{is_delete}
-use Rattle.ti_store.specs.Conditions.{IsFormed}
+use Rattle.ti_align.specs.Formed.{IsFormedAction}
 
 -- the first value of a field or an element has one to three dimensions, where it has any
 abbrev pub IsFormedZero : Zero → Type 0
@@ -26,10 +26,10 @@ IsFormedZero (z.Pt dim) = IsDim dim
 IsFormedZero (z.Rc dim) = IsDim dim
 IsFormedZero zero = Unit {0}
 
--- the values and domains that an action hands in are in their form, and so is the first value of a new grid's elements
+-- the values, points and domains that an action hands in are in their form, and so is the first value of a new grid's elements
 abbrev pub AllFormed : Action → Type 0
 AllFormed (act.NewGrid zero domain region) = IsFormedZero zero × IsRect domain
-AllFormed a = IsFormed a
+AllFormed a = IsFormedAction a
 
 -- every entry is one of these processes, deletes no region, and handed in what is in its form
 abbrev pub AreOurs : ℕ → History → Type 0

@@ -8,6 +8,7 @@ use Rattle.ti_align.specs.Alignment.{ArrivalsAgree, OfEveryRun}
 use Rattle.ti_align.specs.Stopping.{RoundsBalance, NoneImpossible}
 use Rattle.ti_align.specs.Fitting.{FieldsFit}
 use Rattle.ti_align.specs.Typed.{RunTyped}
+use Rattle.ti_align.specs.Formed.{ActionsFormed}
 use Rattle.ti_store.specs.declared.ledger.Ledger.{Ledger}
 use Rattle.ti_store.specs.declared.store.Store.TheInside.{Inside}
 use Rattle.ti_store.specs.Conditions.{IsWithin}
@@ -20,6 +21,7 @@ pub record KeepsLaws (program : NumberedProgram) : Type 0 where
   pub balance : OfEveryRun RoundsBalance program
   pub agree : OfEveryRun ArrivalsAgree program
   pub typed : OfEveryRun RunTyped program
+  pub formed : OfEveryRun ActionsFormed program
   pub fields : FieldsFit program
 
 -- what contracts see

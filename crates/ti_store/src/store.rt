@@ -5,7 +5,7 @@ ghost use Rattle.ti_lang.specs.Program.Views.{program_of};
 ghost use Rattle.ti_lang.specs.Meaning.Runs.{IsRun};
 ghost use Rattle.ti_eval.specs.Forms.{IsFormedAnswer};
 ghost use Rattle.ti_align.specs.Stopping.{is_delete};
-ghost use Rattle.ti_store.specs.Conditions.{IsWithin, IsFormed};
+ghost use Rattle.ti_store.specs.Conditions.{IsWithin};
 ghost use Rattle.ti_store.specs.Stores.{setting_of, IsNextOf, IsDone, IsRefused};
 
 use crate::act_err::ActErr;
@@ -13,7 +13,9 @@ use crate::ledger::{Ledger, Reply};
 use crate::makings::Makings;
 use std::alloc::Global;
 use std::marker::Model;
-use ti_align::{arrivals_agree, fields_fit, none_impossible, rounds_balance, run_typed};
+use ti_align::{
+    actions_formed, arrivals_agree, fields_fit, none_impossible, rounds_balance, run_typed,
+};
 use ti_base::{Action, Answer, Entry, Memory, Place};
 use ti_heap::Heap;
 use ti_rounds::Rounds;
@@ -62,6 +64,7 @@ impl Store {
         rounds_balance(c);
         arrivals_agree(c);
         run_typed(c);
+        actions_formed(c);
         fields_fit(c);
         let program = c.program.copy(alloc)?;
         let heap = Heap::new(alloc, procs)?;
@@ -83,8 +86,8 @@ impl Store {
         })
     }
 
-    /// The process does what it has next: an action, its end or a fault of its own. What it hands in is in its
-    /// form, and it deletes no shared region.
+    /// The process does what it has next: an action, its end or a fault of its own. It deletes no shared
+    /// region.
     ///
     /// Its entry is added, with its answer or as the fault that comes of it. `Halted` comes exactly where
     /// the history ends with a fault or the store was halted; else `NotYet` exactly where this is a departure
@@ -94,7 +97,6 @@ impl Store {
     pub fn act(&mut self, alloc: Global, p: u32, place: Place, a: Action) -> Result<Answer, ActErr>
         requires process { p < self.old.procs }
         requires next { IsNextOf self.old p place a }
-        requires form { IsFormed a }
         requires keeps_regions { is_delete a ≡ false }
         ensures ok { IfOk result (λ answer. IsDone self.old p place a answer self.new) }
         ensures form { IfOk result IsFormedAnswer }

@@ -21,6 +21,7 @@ invariant_of-result c =
         balance = c.rounds_balance.ensures;
         agree = c.arrivals_agree.ensures;
         typed = c.run_typed.ensures;
+        formed = c.actions_formed.ensures;
         fields = c.fields_fit.ensures;
       });
       run = subst (IsRun s) (sym empty) none;
