@@ -9,7 +9,7 @@ ghost use Rattle.ti_lang.specs.Program.Types.{Typed};
 ghost use Rattle.ti_lang.specs.Program.Expressions.{numbered_exps};
 ghost use Rattle.ti_lang.specs.Program.Statements.{NumberedStm};
 ghost use Rattle.ti_lang.specs.Program.Classes.{NumberedMethod};
-ghost use Rattle.ti_lang.specs.Program.Views.{program_of, expression_of, value_type_of, numbered_param_of, numbered_params_of};
+ghost use Rattle.ti_lang.specs.Program.Views.{program_of, expression_of, value_type_of, variable_of, numbered_param_of, numbered_params_of};
 ghost use Rattle.ti_lang.specs.Typing.Seen.{seen};
 ghost use Rattle.ti_lang.specs.Typing.Declared.{is_static_method, instance_method};
 ghost use Rattle.ti_lang.specs.Typing.Called.{called_method, method_behind};
@@ -147,9 +147,9 @@ fn converted_from<'a>(
     }
 }
 
-// The parameter of a number, with the value of its argument. A number that 32 bits don't hold is want of memory.
-fn slot(alloc: Global, number: usize, param: &Param, held: Held) -> Result<Slot, Memory>
-    ensures { IfOk result (λ s. slot_of s ≡ record { named = record { number = number; declared = Typed param.now.ty.single (value_type_of param.now.ty.ty) }; held = held }) }
+// The parameter of a number. A number that 32 bits don't hold is want of memory.
+fn parameter(alloc: Global, number: usize, param: &Param) -> Result<Variable, Memory>
+    ensures { IfOk result (λ v. variable_of v ≡ record { number = number; declared = Typed param.now.ty.single (value_type_of param.now.ty.ty) }) }
 {
     let Ok(number) = u32::try_from(number) else {
         return Err(Memory);
@@ -158,11 +158,10 @@ fn slot(alloc: Global, number: usize, param: &Param, held: Held) -> Result<Slot,
         single: param.ty.single,
         ty: param.ty.ty.copy(alloc)?,
     };
-    let variable = Variable { number, declared };
-    Ok(Slot { variable, held })
+    Ok(Variable { number, declared })
 }
 
-// The same, behind its argument.
+// The same with the value of its argument.
 #[tactic(auto, using(ti_eval::proofs::Steps::steps))]
 fn slot_from<'a>(
     alloc: Global,
@@ -173,7 +172,10 @@ fn slot_from<'a>(
     ensures { (m : Got Seen) → Comes got.entry m → ComesAs slot_of result (followed m (λ h. gives (record { named = record { number = number; declared = Typed param.now.ty.single (value_type_of param.now.ty.ty) }; held = h }))) }
 {
     match got {
-        Ok((h, answers)) => Ok((slot(alloc, number, param, h)?, answers)),
+        Ok((held, answers)) => match parameter(alloc, number, param) {
+            Ok(variable) => Ok((Slot { variable, held }, answers)),
+            Err(_) => Err(Stop::Memory),
+        },
         Err(stop) => Err(stop),
     }
 }
@@ -231,7 +233,7 @@ fn bind_all<'a>(
     ensures { ComesAs (λ (v : Row Kept Heap). slots_of v.items) result (bound (env_of env.now) (parameters_of (numbered_params_of params.now)) (numbered_exps (map expression_of args.now)) [] answers.now) }
 {
     match params {
-        Params::Typed(params) => Ok(bind(alloc, env, params, args, answers)?),
+        Params::Typed(params) => bind(alloc, env, params, args, answers),
         Params::Words => Ok((Vec::new(alloc), answers)),
     }
 }
@@ -247,7 +249,7 @@ fn parameters<'a>(
     ensures { ComesAs (λ (v : Row Kept Heap). slots_of v.items) result (bound (env_of env.now) (parameters_of (method_seen m.entry).params) (numbered_exps (map expression_of args.now)) [] answers.now) }
 {
     match m {
-        Some(m) => Ok(bind_all(alloc, env, &m.params, args, answers)?),
+        Some(m) => bind_all(alloc, env, &m.params, args, answers),
         None => Ok((Vec::new(alloc), answers)),
     }
 }

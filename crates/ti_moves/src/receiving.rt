@@ -4,7 +4,7 @@ ghost use Rattle.std.specs.Prelude.{◌≡◌, List, IfOk};
 ghost use Rattle.ti_lang.specs.Program.Types.{ValueType};
 ghost use Rattle.ti_lang.specs.Program.Expressions.{place_of_numbered};
 ghost use Rattle.ti_lang.specs.Program.Statements.{NumberedStm};
-ghost use Rattle.ti_lang.specs.Program.Views.{expression_of, type_use_of, value_type_of};
+ghost use Rattle.ti_lang.specs.Program.Views.{expression_of, type_use_of, value_type_of, variable_of};
 ghost use Rattle.ti_lang.specs.Meaning.Held.{Held as Holding};
 ghost use Rattle.ti_lang.specs.Meaning.Asking.{Got, followed, gives};
 ghost use Rattle.ti_lang.specs.Meaning.Conversions as conversions;
@@ -16,7 +16,6 @@ ghost use Rattle.ti_lang.specs.Meaning.Moves.{receives as receives_spec};
 ghost use Rattle.ti_lang.specs.Meaning.Statements.{one_more as one_more_spec, declared_as};
 ghost use Rattle.ti_eval.specs.Comes.{Comes, ComesAs};
 ghost use Rattle.ti_eval.specs.Envs.{env_of};
-ghost use Rattle.ti_eval.specs.Frames.{slot_of};
 ghost use Rattle.ti_moves.specs.declared.moves.Change.{Change as Changing};
 ghost use Rattle.ti_moves.specs.Moves.{changed, move_of};
 ghost use Rattle.ti_moves.specs.Receiving.{stm_seen, receiver_seen, receiver_of, right_seen};
@@ -149,15 +148,14 @@ fn dropped_from<'a, 'c>(
 // ---- into a new variable
 
 // A new variable.
-fn new_slot(alloc: Global, ty: &TypeUse, number: u32, held: Held) -> Result<Slot, Memory>
-    ensures { IfOk result (λ s. slot_of s ≡ record { named = declared_as (type_use_of ty.now) number; held = held }) }
+fn new_variable(alloc: Global, ty: &TypeUse, number: u32) -> Result<Variable, Memory>
+    ensures { IfOk result (λ v. variable_of v ≡ declared_as (type_use_of ty.now) number) }
 {
     let declared = Declared::Typed {
         single: ty.single,
         ty: ty.ty.copy(alloc)?,
     };
-    let variable = Variable { number, declared };
-    Ok(Slot { variable, held })
+    Ok(Variable { number, declared })
 }
 
 // A new variable that holds the value.
@@ -171,10 +169,10 @@ fn new_from<'a, 'c>(
     ensures { (ws : List process.Variable) (m : Got Holding) → Comes got.entry m → ComesAs (λ (c : Changing). changed c ws) result (followed m (λ k. gives (with_new (declared_as (type_use_of ty.now) variable) k ws))) }
 {
     match got {
-        Ok((held, answers)) => {
-            let slot = new_slot(alloc, ty, variable, held)?;
-            Ok((Change::New(slot), answers))
-        }
+        Ok((held, answers)) => match new_variable(alloc, ty, variable) {
+            Ok(variable) => Ok((Change::New(Slot { variable, held }), answers)),
+            Err(_) => Err(Stop::Memory),
+        },
         Err(stop) => Err(stop),
     }
 }
@@ -206,10 +204,10 @@ fn declared_from<'a, 'c>(
 fn stored_from<'a, 'c>(
     env: &Env,
     at: Place,
-    place: Target<'c>,
+    place: &Target<'c>,
     got: Result<(Held, &'a [Told]), Stop>,
 ) -> Result<(Change<'c>, &'a [Told]), Stop>
-    ensures { (through : ValueType) (m : Got Holding) → Comes got.entry m → ComesAs (λ (c : Changing). changed c (env_of env.now).variables) result (followed m (λ k. targets.stored (env_of env.now) at (target_of through place.entry) k)) }
+    ensures { (through : ValueType) (m : Got Holding) → Comes got.entry m → ComesAs (λ (c : Changing). changed c (env_of env.now).variables) result (followed m (λ k. targets.stored (env_of env.now) at (target_of through place.now) k)) }
 {
     match got {
         Ok((k, answers)) => stored(env, at, place, k, answers),
@@ -224,10 +222,10 @@ fn assigned_from<'a, 'c>(
     env: &Env,
     at: Place,
     target: &'c Expr,
-    place: Target<'c>,
+    place: &Target<'c>,
     got: Result<(Held, &'a [Told]), Stop>,
 ) -> Result<(Change<'c>, &'a [Told]), Stop>
-    ensures { (through : ValueType) (m : Got Holding) → Comes got.entry m → ComesAs (λ (c : Changing). changed c (env_of env.now).variables) result (followed m (λ h. converted_into (env_of env.now) at (expression_of target.now) (target_of through place.entry) h)) }
+    ensures { (through : ValueType) (m : Got Holding) → Comes got.entry m → ComesAs (λ (c : Changing). changed c (env_of env.now).variables) result (followed m (λ h. converted_into (env_of env.now) at (expression_of target.now) (target_of through place.now) h)) }
 {
     match got {
         Ok((h, answers)) => {
@@ -253,7 +251,7 @@ fn assigned_at<'a, 'c>(
     match got {
         Ok((place, answers)) => {
             let got = value_of(alloc, env, right, answers);
-            assigned_from(alloc, env, at, target, place, got)
+            assigned_from(alloc, env, at, target, &place, got)
         }
         Err(stop) => Err(stop),
     }
@@ -269,15 +267,15 @@ fn operated_from<'a, 'c>(
     at: Place,
     operator: BinaryOperator,
     target: &'c Expr,
-    place: Target<'c>,
-    old: Held,
+    place: &Target<'c>,
+    old: &Held,
     got: Result<(Held, &'a [Told]), Stop>,
 ) -> Result<(Change<'c>, &'a [Told]), Stop>
-    ensures { (through : ValueType) (m : Got Holding) → Comes got.entry m → ComesAs (λ (c : Changing). changed c (env_of env.now).variables) result (followed m (λ h. operated_into (env_of env.now) at operator (expression_of target.now) (target_of through place.entry) old h)) }
+    ensures { (through : ValueType) (m : Got Holding) → Comes got.entry m → ComesAs (λ (c : Changing). changed c (env_of env.now).variables) result (followed m (λ h. operated_into (env_of env.now) at operator (expression_of target.now) (target_of through place.now) old.now h)) }
 {
     match got {
         Ok((h, answers)) => {
-            let got = operated(alloc, at, operator, &old, h, answers);
+            let got = operated(alloc, at, operator, old, h, answers);
             assigned_from(alloc, env, at, target, place, got)
         }
         Err(stop) => Err(stop),
@@ -292,16 +290,16 @@ fn updated_from<'a, 'c>(
     at: Place,
     operator: BinaryOperator,
     target: &'c Expr,
-    place: Target<'c>,
+    place: &Target<'c>,
     right: Right,
     got: Result<(Held, &'a [Told]), Stop>,
 ) -> Result<(Change<'c>, &'a [Told]), Stop>
-    ensures { (through : ValueType) (m : Got Holding) → Comes got.entry m → ComesAs (λ (c : Changing). changed c (env_of env.now).variables) result (followed m (λ old left. followed (right_seen (env_of env.now) right.entry left) (λ h. operated_into (env_of env.now) at operator (expression_of target.now) (target_of through place.entry) old h))) }
+    ensures { (through : ValueType) (m : Got Holding) → Comes got.entry m → ComesAs (λ (c : Changing). changed c (env_of env.now).variables) result (followed m (λ old left. followed (right_seen (env_of env.now) right.entry left) (λ h. operated_into (env_of env.now) at operator (expression_of target.now) (target_of through place.now) old h))) }
 {
     match got {
         Ok((old, answers)) => {
             let got = value_of(alloc, env, right, answers);
-            operated_from(alloc, env, at, operator, target, place, old, got)
+            operated_from(alloc, env, at, operator, target, place, &old, got)
         }
         Err(stop) => Err(stop),
     }
@@ -323,7 +321,7 @@ fn updated_at<'a, 'c>(
     match got {
         Ok((place, answers)) => {
             let got = held_in(alloc, env, target.place(), &place, answers);
-            updated_from(alloc, env, at, operator, target, place, right, got)
+            updated_from(alloc, env, at, operator, target, &place, right, got)
         }
         Err(stop) => Err(stop),
     }

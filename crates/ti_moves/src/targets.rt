@@ -1,11 +1,12 @@
 // What assignments write.
 
-ghost use Rattle.std.specs.Prelude.{◌≡◌, ℤ, List};
+ghost use Rattle.std.specs.Prelude.{◌≡◌, ℤ, List, map};
 ghost use Rattle.std.specs.declared.vec.Vec.{Vec as Row};
 ghost use Rattle.std.specs.declared.alloc.Global.{Global as Heap};
 ghost use Rattle.ti_base.specs.declared.value.Id.{Id as Thing};
 ghost use Rattle.ti_base.specs.declared.action.Action.TheVariants.{PutField, PutElem};
 ghost use Rattle.ti_lang.specs.Program.Types.{ValueType};
+ghost use Rattle.ti_lang.specs.Program.Expressions.{numbered_exps};
 ghost use Rattle.ti_lang.specs.Program.Views.{expression_of};
 ghost use Rattle.ti_lang.specs.Typing.Seen.{seen};
 ghost use Rattle.ti_lang.specs.Meaning.Held.{Held as Holding, plain_of, as_type as as_type_spec};
@@ -14,7 +15,8 @@ ghost use Rattle.ti_lang.specs.Meaning.Literals as literal;
 ghost use Rattle.ti_lang.specs.Meaning.Conversions as conversions;
 ghost use Rattle.ti_lang.specs.Meaning.Parts as part;
 ghost use Rattle.ti_lang.specs.Meaning.Processes.{Variable as InScope};
-ghost use Rattle.ti_lang.specs.Meaning.Scoping.{type_of as type_of_spec};
+ghost use Rattle.ti_lang.specs.Meaning.Evaluation.{eval_numbers};
+ghost use Rattle.ti_lang.specs.Meaning.Scoping.{type_of as type_of_spec, field_selected as selected_spec};
 ghost use Rattle.ti_lang.specs.Meaning.Targets as targets;
 ghost use Rattle.ti_eval.specs.Comes.{Comes, ComesAs};
 ghost use Rattle.ti_eval.specs.Envs.{env_of};
@@ -72,6 +74,38 @@ fn element_from<'a, 'c>(
     }
 }
 
+// A field of an object, by its name.
+#[tactic(auto, using(ti_eval::proofs::Steps::steps))]
+fn field_named<'a, 'c>(
+    env: &Env,
+    receiver: &Expr,
+    name: u32,
+    got: Result<(Held, &'a [Told]), Stop>,
+) -> Result<(Target<'c>, &'a [Told]), Stop>
+    ensures { (through : ValueType) (m : Got Holding) → Comes got.entry m → ComesAs (target_of through) result (followed m (λ h. gives (targets.InPart (part.Field h through (selected_spec (env_of env.now) (expression_of receiver.now) name))))) }
+{
+    match field_selected(env, receiver, name) {
+        Ok(field) => field_from(field, got),
+        Err(_) => Err(Stop::Memory),
+    }
+}
+
+// An element of a grid, behind the grid.
+#[tactic(auto, using(ti_eval::proofs::Steps::steps))]
+fn element_behind<'a, 'c>(
+    alloc: Global,
+    env: &Env,
+    indices: &[Expr],
+    got: Result<(Held, &'a [Told]), Stop>,
+) -> Result<(Target<'c>, &'a [Told]), Stop>
+    ensures { (through : ValueType) (m : Got Holding) → Comes got.entry m → ComesAs (target_of through) result (followed m (λ h rest. followed (eval_numbers (env_of env.now) (numbered_exps (map expression_of indices.now)) rest) (λ xs. gives (targets.InPart (part.Element h through (literal.point_of_numbers xs)))))) }
+{
+    match got {
+        Ok((h, answers)) => element_from(h, evaluate_numbers(alloc, env, indices, answers)),
+        Err(stop) => Err(stop),
+    }
+}
+
 /// The target that an expression names: its reference and its index are evaluated.
 #[tactic(auto, using(ti_eval::proofs::Evaluating::evaluating))]
 pub fn located<'a, 'c>(
@@ -92,18 +126,15 @@ pub fn located<'a, 'c>(
             place: _,
             receiver,
             name,
-        } => {
-            let field = field_selected(env, receiver, *name)?;
-            field_from(field, evaluate(alloc, env, receiver, answers))
-        }
+        } => field_named(env, receiver, *name, evaluate(alloc, env, receiver, answers)),
         Expr::Index {
             place: _,
             receiver,
             indices,
-        } => match evaluate(alloc, env, receiver, answers) {
-            Ok((h, answers)) => element_from(h, evaluate_numbers(alloc, env, indices, answers)),
-            Err(stop) => Err(stop),
-        },
+        } => {
+            let got = evaluate(alloc, env, receiver, answers);
+            element_behind(alloc, env, indices, got)
+        }
         _ => Ok((Target::Field(Held::truth(false), 0), answers)),
     }
 }
@@ -235,15 +266,15 @@ fn put_element<'a, 'c>(
 pub fn stored<'a, 'c>(
     env: &Env,
     at: Place,
-    target: Target<'c>,
+    target: &Target<'c>,
     h: Held,
     answers: &'a [Told],
 ) -> Result<(Change<'c>, &'a [Told]), Stop>
-    ensures { (through : ValueType) → ComesAs (λ (c : Changing). changed c (env_of env.now).variables) result (targets.stored (env_of env.now) at (target_of through target.entry) h answers.now) }
+    ensures { (through : ValueType) → ComesAs (λ (c : Changing). changed c (env_of env.now).variables) result (targets.stored (env_of env.now) at (target_of through target.now) h answers.now) }
 {
     match target {
-        Target::Variable(v) => Ok((Change::Changed(v, h), answers)),
-        Target::Field(object, field) => put_field(at, &object, field, &h, answers),
-        Target::Element(grid, index) => put_element(at, &grid, index, &h, answers),
+        Target::Variable(v) => Ok((Change::Changed(*v, h), answers)),
+        Target::Field(object, field) => put_field(at, object, *field, &h, answers),
+        Target::Element(grid, index) => put_element(at, grid, *index, &h, answers),
     }
 }
