@@ -16,7 +16,7 @@ use crate::process::{Call, Mode, Turn, Variables, Walker};
 use std::alloc::Global;
 use std::mem;
 use ti_base::{CollKind, Deposit, FaultKind, Id, Memory, Place};
-use ti_eval::{Held, Level, Slot, Todo};
+use ti_eval::{Held, Slot, Todo};
 use ti_lang::program::Parts;
 use ti_moves::{Left, Meeting, Move};
 
@@ -39,13 +39,12 @@ impl Walker {
         ensures { OnOk result ((c : NumberedProgram) (ws : List Work) → process_of c self.new ≡ steps.going (process_of c self.old) (top_of c self.old ws) (below_of c self.old) (slots_of self.old.top.variables.slots.items) (works_of (site_of c self.old.team.procs self.old.top) (here c self.old.top) left ++ rest c self.old.team.procs self.old.top)) }
     {
         match left {
-            Left::Of(todo) => self.proceeds(Mode::Walks(todo)),
-            Left::Part(inner, todo) => {
-                self.top.levels.push(Level { todo, inner })?;
-                self.proceeds(Mode::Walks(Todo::Here));
+            Left::Of(todo) => {
+                self.done(todo);
+                Ok(())
             }
+            Left::Part(inner, todo) => self.enter(inner, todo),
         }
-        Ok(())
     }
 
     // A call begins, with its parameters.

@@ -115,8 +115,8 @@ impl Walker {
         ensures { IfOk result (λ t. IsTurn (program_of c.now) self.old t self.new) }
     {
         match &self.mode {
-            Mode::Walks(_) => Ok(self.walks(alloc, c)?),
-            Mode::Receives(_) => Ok(self.receiving(alloc, c)?),
+            Mode::Walks(_) => self.walks(alloc, c),
+            Mode::Receives(_) => self.receiving(alloc, c),
             Mode::Waits(meeting, _) => Ok(self.leaves(meeting.place)),
             Mode::Expects(meeting) => Ok(self.leaves(meeting.place)),
             Mode::Ended => Ok(Turn::Ends(end_place(c))),
