@@ -101,7 +101,7 @@ impl Walker {
         ensures { IfOk result (λ r. IsTurnAt (program_of c.now) self.old left.Before r self.new) }
     {
         match self.again(alloc, c) {
-            Ok(again) => Ok(self.turn(c, again)?),
+            Ok(again) => self.turn(c, again),
             Err(stop) => {
                 self.mode = Mode::Walks(Todo::Before);
                 Ok(self.stops(stop)?)
