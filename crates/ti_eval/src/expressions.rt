@@ -149,9 +149,7 @@ fn with_arguments<'a>(
     ensures { (type through : ValueType) (m : Got Seen) → Comes got.entry m → Comes result (followed m (λ h rest. followed (evaluation.eval_all (env_of env.now) (numbered_exps (map expression_of args.now)) rest) (λ hs. forms.member at type (option_map built_in_of called) through h hs))) }
 {
     match got {
-        Ok((h, answers)) => {
-            member_from(at, called, &h, evaluate_all(alloc, env, args, answers))
-        }
+        Ok((h, answers)) => { member_from(at, called, &h, evaluate_all(alloc, env, args, answers)) }
         Err(stop) => Err(stop),
     }
 }
@@ -171,7 +169,12 @@ fn with_indices<'a>(
 {
     match got {
         Ok((h, answers)) => {
-            index_from(is_point, at, &h, evaluate_numbers(alloc, env, indices, answers))
+            index_from(
+                is_point,
+                at,
+                &h,
+                evaluate_numbers(alloc, env, indices, answers),
+            )
         }
         Err(stop) => Err(stop),
     }
@@ -327,7 +330,13 @@ pub fn evaluate<'a>(
             place,
             receiver,
             name,
-        } => selected(env, *place, receiver, *name, evaluate(alloc, env, receiver, answers)),
+        } => selected(
+            env,
+            *place,
+            receiver,
+            *name,
+            evaluate(alloc, env, receiver, answers),
+        ),
         Expr::Member {
             place,
             receiver,

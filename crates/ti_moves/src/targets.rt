@@ -126,7 +126,12 @@ pub fn located<'a, 'c>(
             place: _,
             receiver,
             name,
-        } => field_named(env, receiver, *name, evaluate(alloc, env, receiver, answers)),
+        } => field_named(
+            env,
+            receiver,
+            *name,
+            evaluate(alloc, env, receiver, answers),
+        ),
         Expr::Index {
             place: _,
             receiver,
