@@ -1,6 +1,4 @@
-use Rattle.std.proofs.Common.{◌≡◌, ◌∙◌, sym, ap, subst, ℕ, Bool, ◌+◌, ◌++◌, ℤ, List, map, drop, option_map, Option, Result, Bor}
-use Rattle.std.specs.declared.vec.Vec.{Vec}
-use Rattle.std.specs.declared.alloc.Global.{Global}
+use Rattle.std.proofs.Common.{◌≡◌, ◌∙◌, sym, ap, subst, Bool, ◌+◌, ◌++◌, ℤ, List, map, drop, option_map, Option, Result, Bor}
 use Rattle.ti_base.specs.declared.entry.Answer.{Answer}
 use Rattle.ti_lang.specs.declared.program.exprs.Expr.{Expr}
 use Rattle.ti_lang.specs.declared.program.exprs.Range.{Range}
@@ -25,7 +23,6 @@ use Rattle.ti_eval.specs.declared.stop.Stop.{Stop}
 use Rattle.ti_eval.specs.Bounds.{bounds_of}
 use Rattle.ti_eval.specs.Comes.{Comes, ComesAs, Stops}
 use Rattle.ti_eval.specs.Envs.{env_of}
-use Rattle.ti_eval.proofs.Steps.{then_stops}
 use Rattle.ti_eval.proofs.Evaluating.{behind, all_stop, all_next, numbers_stopped, numbers_next, bounds_stopped, bounds_next}
 use Rattle.ti_eval.proofs.expressions.+evaluate.Goals as goal
 
