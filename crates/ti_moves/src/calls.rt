@@ -9,7 +9,7 @@ ghost use Rattle.ti_lang.specs.Program.Types.{Typed};
 ghost use Rattle.ti_lang.specs.Program.Expressions.{numbered_exps};
 ghost use Rattle.ti_lang.specs.Program.Statements.{NumberedStm};
 ghost use Rattle.ti_lang.specs.Program.Classes.{NumberedMethod};
-ghost use Rattle.ti_lang.specs.Program.Views.{program_of, expression_of, value_type_of, variable_of, numbered_param_of, numbered_params_of};
+ghost use Rattle.ti_lang.specs.Program.Views.{program_of, expression_of, value_type_of, numbered_param_of, numbered_params_of};
 ghost use Rattle.ti_lang.specs.Typing.Seen.{seen};
 ghost use Rattle.ti_lang.specs.Typing.Declared.{is_static_method, instance_method};
 ghost use Rattle.ti_lang.specs.Typing.Called.{called_method, method_behind};
@@ -30,10 +30,11 @@ ghost use Rattle.ti_moves.specs.Moves.{method_at, move_of};
 ghost use Rattle.ti_moves.specs.Receiving.{receiver_of};
 
 use crate::moves::Move;
+use crate::receiving::new_slot;
 use std::alloc::Global;
 use ti_base::{FaultKind, Id, Memory, Place, Value};
 use ti_eval::{Env, Held, Slot, Stop, Told, class_of_this, converted, evaluate};
-use ti_lang::program::{Declared, Expr, Method, Param, Params, Parts, Ty, Variable, has_static};
+use ti_lang::program::{Expr, Method, Param, Params, Parts, Ty, has_static};
 use ti_lang::typing::{Seen as Kind, type_in_text};
 
 // ---- which method
@@ -147,21 +148,17 @@ fn converted_from<'a>(
     }
 }
 
-// The parameter of a number. A number that 32 bits don't hold is want of memory.
-fn parameter(alloc: Global, number: usize, param: &Param) -> Result<Variable, Memory>
-    ensures { IfOk result (λ v. variable_of v ≡ record { number = number; declared = Typed param.now.ty.single (value_type_of param.now.ty.ty) }) }
+// The parameter of a number, with the value of its argument. A number that 32 bits don't hold is want of memory.
+fn slot(alloc: Global, number: usize, param: &Param, held: Held) -> Result<Slot, Memory>
+    ensures { IfOk result (λ s. slot_of s ≡ record { named = record { number = number; declared = Typed param.now.ty.single (value_type_of param.now.ty.ty) }; held = held }) }
 {
     let Ok(number) = u32::try_from(number) else {
         return Err(Memory);
     };
-    let declared = Declared::Typed {
-        single: param.ty.single,
-        ty: param.ty.ty.copy(alloc)?,
-    };
-    Ok(Variable { number, declared })
+    new_slot(alloc, &param.ty, number, held)
 }
 
-// The same with the value of its argument.
+// The same, behind its argument.
 #[tactic(auto, using(ti_eval::proofs::Steps::steps))]
 fn slot_from<'a>(
     alloc: Global,
@@ -172,10 +169,7 @@ fn slot_from<'a>(
     ensures { (m : Got Seen) → Comes got.entry m → ComesAs slot_of result (followed m (λ h. gives (record { named = record { number = number; declared = Typed param.now.ty.single (value_type_of param.now.ty.ty) }; held = h }))) }
 {
     match got {
-        Ok((held, answers)) => match parameter(alloc, number, param) {
-            Ok(variable) => Ok((Slot { variable, held }, answers)),
-            Err(_) => Err(Stop::Memory),
-        },
+        Ok((h, answers)) => Ok((slot(alloc, number, param, h)?, answers)),
         Err(stop) => Err(stop),
     }
 }

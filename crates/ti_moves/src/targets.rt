@@ -1,12 +1,11 @@
 // What assignments write.
 
-ghost use Rattle.std.specs.Prelude.{◌≡◌, ℤ, List, map};
+ghost use Rattle.std.specs.Prelude.{◌≡◌, ℤ, List};
 ghost use Rattle.std.specs.declared.vec.Vec.{Vec as Row};
 ghost use Rattle.std.specs.declared.alloc.Global.{Global as Heap};
 ghost use Rattle.ti_base.specs.declared.value.Id.{Id as Thing};
 ghost use Rattle.ti_base.specs.declared.action.Action.TheVariants.{PutField, PutElem};
 ghost use Rattle.ti_lang.specs.Program.Types.{ValueType};
-ghost use Rattle.ti_lang.specs.Program.Expressions.{numbered_exps};
 ghost use Rattle.ti_lang.specs.Program.Views.{expression_of};
 ghost use Rattle.ti_lang.specs.Typing.Seen.{seen};
 ghost use Rattle.ti_lang.specs.Meaning.Held.{Held as Holding, plain_of, as_type as as_type_spec};
@@ -15,8 +14,7 @@ ghost use Rattle.ti_lang.specs.Meaning.Literals as literal;
 ghost use Rattle.ti_lang.specs.Meaning.Conversions as conversions;
 ghost use Rattle.ti_lang.specs.Meaning.Parts as part;
 ghost use Rattle.ti_lang.specs.Meaning.Processes.{Variable as InScope};
-ghost use Rattle.ti_lang.specs.Meaning.Evaluation.{eval_numbers};
-ghost use Rattle.ti_lang.specs.Meaning.Scoping.{type_of as type_of_spec, field_selected as selected_spec};
+ghost use Rattle.ti_lang.specs.Meaning.Scoping.{Env as Where};
 ghost use Rattle.ti_lang.specs.Meaning.Targets as targets;
 ghost use Rattle.ti_eval.specs.Comes.{Comes, ComesAs};
 ghost use Rattle.ti_eval.specs.Envs.{env_of};
@@ -29,7 +27,7 @@ use std::alloc::Global;
 use ti_base::{Action, FaultKind, Place, Point, Value};
 use ti_eval::{
     Env, Held, Stop, Told, as_type, asked, evaluate, evaluate_numbers, fetch_element, fetch_field,
-    field_selected, find, point_of_numbers, to_domain, type_of,
+    field_selected, find, point_of_numbers, to_domain,
 };
 use ti_lang::program::{Expr, Ty, Variable};
 use ti_lang::typing::Seen;
@@ -74,38 +72,6 @@ fn element_from<'a, 'c>(
     }
 }
 
-// A field of an object, by its name.
-#[tactic(auto, using(ti_eval::proofs::Steps::steps))]
-fn field_named<'a, 'c>(
-    env: &Env,
-    receiver: &Expr,
-    name: u32,
-    got: Result<(Held, &'a [Told]), Stop>,
-) -> Result<(Target<'c>, &'a [Told]), Stop>
-    ensures { (through : ValueType) (m : Got Holding) → Comes got.entry m → ComesAs (target_of through) result (followed m (λ h. gives (targets.InPart (part.Field h through (selected_spec (env_of env.now) (expression_of receiver.now) name))))) }
-{
-    match field_selected(env, receiver, name) {
-        Ok(field) => field_from(field, got),
-        Err(_) => Err(Stop::Memory),
-    }
-}
-
-// An element of a grid, behind the grid.
-#[tactic(auto, using(ti_eval::proofs::Steps::steps))]
-fn element_behind<'a, 'c>(
-    alloc: Global,
-    env: &Env,
-    indices: &[Expr],
-    got: Result<(Held, &'a [Told]), Stop>,
-) -> Result<(Target<'c>, &'a [Told]), Stop>
-    ensures { (through : ValueType) (m : Got Holding) → Comes got.entry m → ComesAs (target_of through) result (followed m (λ h rest. followed (eval_numbers (env_of env.now) (numbered_exps (map expression_of indices.now)) rest) (λ xs. gives (targets.InPart (part.Element h through (literal.point_of_numbers xs)))))) }
-{
-    match got {
-        Ok((h, answers)) => element_from(h, evaluate_numbers(alloc, env, indices, answers)),
-        Err(stop) => Err(stop),
-    }
-}
-
 /// The target that an expression names: its reference and its index are evaluated.
 #[tactic(auto, using(ti_eval::proofs::Evaluating::evaluating))]
 pub fn located<'a, 'c>(
@@ -126,20 +92,18 @@ pub fn located<'a, 'c>(
             place: _,
             receiver,
             name,
-        } => field_named(
-            env,
-            receiver,
-            *name,
-            evaluate(alloc, env, receiver, answers),
-        ),
+        } => {
+            let field = field_selected(env, receiver, *name)?;
+            field_from(field, evaluate(alloc, env, receiver, answers))
+        }
         Expr::Index {
             place: _,
             receiver,
             indices,
-        } => {
-            let got = evaluate(alloc, env, receiver, answers);
-            element_behind(alloc, env, indices, got)
-        }
+        } => match evaluate(alloc, env, receiver, answers) {
+            Ok((h, answers)) => element_from(h, evaluate_numbers(alloc, env, indices, answers)),
+            Err(stop) => Err(stop),
+        },
         _ => Ok((Target::Field(Held::truth(false), 0), answers)),
     }
 }
@@ -181,8 +145,8 @@ fn as_seen<'p>(t: Seen<'p>, h: Held) -> Held
     }
 }
 
-// A value as one of a type in the text.
-fn converted<'a, 'p>(
+/// A value as one of a type in the text.
+pub fn as_typed<'a, 'p>(
     alloc: Global,
     at: Place,
     t: Seen<'p>,
@@ -195,20 +159,6 @@ fn converted<'a, 'p>(
         Seen::Dm(_) => to_domain(alloc, at, h, answers),
         _ => Ok((as_seen(t, h), answers)),
     }
-}
-
-/// A value as one of the type that a target has in the text.
-pub fn as_target<'a>(
-    alloc: Global,
-    env: &Env,
-    at: Place,
-    e: &Expr,
-    h: Held,
-    answers: &'a [Told],
-) -> Result<(Held, &'a [Told]), Stop>
-    ensures { Comes result (conversions.converted at (type_of_spec (env_of env.now) (expression_of e.now)) h answers.now) }
-{
-    converted(alloc, at, type_of(env, e), h, answers)
 }
 
 // A write, which changes no variable.
@@ -269,13 +219,12 @@ fn put_element<'a, 'c>(
 
 /// A value goes into a target.
 pub fn stored<'a, 'c>(
-    env: &Env,
     at: Place,
     target: &Target<'c>,
     h: Held,
     answers: &'a [Told],
 ) -> Result<(Change<'c>, &'a [Told]), Stop>
-    ensures { (through : ValueType) → ComesAs (λ (c : Changing). changed c (env_of env.now).variables) result (targets.stored (env_of env.now) at (target_of through target.now) h answers.now) }
+    ensures { (env : Where) (through : ValueType) → ComesAs (λ (c : Changing). changed c env.variables) result (targets.stored env at (target_of through target.now) h answers.now) }
 {
     match target {
         Target::Variable(v) => Ok((Change::Changed(*v, h), answers)),
