@@ -70,7 +70,7 @@ pub fn as_domain<'a>(
     ensures dim { IfOk result (λ p. held_dim h.now ≡ Some p.0.dim) }
 {
     match &h.kept {
-        Kept::Plain(Value::Rc(r)) => Ok(widened(alloc, at, r, answers)?),
+        Kept::Plain(Value::Rc(r)) => widened(alloc, at, r, answers),
         Kept::Plain(_) => unreachable!(),
         Kept::Dm(d) => Ok((dom_copy(alloc, d)?, answers)),
     }

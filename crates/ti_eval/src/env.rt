@@ -95,7 +95,7 @@ pub fn variable(alloc: Global, env: &Env, v: &Variable) -> Result<Held, Memory>
     ensures { IfOk result (λ h. h ≡ value_by (variable_of v.now).declared (env_of env.now) (variable_of v.now)) }
 {
     match &v.declared {
-        Declared::Typed { single: _, ty: _ } => Ok(find(alloc, v, env.variables)?),
+        Declared::Typed { single: _, ty: _ } => find(alloc, v, env.variables),
         Declared::Foreach => match point_of_turn(env.levels, v.number) {
             Some(p) => Ok(Held::plain(Value::Pt(p))),
             None => Ok(Held::plain(Value::Bool(false))),

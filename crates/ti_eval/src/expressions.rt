@@ -1,15 +1,20 @@
 // The values of expressions.
 
-ghost use Rattle.std.specs.Prelude.{◌≡◌, map, ℤ, pos};
-ghost use Rattle.ti_base.specs.declared.value.Value.TheVariants.{Int};
+ghost use Rattle.std.specs.Prelude.{◌≡◌, map, option_map, ℤ, pos};
+ghost use Rattle.ti_base.specs.declared.value.Value.TheVariants.{Int, Obj};
+ghost use Rattle.ti_lang.specs.Program.Types.{ValueType};
 ghost use Rattle.ti_lang.specs.Typing.Kinds.{is_point as is_point_spec};
-ghost use Rattle.ti_lang.specs.Meaning.Scoping.{type_of as type_of_spec};
-ghost use Rattle.ti_lang.specs.Typing.Seen.{seen};
+ghost use Rattle.ti_lang.specs.Meaning.Scoping.{type_of as type_of_spec, field_selected as selected_spec, value_by};
+ghost use Rattle.ti_lang.specs.Typing.Seen.{seen, built_in_of};
 ghost use Rattle.std.specs.declared.vec.Vec.{Vec as Row};
 ghost use Rattle.std.specs.declared.alloc.Global.{Global as Heap};
 ghost use Rattle.ti_lang.specs.Program.Expressions.{numbered_exps, numbered_ranges};
-ghost use Rattle.ti_lang.specs.Program.Views.{expression_of, bound_of};
+ghost use Rattle.ti_lang.specs.Program.Views.{expression_of, bound_of, variable_of};
 ghost use Rattle.ti_lang.specs.Meaning.Held.{Held as Seen, Plain};
+ghost use Rattle.ti_lang.specs.Meaning.Asking.{Got, followed, gives};
+ghost use Rattle.ti_lang.specs.Meaning.Operators as ops;
+ghost use Rattle.ti_lang.specs.Meaning.Parts.{Field, fetched, indexed as indexed_spec};
+ghost use Rattle.ti_lang.specs.Meaning.MemberForms as forms;
 ghost use Rattle.ti_lang.specs.Meaning.Evaluation as evaluation;
 ghost use Rattle.ti_eval.specs.Bounds.{bounds_of};
 ghost use Rattle.ti_eval.specs.Comes.{Comes, ComesAs};
@@ -23,16 +28,16 @@ use crate::continued::{
 use crate::env::{Env, called_member, type_of, variable};
 use crate::fields::field_selected;
 use crate::held::Held;
-use crate::literals::{add_numbers, joined, no_bounds};
+use crate::literals::{joined, no_bounds, with_numbers};
 use crate::operators::{operated, settled};
 use crate::parts::fetch_field;
 use crate::stop::Stop;
 use crate::told::Told;
 use std::alloc::Global;
 use ti_base::{Place, Value};
-use ti_lang::program::{Expr, Range};
+use ti_lang::program::{Expr, Range, Variable};
 use ti_lang::tree::BinaryOperator;
-use ti_lang::typing::Seen as Kind;
+use ti_lang::typing::{BuiltIn, Seen as Kind};
 
 fn is_point_type<'a>(t: Kind<'a>) -> bool
     ensures { result ≡ is_point_spec (seen t.entry) }
@@ -50,26 +55,128 @@ fn is_point(env: &Env, e: &Expr) -> bool
     is_point_type(type_of(env, e))
 }
 
+// The value of a variable.
+fn held_by<'a>(
+    alloc: Global,
+    env: &Env,
+    v: &Variable,
+    answers: &'a [Told],
+) -> Result<(Held, &'a [Told]), Stop>
+    ensures { Comes result (gives (value_by (variable_of v.now).declared (env_of env.now) (variable_of v.now)) answers.now) }
+{
+    Ok((variable(alloc, env, v)?, answers))
+}
+
+// A field of the own object.
+fn own_field<'a>(
+    env: &Env,
+    at: Place,
+    field: u32,
+    answers: &'a [Told],
+) -> Result<(Held, &'a [Told]), Stop>
+    ensures { (type through : ValueType) → Comes result (fetched at type (Field (Plain (Obj env.now.this)) through field) answers.now) }
+{
+    fetch_field(at, &Held::plain(Value::Obj(env.this)), field, answers)
+}
+
+// A field of an object.
+#[tactic(auto, using(crate::proofs::Steps::steps))]
+fn selected<'a>(
+    env: &Env,
+    at: Place,
+    e: &Expr,
+    name: u32,
+    got: Result<(Held, &'a [Told]), Stop>,
+) -> Result<(Held, &'a [Told]), Stop>
+    ensures { (type through : ValueType) (m : Got Seen) → Comes got.entry m → Comes result (followed m (λ h. fetched at type (Field h through (selected_spec (env_of env.now) (expression_of e.now) name)))) }
+{
+    match field_selected(env, e, name) {
+        Ok(field) => field_from(at, field, got),
+        Err(_) => Err(Stop::Memory),
+    }
+}
+
+// What an operator comes to behind its right operand.
+#[tactic(auto, using(crate::proofs::Steps::steps))]
+fn operated_from<'a>(
+    alloc: Global,
+    at: Place,
+    op: BinaryOperator,
+    h: &Held,
+    got: Result<(Held, &'a [Told]), Stop>,
+) -> Result<(Held, &'a [Told]), Stop>
+    ensures { (m : Got Seen) → Comes got.entry m → Comes result (followed m (λ k. ops.operated at op h.now k)) }
+{
+    match got {
+        Ok((k, answers)) => operated(alloc, at, op, h, k, answers),
+        Err(stop) => Err(stop),
+    }
+}
+
 // What an operator comes to behind its left operand.
 #[cycle(evaluate)]
 #[tactic(auto, using(crate::proofs::Steps::steps))]
-fn right<'a>(
+fn binary<'a>(
     alloc: Global,
     env: &Env,
     at: Place,
     op: BinaryOperator,
-    h: &Held,
+    got: Result<(Held, &'a [Told]), Stop>,
     e: &Expr,
-    answers: &'a [Told],
 ) -> Result<(Held, &'a [Told]), Stop>
-    ensures { Comes result (evaluation.with_right at op h.now (evaluation.eval (env_of env.now) (expression_of e.now)) answers.now) }
+    ensures { (m : Got Seen) → Comes got.entry m → Comes result (followed m (λ h. evaluation.with_right at op h (evaluation.eval (env_of env.now) (expression_of e.now)))) }
 {
-    match settled(op, h) {
-        Some(k) => Ok((k, answers)),
-        None => {
-            let (k, answers) = evaluate(alloc, env, e, answers)?;
-            operated(alloc, at, op, h, k, answers)
+    match got {
+        Ok((h, answers)) => match settled(op, &h) {
+            Some(k) => Ok((k, answers)),
+            None => operated_from(alloc, at, op, &h, evaluate(alloc, env, e, answers)),
+        },
+        Err(stop) => Err(stop),
+    }
+}
+
+// What a member comes to behind its receiver.
+#[cycle(evaluate)]
+#[tactic(auto, using(crate::proofs::Steps::steps))]
+fn with_arguments<'a>(
+    alloc: Global,
+    env: &Env,
+    at: Place,
+    called: Option<BuiltIn>,
+    got: Result<(Held, &'a [Told]), Stop>,
+    args: &[Expr],
+) -> Result<(Held, &'a [Told]), Stop>
+    ensures { (type through : ValueType) (m : Got Seen) → Comes got.entry m → Comes result (followed m (λ h rest. followed (evaluation.eval_all (env_of env.now) (numbered_exps (map expression_of args.now)) rest) (λ hs. forms.member at type (option_map built_in_of called) through h hs))) }
+{
+    match got {
+        Ok((h, answers)) => { member_from(at, called, &h, evaluate_all(alloc, env, args, answers)) }
+        Err(stop) => Err(stop),
+    }
+}
+
+// What an index comes to behind the point or the grid.
+#[cycle(evaluate)]
+#[tactic(auto, using(crate::proofs::Steps::steps))]
+fn with_indices<'a>(
+    alloc: Global,
+    env: &Env,
+    at: Place,
+    is_point: bool,
+    got: Result<(Held, &'a [Told]), Stop>,
+    indices: &[Expr],
+) -> Result<(Held, &'a [Told]), Stop>
+    ensures { (type through : ValueType) (m : Got Seen) → Comes got.entry m → Comes result (followed m (λ h rest. followed (evaluation.eval_numbers (env_of env.now) (numbered_exps (map expression_of indices.now)) rest) (λ xs. indexed_spec is_point at type through h xs))) }
+{
+    match got {
+        Ok((h, answers)) => {
+            index_from(
+                is_point,
+                at,
+                &h,
+                evaluate_numbers(alloc, env, indices, answers),
+            )
         }
+        Err(stop) => Err(stop),
     }
 }
 
@@ -112,7 +219,7 @@ pub fn evaluate_numbers<'a>(
     for x in xs {
         match evaluate(alloc, env, x, left) {
             Ok((h, rest)) => {
-                add_numbers(&mut found, &h)?;
+                found = with_numbers(found, h)?;
                 left = rest;
             }
             Err(stop) => return Err(stop),
@@ -164,7 +271,7 @@ pub fn evaluate_ranges<'a>(
     for r in ranges {
         match range(alloc, env, r, left) {
             Ok((b, rest)) => {
-                found = joined(found, &b)?;
+                found = joined(found, b)?;
                 left = rest;
             }
             Err(stop) => return Err(stop),
@@ -192,11 +299,8 @@ pub fn evaluate<'a>(
         Expr::Truth(_, b) => Ok((Held::truth(*b), answers)),
         Expr::Null(_) => Ok((Held::plain(Value::Obj(None)), answers)),
         Expr::This(_) => Ok((Held::plain(Value::Obj(env.this)), answers)),
-        Expr::Variable(_, v) => Ok((variable(alloc, env, v)?, answers)),
-        Expr::OwnField(place, field) => {
-            let this = Held::plain(Value::Obj(env.this));
-            fetch_field(*place, &this, *field, answers)
-        }
+        Expr::Variable(_, v) => held_by(alloc, env, v, answers),
+        Expr::OwnField(place, field) => own_field(env, *place, *field, answers),
         Expr::ThisProc(_) => Ok((this_proc(env), answers)),
         Expr::NumProcs(_) => Ok((num_procs(env), answers)),
         Expr::Point(_, parts) => point_from(evaluate_numbers(alloc, env, parts, answers)),
@@ -212,11 +316,11 @@ pub fn evaluate<'a>(
             place,
             operator,
             left,
-            right: other,
-        } => match evaluate(alloc, env, left, answers) {
-            Ok((h, answers)) => right(alloc, env, *place, *operator, &h, other, answers),
-            Err(stop) => Err(stop),
-        },
+            right,
+        } => {
+            let got = evaluate(alloc, env, left, answers);
+            binary(alloc, env, *place, *operator, got, right)
+        }
         Expr::Cast { place, to, operand } => {
             let number = env.team.number;
             let got = evaluate(alloc, env, operand, answers);
@@ -226,34 +330,32 @@ pub fn evaluate<'a>(
             place,
             receiver,
             name,
-        } => {
-            let field = field_selected(env, receiver, *name)?;
-            field_from(*place, field, evaluate(alloc, env, receiver, answers))
-        }
+        } => selected(
+            env,
+            *place,
+            receiver,
+            *name,
+            evaluate(alloc, env, receiver, answers),
+        ),
         Expr::Member {
             place,
             receiver,
             name,
             args,
-        } => match evaluate(alloc, env, receiver, answers) {
-            Ok((h, answers)) => {
-                let called = called_member(env, receiver, *name);
-                member_from(*place, called, &h, evaluate_all(alloc, env, args, answers))
-            }
-            Err(stop) => Err(stop),
-        },
+        } => {
+            let called = called_member(env, receiver, *name);
+            let got = evaluate(alloc, env, receiver, answers);
+            with_arguments(alloc, env, *place, called, got, args)
+        }
         Expr::Index {
             place,
             receiver,
             indices,
-        } => match evaluate(alloc, env, receiver, answers) {
-            Ok((h, answers)) => {
-                let is_point = is_point(env, receiver);
-                let got = evaluate_numbers(alloc, env, indices, answers);
-                index_from(is_point, *place, &h, got)
-            }
-            Err(stop) => Err(stop),
-        },
+        } => {
+            let is_point = is_point(env, receiver);
+            let got = evaluate(alloc, env, receiver, answers);
+            with_indices(alloc, env, *place, is_point, got, indices)
+        }
         Expr::Call { .. } => Ok((Held::truth(false), answers)),
         Expr::OwnCall { .. } => Ok((Held::truth(false), answers)),
     }

@@ -53,7 +53,7 @@ pub enum Todo {
 }
 
 /// A part of a statement that is a statement.
-#[derive(Clone, Copy, PartialEq, Eq)]
+#[derive(Clone, Copy)]
 pub enum Part {
     /// That of a number in a block.
     Item(usize),

@@ -18,8 +18,8 @@ use ti_base::{FaultKind, Memory, Place, Point, Rect, Value};
 use ti_domain::Held as Kept;
 use ti_rect::rect_make;
 
-/// Adds the coordinates of a point, or a number alone.
-pub fn add_numbers(found: &mut Vec<i32>, h: &Held) -> Result<(), Memory>
+// Adds the coordinates of a point, or a number alone.
+fn add_numbers(found: &mut Vec<i32>, h: &Held) -> Result<(), Memory>
     ensures { OnOk result (found.new.items ≡ found.old.items ++ literal.numbers_in h.now) }
 {
     match &h.kept {
@@ -33,6 +33,15 @@ pub fn add_numbers(found: &mut Vec<i32>, h: &Held) -> Result<(), Memory>
             Ok(())
         }
     }
+}
+
+/// These numbers, and then the coordinates of a point, or a number alone.
+pub fn with_numbers(numbers: Vec<i32>, h: Held) -> Result<Vec<i32>, Memory>
+    ensures { IfOk result (λ v. v.items ≡ numbers.items ++ literal.numbers_in h) }
+{
+    let mut found = numbers;
+    add_numbers(&mut found, &h)?;
+    Ok(found)
 }
 
 // The coordinates of a point, or a number alone.
@@ -72,8 +81,8 @@ pub fn stepped_bounds(alloc: Global, low: &Held, high: &Held, step: &Held) -> Re
 }
 
 /// The coordinates of the first, and then those of the second.
-pub fn joined(a: Bounds, b: &Bounds) -> Result<Bounds, Memory>
-    ensures { IfOk result (λ c. bounds_of c ≡ literal.joined (bounds_of a) (bounds_of b.now)) }
+pub fn joined(a: Bounds, b: Bounds) -> Result<Bounds, Memory>
+    ensures { IfOk result (λ c. bounds_of c ≡ literal.joined (bounds_of a) (bounds_of b)) }
 {
     let Bounds {
         mut low,

@@ -3,6 +3,7 @@
 ghost use Rattle.std.specs.Prelude.{◌≡◌, ℤ, option_map};
 ghost use Rattle.std.specs.Int.{Width};
 ghost use Rattle.ti_base.specs.WholeNumbers.{wrap, quotient, remainder};
+ghost use Rattle.ti_syntax.specs.declared.tree.exprs.BinaryOperator.TheVariants.{Equal, NotEqual};
 ghost use Rattle.ti_lang.specs.Meaning.Operands as seen;
 ghost use Rattle.ti_lang.specs.Meaning.Operators as ops;
 ghost use Rattle.ti_eval.specs.Comes.{Comes};
@@ -196,8 +197,75 @@ pub fn operated_alone(op: UnaryOperator, h: Held) -> Held
     }
 }
 
-/// An operator of two operands. What `&&` and `||` come to behind their right operand is that operand.
+// `x == y`
 #[tactic(auto, using(crate::proofs::Steps::steps))]
+fn equality<'a>(
+    alloc: Global,
+    at: Place,
+    x: &Held,
+    y: &Held,
+    answers: &'a [Told],
+) -> Result<(Held, &'a [Told]), Stop>
+    ensures { Comes result (ops.operated at Equal x.now y.now answers.now) }
+{
+    match equal(alloc, at, x, y, answers) {
+        Ok((same, answers)) => Ok((Held::truth(same), answers)),
+        Err(stop) => Err(stop),
+    }
+}
+
+// `x != y`
+#[tactic(auto, using(crate::proofs::Steps::steps))]
+fn inequality<'a>(
+    alloc: Global,
+    at: Place,
+    x: &Held,
+    y: &Held,
+    answers: &'a [Told],
+) -> Result<(Held, &'a [Told]), Stop>
+    ensures { Comes result (ops.operated at NotEqual x.now y.now answers.now) }
+{
+    match equal(alloc, at, x, y, answers) {
+        Ok((same, answers)) => Ok((Held::truth(!same), answers)),
+        Err(stop) => Err(stop),
+    }
+}
+
+// An operator of two operands that stay.
+fn applied<'a>(
+    alloc: Global,
+    at: Place,
+    op: BinaryOperator,
+    x: &Held,
+    y: &Held,
+    answers: &'a [Told],
+) -> Result<(Held, &'a [Told]), Stop>
+    ensures { Comes result (ops.operated at op x.now y.now answers.now) }
+{
+    match op {
+        BinaryOperator::OrElse => Ok((y.copy(alloc)?, answers)),
+        BinaryOperator::AndThen => Ok((y.copy(alloc)?, answers)),
+        BinaryOperator::Or => Ok((combined(Bits::Or, x, y), answers)),
+        BinaryOperator::Xor => Ok((combined(Bits::Xor, x, y), answers)),
+        BinaryOperator::And => Ok((combined(Bits::And, x, y), answers)),
+        BinaryOperator::Equal => equality(alloc, at, x, y, answers),
+        BinaryOperator::NotEqual => inequality(alloc, at, x, y, answers),
+        BinaryOperator::Less => Ok((compared(Test::Less, x, y), answers)),
+        BinaryOperator::LessEqual => Ok((compared(Test::LessEqual, x, y), answers)),
+        BinaryOperator::Greater => Ok((compared(Test::Greater, x, y), answers)),
+        BinaryOperator::GreaterEqual => Ok((compared(Test::GreaterEqual, x, y), answers)),
+        BinaryOperator::ShiftLeft => Ok((shifted(Shift::Left, x, y), answers)),
+        BinaryOperator::ShiftRight => Ok((shifted(Shift::Right, x, y), answers)),
+        BinaryOperator::UnsignedShiftRight => Ok((shifted(Shift::Unsigned, x, y), answers)),
+        BinaryOperator::Add => added(alloc, at, x, y, answers),
+        BinaryOperator::Subtract => subtracted(alloc, at, x, y, answers),
+        BinaryOperator::Multiply => multiplied(alloc, at, x, y, answers),
+        BinaryOperator::Divide => divided(at, x, y, answers),
+        BinaryOperator::Remainder => remained(at, x, y, answers),
+    }
+}
+
+/// An operator of two operands. What `&&` and `||` come to behind their right operand is that operand.
 pub fn operated<'a>(
     alloc: Global,
     at: Place,
@@ -209,29 +277,8 @@ pub fn operated<'a>(
     ensures { Comes result (ops.operated at op x.now y answers.now) }
 {
     match op {
-        BinaryOperator::OrElse | BinaryOperator::AndThen => Ok((y, answers)),
-        BinaryOperator::Or => Ok((combined(Bits::Or, x, &y), answers)),
-        BinaryOperator::Xor => Ok((combined(Bits::Xor, x, &y), answers)),
-        BinaryOperator::And => Ok((combined(Bits::And, x, &y), answers)),
-        BinaryOperator::Equal => {
-            let (same, answers) = equal(alloc, at, x, &y, answers)?;
-            Ok((Held::truth(same), answers))
-        }
-        BinaryOperator::NotEqual => {
-            let (same, answers) = equal(alloc, at, x, &y, answers)?;
-            Ok((Held::truth(!same), answers))
-        }
-        BinaryOperator::Less => Ok((compared(Test::Less, x, &y), answers)),
-        BinaryOperator::LessEqual => Ok((compared(Test::LessEqual, x, &y), answers)),
-        BinaryOperator::Greater => Ok((compared(Test::Greater, x, &y), answers)),
-        BinaryOperator::GreaterEqual => Ok((compared(Test::GreaterEqual, x, &y), answers)),
-        BinaryOperator::ShiftLeft => Ok((shifted(Shift::Left, x, &y), answers)),
-        BinaryOperator::ShiftRight => Ok((shifted(Shift::Right, x, &y), answers)),
-        BinaryOperator::UnsignedShiftRight => Ok((shifted(Shift::Unsigned, x, &y), answers)),
-        BinaryOperator::Add => added(alloc, at, x, &y, answers),
-        BinaryOperator::Subtract => subtracted(alloc, at, x, &y, answers),
-        BinaryOperator::Multiply => multiplied(alloc, at, x, &y, answers),
-        BinaryOperator::Divide => divided(at, x, &y, answers),
-        BinaryOperator::Remainder => remained(at, x, &y, answers),
+        BinaryOperator::OrElse => Ok((y, answers)),
+        BinaryOperator::AndThen => Ok((y, answers)),
+        _ => applied(alloc, at, op, x, &y, answers),
     }
 }

@@ -134,7 +134,7 @@ fn zero(alloc: Global, ty: &Ty) -> Result<Held, Memory>
         Ty::Bool => Ok(Held::truth(false)),
         Ty::Pt(dim) => Ok(zero_point(*dim)),
         Ty::Rc(dim) => Ok(zero_rect(*dim)),
-        Ty::Dm(dim) => Ok(zero_domain(alloc, *dim)?),
+        Ty::Dm(dim) => zero_domain(alloc, *dim),
         Ty::Region => Ok(Held::plain(Value::Region(0))),
         Ty::Class { class: _, local: _ } => Ok(Held::plain(Value::Obj(None))),
         Ty::Grid {
@@ -152,7 +152,7 @@ fn zero_declared(alloc: Global, declared: &Declared) -> Result<Held, Memory>
     ensures { IfOk result (λ h. h ≡ zero_declared (declared_of declared.now)) }
 {
     match declared {
-        Declared::Typed { single: _, ty } => Ok(zero(alloc, ty)?),
+        Declared::Typed { single: _, ty } => zero(alloc, ty),
         Declared::Foreach => Ok(Held::truth(false)),
     }
 }
@@ -167,10 +167,10 @@ pub fn find(alloc: Global, variable: &Variable, slots: &[Slot]) -> Result<Held, 
     while n > 0 {
         n -= 1;
         if same(variable, &slots[n].variable) {
-            return Ok(slots[n].held.copy(alloc)?);
+            return slots[n].held.copy(alloc);
         }
     }
-    Ok(zero_declared(alloc, &variable.declared)?)
+    zero_declared(alloc, &variable.declared)
 }
 
 /// The newest of these variables holds something else, where it is in scope.

@@ -1,9 +1,10 @@
 -- The step at which a process stands, and what is left in its frames.
-use Rattle.std.proofs.Common.{◌≡◌, ◌∙◌, ap, sym, refl, subst, ◌<◌, ◌≤◌, ℕ, suc, ◌+◌, true, false, List, [], ◌∷◌, ◌++◌, map, drop, length, reverse, Option, None, Some, arith}
+use Rattle.std.proofs.Common.{◌≡◌, ◌∙◌, ap, sym, refl, subst, ◌<◌, ◌≤◌, ℕ, suc, ◌+◌, true, false, List, [], ◌∷◌, ◌++◌, map, drop, length, reverse, Option, None, Some, Result, Ok, Err, IfOk, arith}
 use Rattle.std.proofs.Math.Dec.{ltb}
 use Rattle.std.proofs.lemmas.Bool.{lt-ltb, le-ltb}
 use Rattle.std.proofs.lemmas.List.{reverse-append, length-reverse, append-nil}
 use Rattle.std.proofs.Common.{drop_of_length-le}
+use Rattle.ti_base.specs.declared.memory.Memory.{Memory}
 use Rattle.ti_base.specs.declared.place.Place.{Place}
 use Rattle.ti_base.specs.declared.value.Id.{Id}
 use Rattle.ti_base.specs.declared.fault.FaultKind.TheVariants.{Depth}
@@ -149,5 +150,19 @@ begun_at c w ws b f method this ps below m t v l = rw (below, m, t, v, l, revers
 pub moved_as : (c : NumberedProgram) (old new : Walker) (t : Turn) (m n : moves.Move) → m ≡ n
     → IsMoved c old (move_of (env_in c old) (here c old.top) n) t new → IsMoved c old (move_of (env_in c old) (here c old.top) m) t new
 moved_as c old new t m n e h = subst (λ (x : moves.Move). IsMoved c old (move_of (env_in c old) (here c old.top) x) t new) (sym e) h
+
+-- the same of a result
+pub moved_in : (c : NumberedProgram) (old new : Walker) (r : Result Turn Memory) (m n : moves.Move) → m ≡ n
+    → IfOk r (λ t. IsMoved c old (move_of (env_in c old) (here c old.top) n) t new) → IfOk r (λ t. IsMoved c old (move_of (env_in c old) (here c old.top) m) t new)
+moved_in c old new r m n e h = subst (λ (x : moves.Move). IfOk r (λ t. IsMoved c old (move_of (env_in c old) (here c old.top) x) t new)) (sym e) h
+
+-- a step of a result, spelled in another way
+pub step_in : (c : NumberedProgram) (p : Process) (s z : Step) (r : Result Turn Memory) (new : Walker) → s ≡ z → IfOk r (λ t. IsStep c p z t new) → IfOk r (λ t. IsStep c p s t new)
+step_in c p s z r new e h = subst (λ (y : Step). IfOk r (λ t. IsStep c p y t new)) (sym e) h
+
+-- a fact of a result that another one follows from
+pub of_result : {A E : Type 0} (r : Result A E) (P Q : A → Type 0) → ((a : A) → P a → Q a) → IfOk r P → IfOk r Q
+of_result (Ok a) P Q f h = f a h
+of_result (Err e) P Q f h = tt
 
 pub ruleset lefts = (left_inside, left_within, left_entered, all_left, reverse-append)

@@ -8,7 +8,7 @@ ghost use Rattle.ti_lang.specs.Meaning.Moves as move;
 ghost use Rattle.ti_lang.specs.Meaning.Processes.{Work};
 ghost use Rattle.ti_lang.specs.Meaning.Steps as steps;
 ghost use Rattle.ti_eval.specs.Frames.{slots_of};
-ghost use Rattle.ti_moves.specs.Moves.{method_at, move_of, works_of};
+ghost use Rattle.ti_moves.specs.Moves.{method_at, changed, move_of, works_of};
 ghost use Rattle.ti_moves.specs.Receiving.{receiver_of};
 ghost use Rattle.ti_exec.specs.States.{IsStep, IsMoved, process_of, going_on, top_of, below_of, site_of, here, rest, env_in};
 
@@ -16,9 +16,9 @@ use crate::process::{Call, Mode, Turn, Variables, Walker};
 use std::alloc::Global;
 use std::mem;
 use ti_base::{CollKind, Deposit, FaultKind, Id, Memory, Place};
-use ti_eval::{Held, Level, Slot, Todo};
+use ti_eval::{Held, Slot, Todo};
 use ti_lang::program::Parts;
-use ti_moves::{Left, Meeting, Move};
+use ti_moves::{Change, Left, Meeting, Move};
 
 // How many frames a process may have.
 const MOST_FRAMES: usize = 200;
@@ -39,13 +39,22 @@ impl Walker {
         ensures { OnOk result ((c : NumberedProgram) (ws : List Work) → process_of c self.new ≡ steps.going (process_of c self.old) (top_of c self.old ws) (below_of c self.old) (slots_of self.old.top.variables.slots.items) (works_of (site_of c self.old.team.procs self.old.top) (here c self.old.top) left ++ rest c self.old.team.procs self.old.top)) }
     {
         match left {
-            Left::Of(todo) => self.proceeds(Mode::Walks(todo)),
-            Left::Part(inner, todo) => {
-                self.top.levels.push(Level { todo, inner })?;
-                self.proceeds(Mode::Walks(Todo::Here));
+            Left::Of(todo) => {
+                self.done(todo);
+                Ok(())
             }
+            Left::Part(inner, todo) => self.enter(inner, todo),
         }
-        Ok(())
+    }
+
+    // The variables change, and this is left of the innermost statement.
+    fn varies(&mut self, change: Change, left: Left) -> Result<Turn, Memory>
+        requires { 0 < length self.old.top.levels.items }
+        ensures { (c : NumberedProgram) → IfOk result (λ t. IsMoved c self.old (move.Goes (changed change.entry (slots_of self.old.top.variables.slots.items)) (works_of (site_of c self.old.team.procs self.old.top) (here c self.old.top) left)) t self.new) }
+    {
+        self.top.variables.vary(change)?;
+        self.goes(left)?;
+        Ok(Turn::Went)
     }
 
     // A call begins, with its parameters.
@@ -58,7 +67,7 @@ impl Walker {
         this: Option<Id>,
         parameters: Vec<Slot>,
     ) -> Result<Turn, Memory>
-        ensures { IfOk result (λ t. (c : NumberedProgram) → IsMoved c self.old (move.Calls at (method_at c method) this (slots_of parameters.items) (receiver_of (here c self.old.top))) t self.new) }
+        ensures { (c : NumberedProgram) → IfOk result (λ t. IsMoved c self.old (move.Calls at (method_at c method) this (slots_of parameters.items) (receiver_of (here c self.old.top))) t self.new) }
     {
         if self.spent >= self.fuel {
             return Ok(Turn::Fails(FaultKind::Fuel, at));
@@ -125,11 +134,7 @@ impl Walker {
         ensures { IfOk result (λ t. IsMoved (program_of c.now) self.old (move_of (env_in (program_of c.now) self.old) (here (program_of c.now) self.old.top) m.entry) t self.new) }
     {
         match m {
-            Move::Goes(change, left) => {
-                self.top.variables.vary(change)?;
-                self.goes(left)?;
-                Ok(Turn::Went)
-            }
+            Move::Goes(change, left) => self.varies(change, left),
             Move::Breaks => {
                 self.breaks(c);
                 Ok(Turn::Went)
@@ -143,7 +148,7 @@ impl Walker {
                 method,
                 this,
                 parameters,
-            } => Ok(self.begins(alloc, at, method, this, parameters)?),
+            } => self.begins(alloc, at, method, this, parameters),
             Move::Returns(value) => Ok(self.returns(value)),
             Move::Meets {
                 meeting,

@@ -101,7 +101,7 @@ impl Walker {
         ensures { IfOk result (λ r. IsTurnAt (program_of c.now) self.old left.Before r self.new) }
     {
         match self.again(alloc, c) {
-            Ok(again) => Ok(self.turn(c, again)?),
+            Ok(again) => self.turn(c, again),
             Err(stop) => {
                 self.mode = Mode::Walks(Todo::Before);
                 Ok(self.stops(stop)?)
@@ -268,7 +268,7 @@ impl Walker {
                 self.end(c);
                 Ok(Turn::Went)
             }
-            Todo::Before => Ok(self.before(alloc, c)?),
+            Todo::Before => self.before(alloc, c),
             Todo::Behind => {
                 self.behind(c)?;
                 Ok(Turn::Went)
@@ -277,7 +277,7 @@ impl Walker {
                 variable,
                 domain,
                 last,
-            } => Ok(self.each(c, variable, domain, last)?),
+            } => self.each(c, variable, domain, last),
             Todo::Turn {
                 variable,
                 domain,
@@ -291,8 +291,8 @@ impl Walker {
                 from,
                 domain,
                 last,
-            } => Ok(self.copying(c, to, from, domain, last)?),
-            Todo::Taking { grid, next } => Ok(self.taking(c, grid, next)?),
+            } => self.copying(c, to, from, domain, last),
+            Todo::Taking { grid, next } => self.taking(c, grid, next),
         }
     }
 

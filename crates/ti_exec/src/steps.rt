@@ -63,8 +63,8 @@ impl Walker {
         ensures { IfOk result (λ t. IsTurn (program_of c.now) self.old t self.new) }
     {
         match self.stated(alloc, c) {
-            Ok((m, _)) => Ok(self.moves(alloc, c, m)?),
-            Err(stop) => Ok(self.stops(stop)?),
+            Ok((m, _)) => self.moves(alloc, c, m),
+            Err(stop) => self.stops(stop),
         }
     }
 
@@ -78,8 +78,8 @@ impl Walker {
             return Ok(self.returns(None));
         }
         match &self.mode {
-            Mode::Walks(Todo::Here) => Ok(self.at_statement(alloc, c)?),
-            _ => Ok(self.at_rest(alloc, c)?),
+            Mode::Walks(Todo::Here) => self.at_statement(alloc, c),
+            _ => self.at_rest(alloc, c),
         }
     }
 
@@ -94,8 +94,8 @@ impl Walker {
         }
         match &self.mode {
             Mode::Receives(h) => match self.given(alloc, c, h) {
-                Ok((m, _)) => Ok(self.moves(alloc, c, m)?),
-                Err(stop) => Ok(self.stops(stop)?),
+                Ok((m, _)) => self.moves(alloc, c, m),
+                Err(stop) => self.stops(stop),
             },
             _ => unreachable!(),
         }
@@ -115,8 +115,8 @@ impl Walker {
         ensures { IfOk result (λ t. IsTurn (program_of c.now) self.old t self.new) }
     {
         match &self.mode {
-            Mode::Walks(_) => Ok(self.walks(alloc, c)?),
-            Mode::Receives(_) => Ok(self.receiving(alloc, c)?),
+            Mode::Walks(_) => self.walks(alloc, c),
+            Mode::Receives(_) => self.receiving(alloc, c),
             Mode::Waits(meeting, _) => Ok(self.leaves(meeting.place)),
             Mode::Expects(meeting) => Ok(self.leaves(meeting.place)),
             Mode::Ended => Ok(Turn::Ends(end_place(c))),

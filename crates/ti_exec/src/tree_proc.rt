@@ -1,6 +1,6 @@
 // Processes of checked programs.
 
-ghost use Rattle.std.specs.Prelude.{◌≡◌, ◌<◌, ◌^◌, [], ◌∷◌, ◌++◌, true, false, IfOk, IfErr};
+ghost use Rattle.std.specs.Prelude.{◌≡◌, ◌<◌, ◌^◌, [], ◌∷◌, ◌++◌, true, false, IfOk, IfErr, IsOk};
 ghost use Rattle.ti_lang.specs.Program.Views.{program_of};
 ghost use Rattle.ti_eval.specs.Forms.{IsFormedAnswer};
 ghost use Rattle.ti_exec.specs.Standing.{is_act, HasNext, IsAnswered};
@@ -18,8 +18,8 @@ use ti_rules::Checked;
 /// A process of a checked program.
 ///
 /// Contracts see the program, the number of processes, the fuel of each, which of them this is, the answers that it was
-/// told so far, and whether it stands at an action. It keeps none of the program and none of the answers behind its current
-/// work.
+/// told so far, and whether it stands at an action. Of the program it keeps the types of the variables in scope alone, and of the
+/// answers those to its current work.
 #[derive(Drop)]
 pub struct TreeProc {
     walker: Walker,
@@ -55,7 +55,8 @@ impl TreeProc {
     ) -> Result<TreeProc, Memory>
         requires number { p < 2 ^ 31 }
         requires procs { procs < 2 ^ 31 }
-        ensures { IfOk result (λ t. t ≡ record { program = c.now.program.parts; procs = procs; fuel = fuel; number = p; told = []; asks = false }) }
+        ensures ok { IsOk result }
+        ensures value { IfOk result (λ t. t ≡ record { program = c.now.program.parts; procs = procs; fuel = fuel; number = p; told = []; asks = false }) }
     {
         let parts = &c.program().parts;
         let team = Team { number: p, procs };

@@ -88,8 +88,7 @@ impl Walker {
     pub(crate) fn done(&mut self, todo: Todo)
         ensures { (c : NumberedProgram) → process_of c self.new ≡ done_with c self.old (slots_of self.old.top.variables.slots.items) (left_in c self.old.team.procs self.old.top todo) }
     {
-        self.answers.clear();
-        self.mode = Mode::Walks(todo);
+        self.proceeds(Mode::Walks(todo));
     }
 
     /// The current work is done, a part of the innermost statement comes next, and behind it this is left.
@@ -98,8 +97,7 @@ impl Walker {
         ensures { OnOk result ((c : NumberedProgram) → process_of c self.new ≡ done_with c self.old (slots_of self.old.top.variables.slots.items) (Do (part_of (here c self.old.top) inner) ∷ left_in c self.old.team.procs self.old.top todo)) }
     {
         self.top.levels.push(Level { todo, inner })?;
-        self.answers.clear();
-        self.mode = Mode::Walks(Todo::Here);
+        self.proceeds(Mode::Walks(Todo::Here));
         Ok(())
     }
 
@@ -148,6 +146,6 @@ impl Walker {
         ensures settled { OnOk result (IsSettled (program_of c.now) self.new) }
     {
         self.pop_done();
-        Ok(self.enter_item(c)?)
+        self.enter_item(c)
     }
 }

@@ -39,14 +39,14 @@ written at through h put ws = do
   done ← asked (request_through r at (put r.thing) ToBeDone)
   gives ws
 
--- the variables in scope after a value went into a target, as one of the type that the target has in the text
-abbrev pub converted_into : Env → Place → NumberedExp → target.Target → Held → Asking (List Variable)
-converted_into env at e place h = do
-  k ← converted at (type_of env e) h
+-- the variables in scope after a value went into a target, as one of this type
+abbrev pub converted_into : Env → Place → ValueType → target.Target → Held → Asking (List Variable)
+converted_into env at type place h = do
+  k ← converted at type h
   target.stored env at place k
 
 -- the same of what an operator makes of the value that the target held and of another one
-abbrev pub operated_into : Env → Place → BinaryOperator → NumberedExp → target.Target → Held → Held → Asking (List Variable)
-operated_into env at op e place old h = do
+abbrev pub operated_into : Env → Place → BinaryOperator → ValueType → target.Target → Held → Held → Asking (List Variable)
+operated_into env at op type place old h = do
   new ← operated at op old h
-  converted_into env at e place new
+  converted_into env at type place new

@@ -30,10 +30,11 @@ ghost use Rattle.ti_moves.specs.Moves.{method_at, move_of};
 ghost use Rattle.ti_moves.specs.Receiving.{receiver_of};
 
 use crate::moves::Move;
+use crate::receiving::new_slot;
 use std::alloc::Global;
 use ti_base::{FaultKind, Id, Memory, Place, Value};
 use ti_eval::{Env, Held, Slot, Stop, Told, class_of_this, converted, evaluate};
-use ti_lang::program::{Declared, Expr, Method, Param, Params, Parts, Ty, Variable, has_static};
+use ti_lang::program::{Expr, Method, Param, Params, Parts, Ty, has_static};
 use ti_lang::typing::{Seen as Kind, type_in_text};
 
 // ---- which method
@@ -154,12 +155,7 @@ fn slot(alloc: Global, number: usize, param: &Param, held: Held) -> Result<Slot,
     let Ok(number) = u32::try_from(number) else {
         return Err(Memory);
     };
-    let declared = Declared::Typed {
-        single: param.ty.single,
-        ty: param.ty.ty.copy(alloc)?,
-    };
-    let variable = Variable { number, declared };
-    Ok(Slot { variable, held })
+    new_slot(alloc, &param.ty, number, held)
 }
 
 // The same, behind its argument.
@@ -231,7 +227,7 @@ fn bind_all<'a>(
     ensures { ComesAs (λ (v : Row Kept Heap). slots_of v.items) result (bound (env_of env.now) (parameters_of (numbered_params_of params.now)) (numbered_exps (map expression_of args.now)) [] answers.now) }
 {
     match params {
-        Params::Typed(params) => Ok(bind(alloc, env, params, args, answers)?),
+        Params::Typed(params) => bind(alloc, env, params, args, answers),
         Params::Words => Ok((Vec::new(alloc), answers)),
     }
 }
@@ -247,7 +243,7 @@ fn parameters<'a>(
     ensures { ComesAs (λ (v : Row Kept Heap). slots_of v.items) result (bound (env_of env.now) (parameters_of (method_seen m.entry).params) (numbered_exps (map expression_of args.now)) [] answers.now) }
 {
     match m {
-        Some(m) => Ok(bind_all(alloc, env, &m.params, args, answers)?),
+        Some(m) => bind_all(alloc, env, &m.params, args, answers),
         None => Ok((Vec::new(alloc), answers)),
     }
 }

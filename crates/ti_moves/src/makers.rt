@@ -124,7 +124,7 @@ fn spread<'a>(
     ensures { Comes result (makers.spread (env_of env.now) at (extent_of dims.now) answers.now) }
 {
     match dims {
-        Dims::Domain(x) => Ok(evaluate(alloc, env, x, answers)?),
+        Dims::Domain(x) => evaluate(alloc, env, x, answers),
         Dims::Ranges(ranges) => rect_from(at, evaluate_ranges(alloc, env, ranges, answers)),
     }
 }

@@ -16,7 +16,7 @@ pub enum Change<'c> {
 }
 
 /// A collective at which a process arrives.
-#[derive(Clone, Copy, PartialEq, Eq)]
+#[derive(Clone, Copy)]
 pub struct Meeting {
     pub place: Place,
     pub kind: CollKind,

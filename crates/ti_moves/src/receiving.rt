@@ -5,11 +5,12 @@ ghost use Rattle.ti_lang.specs.Program.Types.{ValueType};
 ghost use Rattle.ti_lang.specs.Program.Expressions.{place_of_numbered};
 ghost use Rattle.ti_lang.specs.Program.Statements.{NumberedStm};
 ghost use Rattle.ti_lang.specs.Program.Views.{expression_of, type_use_of, value_type_of};
+ghost use Rattle.ti_lang.specs.Typing.Seen.{seen};
 ghost use Rattle.ti_lang.specs.Meaning.Held.{Held as Holding};
 ghost use Rattle.ti_lang.specs.Meaning.Asking.{Got, followed, gives};
 ghost use Rattle.ti_lang.specs.Meaning.Conversions as conversions;
 ghost use Rattle.ti_lang.specs.Meaning.Processes as process;
-ghost use Rattle.ti_lang.specs.Meaning.Scoping.{with_new, type_of};
+ghost use Rattle.ti_lang.specs.Meaning.Scoping.{Env as Where, with_new, type_of as type_of_spec};
 ghost use Rattle.ti_lang.specs.Meaning.Targets as targets;
 ghost use Rattle.ti_lang.specs.Meaning.Targets.{into as into_spec};
 ghost use Rattle.ti_lang.specs.Meaning.Moves.{receives as receives_spec};
@@ -23,12 +24,13 @@ ghost use Rattle.ti_moves.specs.Receiving.{stm_seen, receiver_seen, receiver_of,
 ghost use Rattle.ti_moves.specs.Targets.{target_of, converted_into, operated_into};
 
 use crate::moves::{Change, Left, Move};
-use crate::targets::{Target, as_target, held_in, located, stored};
+use crate::targets::{Target, as_typed, held_in, located, stored};
 use std::alloc::Global;
 use ti_base::{Memory, Place};
-use ti_eval::{Env, Held, Slot, Stop, Todo, Told, converted, evaluate, operated};
+use ti_eval::{Env, Held, Slot, Stop, Todo, Told, converted, evaluate, operated, type_of};
 use ti_lang::program::{Declared, Expr, Stmt, TypeUse, Variable};
 use ti_lang::tree::{BinaryOperator, StepOperator};
+use ti_lang::typing::Seen;
 
 /// Where the value of a right side goes.
 #[derive(Clone, Copy)]
@@ -148,8 +150,8 @@ fn dropped_from<'a, 'c>(
 
 // ---- into a new variable
 
-// A new variable.
-fn new_slot(alloc: Global, ty: &TypeUse, number: u32, held: Held) -> Result<Slot, Memory>
+/// A new variable.
+pub fn new_slot(alloc: Global, ty: &TypeUse, number: u32, held: Held) -> Result<Slot, Memory>
     ensures { IfOk result (λ s. slot_of s ≡ record { named = declared_as (type_use_of ty.now) number; held = held }) }
 {
     let declared = Declared::Typed {
@@ -204,35 +206,33 @@ fn declared_from<'a, 'c>(
 // The value goes into the target.
 #[tactic(auto, using(ti_eval::proofs::Steps::steps))]
 fn stored_from<'a, 'c>(
-    env: &Env,
     at: Place,
-    place: Target<'c>,
+    place: &Target<'c>,
     got: Result<(Held, &'a [Told]), Stop>,
 ) -> Result<(Change<'c>, &'a [Told]), Stop>
-    ensures { (through : ValueType) (m : Got Holding) → Comes got.entry m → ComesAs (λ (c : Changing). changed c (env_of env.now).variables) result (followed m (λ k. targets.stored (env_of env.now) at (target_of through place.entry) k)) }
+    ensures { (env : Where) (through : ValueType) (m : Got Holding) → Comes got.entry m → ComesAs (λ (c : Changing). changed c env.variables) result (followed m (λ k. targets.stored env at (target_of through place.now) k)) }
 {
     match got {
-        Ok((k, answers)) => stored(env, at, place, k, answers),
+        Ok((k, answers)) => stored(at, place, k, answers),
         Err(stop) => Err(stop),
     }
 }
 
 // The value goes into the target as one of its type.
 #[tactic(auto, using(ti_eval::proofs::Steps::steps))]
-fn assigned_from<'a, 'c>(
+fn assigned_from<'a, 'c, 'p>(
     alloc: Global,
-    env: &Env,
     at: Place,
-    target: &'c Expr,
-    place: Target<'c>,
+    t: Seen<'p>,
+    place: &Target<'c>,
     got: Result<(Held, &'a [Told]), Stop>,
 ) -> Result<(Change<'c>, &'a [Told]), Stop>
-    ensures { (through : ValueType) (m : Got Holding) → Comes got.entry m → ComesAs (λ (c : Changing). changed c (env_of env.now).variables) result (followed m (λ h. converted_into (env_of env.now) at (expression_of target.now) (target_of through place.entry) h)) }
+    ensures { (env : Where) (through : ValueType) (m : Got Holding) → Comes got.entry m → ComesAs (λ (c : Changing). changed c env.variables) result (followed m (λ h. converted_into env at (seen t.entry) (target_of through place.now) h)) }
 {
     match got {
         Ok((h, answers)) => {
-            let got = as_target(alloc, env, at, target, h, answers);
-            stored_from(env, at, place, got)
+            let got = as_typed(alloc, at, t, h, answers);
+            stored_from(at, place, got)
         }
         Err(stop) => Err(stop),
     }
@@ -248,12 +248,12 @@ fn assigned_at<'a, 'c>(
     right: Right,
     got: Result<(Target<'c>, &'a [Told]), Stop>,
 ) -> Result<(Change<'c>, &'a [Told]), Stop>
-    ensures { (through : ValueType) (m : Got targets.Target) → ComesAs (target_of through) got.entry m → ComesAs (λ (c : Changing). changed c (env_of env.now).variables) result (followed m (λ place rest. followed (right_seen (env_of env.now) right.entry rest) (λ h. converted_into (env_of env.now) at (expression_of target.now) place h))) }
+    ensures { (through : ValueType) (m : Got targets.Target) → ComesAs (target_of through) got.entry m → ComesAs (λ (c : Changing). changed c (env_of env.now).variables) result (followed m (λ place rest. followed (right_seen (env_of env.now) right.entry rest) (λ h. converted_into (env_of env.now) at (type_of_spec (env_of env.now) (expression_of target.now)) place h))) }
 {
     match got {
         Ok((place, answers)) => {
             let got = value_of(alloc, env, right, answers);
-            assigned_from(alloc, env, at, target, place, got)
+            assigned_from(alloc, at, type_of(env, target), &place, got)
         }
         Err(stop) => Err(stop),
     }
@@ -263,22 +263,21 @@ fn assigned_at<'a, 'c>(
 
 // What the operator makes of the value that the target held and of another one goes into the target.
 #[tactic(auto, using(ti_eval::proofs::Steps::steps))]
-fn operated_from<'a, 'c>(
+fn operated_from<'a, 'c, 'p>(
     alloc: Global,
-    env: &Env,
     at: Place,
     operator: BinaryOperator,
-    target: &'c Expr,
-    place: Target<'c>,
-    old: Held,
+    t: Seen<'p>,
+    place: &Target<'c>,
+    old: &Held,
     got: Result<(Held, &'a [Told]), Stop>,
 ) -> Result<(Change<'c>, &'a [Told]), Stop>
-    ensures { (through : ValueType) (m : Got Holding) → Comes got.entry m → ComesAs (λ (c : Changing). changed c (env_of env.now).variables) result (followed m (λ h. operated_into (env_of env.now) at operator (expression_of target.now) (target_of through place.entry) old h)) }
+    ensures { (env : Where) (through : ValueType) (m : Got Holding) → Comes got.entry m → ComesAs (λ (c : Changing). changed c env.variables) result (followed m (λ h. operated_into env at operator (seen t.entry) (target_of through place.now) old.now h)) }
 {
     match got {
         Ok((h, answers)) => {
-            let got = operated(alloc, at, operator, &old, h, answers);
-            assigned_from(alloc, env, at, target, place, got)
+            let got = operated(alloc, at, operator, old, h, answers);
+            assigned_from(alloc, at, t, place, got)
         }
         Err(stop) => Err(stop),
     }
@@ -286,22 +285,22 @@ fn operated_from<'a, 'c>(
 
 // The same with what a right side comes to.
 #[tactic(auto, using(ti_eval::proofs::Steps::steps))]
-fn updated_from<'a, 'c>(
+fn updated_from<'a, 'c, 'p>(
     alloc: Global,
     env: &Env,
     at: Place,
     operator: BinaryOperator,
-    target: &'c Expr,
-    place: Target<'c>,
+    t: Seen<'p>,
+    place: &Target<'c>,
     right: Right,
     got: Result<(Held, &'a [Told]), Stop>,
 ) -> Result<(Change<'c>, &'a [Told]), Stop>
-    ensures { (through : ValueType) (m : Got Holding) → Comes got.entry m → ComesAs (λ (c : Changing). changed c (env_of env.now).variables) result (followed m (λ old left. followed (right_seen (env_of env.now) right.entry left) (λ h. operated_into (env_of env.now) at operator (expression_of target.now) (target_of through place.entry) old h))) }
+    ensures { (through : ValueType) (m : Got Holding) → Comes got.entry m → ComesAs (λ (c : Changing). changed c (env_of env.now).variables) result (followed m (λ old left. followed (right_seen (env_of env.now) right.entry left) (λ h. operated_into (env_of env.now) at operator (seen t.entry) (target_of through place.now) old h))) }
 {
     match got {
         Ok((old, answers)) => {
             let got = value_of(alloc, env, right, answers);
-            operated_from(alloc, env, at, operator, target, place, old, got)
+            operated_from(alloc, at, operator, t, place, &old, got)
         }
         Err(stop) => Err(stop),
     }
@@ -318,12 +317,21 @@ fn updated_at<'a, 'c>(
     right: Right,
     got: Result<(Target<'c>, &'a [Told]), Stop>,
 ) -> Result<(Change<'c>, &'a [Told]), Stop>
-    ensures { (through : ValueType) (m : Got targets.Target) → ComesAs (target_of through) got.entry m → ComesAs (λ (c : Changing). changed c (env_of env.now).variables) result (followed m (λ place left. followed (targets.held_in (env_of env.now) (place_of_numbered (expression_of target.now)) (type_of (env_of env.now) (expression_of target.now)) place left) (λ old more. followed (right_seen (env_of env.now) right.entry more) (λ h. operated_into (env_of env.now) at operator (expression_of target.now) place old h)))) }
+    ensures { (through : ValueType) (m : Got targets.Target) → ComesAs (target_of through) got.entry m → ComesAs (λ (c : Changing). changed c (env_of env.now).variables) result (followed m (λ place left. followed (targets.held_in (env_of env.now) (place_of_numbered (expression_of target.now)) (type_of_spec (env_of env.now) (expression_of target.now)) place left) (λ old more. followed (right_seen (env_of env.now) right.entry more) (λ h. operated_into (env_of env.now) at operator (type_of_spec (env_of env.now) (expression_of target.now)) place old h)))) }
 {
     match got {
         Ok((place, answers)) => {
             let got = held_in(alloc, env, target.place(), &place, answers);
-            updated_from(alloc, env, at, operator, target, place, right, got)
+            updated_from(
+                alloc,
+                env,
+                at,
+                operator,
+                type_of(env, target),
+                &place,
+                right,
+                got,
+            )
         }
         Err(stop) => Err(stop),
     }

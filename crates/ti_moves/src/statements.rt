@@ -1,10 +1,10 @@
 // What statements come to.
 
-ghost use Rattle.std.specs.Prelude.{◌≡◌, ℕ, map, None, Some, pos};
+ghost use Rattle.std.specs.Prelude.{◌≡◌, ℕ, [], ◌∷◌, map, None, Some, pos, true, false, if◌then◌else◌};
 ghost use Rattle.ti_base.specs.declared.place.Place.{Place as At};
 ghost use Rattle.ti_base.specs.declared.value.Value.TheVariants.{Int};
 ghost use Rattle.ti_syntax.specs.Trees.Views.{maybe_of};
-ghost use Rattle.ti_lang.specs.Program.Expressions.{numbered_exps};
+ghost use Rattle.ti_lang.specs.Program.Expressions.{NumberedExp, numbered_exps};
 ghost use Rattle.ti_lang.specs.Program.Expressions as exp;
 ghost use Rattle.ti_lang.specs.Program.Statements.{NumberedStm};
 ghost use Rattle.ti_lang.specs.Program.Statements as stm;
@@ -13,7 +13,7 @@ ghost use Rattle.ti_lang.specs.Typing.Declared.{result_type};
 ghost use Rattle.ti_lang.specs.Meaning.Held.{Held as Seen, Plain};
 ghost use Rattle.ti_lang.specs.Meaning.Asking.{Got, followed, gives};
 ghost use Rattle.ti_lang.specs.Meaning.Conversions as conversions;
-ghost use Rattle.ti_lang.specs.Meaning.Processes.{Nowhere};
+ghost use Rattle.ti_lang.specs.Meaning.Processes.{Nowhere, Do};
 ghost use Rattle.ti_lang.specs.Meaning.Scoping.{Env as Where};
 ghost use Rattle.ti_lang.specs.Meaning.Evaluation.{eval};
 ghost use Rattle.ti_lang.specs.Meaning.Calls.{called};
@@ -24,8 +24,8 @@ ghost use Rattle.ti_lang.specs.Meaning.Moves as move;
 ghost use Rattle.ti_lang.specs.Meaning.Statements as statements;
 ghost use Rattle.ti_eval.specs.Comes.{Comes, ComesAs};
 ghost use Rattle.ti_eval.specs.Envs.{env_of};
-ghost use Rattle.ti_eval.specs.Frames.{work_of};
-ghost use Rattle.ti_moves.specs.Moves.{move_of, site_in, type_received, type_given};
+ghost use Rattle.ti_eval.specs.Frames.{Site, work_of};
+ghost use Rattle.ti_moves.specs.Moves.{move_of, site_in, works_of, type_received, type_given};
 ghost use Rattle.ti_moves.specs.Receiving.{stm_seen, receiver_of};
 
 use crate::calls::call;
@@ -384,46 +384,36 @@ fn returns<'a, 'c>(
 
 // ---- branches and loops
 
-// `if` without `else`.
-#[tactic(auto, using(ti_eval::proofs::Steps::steps))]
-fn if_alone<'a, 'c>(
-    alloc: Global,
-    env: &Env,
-    condition: &Expr,
-    answers: &'a [Told],
-) -> Result<(Move<'c>, &'a [Told]), Stop>
-    ensures { (at : At) (then : NumberedStm) → ComesAs (move_of (env_of env.now) (stm.If at (expression_of condition.now) then)) result (statements.statement (env_of env.now) (stm.If at (expression_of condition.now) then) answers.now) }
+// What is left of an `if`, with `else` or without, behind its condition.
+fn branch(taken: bool, with_else: bool) -> Left
+    ensures alone { with_else ≡ false → (site : Site) (at : At) (c : NumberedExp) (x : NumberedStm) → works_of site (stm.If at c x) result ≡ (if taken then Do x ∷ [] else []) }
+    ensures both { with_else ≡ true → (site : Site) (at : At) (c : NumberedExp) (x y : NumberedStm) → works_of site (stm.IfElse at c x y) result ≡ Do (if taken then x else y) ∷ [] }
 {
-    match evaluate(alloc, env, condition, answers) {
-        Ok((h, answers)) => {
-            let left = if h.is_true() {
-                Left::Part(Part::Then, Todo::Inside)
-            } else {
-                Left::Of(Todo::Inside)
-            };
-            Ok((Move::Goes(Change::Same, left), answers))
-        }
-        Err(stop) => Err(stop),
+    if taken {
+        Left::Part(Part::Then, Todo::Inside)
+    } else if with_else {
+        Left::Part(Part::Else, Todo::Inside)
+    } else {
+        Left::Of(Todo::Inside)
     }
 }
 
-// `if` with `else`.
+// `if`, with `else` or without.
 #[tactic(auto, using(ti_eval::proofs::Steps::steps))]
-fn if_else<'a, 'c>(
+fn branches<'a, 'c>(
     alloc: Global,
     env: &Env,
     condition: &Expr,
+    with_else: bool,
     answers: &'a [Told],
 ) -> Result<(Move<'c>, &'a [Told]), Stop>
-    ensures { (at : At) (then otherwise : NumberedStm) → ComesAs (move_of (env_of env.now) (stm.IfElse at (expression_of condition.now) then otherwise)) result (statements.statement (env_of env.now) (stm.IfElse at (expression_of condition.now) then otherwise) answers.now) }
+    ensures alone { with_else ≡ false → (at : At) (x : NumberedStm) → ComesAs (move_of (env_of env.now) (stm.If at (expression_of condition.now) x)) result (statements.statement (env_of env.now) (stm.If at (expression_of condition.now) x) answers.now) }
+    ensures both { with_else ≡ true → (at : At) (x y : NumberedStm) → ComesAs (move_of (env_of env.now) (stm.IfElse at (expression_of condition.now) x y)) result (statements.statement (env_of env.now) (stm.IfElse at (expression_of condition.now) x y) answers.now) }
 {
     match evaluate(alloc, env, condition, answers) {
         Ok((h, answers)) => {
-            let part = if h.is_true() { Part::Then } else { Part::Else };
-            Ok((
-                Move::Goes(Change::Same, Left::Part(part, Todo::Inside)),
-                answers,
-            ))
+            let left = branch(h.is_true(), with_else);
+            Ok((Move::Goes(Change::Same, left), answers))
         }
         Err(stop) => Err(stop),
     }
@@ -503,8 +493,8 @@ fn present<'a, 'c>(
             otherwise,
             ..
         } => match otherwise {
-            Some(_) => if_else(alloc, env, condition, answers),
-            None => if_alone(alloc, env, condition, answers),
+            Some(_) => branches(alloc, env, condition, true, answers),
+            None => branches(alloc, env, condition, false, answers),
         },
         Stmt::While { .. } => Ok((goes(Todo::Before), answers)),
         Stmt::For { first: Some(_), .. } => Ok((

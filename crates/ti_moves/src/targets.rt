@@ -14,7 +14,7 @@ ghost use Rattle.ti_lang.specs.Meaning.Literals as literal;
 ghost use Rattle.ti_lang.specs.Meaning.Conversions as conversions;
 ghost use Rattle.ti_lang.specs.Meaning.Parts as part;
 ghost use Rattle.ti_lang.specs.Meaning.Processes.{Variable as InScope};
-ghost use Rattle.ti_lang.specs.Meaning.Scoping.{type_of as type_of_spec};
+ghost use Rattle.ti_lang.specs.Meaning.Scoping.{Env as Where};
 ghost use Rattle.ti_lang.specs.Meaning.Targets as targets;
 ghost use Rattle.ti_eval.specs.Comes.{Comes, ComesAs};
 ghost use Rattle.ti_eval.specs.Envs.{env_of};
@@ -27,7 +27,7 @@ use std::alloc::Global;
 use ti_base::{Action, FaultKind, Place, Point, Value};
 use ti_eval::{
     Env, Held, Stop, Told, as_type, asked, evaluate, evaluate_numbers, fetch_element, fetch_field,
-    field_selected, find, point_of_numbers, to_domain, type_of,
+    field_selected, find, point_of_numbers, to_domain,
 };
 use ti_lang::program::{Expr, Ty, Variable};
 use ti_lang::typing::Seen;
@@ -145,8 +145,8 @@ fn as_seen<'p>(t: Seen<'p>, h: Held) -> Held
     }
 }
 
-// A value as one of a type in the text.
-fn converted<'a, 'p>(
+/// A value as one of a type in the text.
+pub fn as_typed<'a, 'p>(
     alloc: Global,
     at: Place,
     t: Seen<'p>,
@@ -159,20 +159,6 @@ fn converted<'a, 'p>(
         Seen::Dm(_) => to_domain(alloc, at, h, answers),
         _ => Ok((as_seen(t, h), answers)),
     }
-}
-
-/// A value as one of the type that a target has in the text.
-pub fn as_target<'a>(
-    alloc: Global,
-    env: &Env,
-    at: Place,
-    e: &Expr,
-    h: Held,
-    answers: &'a [Told],
-) -> Result<(Held, &'a [Told]), Stop>
-    ensures { Comes result (conversions.converted at (type_of_spec (env_of env.now) (expression_of e.now)) h answers.now) }
-{
-    converted(alloc, at, type_of(env, e), h, answers)
 }
 
 // A write, which changes no variable.
@@ -233,17 +219,16 @@ fn put_element<'a, 'c>(
 
 /// A value goes into a target.
 pub fn stored<'a, 'c>(
-    env: &Env,
     at: Place,
-    target: Target<'c>,
+    target: &Target<'c>,
     h: Held,
     answers: &'a [Told],
 ) -> Result<(Change<'c>, &'a [Told]), Stop>
-    ensures { (through : ValueType) → ComesAs (λ (c : Changing). changed c (env_of env.now).variables) result (targets.stored (env_of env.now) at (target_of through target.entry) h answers.now) }
+    ensures { (env : Where) (through : ValueType) → ComesAs (λ (c : Changing). changed c env.variables) result (targets.stored env at (target_of through target.now) h answers.now) }
 {
     match target {
-        Target::Variable(v) => Ok((Change::Changed(v, h), answers)),
-        Target::Field(object, field) => put_field(at, &object, field, &h, answers),
-        Target::Element(grid, index) => put_element(at, &grid, index, &h, answers),
+        Target::Variable(v) => Ok((Change::Changed(*v, h), answers)),
+        Target::Field(object, field) => put_field(at, object, *field, &h, answers),
+        Target::Element(grid, index) => put_element(at, grid, *index, &h, answers),
     }
 }

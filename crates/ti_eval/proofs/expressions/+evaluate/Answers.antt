@@ -1,6 +1,5 @@
-use Rattle.std.proofs.Common.{◌≡◌, ◌∙◌, sym, ap, subst, ℕ, Bool, ◌+◌, ◌++◌, ℤ, List, map, drop, option_map, Option}
-use Rattle.std.specs.declared.vec.Vec.{Vec}
-use Rattle.std.specs.declared.alloc.Global.{Global}
+use Rattle.std.proofs.Common.{◌≡◌, ◌∙◌, sym, ap, subst, Bool, ◌+◌, ◌++◌, ℤ, List, map, drop, option_map, Option, Result, Bor}
+use Rattle.ti_base.specs.declared.entry.Answer.{Answer}
 use Rattle.ti_lang.specs.declared.program.exprs.Expr.{Expr}
 use Rattle.ti_lang.specs.declared.program.exprs.Range.{Range}
 use Rattle.ti_lang.specs.declared.program.types.TypeUse.{TypeUse}
@@ -20,10 +19,10 @@ use Rattle.ti_lang.specs.Meaning.MemberForms.{member}
 use Rattle.ti_lang.specs.Meaning.Scoping.{type_of, field_selected}
 use Rattle.ti_lang.specs.Meaning.Evaluation.{eval, eval_all, eval_numbers, eval_range, eval_ranges, with_right}
 use Rattle.ti_lang.proofs.ProgramBridges.{seen_numbered_point, seen_numbered_rect, seen_numbered_member, seen_numbered_index}
+use Rattle.ti_eval.specs.declared.stop.Stop.{Stop}
 use Rattle.ti_eval.specs.Bounds.{bounds_of}
 use Rattle.ti_eval.specs.Comes.{Comes, ComesAs, Stops}
 use Rattle.ti_eval.specs.Envs.{env_of}
-use Rattle.ti_eval.proofs.Steps.{then_stops}
 use Rattle.ti_eval.proofs.Evaluating.{behind, all_stop, all_next, numbers_stopped, numbers_next, bounds_stopped, bounds_next}
 use Rattle.ti_eval.proofs.expressions.+evaluate.Goals as goal
 
@@ -56,82 +55,71 @@ evaluate-returns-in-Cast t c =
     subst (λ (y : NumberedExp). Comes c.cast_from.result (eval E y c.args.answers.now))
     (ap (λ (z : Expr). x.Cast c.in-Cast.place (type_use_of c.deref-in-Cast-2.result.now) (expression_of z)) c.deref-in-Cast.ensures
     ∙ ap (λ (u : TypeUse). x.Cast c.in-Cast.place (type_use_of u) (expression_of c.in-Cast.operand.value)) c.deref-in-Cast-2.ensures ∙ sym (ap expression_of c.in-Cast.is))
-    (c.cast_from.ensures _ c.evaluate-got.ensures)
+    (c.cast_from.ensures _ c.evaluate-got-in-Cast.ensures)
 
-pub evaluate-returns-in_ok-field-in-Select : goal.evaluate-returns-in_ok-field-in-Select
-evaluate-returns-in_ok-field-in-Select t c =
+pub with_arguments-returns-in-Ok : goal.with_arguments-returns-in-Ok
+with_arguments-returns-in-Ok t c type through m p =
+    let E = env_of c.args.env.now in
+    let xs = numbered_exps (map expression_of c.args.args.now) in
+    let e : m ≡ Gives c.in-Ok.h c.in-Ok.answers.now = subst (λ (g : Result (Held × Bor (List Answer)) Stop). Comes g m) c.in-Ok.is p in
+    subst (λ (g : Got Held). Comes c.member_from.result (followed g (λ h r. followed (eval_all E xs r) (λ hs. member c.args.at type (option_map built_in_of c.args.called) through h hs)))) (sym e)
+    (c.member_from.ensures type through (eval_all E xs c.in-Ok.answers.now) c.evaluate_all.ensures)
+
+pub evaluate-returns-in-Select : goal.evaluate-returns-in-Select
+evaluate-returns-in-Select t c =
     let E = env_of c.args.env.now in
     let y = expression_of c.in-Select.receiver.value in
     let m = eval E y c.args.answers.now in
-    let p : Comes c.evaluate-in-Select.result m = subst (λ (z : Expr). Comes c.evaluate-in-Select.result (eval E (expression_of z) c.args.answers.now)) c.deref-in-Select-2.ensures c.evaluate-in-Select.ensures in
-    let f : c.in_ok-field-in-Select.field ≡ field_selected E y c.in-Select.name = c.in_ok-field-in-Select.ensures ∙ ap (λ (z : Expr). field_selected E (expression_of z) c.in-Select.name) c.deref-in-Select.ensures in
     let type = type_of E (x.Select c.in-Select.place y c.in-Select.name) in
-    let r = c.field_from.ensures type (type_of E y) m p in
-    subst (λ (w : NumberedExp). Comes c.field_from.result (eval E w c.args.answers.now)) (sym (ap expression_of c.in-Select.is))
-    (subst (λ (n : ℕ). Comes c.field_from.result (followed m (λ h. fetched c.in-Select.place type (Field h (type_of E y) n)))) f r)
+    let through = type_of E y in
+    let p : Comes c.evaluate-in-Select.result m = subst (λ (z : Expr). Comes c.evaluate-in-Select.result (eval E (expression_of z) c.args.answers.now)) c.deref-in-Select-2.ensures c.evaluate-in-Select.ensures in
+    let r = c.selected.ensures type through m p in
+    subst (λ (w : NumberedExp). Comes c.selected.result (eval E w c.args.answers.now)) (sym (ap expression_of c.in-Select.is))
+    (subst (λ (z : Expr). Comes c.selected.result (followed m (λ h. fetched c.in-Select.place type (Field h through (field_selected E (expression_of z) c.in-Select.name))))) c.deref-in-Select.ensures r)
 
-pub evaluate-returns-in-Ok : goal.evaluate-returns-in-Ok
-evaluate-returns-in-Ok t c =
+pub evaluate-returns-in-Binary : goal.evaluate-returns-in-Binary
+evaluate-returns-in-Binary t c =
     let E = env_of c.args.env.now in
-    let at = c.in-Binary.place in
-    let op = c.in-Binary.operator in
-    let o = expression_of c.in-Binary.other.value in
-    let e : eval E (expression_of c.in-Binary.left.value) c.args.answers.now ≡ Gives c.in-Ok.h c.in-Ok.answers.now =
-    subst (λ (z : Expr). eval E (expression_of z) c.args.answers.now ≡ Gives c.in-Ok.h c.in-Ok.answers.now) c.deref-in-Binary.ensures c.in-Ok.ensures in
-    let r : Comes c.right.result (with_right at op c.in-Ok.h (eval E o) c.in-Ok.answers.now) =
-    subst (λ (z : Expr). Comes c.right.result (with_right at op c.in-Ok.h (eval E (expression_of z)) c.in-Ok.answers.now)) c.deref-in-Ok.ensures c.right.ensures in
-    subst (λ (y : NumberedExp). Comes c.right.result (eval E y c.args.answers.now)) (sym (ap expression_of c.in-Binary.is))
-    (subst (λ (g : Got Held). Comes c.right.result (followed g (λ h. with_right at op h (eval E o)))) (sym e) r)
+    let m = eval E (expression_of c.in-Binary.left.value) c.args.answers.now in
+    let p : Comes c.evaluate-got.result m = subst (λ (z : Expr). Comes c.evaluate-got.result (eval E (expression_of z) c.args.answers.now)) c.deref-in-Binary.ensures c.evaluate-got.ensures in
+    subst (λ (y : NumberedExp). Comes c.binary.result (eval E y c.args.answers.now)) (sym (ap expression_of c.in-Binary.is))
+    (subst (λ (z : Expr). Comes c.binary.result (followed m (λ h. with_right c.in-Binary.place c.in-Binary.operator h (eval E (expression_of z))))) c.deref-in-Binary-2.ensures (c.binary.ensures m p))
 
-pub evaluate-returns-in-Err : goal.evaluate-returns-in-Err
-evaluate-returns-in-Err t c =
-    let E = env_of c.args.env.now in
-    let l = eval E (expression_of c.in-Binary.left.value) c.args.answers.now in
-    let s : Stops c.in-Err.stop l = subst (λ (z : Expr). Stops c.in-Err.stop (eval E (expression_of z) c.args.answers.now)) c.deref-in-Binary.ensures c.in-Err.ensures in
-    subst (λ (y : NumberedExp). Stops c.in-Err.stop (eval E y c.args.answers.now)) (sym (ap expression_of c.in-Binary.is))
-    (then_stops c.in-Err.stop l (λ h. with_right c.in-Binary.place c.in-Binary.operator h (eval E (expression_of c.in-Binary.other.value))) s)
-
-pub evaluate-returns-in-Ok-evaluate : goal.evaluate-returns-in-Ok-evaluate
-evaluate-returns-in-Ok-evaluate t c =
+pub evaluate-returns-in-Member : goal.evaluate-returns-in-Member
+evaluate-returns-in-Member t c =
     let E = env_of c.args.env.now in
     let at = c.in-Member.place in
     let name = c.in-Member.name in
     let y = expression_of c.in-Member.receiver.value in
     let xs = numbered_exps (map expression_of c.in-Member.args.items) in
-    let h = c.in-Ok-evaluate.h in
-    let rest = c.in-Ok-evaluate.answers.now in
+    let m = eval E y c.args.answers.now in
     let type = type_of E (x.Member at y name xs) in
     let through = type_of E y in
-    let e : eval E y c.args.answers.now ≡ Gives h rest =
-    subst (λ (z : Expr). eval E (expression_of z) c.args.answers.now ≡ Gives h rest) c.deref-in-Member.ensures c.in-Ok-evaluate.ensures in
+    let p : Comes c.evaluate-got-in-Member.result m = subst (λ (z : Expr). Comes c.evaluate-got-in-Member.result (eval E (expression_of z) c.args.answers.now)) c.deref-in-Member-2.ensures c.evaluate-got-in-Member.ensures in
     let k : option_map built_in_of c.called_member-called.result ≡ member_called E.program (this_of E.method) y name =
-    c.called_member-called.ensures ∙ ap (λ (z : Expr). member_called E.program (this_of E.method) (expression_of z) name) c.deref-in-Ok-evaluate.ensures in
-    let q = subst (λ (ys : List Expr). ComesAs (λ (v : Vec Held Global). v.items) c.evaluate_all.result (eval_all E (numbered_exps (map expression_of ys)) rest)) c.deref-in-Ok-evaluate-2.ensures.value c.evaluate_all.ensures in
-    let r = c.member_from.ensures type through (eval_all E xs rest) q in
+    c.called_member-called.ensures ∙ ap (λ (z : Expr). member_called E.program (this_of E.method) (expression_of z) name) c.deref-in-Member.ensures in
+    let r = c.with_arguments.ensures type through m p in
     let b = seen_numbered_member c.args.e.now at c.in-Member.receiver name c.in-Member.args c.in-Member.is in
-    subst (λ (w : NumberedExp). Comes c.member_from.result (eval E w c.args.answers.now)) (sym b)
-    (subst (λ (g : Got Held). Comes c.member_from.result (followed g (λ h r. followed (eval_all E xs r) (λ hs. member at type (member_called E.program (this_of E.method) y name) through h hs)))) (sym e)
-    (subst (λ (o : Option BuiltIn). Comes c.member_from.result (followed (eval_all E xs rest) (λ hs. member at type o through h hs))) k r))
+    subst (λ (w : NumberedExp). Comes c.with_arguments.result (eval E w c.args.answers.now)) (sym b)
+    (subst (λ (ys : List Expr). Comes c.with_arguments.result (followed m (λ h r. followed (eval_all E (numbered_exps (map expression_of ys)) r) (λ hs. member at type (member_called E.program (this_of E.method) y name) through h hs)))) c.deref-in-Member-3.ensures.value
+    (subst (λ (o : Option BuiltIn). Comes c.with_arguments.result (followed m (λ h r. followed (eval_all E (numbered_exps (map expression_of c.deref-in-Member-3.result.now)) r) (λ hs. member at type o through h hs)))) k r))
 
-pub evaluate-returns-in-Ok-evaluate-2 : goal.evaluate-returns-in-Ok-evaluate-2
-evaluate-returns-in-Ok-evaluate-2 t c =
+pub evaluate-returns-in-Index : goal.evaluate-returns-in-Index
+evaluate-returns-in-Index t c =
     let E = env_of c.args.env.now in
     let at = c.in-Index.place in
     let y = expression_of c.in-Index.receiver.value in
     let xs = numbered_exps (map expression_of c.in-Index.indices.items) in
-    let h = c.in-Ok-evaluate-2.h in
-    let rest = c.in-Ok-evaluate-2.answers.now in
+    let m = eval E y c.args.answers.now in
     let type = type_of E (x.Index at y xs) in
     let through = type_of E y in
-    let e : eval E y c.args.answers.now ≡ Gives h rest =
-    subst (λ (z : Expr). eval E (expression_of z) c.args.answers.now ≡ Gives h rest) c.deref-in-Index.ensures c.in-Ok-evaluate-2.ensures in
-    let k : c.is_point-is_point.result ≡ is_point (type_of E y) = c.is_point-is_point.ensures ∙ ap (λ (z : Expr). is_point (type_of E (expression_of z))) c.deref-in-Ok-evaluate-2-2.ensures in
-    let q = subst (λ (ys : List Expr). ComesAs (λ (v : Vec ℤ Global). v.items) c.evaluate_numbers-got.result (eval_numbers E (numbered_exps (map expression_of ys)) rest)) c.deref-in-Ok-evaluate-2-3.ensures.value c.evaluate_numbers-got.ensures in
-    let r = c.index_from.ensures type through (eval_numbers E xs rest) q in
+    let p : Comes c.evaluate-got-in-Index.result m = subst (λ (z : Expr). Comes c.evaluate-got-in-Index.result (eval E (expression_of z) c.args.answers.now)) c.deref-in-Index-2.ensures c.evaluate-got-in-Index.ensures in
+    let k : c.is_point-is_point.result ≡ is_point (type_of E y) = c.is_point-is_point.ensures ∙ ap (λ (z : Expr). is_point (type_of E (expression_of z))) c.deref-in-Index.ensures in
+    let r = c.with_indices.ensures type through m p in
     let b = seen_numbered_index c.args.e.now at c.in-Index.receiver c.in-Index.indices c.in-Index.is in
-    subst (λ (w : NumberedExp). Comes c.index_from.result (eval E w c.args.answers.now)) (sym b)
-    (subst (λ (g : Got Held). Comes c.index_from.result (followed g (λ h r. followed (eval_numbers E xs r) (λ ns. indexed (is_point (type_of E y)) at type through h ns)))) (sym e)
-    (subst (λ (o : Bool). Comes c.index_from.result (followed (eval_numbers E xs rest) (λ ns. indexed o at type through h ns))) k r))
+    subst (λ (w : NumberedExp). Comes c.with_indices.result (eval E w c.args.answers.now)) (sym b)
+    (subst (λ (ys : List Expr). Comes c.with_indices.result (followed m (λ h r. followed (eval_numbers E (numbered_exps (map expression_of ys)) r) (λ ns. indexed (is_point (type_of E y)) at type through h ns)))) c.deref-in-Index-3.ensures.value
+    (subst (λ (o : Bool). Comes c.with_indices.result (followed m (λ h r. followed (eval_numbers E (numbered_exps (map expression_of c.deref-in-Index-3.result.now)) r) (λ ns. indexed o at type through h ns)))) k r))
 
 pub evaluate_all-returns-in-Err : goal.evaluate_all-returns-in-Err
 evaluate_all-returns-in-Err t c =
@@ -163,7 +151,7 @@ evaluate_numbers-loop-x-preserved t c =
     let n = numbers_next E xs i c.x-item.result c.loop-x.found.items c.in-Ok.h c.loop-x.left.now c.in-Ok.rest.now c.args.answers.now c.loop-x-test.true c.loop-x.invariant
     (subst (λ (z : Expr). eval E (expression_of z) c.loop-x.left.now ≡ Gives c.in-Ok.h c.in-Ok.rest.now) c.x-item.is c.in-Ok.ensures) in
     subst (λ (fs : List ℤ). behind ◌++◌ fs (eval_numbers E (numbered_exps (map expression_of (drop (i + 1) xs))) c.in-Ok.rest.now) ≡ eval_numbers E (numbered_exps (map expression_of xs)) c.args.answers.now)
-    (sym c.in_ok-add_numbers-in-Ok.ensures) n
+    (sym c.in_ok-found-in-Ok.ensures) n
 
 pub evaluate_ranges-returns-in-Err : goal.evaluate_ranges-returns-in-Err
 evaluate_ranges-returns-in-Err t c =

@@ -11,6 +11,10 @@ use Rattle.ti_eval.specs.Comes.{Comes}
 use Rattle.ti_eval.specs.Envs.{env_of}
 use Rattle.ti_moves.proofs.makers.spread.Goals as goal
 
+pub returns-in-Domain : goal.returns-in-Domain
+returns-in-Domain c =
+    subst (λ (d : Dims). Comes c.evaluate.result (spread (env_of c.args.env.now) c.args.at (extent_of d) c.args.answers.now)) (sym c.in-Domain.is) c.evaluate.ensures
+
 pub returns-in-Ranges : goal.returns-in-Ranges
 returns-in-Ranges c =
     let E = env_of c.args.env.now in

@@ -1,13 +1,15 @@
-use Rattle.std.proofs.Common.{◌≡◌, ◌∙◌, ap, refl, sym, subst, Option}
+use Rattle.std.proofs.Common.{◌≡◌, ◌∙◌, ap, refl, sym, subst, pos, Option}
 use Rattle.std.specs.declared.alloc.Global.{Global}
 use Rattle.std.specs.declared.boxed.Box.{Box}
 use Rattle.ti_lang.specs.declared.program.stmts.Init.{Init}
 use Rattle.ti_lang.specs.declared.program.stmts.Stmt.{Stmt, Declare, Assign, If}
 use Rattle.ti_lang.specs.Program.Statements.{NumberedStm}
 use Rattle.ti_lang.specs.Program.Views.{expression_of, initial_of, statement_of}
-use Rattle.ti_lang.specs.Meaning.Asking.{Got}
+use Rattle.ti_base.specs.declared.value.Value.TheVariants.{Int}
+use Rattle.ti_lang.specs.Meaning.Held.{Plain}
+use Rattle.ti_lang.specs.Meaning.Asking.{Got, Gives, gives}
 use Rattle.ti_lang.specs.Meaning.Calls.{called}
-use Rattle.ti_lang.specs.Meaning.Moves.{Move}
+use Rattle.ti_lang.specs.Meaning.Moves.{Move, receives}
 use Rattle.ti_lang.specs.Meaning.Statements.{initialized, valued_or_called, statement}
 use Rattle.ti_eval.specs.Comes.{ComesAs}
 use Rattle.ti_eval.specs.Envs.{env_of}
@@ -62,20 +64,45 @@ pub returns-in-Some : goal.returns-in-Some
 returns-in-Some c =
     let E = env_of c.args.env.now in
     let i = c.in-If in
-    subst (λ (x : NumberedStm). ComesAs (move_of E x) c.if_else.result (statement E x c.args.answers.now))
+    subst (λ (x : NumberedStm). ComesAs (move_of E x) c.branches.result (statement E x c.args.answers.now))
     (sym (ap statement_of i.is ∙ ap (λ (o : Option (Box Stmt Global)). statement_of (If i.place i.condition i.then o)) c.in-Some.is))
-    (c.if_else.ensures i.place (statement_of i.then.value) (statement_of c.in-Some.field-0.value))
+    (c.branches.ensures.both refl i.place (statement_of i.then.value) (statement_of c.in-Some.field-0.value))
 
 pub returns-in-None : goal.returns-in-None
 returns-in-None c =
     let E = env_of c.args.env.now in
     let i = c.in-If in
-    subst (λ (x : NumberedStm). ComesAs (move_of E x) c.if_alone.result (statement E x c.args.answers.now))
+    subst (λ (x : NumberedStm). ComesAs (move_of E x) c.branches-in-None.result (statement E x c.args.answers.now))
     (sym (ap statement_of i.is ∙ ap (λ (o : Option (Box Stmt Global)). statement_of (If i.place i.condition i.then o)) c.in-None.is))
-    (c.if_alone.ensures i.place (statement_of i.then.value))
+    (c.branches-in-None.ensures.alone refl i.place (statement_of i.then.value))
 
 pub returns-in-Foreach : goal.returns-in-Foreach
 returns-in-Foreach c =
     let E = env_of c.args.env.now in
     subst (λ (x : NumberedStm). ComesAs (move_of E x) c.foreach.result (statement E x c.args.answers.now)) (sym (ap statement_of c.in-Foreach.is))
     (c.foreach.ensures c.in-Foreach.place (statement_of c.in-Foreach.body.value))
+
+pub returns-in-Empty : goal.returns-in-Empty
+returns-in-Empty c =
+    let E = env_of c.args.env.now in
+    let r = c.args.answers.now in
+    ap (λ (a : Stmt). statement E (statement_of a) r) c.in-Empty.is ∙ ap (λ (m : Move). Gives m r) (sym (c.goes.ensures E (statement_of c.args.s.now)))
+
+pub returns-in-Break : goal.returns-in-Break
+returns-in-Break c = ap (λ (a : Stmt). statement (env_of c.args.env.now) (statement_of a) c.args.answers.now) c.in-Break.is
+
+pub returns-in-Continue : goal.returns-in-Continue
+returns-in-Continue c = ap (λ (a : Stmt). statement (env_of c.args.env.now) (statement_of a) c.args.answers.now) c.in-Continue.is
+
+pub returns-in-Step : goal.returns-in-Step
+returns-in-Step c =
+    let E = env_of c.args.env.now in
+    let r = c.args.answers.now in
+    subst (λ (g : Got Move). ComesAs (move_of E (statement_of c.args.s.now)) c.step.result g)
+    (subst (λ (a : Stmt). receives E (receiver_of (statement_of a)) (gives (Plain (Int (pos 1)))) r ≡ statement E (statement_of a) r) (sym c.in-Step.is) refl)
+    c.step.ensures
+
+pub returns-in-Call : goal.returns-in-Call
+returns-in-Call c =
+    let E = env_of c.args.env.now in
+    subst (λ (x : NumberedStm). ComesAs (move_of E x) c.alone.result (statement E x c.args.answers.now)) (sym (ap statement_of c.in-Call.is)) c.alone.ensures

@@ -1,7 +1,6 @@
 use Rattle.std.proofs.Common.{sym, subst}
 use Rattle.ti_lang.specs.Meaning.Targets.{stored}
 use Rattle.ti_eval.specs.Comes.{ComesAs}
-use Rattle.ti_eval.specs.Envs.{env_of}
 use Rattle.ti_moves.specs.declared.moves.Change.{Change}
 use Rattle.ti_moves.specs.declared.targets.Target.{Target}
 use Rattle.ti_moves.specs.Moves.{changed}
@@ -9,13 +8,11 @@ use Rattle.ti_moves.specs.Targets.{target_of}
 use Rattle.ti_moves.proofs.targets.stored.Goals as goal
 
 pub returns-in-Field : goal.returns-in-Field
-returns-in-Field c = λ through.
-    let E = env_of c.args.env.now in
+returns-in-Field c = λ E through.
     subst (λ (t : Target). ComesAs (λ (d : Change). changed d E.variables) c.put_field.result (stored E c.args.at (target_of through t) c.args.h c.args.answers.now)) (sym c.in-Field.is)
     (c.put_field.ensures through E.variables)
 
 pub returns : goal.returns
-returns c = λ through.
-    let E = env_of c.args.env.now in
+returns c = λ E through.
     subst (λ (t : Target). ComesAs (λ (d : Change). changed d E.variables) c.put_element.result (stored E c.args.at (target_of through t) c.args.h c.args.answers.now)) (sym c.in-Element.is)
     (c.put_element.ensures through E.variables)

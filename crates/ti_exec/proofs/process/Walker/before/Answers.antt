@@ -1,11 +1,12 @@
 use Rattle.ti_lang.specs.Program.Views.{program_of}
-use Rattle.ti_exec.proofs.Begun.{step_is, decided, undecided, condition_got, goes_before}
+use Rattle.ti_exec.proofs.Begun.{decided, undecided, condition_got, goes_before}
+use Rattle.ti_exec.proofs.Works.{step_in}
 use Rattle.ti_exec.proofs.process.Walker.before.Goals as goal
 
-pub returns-in_ok-turn-in-Ok : goal.returns-in_ok-turn-in-Ok
-returns-in_ok-turn-in-Ok c =
+pub returns-in-Ok : goal.returns-in-Ok
+returns-in-Ok c =
     let p = program_of c.args.c.now in
-    step_is p _ _ _ _ _ (decided p c.args.self.now c.in-Ok.again c.requires c.in-Ok.ensures) c.in_ok-turn-in-Ok.ensures
+    step_in p _ _ _ _ _ (decided p c.args.self.now c.in-Ok.again c.requires c.in-Ok.ensures) c.turn.ensures
 
 pub returns-in_ok-stops-in-Err : goal.returns-in_ok-stops-in-Err
 returns-in_ok-stops-in-Err c =

@@ -1,21 +1,14 @@
-use Rattle.std.proofs.Common.{◌≡◌, ◌∙◌, sym, refl, ap, List, ◌∷◌, ◌++◌}
+use Rattle.std.proofs.Common.{sym, refl, ap, List, ◌∷◌}
 use Rattle.ti_lang.specs.Program.Views.{program_of}
 use Rattle.ti_lang.specs.Meaning.Asking.{ToBeDone}
-use Rattle.ti_lang.specs.Meaning.Processes.{Variable, Work, Nowhere}
-use Rattle.ti_lang.specs.Meaning.Steps.{To, going}
-use Rattle.ti_moves.specs.Moves.{works_of}
+use Rattle.ti_lang.specs.Meaning.Processes.{Work, Nowhere}
 use Rattle.ti_exec.specs.declared.process.Turn.TheVariants.{Went}
-use Rattle.ti_exec.specs.States.{process_of, top_of, below_of, site_of, body_of, here, rest}
-use Rattle.ti_exec.proofs.Works.{left_within, moved_as}
+use Rattle.ti_exec.specs.States.{top_of, below_of, site_of, body_of, rest}
+use Rattle.ti_exec.proofs.Works.{left_within, moved_as, moved_in}
 use Rattle.ti_exec.proofs.process.Walker.moves.Goals as goal
 
-pub returns-in_ok-goes-in-Goes : goal.returns-in_ok-goes-in-Goes
-returns-in_ok-goes-in-Goes c =
-    let p = program_of c.args.c.now in
-    let w = c.args.self.now in
-    let works : List Work = works_of (site_of p w.team.procs w.top) (here p w.top) c.in-Goes.left ++ rest p w.team.procs w.top in
-    moved_as p w c.goes.new.self Went _ _ c.in-Goes.is
-    (λ ws. ap To (sym (c.in_ok-goes-in-Goes.ensures p ws ∙ ap (λ (vs : List Variable). going (process_of p w) (top_of p w ws) (below_of p w) vs works) c.in_ok-vary-in-Goes.ensures)))
+pub returns-in-Goes : goal.returns-in-Goes
+returns-in-Goes c = moved_in (program_of c.args.c.now) c.args.self.now c.varies.new.self c.varies.result _ _ c.in-Goes.is (c.varies.ensures (program_of c.args.c.now))
 
 pub returns-in-Breaks : goal.returns-in-Breaks
 returns-in-Breaks c = moved_as (program_of c.args.c.now) c.args.self.now c.breaks.new.self Went _ _ c.in-Breaks.is c.breaks.ensures
@@ -23,8 +16,8 @@ returns-in-Breaks c = moved_as (program_of c.args.c.now) c.args.self.now c.break
 pub returns-in-Continues : goal.returns-in-Continues
 returns-in-Continues c = moved_as (program_of c.args.c.now) c.args.self.now c.continues.new.self Went _ _ c.in-Continues.is c.continues.ensures
 
-pub returns-in_ok-begins-in-Calls : goal.returns-in_ok-begins-in-Calls
-returns-in_ok-begins-in-Calls c = moved_as (program_of c.args.c.now) c.args.self.now _ _ _ _ c.in-Calls.is (c.in_ok-begins-in-Calls.ensures (program_of c.args.c.now))
+pub returns-in-Calls : goal.returns-in-Calls
+returns-in-Calls c = moved_in (program_of c.args.c.now) c.args.self.now c.begins.new.self c.begins.result _ _ c.in-Calls.is (c.begins.ensures (program_of c.args.c.now))
 
 pub returns-in-Returns : goal.returns-in-Returns
 returns-in-Returns c =

@@ -1,15 +1,30 @@
 use Rattle.std.proofs.Common.{List, ◌∷◌}
+use Rattle.ti_lang.specs.Program.Classes.{NumberedProgram}
 use Rattle.ti_lang.specs.Program.Views.{program_of}
+use Rattle.ti_lang.specs.Meaning.Asking.{Got}
+use Rattle.ti_lang.specs.Meaning.Moves.{Move}
 use Rattle.ti_lang.specs.Meaning.Processes.{Work, Receive}
+use Rattle.ti_lang.specs.Meaning.Steps.{Step, valued}
+use Rattle.ti_eval.specs.Comes.{Stops}
+use Rattle.ti_moves.specs.Moves.{move_of}
 use Rattle.ti_moves.specs.Receiving.{receiver_of}
-use Rattle.ti_exec.specs.States.{process_of, here, rest}
+use Rattle.ti_exec.specs.States.{IsStep, IsTurn, IsMoved, process_of, env_in, here, rest}
 use Rattle.ti_exec.proofs.Asked.{valued_gives}
-use Rattle.ti_exec.proofs.Works.{receives_at, turn_at}
+use Rattle.ti_exec.proofs.Works.{receives_at, turn_at, of_result}
 use Rattle.ti_exec.proofs.process.Walker.receiving.Goals as goal
 
-pub returns-in_ok-moves-in-Ok : goal.returns-in_ok-moves-in-Ok
-returns-in_ok-moves-in-Ok c =
+pub returns-in-Ok : goal.returns-in-Ok
+returns-in-Ok c =
     let p = program_of c.args.c.now in
     let w = c.args.self.now in
+    let new = c.moves.new.self in
     let ws : List Work = Receive (receiver_of (here p w.top)) c.in-Receives.h ∷ rest p w.team.procs w.top in
-    turn_at p w _ _ _ (receives_at p w _ c.in-Receives.is) (valued_gives p (process_of p w) _ _ _ _ _ _ c.in-Ok.ensures (c.in_ok-moves-in-Ok.ensures ws))
+    of_result c.moves.result (λ t. IsMoved p w (move_of (env_in p w) (here p w.top) c.in-Ok.m) t new) (λ t. IsTurn p w t new)
+    (λ t h. turn_at p w new _ t (receives_at p w _ c.in-Receives.is) (valued_gives p (process_of p w) _ _ _ _ _ _ c.in-Ok.ensures (h ws))) c.moves.ensures
+
+pub returns-in-Err : goal.returns-in-Err
+returns-in-Err c =
+    let p = program_of c.args.c.now in
+    let w = c.args.self.now in
+    of_result c.stops.result (λ t. (g : NumberedProgram) (got : Got Move) (go : Move → Step) → Stops c.in-Err.stop got → IsStep g (process_of g w) (valued (process_of g w) got go) t w) (λ t. IsTurn p w t w)
+    (λ t h. turn_at p w w _ t (receives_at p w _ c.in-Receives.is) (h p _ _ c.in-Err.ensures)) c.stops.ensures
