@@ -527,7 +527,7 @@ parts_many p s (e.MoreExp x xs) ts h =
 pub seen_object : (type u : ValueType) (c : ℕ) (l : Bool) → type ≡ t.Class c l → Seen type u → u ≡ t.Class c l
 seen_object type u c l z i = subst (λ q. Seen q u) z i
 
-never_called : (m : Option _) (o : Option (List ValueType)) (type : ValueType) → operand (called m o) ≡ Some type → ⊥
+pub never_called : (m : Option _) (o : Option (List ValueType)) (type : ValueType) → operand (called m o) ≡ Some type → ⊥
 never_called m None type h = none_some type h
 never_called None (Some ts) type h = none_some type h
 never_called (Some m) (Some ts) type h = none_some type h
@@ -555,7 +555,7 @@ binary_seen p w o a u r t' u' e d f i j = (operated_fine p w (record { line = 0;
 unary_seen : (p : NumberedProgram) (w : Things) (o : UnaryOperator) (a r t' : ValueType) → unary_type o a ≡ Some r → DimsFine a → Seen a t' → Seen r t'
 unary_seen p w o a r t' e d i = (alone_fine p w o a r t' (zero_of a) e i (zero_fine w a d)).1
 
-from_or : (a b : Option ValueType) (r : ValueType) → option_or a b ≡ Some r → (a ≡ Some r) ⊎ (b ≡ Some r)
+pub from_or : (a b : Option ValueType) (r : ValueType) → option_or a b ≡ Some r → (a ≡ Some r) ⊎ (b ≡ Some r)
 from_or None b r e = inr e
 from_or (Some x) b r e = inl e
 

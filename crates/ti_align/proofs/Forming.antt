@@ -1,12 +1,11 @@
 -- Types of expressions are formed: they have one to three dimensions, wherever they have any, and elements that may be there.
 use Rattle.std.proofs.Common.{◌≡◌, ℕ, suc, ◌+◌, ◌-◌, ◌<◌, ◌==◌, nat_lt, ◌⊎◌, inl, inr, Bool, true, false, not, ◌&&◌, if◌then◌else◌, length, slice_get, option_map, option_and_then, Option, Some, None, List, [], ◌∷◌, ◌++◌, refl, ap, ap₂, sym, ◌∙◌, subst, arith}
 use Rattle.std.specs.Option.{option_or}
-use Rattle.std.proofs.lemmas.Bool.{lt-ltb, ltb-true}
+use Rattle.std.proofs.lemmas.Bool.{ltb-true}
 use Rattle.ti_syntax.specs.declared.tree.exprs.UnaryOperator.{UnaryOperator}
 use Rattle.ti_syntax.specs.declared.tree.exprs.UnaryOperator.TheVariants as un
 use Rattle.ti_syntax.specs.declared.tree.exprs.BinaryOperator.{BinaryOperator}
 use Rattle.ti_syntax.specs.declared.tree.exprs.BinaryOperator.TheVariants as op
-use Rattle.ti_base.specs.Points.{IsDim}
 use Rattle.ti_lang.specs.Program.Types.{ValueType, Declaration}
 use Rattle.ti_lang.specs.Program.Types as t
 use Rattle.ti_lang.specs.Program.Expressions.{NumberedExp, NumberedExps, NumberedRange, NumberedRanges}
@@ -18,26 +17,18 @@ use Rattle.ti_lang.specs.Typing.Fits.{casts}
 use Rattle.ti_lang.specs.Typing.Operators.{wider, whole_type, truth_type, point_type, rect_type, same_dim, domain_type, unary_type, binary_type}
 use Rattle.ti_lang.specs.Typing.BuiltIn.{BuiltIn, Size, Min, Max, Contains, Domain, Restrict, Translate, Slice, Copy, Exchange, Delete, same_grids, can_copy, can_exchange, has_local_elements, member_type}
 use Rattle.ti_lang.specs.Typing.Declared.{in_scope, declared_type, variable_type, field_type, named_field_type}
-use Rattle.ti_lang.specs.Typing.Expressions.{plain, operand, both, joined, one, all_ints, point_literal, all_points, range_of_points, rect_literal, index_type, select_type, called, range_count, operands, bound, bounds, operand_type}
+use Rattle.ti_lang.specs.Typing.Expressions.{plain, both, joined, one, all_ints, point_literal, all_points, range_of_points, rect_literal, index_type, select_type, range_count, operands, bound, bounds, operand_type}
 use Rattle.ti_lang.specs.Typing.TextTypes.{how_many}
 use Rattle.ti_lang.specs.Meaning.HeapAnswers.{is_dim}
 use Rattle.ti_align.specs.Things.{IsStorable, DimsFine}
 use Rattle.ti_align.specs.Work.{has_dims}
 use Rattle.ti_align.proofs.Vars.{true_false, and_left, and_right}
 use Rattle.ti_align.proofs.Operating.{none_some, some_same, where_some}
-use Rattle.ti_align.proofs.Evaluating.{and_then, mapped, both_there, joined_there, one_there, no_call, named_field, member_there}
+use Rattle.ti_align.proofs.Heaping.{dims_are, dim_is}
+use Rattle.ti_align.proofs.Evaluating.{never_called, from_or, and_then, mapped, both_there, joined_there, one_there, no_call, named_field, member_there}
 use Rattle.ti_align.proofs.Meant.{storable, formed, among, means, ExpMeant, RangeMeant, RangesMeant, FieldsMeant}
 
 -- ---- what formed types are
-
-pub dims_are : (n : ℕ) → is_dim n ≡ true → IsDim n
-dims_are n h =
-    let a : 0 < n = ltb-true 0 n (and_left (nat_lt 0 n) (nat_lt n 4) h) in
-    let b : n < 4 = ltb-true n 4 (and_right (nat_lt 0 n) (nat_lt n 4) h) in
-    (omega (arith, a), omega (arith, b))
-
-pub dim_is : (n : ℕ) → IsDim n → is_dim n ≡ true
-dim_is n d = ap₂ (λ a b. a && b) (lt-ltb 0 n (omega (arith, d))) (lt-ltb n 4 (omega (arith, d)))
 
 pub formed_dims : (type : ValueType) → formed type ≡ true → has_dims type ≡ true
 formed_dims (t.Pt n) h = h
@@ -130,10 +121,6 @@ formed_both (x ∷ xs) ys a b = (a.0, formed_both xs ys a.1 b)
 
 abbrev Formed : ValueType → Type 0
 Formed type = formed type ≡ true
-
-from_or : (a b : Option ValueType) (r : ValueType) → option_or a b ≡ Some r → (a ≡ Some r) ⊎ (b ≡ Some r)
-from_or None b r e = inr e
-from_or (Some x) b r e = inl e
 
 whole_formed : (a u r : ValueType) → whole_type a u ≡ Some r → Formed r
 whole_formed a u r e = subst Formed (where_some (is_whole a && is_whole u) (wider a u) r e).1 (by a u)
@@ -295,11 +282,6 @@ member_formed Copy a r (u ∷ []) e d = subst Formed (where_some (same_grids a u
 member_formed Exchange a r (u ∷ []) e d = subst Formed (where_some (can_exchange a u && not (has_local_elements a)) t.Void r e).1 refl
 member_formed Delete t.Region r [] e d = subst Formed (some_same t.Void r e) refl
 member_formed _ a r ts e d = absurd (none_some r e)
-
-pub never_called : (m : Option NumberedMethod) (o : Option (List ValueType)) (type : ValueType) → operand (called m o) ≡ Some type → ⊥
-never_called m None type h = none_some type h
-never_called None (Some ts) type h = none_some type h
-never_called (Some m) (Some ts) type h = none_some type h
 
 -- ---- scopes
 

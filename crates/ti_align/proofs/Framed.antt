@@ -1,5 +1,5 @@
 -- Where the work that is left in a frame fits, the first piece of it is performed where it fits.
-use Rattle.std.proofs.Common.{◌≡◌, ◌⊎◌, ◌<◌, nat_lt, ℕ, ◌==◌, find, is_none, Bool, true, false, inl, inr, if◌then◌else◌, Option, Some, None, List, [], ◌∷◌, ◌++◌, option_and_then, refl, ap, sym, ◌∙◌, subst, arith, eqb-true, ltb-true}
+use Rattle.std.proofs.Common.{◌≡◌, ◌⊎◌, ℕ, ◌==◌, find, is_none, Bool, true, false, inl, inr, if◌then◌else◌, Option, Some, None, List, [], ◌∷◌, ◌++◌, option_and_then, refl, ap, sym, ◌∙◌, subst, eqb-true}
 use Rattle.ti_base.specs.Points.{IsDim}
 use Rattle.ti_lang.specs.Program.Types.{ValueType, Declaration, VariableUse}
 use Rattle.ti_lang.specs.Program.Types as t
@@ -21,6 +21,7 @@ use Rattle.ti_align.specs.Sound.{Sound}
 use Rattle.ti_align.specs.Heap.{FieldsStorable}
 use Rattle.ti_lang.specs.Meaning.Performing.{performed}
 use Rattle.ti_lang.specs.Meaning.Scoping as scoping
+use Rattle.ti_align.proofs.Heaping.{dims_are}
 use Rattle.ti_align.proofs.Stated.{work_fine}
 use Rattle.ti_align.specs.Work.{VariablesFit, has_dims, may_use, uses_of, scope_over, MethodsFit, ThisFits, HasNumber, given_type, taken_type, WorksFit, MoveFits}
 use Rattle.ti_align.proofs.Vars.{true_false, and_left, and_right}
@@ -40,12 +41,6 @@ this_over p s (CopyAll at x y ps ∷ left) = this_over p s left
 this_over p s (TakeAll at g is ∷ left) = this_over p s left
 
 -- ---- dimensions
-
-dims_are : (n : ℕ) → is_dim n ≡ true → IsDim n
-dims_are n h =
-    let a : 0 < n = ltb-true 0 n (and_left (nat_lt 0 n) (nat_lt n 4) h) in
-    let b : n < 4 = ltb-true n 4 (and_right (nat_lt 0 n) (nat_lt n 4) h) in
-    (omega (arith, a), omega (arith, b))
 
 dims_fine : (a : ValueType) → has_dims a ≡ true → DimsFine a
 dims_fine (t.Pt n) h = dims_are n h

@@ -1,5 +1,5 @@
 -- The heap keeps to the types: what names things that are there is possible, and is answered as it should.
-use Rattle.std.proofs.Common.{◌≡◌, ℕ, ◌==◌, Bool, true, false, ◌&&◌, ◌||◌, ◌⊎◌, inl, inr, if◌then◌else◌, map, option_map, slice_get, Option, Some, None, List, [], ◌∷◌, refl, ap, ap₂, sym, ◌∙◌, subst, arith, eq-eqb, eqb-true}
+use Rattle.std.proofs.Common.{◌≡◌, ℕ, ◌==◌, Bool, true, false, ◌&&◌, ◌||◌, ◌⊎◌, inl, inr, if◌then◌else◌, map, option_map, slice_get, Option, Some, None, List, [], ◌∷◌, refl, ap, ap₂, sym, ◌∙◌, subst, arith, eq-eqb, eqb-true, ltb-true, nat_lt, ◌<◌}
 use Rattle.std.specs.Option.{option_and_then, option_map_or}
 use Rattle.std.proofs.lemmas.Bool.{lt-ltb}
 use Rattle.std.proofs.lemmas.Option.{slice_get-map}
@@ -215,7 +215,14 @@ place_is elements h r (inr z) = by (r == 0)
     by true = refl
     by false = z
 
-dim_is : (n : ℕ) → IsDim n → is_dim n ≡ true
+-- one to three dimensions, as a test
+pub dims_are : (n : ℕ) → is_dim n ≡ true → IsDim n
+dims_are n h =
+    let a : 0 < n = ltb-true 0 n (and_left (nat_lt 0 n) (nat_lt n 4) h) in
+    let b : n < 4 = ltb-true n 4 (and_right (nat_lt 0 n) (nat_lt n 4) h) in
+    (omega (arith, a), omega (arith, b))
+
+pub dim_is : (n : ℕ) → IsDim n → is_dim n ≡ true
 dim_is n d = ap₂ (λ a b. a && b) (lt-ltb 0 n (omega (arith, d))) (lt-ltb n 4 (omega (arith, d)))
 
 module _ (p : NumberedProgram) (elements : Elements) (h : History) (fits : HeapFits p elements h) (store : FieldsStorable p) (i : ℕ) where

@@ -1,5 +1,5 @@
 -- What operators and literals give is a number, a boolean, a point or a domain.
-use Rattle.std.proofs.Common.{◌≡◌, ◌⊎◌, inl, inr, ℕ, ◌==◌, Bool, true, false, ◌&&◌, if◌then◌else◌, Option, Some, None, List, ◌∷◌, sym, subst}
+use Rattle.std.proofs.Common.{◌≡◌, inl, inr, ℕ, ◌==◌, Bool, true, false, ◌&&◌, if◌then◌else◌, Option, Some, None, List, ◌∷◌, sym, subst}
 use Rattle.std.specs.Option.{option_or}
 use Rattle.ti_syntax.specs.declared.tree.exprs.UnaryOperator.{UnaryOperator}
 use Rattle.ti_syntax.specs.declared.tree.exprs.UnaryOperator.TheVariants as un
@@ -10,7 +10,7 @@ use Rattle.ti_lang.specs.Typing.Operators.{wider, whole_type, truth_type, point_
 use Rattle.ti_lang.specs.Typing.Expressions.{all_ints, all_points, range_of_points, rect_literal}
 use Rattle.ti_align.proofs.Vars.{true_false, and_left}
 use Rattle.ti_align.proofs.Operating.{none_some, some_same, where_some}
-use Rattle.ti_align.proofs.Evaluating.{mapped}
+use Rattle.ti_align.proofs.Evaluating.{mapped, from_or}
 
 -- a test that none of these types passes
 pub record NoneOf (test : ValueType → Bool) : Type 0 where
@@ -20,11 +20,6 @@ pub record NoneOf (test : ValueType → Bool) : Type 0 where
   pub point : (n : ℕ) → test (t.Pt n) ≡ false
   pub rect : (n : ℕ) → test (t.Rc n) ≡ false
   pub domain : (n : ℕ) → test (t.Dm n) ≡ false
-
--- one of two types
-from_or : (a b : Option ValueType) (r : ValueType) → option_or a b ≡ Some r → (a ≡ Some r) ⊎ (b ≡ Some r)
-from_or None b r h = inr h
-from_or (Some x) b r h = inl h
 
 pub either : {A : Type 0} (a b : Option ValueType) (r : ValueType) → option_or a b ≡ Some r → (a ≡ Some r → A) → (b ≡ Some r → A) → A
 either a b r h f g = elim (from_or a b r h) [ inl x ↦ f x | inr x ↦ g x ]

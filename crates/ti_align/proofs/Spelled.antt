@@ -20,7 +20,7 @@ use Rattle.ti_syntax.specs.Spelling.Statements.{Start, start, Region, Dims, Init
 use Rattle.ti_syntax.specs.Spelling.Classes as k
 use Rattle.ti_syntax.specs.Spelling.Classes.{ParamList, Parameters, Method, Member, Members, Class, AllClasses}
 use Rattle.ti_lang.specs.Meaning.HeapAnswers.{is_dim}
-use Rattle.ti_align.proofs.Forming.{dim_is}
+use Rattle.ti_align.proofs.Heaping.{dim_is}
 
 -- ---- types
 

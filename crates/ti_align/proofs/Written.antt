@@ -48,7 +48,8 @@ use Rattle.ti_align.proofs.Vars.{true_false, or_false, and_left, and_right}
 use Rattle.ti_align.proofs.Operating.{none_some, some_same}
 use Rattle.ti_align.proofs.Evaluating.{and_then, mapped, both_there}
 use Rattle.ti_align.proofs.Meant.{storable, formed, among, means, covers, is_place, ExpMeant, ExpsMeant, RangeMeant, RangesMeant, OptionMeant, DimsMeant, InitMeant, TargetMeant, FieldsMeant}
-use Rattle.ti_align.proofs.Forming.{dims_are, formed_dims, formed_fine, storable_is, storable_something, Surrounds, variable_formed, field_formed, exp_formed, selected}
+use Rattle.ti_align.proofs.Forming.{formed_dims, formed_fine, storable_is, storable_something, Surrounds, variable_formed, field_formed, exp_formed, selected}
+use Rattle.ti_align.proofs.Heaping.{dims_are}
 
 -- ---- lists of refusals
 
