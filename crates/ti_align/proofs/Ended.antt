@@ -1,5 +1,12 @@
 -- In every run of a checked program each region that a process comes to delete was made. So a checked program is aligned.
-use Rattle.std.proofs.Common.{[], ◌∷◌, sym, ap, ◌∙◌, subst, ◌≡◌, ◌⊎◌, inl, inr, ℕ, true, List}
+use Rattle.std.proofs.Common.{[], ◌∷◌, sym, ap, ◌∙◌, subst, ◌≡◌, ◌⊎◌, inl, inr, ℕ, true, List, Bool, false, refl}
+use Rattle.ti_base.specs.declared.action.Action.{Action}
+use Rattle.ti_base.specs.declared.action.Action.TheVariants as act
+use Rattle.ti_base.specs.declared.action.CollKind.TheVariants as coll
+use Rattle.ti_base.specs.declared.entry.Next.TheVariants as next
+use Rattle.ti_lang.specs.Meaning.NextStep.{IsNext}
+use Rattle.ti_lang.specs.Meaning.HeapAnswers.{Impossible, heap_answer}
+use Rattle.ti_align.proofs.Vars.{true_false}
 use Rattle.ti_base.specs.declared.value.Value.TheVariants as v
 use Rattle.ti_lang.specs.Program.Types as t
 use Rattle.ti_lang.specs.Meaning.Held.{Held, Plain}
@@ -9,7 +16,7 @@ use Rattle.ti_align.specs.Things.{Things, IsPlaced, IsOf}
 use Rattle.ti_align.specs.Work.{VariablesFit}
 use Rattle.ti_align.specs.Heap.{Elements, things_of}
 use Rattle.ti_align.specs.Typed.{FramesFit}
-use Rattle.ti_align.specs.Stopping.{HoldMade, AllHoldMade, RegionsMade}
+use Rattle.ti_align.specs.Stopping.{HoldMade, AllHoldMade, RegionsMade, is_delete, NoneImpossible}
 use Rattle.ti_align.proofs.Regional.{AllGood}
 use Rattle.ti_rules.specs.InitialTypes.{is_region}
 use Rattle.ti_align.proofs.Deleting.{AllSuch}
@@ -60,6 +67,20 @@ regions_made p c l procs fuel es a b d e w =
       held = λ i q within x. frames_made p q.setting.program fit.elements (history_of es) q.frames (run_hands s (checked_stands p c l) (checked_such p c l) es w i q x).1 (fit.processes i q within x).0;
       deleted = presence.deletes_made s (known_of s (checked_fits p c l) (checked_fine p c) b) (checked_stands p c l) (checked_such p c l) es w fit;
     }
+
+-- ---- what is asked
+
+pub none_impossible : (p : NumberedProgram) → IsChecked p → LiteralsFit p → OfEveryRun NoneImpossible p
+none_impossible p c l procs fuel es a b d e w i q at x within v n r o = by (is_delete x) refl
+  where
+    deleting : (x : Action) → is_delete x ≡ true → IsNext q (next.Act at x) → heap_answer p (history_of es) i x ≡ Impossible → ⊥
+    deleting (act.Arrive coll.DeleteRegion arg given) k n o =
+        presence.delete_possible (record { program = p; procs = procs; fuel = fuel }) (known_of (record { program = p; procs = procs; fuel = fuel }) (checked_fits p c l) (checked_fine p c) b) (checked_stands p c l) (checked_such p c l) es w (every.run_typed p c l procs fuel es a b d e w).fits i q at arg given within v n o
+    deleting _ k n o = absurd (true_false (sym k))
+
+    by : (b : Bool) → is_delete x ≡ b → ⊥
+    by true k = deleting x k n o
+    by false k = every.none_impossible p c l procs fuel es a b d e w i q at x within v n r k o
 
 -- ---- alignment
 

@@ -1,12 +1,18 @@
 -- The laws of every run of a checked program.
-use Rattle.std.specs.Prelude.{List}
+use Rattle.std.specs.Prelude.{◌≡◌, ◌<◌, ℕ, false, List}
 use Rattle.ti_lang.specs.Program.Classes.{NumberedProgram}
+use Rattle.ti_base.specs.declared.place.Place.{Place}
+use Rattle.ti_base.specs.declared.action.Action.{Action}
+use Rattle.ti_base.specs.declared.entry.Next.TheVariants as next
+use Rattle.ti_lang.specs.Meaning.HeapAnswers.{Impossible, heap_answer}
+use Rattle.ti_lang.specs.Meaning.Histories.{history_of}
+use Rattle.ti_lang.specs.Meaning.NextStep.{IsNext}
 use Rattle.ti_base.specs.declared.entry.Entry.{Entry}
-use Rattle.ti_lang.specs.Meaning.Processes.{Setting}
-use Rattle.ti_lang.specs.Meaning.Runs.{IsRun}
+use Rattle.ti_lang.specs.Meaning.Processes.{Setting, Process}
+use Rattle.ti_lang.specs.Meaning.Runs.{World, IsReady, IsRun}
 use Rattle.ti_rules.specs.ProgramRefusals.{IsChecked}
 use Rattle.ti_align.specs.Alignment.{ArrivalsAgree, NoneAfterEnd, OfEveryRun}
-use Rattle.ti_align.specs.Stopping.{NoneImpossible, RoundsBalance}
+use Rattle.ti_align.specs.Stopping.{is_delete, RoundsBalance}
 use Rattle.ti_align.proofs.Stopping.{NoneWaits}
 use Rattle.ti_align.proofs.Possible.{never}
 use Rattle.ti_align.specs.Literals.{LiteralsFit}
@@ -45,7 +51,8 @@ none_waits p c l procs fuel es a b d e w =
 pub rounds_balance : (p : NumberedProgram) → OfEveryRun RoundsBalance p
 rounds_balance p procs fuel es a b d e w = stopping.rounds_balance (record { program = p; procs = procs; fuel = fuel }) es w
 
-pub none_impossible : (p : NumberedProgram) → IsChecked p → LiteralsFit p → OfEveryRun NoneImpossible p
+-- each action but a delete comes to an answer or a fault
+pub none_impossible : (p : NumberedProgram) → IsChecked p → LiteralsFit p → OfEveryRun (λ s es. (i : ℕ) (q : Process) (at : Place) (x : Action) → i < s.procs → World s es i q → IsNext q (next.Act at x) → IsReady s es i (next.Act at x) → is_delete x ≡ false → heap_answer s.program (history_of es) i x ≡ Impossible → ⊥) p
 none_impossible p c l procs fuel es a b d e w i q at x within v n r k o =
     let s : Setting = record { program = p; procs = procs; fuel = fuel } in
     let agree : (ds : List Entry) → IsRun s ds → ArrivalsAgree s ds = λ ds r. arrivals_agree p c procs fuel ds a b d e r in

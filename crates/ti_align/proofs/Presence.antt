@@ -170,15 +170,20 @@ module _ (s : Setting) (known : (j : ℕ) → j < s.procs → Known (begin s j))
       never : Answers Done ≡ Impossible → ⊥
       never z = cc
 
-  -- so no process comes to the delete of a region that isn't there
+  -- so its delete has an answer or a fault
+  pub delete_possible : (es : List Entry) → IsRun s es → RunFits s es → (i : ℕ) (p : Process) (at : Place) (arg : Option ℕ) (given : Deposit) → i < s.procs → World s es i p → IsNext p (next.Act at (act.Arrive coll.DeleteRegion arg given))
+      → heap_answer s.program (history_of es) i (act.Arrive coll.DeleteRegion arg given) ≡ Impossible → ⊥
+  delete_possible es ran fit i p at arg given l x n z =
+      let h = history_of es in
+      let made = deletes_made es ran fit i p at arg given l x n in
+      faulted (is_gone made.0 h)
+      (sym (ap (λ b. possible_if b (faults_if (is_gone made.0 h) RegionGone (Answers Done))) made.2)
+      ∙ (sym (ap (λ o. where_some o (λ r. possible_if (is_made r h) (faults_if (is_gone r h) RegionGone (Answers Done)))) made.1) ∙ z))
+
+  -- and no process comes to the delete of a region that isn't there
   pub none_stuck : (es : List Entry) → IsRun s es → RunFits s es → (i : ℕ) → DeletesNothing s es i → ⊥
   none_stuck es ran fit i d = by d.action d.is_next d.deletes d.impossible
     where
       by : (a : Action) → IsNext d.process (next.Act d.place a) → is_delete a ≡ true → heap_answer s.program (history_of es) i a ≡ Impossible → ⊥
-      by (act.Arrive coll.DeleteRegion arg given) n k z =
-          let h = history_of es in
-          let made = deletes_made es ran fit i d.process d.place arg given d.within d.world n in
-          faulted (is_gone made.0 h)
-          (sym (ap (λ b. possible_if b (faults_if (is_gone made.0 h) RegionGone (Answers Done))) made.2)
-          ∙ (sym (ap (λ o. where_some o (λ r. possible_if (is_made r h) (faults_if (is_gone r h) RegionGone (Answers Done)))) made.1) ∙ z))
+      by (act.Arrive coll.DeleteRegion arg given) n k z = delete_possible es ran fit i d.process d.place arg given d.within d.world n z
       by _ n k z = absurd (true_false (sym k))

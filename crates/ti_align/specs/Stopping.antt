@@ -27,10 +27,10 @@ is_delete a = false
 abbrev pub RoundsBalance : Setting → List Entry → Type 0
 RoundsBalance s es = (i : ℕ) (p : Process) (at : Place) (a : Action) → World s es i p → IsNext p (next.Act at a) → arrivals i es ≡ departures i es + (if is_departure a then 1 else 0)
 
--- each action for which its process needn't wait comes to an answer or a fault, but for the delete of a region that isn't there
+-- each action for which its process needn't wait comes to an answer or a fault
 abbrev pub NoneImpossible : Setting → List Entry → Type 0
 NoneImpossible s es =
-    (i : ℕ) (p : Process) (at : Place) (a : Action) → i < s.procs → World s es i p → IsNext p (next.Act at a) → IsReady s es i (next.Act at a) → is_delete a ≡ false
+    (i : ℕ) (p : Process) (at : Place) (a : Action) → i < s.procs → World s es i p → IsNext p (next.Act at a) → IsReady s es i (next.Act at a)
     → heap_answer s.program (history_of es) i a ≡ Impossible → ⊥
 
 -- ---- regions

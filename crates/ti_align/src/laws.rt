@@ -61,7 +61,7 @@ pub fn regions_made(c: &Checked)
 }
 
 /// In every run of a checked program each action for which its process needn't wait comes to an answer
-/// or a fault, but for the delete of a region that isn't there.
+/// or a fault.
 pub fn none_impossible(c: &Checked)
     ensures { OfEveryRun NoneImpossible (program_of c.now.program.parts) }
 {

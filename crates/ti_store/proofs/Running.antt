@@ -268,7 +268,7 @@ pub may_do : (s : Setting) (es : List Entry) (p : ℕ) (at : Place) (a : Action)
     → MayDo s.program s.procs es p at a
 may_do s es p at a w all run inside goes has ready arrived no_delete =
     record {
-      possible = possible_from (heap_answer s.program (history_of es) p a) (law_of NoneImpossible s es all.possible w run p has.process at a inside has.world has.is_next ready no_delete);
+      possible = possible_from (heap_answer s.program (history_of es) p a) (law_of NoneImpossible s es all.possible w run p has.process at a inside has.world has.is_next ready);
       formed = run_formed s es p has.process at a (law_of RunTyped s es all.typed w run) (law_of ActionsFormed s es all.formed w run) inside has.world has.is_next;
       keeps_regions = no_delete;
       few = makings_few es p s.fuel (arrivals_few s es p has.process has.world) w.limited;
