@@ -19,7 +19,7 @@ is_own i e = (e.proc == i) && is_arrival e.act
 
 -- ---- how many
 
-one_own : (i : ℕ) (e : Entry) → is_own i e ≡ true → arrivals i (e ∷ []) ≡ 1
+pub one_own : (i : ℕ) (e : Entry) → is_own i e ≡ true → arrivals i (e ∷ []) ≡ 1
 one_own i e k = ap (count_by (λ (e : Entry). is_arrival e.act)) (own i e (and_left _ _ k)) ∙ counted (and_right (e.proc == i) _ k)
   where
     counted : is_arrival e.act ≡ true → count_by (λ (e : Entry). is_arrival e.act) (e ∷ []) ≡ 1
@@ -58,11 +58,11 @@ back i (e ∷ es) =
 
 -- ---- which
 
-at_other : (i n : ℕ) (e : Entry) (h : History) → is_own i e ≡ false → arrival_at i n (e ∷ h) ≡ arrival_at i n h
+pub at_other : (i n : ℕ) (e : Entry) (h : History) → is_own i e ≡ false → arrival_at i n (e ∷ h) ≡ arrival_at i n h
 at_other i n e h k = if_false _ _ _ (ap (λ b. b && (arrivals i (e ∷ h) == n)) k)
 
 -- the newest one
-at_last : (i n : ℕ) (e : Entry) (h : History) → is_own i e ≡ true → (arrivals i (e ∷ h) == n) ≡ true → arrival_at i n (e ∷ h) ≡ arrival_in e.act
+pub at_last : (i n : ℕ) (e : Entry) (h : History) → is_own i e ≡ true → (arrivals i (e ∷ h) == n) ≡ true → arrival_at i n (e ∷ h) ≡ arrival_in e.act
 at_last i n e h k l = if_true _ _ _ (ap₂ (λ a b. a && b) k l)
 
 -- an older one

@@ -18,6 +18,8 @@ use Rattle.ti_align.proofs.Possible.{never}
 use Rattle.ti_align.specs.Literals.{LiteralsFit}
 use Rattle.ti_align.specs.Typed.{RunTyped}
 use Rattle.ti_align.specs.Formed.{ActionsFormed}
+use Rattle.ti_align.specs.Slice.{SliceTells}
+use Rattle.ti_align.proofs.Telling as telling
 use Rattle.ti_align.proofs.Formed as formed
 use Rattle.ti_align.proofs.Aligning as aligning
 use Rattle.ti_align.proofs.Rounds.{same_departures}
@@ -61,3 +63,6 @@ none_impossible p c l procs fuel es a b d e w i q at x within v n r k o =
 pub actions_formed : (p : NumberedProgram) → IsChecked p → LiteralsFit p → OfEveryRun ActionsFormed p
 actions_formed p c l procs fuel es a b d e w =
     formed.actions_formed (record { program = p; procs = procs; fuel = fuel }) es (checked_fits p c l).storable (run_typed p c l procs fuel es a b d e w)
+
+pub slice_tells : (p : NumberedProgram) → IsChecked p → OfEveryRun SliceTells p
+slice_tells p c procs fuel es a b d e w = telling.tells (record { program = p; procs = procs; fuel = fuel }) (checked_fine p c) es w

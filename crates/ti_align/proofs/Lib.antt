@@ -16,6 +16,14 @@ pub mod Arrived
 pub mod Given
 pub mod Running
 pub mod Aligning
+pub mod Sure
+pub mod Sliced
+pub mod Pacing
+pub mod Pathed
+pub mod Slicing
+pub mod Ticking
+pub mod Telling
+pub mod OneAnswer
 pub mod Rounds
 pub mod Giving
 pub mod Possible

@@ -1,5 +1,6 @@
 pub mod SinglePart
 pub mod Alignment
+pub mod Slice
 pub mod Stopping
 pub mod Things
 pub mod Sound

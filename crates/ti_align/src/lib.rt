@@ -3,6 +3,7 @@
 
 mod laws;
 mod reading;
+mod slices;
 
 pub use laws::{
     actions_formed, aligned, arrivals_agree, expressions_fit, fields_fit, heap_fits,
@@ -10,3 +11,4 @@ pub use laws::{
     work_fits,
 };
 pub use reading::literals_fit;
+pub use slices::{SliceStep, one_slice_answer, slice_tells};

@@ -1,0 +1,395 @@
+-- What the slice says of runs: where a process arrives or ends, the slice does, behind the outcomes of its departures.
+use Rattle.std.proofs.Common.{◌≡◌, ℕ, ◌+◌, ◌≤◌, Bool, true, false, ◌⊎◌, inl, inr, if◌then◌else◌, Option, Some, None, List, [], ◌∷◌, ◌++◌, refl, ap, ap₂, sym, ◌∙◌, subst, arith}
+use Rattle.ti_base.specs.declared.place.Place.{Place}
+use Rattle.ti_base.specs.declared.fault.FaultKind.{FaultKind}
+use Rattle.ti_base.specs.declared.fault.FaultKind.TheVariants.{RegionGone}
+use Rattle.ti_base.specs.declared.action.Action.{Action}
+use Rattle.ti_base.specs.declared.action.Action.TheVariants as act
+use Rattle.ti_base.specs.declared.action.CollKind.{CollKind}
+use Rattle.ti_base.specs.declared.action.Deposit.{Deposit}
+use Rattle.ti_base.specs.declared.entry.Answer.{Answer}
+use Rattle.ti_base.specs.declared.entry.Answer.TheVariants.{Done}
+use Rattle.ti_lang.specs.Meaning.Asking.{Request}
+use Rattle.ti_lang.specs.Meaning.Processes.{Setting, Wait, Process}
+use Rattle.ti_lang.specs.Meaning.Steps.{Step, To, At, Ends, Faults}
+use Rattle.ti_align.specs.declared.slices.SliceStep.{SliceStep}
+use Rattle.ti_align.specs.declared.slices.SliceStep.TheVariants as answer
+use Rattle.ti_align.specs.Slice.{deletes_one, judged, deleted_by, slice_step, at_fault, Comes, AllFit, answers_at_departures}
+use Rattle.ti_align.specs.Slice as sp
+use Rattle.ti_align.proofs.Slice.{State, slice, Move, Silent, Arrival, Departure, Over, Fault, spent_by, move_of}
+use Rattle.ti_align.proofs.Slice as sl
+use Rattle.ti_align.proofs.Ways.{Meeting, Came, Left, answers_left}
+use Rattle.ti_align.proofs.Vars.{true_false}
+use Rattle.ti_align.proofs.Stepping.{MovesAt, Costs, GoesOn}
+use Rattle.ti_align.proofs.Sliced.{IsBare, Sliced, Slices, slices}
+use Rattle.ti_align.proofs.Pacing.{deletes_any, Paced, stop, silent, came, left, rests}
+use Rattle.ti_align.proofs.Pathed.{met_after}
+
+-- ---- which way on
+
+silent_same : (m : Move) (c d : Bool) (s t : State) → m ≡ Silent c s → m ≡ Silent d t → (c ≡ d) × (s ≡ t)
+silent_same m c d s t a b = (cc, cc)
+
+silent_arrival : {A : Type 0} (m : Move) (d : Bool) (s t : State) (c : Wait) → m ≡ Silent d s → m ≡ Arrival c t → A
+silent_arrival m d s t c a b = absurd (no a b)
+  where
+    no : m ≡ Silent d s → m ≡ Arrival c t → ⊥
+    no a b = cc
+
+silent_departure : {A : Type 0} (m : Move) (d : Bool) (s : State) (c : Wait) (g : Answer → State) → m ≡ Silent d s → m ≡ Departure c g → A
+silent_departure m d s c g a b = absurd (no a b)
+  where
+    no : m ≡ Silent d s → m ≡ Departure c g → ⊥
+    no a b = cc
+
+arrival_departure : {A : Type 0} (m : Move) (s : State) (c d : Wait) (g : Answer → State) → m ≡ Arrival c s → m ≡ Departure d g → A
+arrival_departure m s c d g a b = absurd (no a b)
+  where
+    no : m ≡ Arrival c s → m ≡ Departure d g → ⊥
+    no a b = cc
+
+arrival_same : (m : Move) (c d : Wait) (s t : State) → m ≡ Arrival c s → m ≡ Arrival d t → (c ≡ d) × (s ≡ t)
+arrival_same m c d s t a b = (cc, cc)
+
+departure_same : (m : Move) (c d : Wait) (g h : Answer → State) → m ≡ Departure c g → m ≡ Departure d h → g ≡ h
+departure_same m c d g h a b = cc
+
+-- the move costs nothing and leads nowhere
+abbrev Stands : Move → Type 0
+Stands (Silent timed t) = ⊥
+Stands (Arrival w t) = ⊥
+Stands (Departure w go) = ⊥
+Stands Over = Unit {0}
+Stands (Fault kind place) = Unit {0}
+
+-- what the first step of a way is
+pub data First (n : Setting) (gone : List ℕ) (s : State) (ms : List Meeting) (d : ℕ) (u : State) : Type 0 where
+  here : ms ≡ [] → s ≡ u → First n gone s ms d u
+  on : (timed : Bool) (t : State) (c : ℕ) → move_of n s ≡ Silent timed t → Paced n gone t ms c u → spent_by timed c ≤ d → First n gone s ms d u
+  arrives : (w : Wait) (t : State) (ns : List Meeting) (c : ℕ) → move_of n s ≡ Arrival w t → ms ≡ Came w.place w.kind w.arg ∷ ns → deletes_any gone w.kind w.arg ≡ false → Paced n gone t ns c u → c + 1 ≤ d → First n gone s ms d u
+  leaves : (w : Wait) (go : Answer → State) (r : Answer) (ns : List Meeting) (c : ℕ) → move_of n s ≡ Departure w go → ms ≡ Left r ∷ ns → Paced n (deleted_by s.wait ++ gone) (go r) ns c u → c + 1 ≤ d → First n gone s ms d u
+
+first : (n : Setting) (gone : List ℕ) (s : State) (ms : List Meeting) (d : ℕ) (u : State) → Paced n gone s ms d u → First n gone s ms d u
+first n gone s [] d u stop = here refl refl
+first n gone s ms d u (silent {timed = timed} {t = t} {c = c} m x l) = on timed t c m x l
+first n gone s (Came at kind arg ∷ ms) d u (came {t = t} {w = w} {c = c} m e f g h x l) =
+    arrives w t ms c m (ap (λ p. Came p kind arg ∷ ms) (sym e) ∙ ap₂ (λ k a. Came w.place k a ∷ ms) (sym f) (sym g)) (ap₂ (deletes_any gone) f g ∙ h) x l
+first n gone s (Left r ∷ ms) d u (left {w = w} {go = go} {c = c} m x l) = leaves w go r ms c m refl x l
+
+-- ---- lists
+
+nil_cons : {A : Type 0} (r : Answer) (rs : List Answer) → ◌≡◌ {A = List Answer} [] (r ∷ rs) → A
+nil_cons r rs e = absurd (no e)
+  where
+    no : ◌≡◌ {A = List Answer} [] (r ∷ rs) → ⊥
+    no e = cc
+
+heads : (r t : Answer) (rs ts : List Answer) → r ∷ rs ≡ t ∷ ts → (r ≡ t) × (rs ≡ ts)
+heads r t rs ts e = (cc, cc)
+
+none_some : {A : Type 0} (z : SliceStep) → ◌≡◌ {A = Option SliceStep} None (Some z) → A
+none_some z e = absurd (no e)
+  where
+    no : ◌≡◌ {A = Option SliceStep} None (Some z) → ⊥
+    no e = cc
+
+-- ---- what a way shows
+
+-- a process with these meetings behind it, at this state, shows the answer z: it has arrived last, or it ends
+abbrev pub Shows : Setting → Option SliceStep → List Meeting → State → SliceStep → Type 0
+Shows n y ms u z = (met_after y ms ≡ Some z) ⊎ ((move_of n u ≡ Over) × (z ≡ answer.Ended))
+
+-- what it met last, or outcomes are left
+abbrev pub Open : Option SliceStep → List Answer → Type 0
+Open y [] = y ≡ None
+Open y (r ∷ rs) = Unit {0}
+
+too_much : {A : Type 0} (a b c d : ℕ) → a + d ≤ b → b ≤ a → c + 1 ≤ d → A
+too_much a b c d x y z = absurd (no x y z)
+  where
+    no : a + d ≤ b → b ≤ a → c + 1 ≤ d → ⊥
+    no x y z = absurd (omega (arith, x, y, z))
+
+less_left : (a b c d e : ℕ) → e ≡ a + 1 → a + d ≤ b → c + 1 ≤ d → e + c ≤ b
+less_left a b c d e k x y = omega (arith, k, x, y)
+
+still_left : (timed : Bool) (a b c d e : ℕ) → e ≡ spent_by timed a → a + d ≤ b → spent_by timed c ≤ d → e + c ≤ b
+still_left true a b c d e k x y = less_left a b c d e k x y
+still_left false a b c d e k x y = omega (arith, k, x, y)
+
+same_left : (a b d e : ℕ) → e ≡ a → a + d ≤ b → e + d ≤ b
+same_left a b d e k x = omega (arith, k, x)
+
+step_to : (st : Step) (gone : List ℕ) (q : Process) → judged gone st ≡ To q → st ≡ To q
+step_to (To p) gone q e = e
+step_to (At request go) gone q e = absurd (by (deletes_one gone request.action) e)
+  where
+    by : (b : Bool) → (if b then Faults RegionGone request.place else At request go) ≡ To q → ⊥
+    by true e = cc
+    by false e = cc
+step_to (Ends place) gone q e = e
+step_to (Faults kind place) gone q e = e
+
+step_at : (st : Step) (gone : List ℕ) (request : Request) (go : Answer → Process) → judged gone st ≡ At request go → st ≡ At request go
+step_at (To p) gone request go e = e
+step_at (At r g) gone request go e = by (deletes_one gone r.action) e
+  where
+    by : (b : Bool) → (if b then Faults RegionGone r.place else At r g) ≡ At request go → At r g ≡ At request go
+    by true e = absurd (no e)
+      where
+        no : Faults RegionGone r.place ≡ At request go → ⊥
+        no e = cc
+    by false e = e
+step_at (Ends place) gone request go e = e
+step_at (Faults kind place) gone request go e = e
+
+step_ends : (st : Step) (gone : List ℕ) (place : Place) → judged gone st ≡ Ends place → st ≡ Ends place
+step_ends (To p) gone place e = e
+step_ends (At request go) gone place e = absurd (by (deletes_one gone request.action) e)
+  where
+    by : (b : Bool) → (if b then Faults RegionGone request.place else At request go) ≡ Ends place → ⊥
+    by true e = cc
+    by false e = cc
+step_ends (Ends p) gone place e = e
+step_ends (Faults kind p) gone place e = e
+
+-- a fault is the slice's own, or the arrival at a delete of a region that is gone
+step_faults : (st : Step) (gone : List ℕ) (kind : FaultKind) (place : Place) → judged gone st ≡ Faults kind place → (st ≡ Faults kind place) ⊎ ((request : Request) × (go : Answer → Process) × (st ≡ At request go) × (deletes_one gone request.action ≡ true))
+step_faults (To p) gone kind place e = inl e
+step_faults (At request go) gone kind place e = by (deletes_one gone request.action) refl e
+  where
+    by : (b : Bool) → deletes_one gone request.action ≡ b → (if b then Faults RegionGone request.place else At request go) ≡ Faults kind place
+        → (At request go ≡ Faults kind place) ⊎ ((r : Request) × (g : Answer → Process) × (At request go ≡ At r g) × (deletes_one gone r.action ≡ true))
+    by true h e = inr (request, go, refl, h)
+    by false h e = inl e
+step_faults (Ends p) gone kind place e = inl e
+step_faults (Faults k p) gone kind place e = inl e
+
+over_silent : {A : Type 0} (m : Move) (d : Bool) (s : State) → m ≡ Over → m ≡ Silent d s → A
+over_silent m d s a b = absurd (no a b)
+  where
+    no : m ≡ Over → m ≡ Silent d s → ⊥
+    no a b = cc
+
+over_arrival : {A : Type 0} (m : Move) (s : State) (c : Wait) → m ≡ Over → m ≡ Arrival c s → A
+over_arrival m s c a b = absurd (no a b)
+  where
+    no : m ≡ Over → m ≡ Arrival c s → ⊥
+    no a b = cc
+
+over_departure : {A : Type 0} (m : Move) (c : Wait) (g : Answer → State) → m ≡ Over → m ≡ Departure c g → A
+over_departure m c g a b = absurd (no a b)
+  where
+    no : m ≡ Over → m ≡ Departure c g → ⊥
+    no a b = cc
+
+fault_silent : {A : Type 0} (m : Move) (k : FaultKind) (at : Place) (d : Bool) (s : State) → m ≡ Fault k at → m ≡ Silent d s → A
+fault_silent m k at d s a b = absurd (no a b)
+  where
+    no : m ≡ Fault k at → m ≡ Silent d s → ⊥
+    no a b = cc
+
+fault_arrival : {A : Type 0} (m : Move) (k : FaultKind) (at : Place) (s : State) (c : Wait) → m ≡ Fault k at → m ≡ Arrival c s → A
+fault_arrival m k at s c a b = absurd (no a b)
+  where
+    no : m ≡ Fault k at → m ≡ Arrival c s → ⊥
+    no a b = cc
+
+fault_departure : {A : Type 0} (m : Move) (k : FaultKind) (at : Place) (c : Wait) (g : Answer → State) → m ≡ Fault k at → m ≡ Departure c g → A
+fault_departure m k at c g a b = absurd (no a b)
+  where
+    no : m ≡ Fault k at → m ≡ Departure c g → ⊥
+    no a b = cc
+
+fault_over : {A : Type 0} (m : Move) (k : FaultKind) (at : Place) → m ≡ Fault k at → m ≡ Over → A
+fault_over m k at a b = absurd (no a b)
+  where
+    no : m ≡ Fault k at → m ≡ Over → ⊥
+    no a b = cc
+
+none_wait : {A : Type 0} (o : Option Wait) (w : Wait) → o ≡ None → o ≡ Some w → A
+none_wait o w a b = absurd (no a b)
+  where
+    no : o ≡ None → o ≡ Some w → ⊥
+    no a b = cc
+
+-- where a state waits, it leaves
+leaving : (n : Setting) (s : State) (w : Wait) → s.wait ≡ Some w → (go : Answer → State) × (move_of n s ≡ Departure w go)
+leaving n s w e = (_, ap (sl.moves n s.frames) e)
+
+some_same : (a b : SliceStep) → Some a ≡ Some b → a ≡ b
+some_same a b e = cc
+
+at_same : (k l : CollKind) (a b : Place) (x y : Option ℕ) → k ≡ l → a ≡ b → x ≡ y → answer.At k a x ≡ answer.At l b y
+at_same k l a b x y e f g = ap₂ (λ c p. answer.At c p x) e f ∙ ap (answer.At l b) g
+
+open_none : (y : Option SliceStep) (rs : List Answer) → Open y rs → rs ≡ [] → y ≡ None
+open_none y [] o e = o
+open_none y (r ∷ rs) o e = nil_cons r rs (sym e)
+
+-- a way that stops where nothing is left shows an end alone
+shown_end : (n : Setting) (y : Option SliceStep) (rs : List Answer) (ms : List Meeting) (s u : State) (z : SliceStep) → Open y rs → answers_left ms ≡ rs → ms ≡ [] → s ≡ u → Shows n y ms u z → (move_of n s ≡ Over) × (z ≡ answer.Ended)
+shown_end n y rs ms s u z o a e f (inl h) =
+    let none : y ≡ None = open_none y rs o (sym a ∙ ap answers_left e) in
+    none_some z (sym none ∙ sym (ap (met_after y) e) ∙ h)
+shown_end n y rs ms s u z o a e f (inr h) = (ap (move_of n) f ∙ h.0, h.1)
+
+module _ (n : Setting) (z : SliceStep) where
+  -- what is to be shown of a way from a state
+  abbrev Shown : SliceStep → List ℕ → State → ℕ → Option SliceStep → List Answer → Type 0
+  Shown x gone s spent y rs = (ms : List Meeting) (d : ℕ) (u : State) → Paced n gone s ms d u → answers_left ms ≡ rs → spent + d ≤ n.fuel → Shows n y ms u z → x ≡ z
+
+  by_silent : (x : SliceStep) (gone : List ℕ) (p q : Process) (rs : List Answer) (y : Option SliceStep) → Open y rs → ((slice q ≡ slice p) × (q.spent ≡ p.spent)) ⊎ GoesOn p.spent (move_of n (slice p)) q
+      → Shown x gone (slice q) q.spent y rs → Shown x gone (slice p) p.spent y rs
+  by_silent x gone p q rs y o (inl e) ih ms d u w a l s = ih ms d u (subst (λ t. Paced n gone t ms d u) (sym e.0) w) a (same_left p.spent n.fuel d q.spent e.1 l) s
+  by_silent x gone p q rs y o (inr g) ih ms d u w a l s = by (first n gone (slice p) ms d u w)
+    where
+      by : First n gone (slice p) ms d u → x ≡ z
+      by (here e f) = over_silent _ g.0 _ (shown_end n y rs ms (slice p) u z o a e f s).0 g.1
+      by (on timed t c m k i) =
+          let same = silent_same _ _ _ _ _ m g.1 in
+          ih ms c u (subst (λ t. Paced n gone t ms c u) same.1 k) a (still_left g.0 p.spent n.fuel c d q.spent g.2 l (subst (λ b. spent_by b c ≤ d) same.0 i)) s
+      by (arrives w t ns c m e f k i) = silent_arrival _ _ _ _ _ g.1 m
+      by (leaves w go r ns c m e k i) = silent_departure _ _ _ _ _ g.1 m
+
+  -- behind an arrival where nothing is left, the arrival itself is shown
+  by_waiting : (gone : List ℕ) (t : State) (w : Wait) (x : SliceStep) → t.wait ≡ Some w → (ns : List Meeting) (c : ℕ) (u : State) → Paced n gone t ns c u → answers_left ns ≡ [] → Shows n (Some x) ns u z → x ≡ z
+  by_waiting gone t w x h ns c u k a s = by (first n gone t ns c u k)
+    where
+      shown : ns ≡ [] → t ≡ u → Shows n (Some x) ns u z → x ≡ z
+      shown e f (inl g) = some_same x z (sym (ap (met_after (Some x)) e) ∙ g)
+      shown e f (inr g) = let l = leaving n t w h in over_departure _ _ _ (ap (move_of n) f ∙ g.0) l.1
+
+      by : First n gone t ns c u → x ≡ z
+      by (here e f) = shown e f s
+      by (on timed v d m j i) = none_wait t.wait w (rests n t _ m).0 h
+      by (arrives v q qs d m e f j i) = none_wait t.wait w (rests n t _ m).0 h
+      by (leaves v go r qs d m e j i) = nil_cons r (answers_left qs) (sym a ∙ ap answers_left e)
+
+  by_stands : (gone : List ℕ) (p q : Process) (w : Wait) (y : Option SliceStep) → Open y [] → move_of n (slice p) ≡ Arrival w (slice q) → Shown (answer.At w.kind w.place w.arg) gone (slice p) p.spent y []
+  by_stands gone p q w y o m ms d u k a l s = by (first n gone (slice p) ms d u k)
+    where
+      by : First n gone (slice p) ms d u → answer.At w.kind w.place w.arg ≡ z
+      by (here e f) = over_arrival _ _ _ (shown_end n y [] ms (slice p) u z o a e f s).0 m
+      by (on timed t c m' j i) = silent_arrival _ _ _ _ _ m' m
+      by (arrives v t ns c m' e f j i) =
+          let same = arrival_same _ _ _ _ _ m m' in
+          ap (λ (w : Wait). answer.At w.kind w.place w.arg) same.0
+          ∙ by_waiting gone t v (answer.At v.kind v.place v.arg) (rests n (slice p) _ m').1 ns c u j (sym (ap answers_left e) ∙ a) (subst (λ q. Shows n y q u z) e s)
+      by (leaves v go r ns c m' e j i) = arrival_departure _ _ _ _ _ m m'
+
+  by_arrival : (x : SliceStep) (gone : List ℕ) (p q : Process) (w : Wait) (r : Answer) (rest : List Answer) (y : Option SliceStep) → move_of n (slice p) ≡ Arrival w (slice q) → q.spent ≡ p.spent + 1
+      → Shown x gone (slice q) q.spent (Some (answer.At w.kind w.place w.arg)) (r ∷ rest) → Shown x gone (slice p) p.spent y (r ∷ rest)
+  by_arrival x gone p q w r rest y m sp ih ms d u k a l s = by (first n gone (slice p) ms d u k)
+    where
+      by : First n gone (slice p) ms d u → x ≡ z
+      by (here e f) = nil_cons r rest (sym (ap answers_left e) ∙ a)
+      by (on timed t c m' j i) = silent_arrival _ _ _ _ _ m' m
+      by (arrives v t ns c m' e f j i) =
+          let same = arrival_same _ _ _ _ _ m' m in
+          ih ns c u (subst (λ t. Paced n gone t ns c u) same.1 j) (sym (ap answers_left e) ∙ a) (less_left p.spent n.fuel c d q.spent sp l i)
+          (subst (λ (w : Wait). Shows n (Some (answer.At w.kind w.place w.arg)) ns u z) same.0 (subst (λ q. Shows n y q u z) e s))
+      by (leaves v go r ns c m' e j i) = arrival_departure _ _ _ _ _ m m'
+
+  by_departure : (x : SliceStep) (gone : List ℕ) (p q : Process) (w : Wait) (next : Answer → State) (r : Answer) (rest : List Answer) (y : Option SliceStep) → move_of n (slice p) ≡ Departure w next → slice q ≡ next r → q.spent ≡ p.spent + 1
+      → Shown x (deleted_by p.wait ++ gone) (slice q) q.spent None rest → Shown x gone (slice p) p.spent y (r ∷ rest)
+  by_departure x gone p q w next r rest y m g sp ih ms d u k a l s = by (first n gone (slice p) ms d u k)
+    where
+      by : First n gone (slice p) ms d u → x ≡ z
+      by (here e f) = nil_cons r rest (sym (ap answers_left e) ∙ a)
+      by (on timed t c m' j i) = silent_departure _ _ _ _ _ m' m
+      by (arrives v t ns c m' e f j i) = arrival_departure _ _ _ _ _ m' m
+      by (leaves v go t ns c m' e j i) =
+          let h = heads t r (answers_left ns) rest (sym (ap answers_left e) ∙ a) in
+          let to : go t ≡ slice q = ap (λ (f : Answer → State). f t) (departure_same _ _ _ _ _ m' m) ∙ ap next h.0 ∙ sym g in
+          ih ns c u (subst (λ v. Paced n (deleted_by p.wait ++ gone) v ns c u) to j) h.1 (less_left p.spent n.fuel c d q.spent sp l i) (subst (λ q. Shows n y q u z) e s)
+
+  by_end : (gone : List ℕ) (p : Process) (y : Option SliceStep) → Open y [] → move_of n (slice p) ≡ Over → Shown answer.Ended gone (slice p) p.spent y []
+  by_end gone p y o m ms d u k a l s = by (first n gone (slice p) ms d u k)
+    where
+      by : First n gone (slice p) ms d u → answer.Ended ≡ z
+      by (here e f) = sym (shown_end n y [] ms (slice p) u z o a e f s).1
+      by (on timed t c m' j i) = over_silent _ _ _ m m'
+      by (arrives v t ns c m' e f j i) = over_arrival _ _ _ m m'
+      by (leaves v go r ns c m' e j i) = over_departure _ _ _ m m'
+
+  -- where no tick is left no way goes on
+  by_fuel : (x : SliceStep) (gone : List ℕ) (p : Process) (y : Option SliceStep) → Open y [] → n.fuel ≤ p.spent → Costs (move_of n (slice p)) → Shown x gone (slice p) p.spent y []
+  by_fuel x gone p y o b q ms d u k a l s = by (first n gone (slice p) ms d u k)
+    where
+      by : First n gone (slice p) ms d u → x ≡ z
+      by (here e f) = absurd (subst Costs (shown_end n y [] ms (slice p) u z o a e f s).0 q)
+      by (on timed t c m j i) = too_much p.spent n.fuel c d l b (subst (λ t. spent_by t c ≤ d) (subst Costs m q) i)
+      by (arrives v t ns c m e f j i) = too_much p.spent n.fuel c d l b i
+      by (leaves v go r ns c m e j i) = too_much p.spent n.fuel c d l b i
+
+  by_fault : (x : SliceStep) (gone : List ℕ) (p : Process) (y : Option SliceStep) (kind : FaultKind) (place : Place) → Open y [] → move_of n (slice p) ≡ Fault kind place → Shown x gone (slice p) p.spent y []
+  by_fault x gone p y kind place o m ms d u k a l s = by (first n gone (slice p) ms d u k)
+    where
+      by : First n gone (slice p) ms d u → x ≡ z
+      by (here e f) = fault_over _ _ _ m (shown_end n y [] ms (slice p) u z o a e f s).0
+      by (on timed t c m' j i) = fault_silent _ _ _ _ _ m m'
+      by (arrives v t ns c m' e f j i) = fault_arrival _ _ _ _ _ m m'
+      by (leaves v go r ns c m' e j i) = fault_departure _ _ _ _ _ m m'
+
+  -- to a delete of a region that is gone no way leads
+  by_gone : (x : SliceStep) (gone : List ℕ) (p q : Process) (y : Option SliceStep) (w : Wait) → Open y [] → move_of n (slice p) ≡ Arrival w (slice q) → deletes_any gone w.kind w.arg ≡ true → Shown x gone (slice p) p.spent y []
+  by_gone x gone p q y w o m g ms d u k a l s = by (first n gone (slice p) ms d u k)
+    where
+      by : First n gone (slice p) ms d u → x ≡ z
+      by (here e f) = over_arrival _ _ _ (shown_end n y [] ms (slice p) u z o a e f s).0 m
+      by (on timed t c m' j i) = silent_arrival _ _ _ _ _ m' m
+      by (arrives v t ns c m' e f j i) =
+          absurd (true_false (sym g ∙ ap (λ (w : Wait). deletes_any gone w.kind w.arg) (arrival_same _ _ _ _ _ m m').0 ∙ f))
+      by (leaves v go r ns c m' e j i) = arrival_departure _ _ _ _ _ m m'
+
+  -- ---- the answer of the slice
+
+  at_arrival : (p : Process) (request : Request) (go : Answer → Process) (kind : CollKind) (arg : Option ℕ) (given : Deposit) → Sliced n p → slice_step p ≡ At request go → request.action ≡ act.Arrive kind arg given
+      → MovesAt n p.spent (move_of n (slice p)) p.frames request.place (act.Arrive kind arg given) go × ((r : Answer) → IsBare (go r))
+  at_arrival p request go kind arg given s e a =
+      let k = subst (Slices n p) e (slices n p s) in
+      (subst (λ a. MovesAt n p.spent (move_of n (slice p)) p.frames request.place a go) a k.0, k.1)
+
+  at_departure : (p : Process) (request : Request) (go : Answer → Process) → Sliced n p → slice_step p ≡ At request go → request.action ≡ act.Depart
+      → MovesAt n p.spent (move_of n (slice p)) p.frames request.place act.Depart go × ((r : Answer) → IsBare (go r))
+  at_departure p request go s e a =
+      let k = subst (Slices n p) e (slices n p s) in
+      (subst (λ a. MovesAt n p.spent (move_of n (slice p)) p.frames request.place a go) a k.0, k.1)
+
+  open_rest : (rest : List Answer) → Open None rest
+  open_rest [] = refl
+  open_rest (r ∷ rest) = tt
+
+  gone_at : (x : SliceStep) (gone : List ℕ) (p : Process) (y : Option SliceStep) (b : ℕ) (fs : List _) (at : Place) (a : Action) (go : Answer → Process) → Open y [] → MovesAt n b (move_of n (slice p)) fs at a go → deletes_one gone a ≡ true → Shown x gone (slice p) p.spent y []
+  gone_at x gone p y b fs at (act.Arrive kind arg given) go o k h = by_gone x gone p (go Done) y k.0 o (k.4 Done).0 (ap₂ (deletes_any gone) k.2 k.3 ∙ h)
+  gone_at x gone p y b fs at _ go o k h = absurd (true_false (sym h))
+
+  pub follow : (p : Process) (gone : List ℕ) (k : ℕ) (rs : List Answer) (x : SliceStep) → Comes p gone k rs x → AllFit x → Sliced n p → (y : Option SliceStep) → Open y rs → Shown x gone (slice p) p.spent y rs
+  follow p gone k rs x (sp.silent {q = q} e c) f s y o =
+      let g = subst (Slices n p) (step_to (slice_step p) gone q e) (slices n p s) in
+      by_silent x gone p q rs y o g.0 (follow q gone k rs x c f g.1 y o)
+  follow p gone k [] x (sp.stands {request = request} {go = go} {kind = kind} {arg = arg} {given = given} e a) f s y o =
+      let g = (at_arrival p request go kind arg given s (step_at (slice_step p) gone request go e) a).0 in
+      λ ms d u w b l h. at_same _ _ _ _ _ _ (sym g.2) (sym g.1) (sym g.3) ∙ by_stands gone p (go Done) g.0 y o (g.4 Done).0 ms d u w b l h
+  follow p gone k (r ∷ rest) x (sp.arrives {request = request} {go = go} {kind = kind} {arg = arg} {given = given} e a c) f s y o =
+      let g = at_arrival p request go kind arg given s (step_at (slice_step p) gone request go e) a in
+      let h = g.0.4 Done in
+      by_arrival x gone p (go Done) g.0.0 r rest y h.0 h.2 (follow (go Done) gone k (r ∷ rest) x c f (h.1, g.1 Done) (Some (answer.At g.0.0.kind g.0.0.place g.0.0.arg)) tt)
+  follow p gone k (r ∷ rest) x (sp.leaves {request = request} {go = go} e a i c) f s y o =
+      let g = at_departure p request go s (step_at (slice_step p) gone request go e) a in
+      let h = g.0.3 r in
+      by_departure x gone p (go r) g.0.0 g.0.1 r rest y g.0.2 h.0 h.2 (follow (go r) (deleted_by p.wait ++ gone) (k + 1) rest x c f (h.1, g.1 r) None (open_rest rest))
+  follow p gone k (r ∷ rest) x (sp.unfit e a i) f s y o = absurd f
+  follow p gone k [] x (sp.ends {place = place} e) f s y o = by_end gone p y o (subst (Slices n p) (step_ends (slice_step p) gone place e) (slices n p s))
+  follow p gone k [] x (sp.faults {kind = kind} {place = place} e) f s y o = by (step_faults (slice_step p) gone kind place e)
+    where
+      own : Slices n p (Faults kind place) → Shown (at_fault kind place) gone (slice p) p.spent y []
+      own (inl g) = by_fuel (at_fault kind place) gone p y o g.1 g.2
+      own (inr g) = by_fault (at_fault kind place) gone p y kind place o g
+
+      by : (slice_step p ≡ Faults kind place) ⊎ ((request : Request) × (go : Answer → Process) × (slice_step p ≡ At request go) × (deletes_one gone request.action ≡ true)) → Shown (at_fault kind place) gone (slice p) p.spent y []
+      by (inl h) = own (subst (Slices n p) h (slices n p s))
+      by (inr h) = gone_at (at_fault kind place) gone p y p.spent p.frames h.0.place h.0.action h.1 o (subst (Slices n p) h.2 (slices n p s)).0 h.3
+  follow p gone k (r ∷ rest) x (sp.ended e) f s y o = absurd f
+  follow p gone k (r ∷ rest) x (sp.faulted e) f s y o = absurd f

@@ -1,0 +1,6 @@
+use Rattle.ti_lang.specs.Program.Views.{program_of}
+use Rattle.ti_align.proofs.EveryRun as every
+use Rattle.ti_align.proofs.slices.slice_tells.Goals as goal
+
+pub returns : goal.returns
+returns c = every.slice_tells (program_of c.args.c.now.program.parts) (record { numbered = c.args.c.now.program.numbered; unbroken = c.args.c.now.unbroken })
