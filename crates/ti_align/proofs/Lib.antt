@@ -24,6 +24,9 @@ pub mod Slicing
 pub mod Ticking
 pub mod Telling
 pub mod OneAnswer
+pub mod Deciding
+pub mod Finishing
+pub mod SomeAnswer
 pub mod Rounds
 pub mod Giving
 pub mod Possible

@@ -36,9 +36,9 @@ abbrev pub AllBare : List Frame → Type 0
 AllBare [] = Unit {0}
 AllBare (f ∷ fs) = Bare f × AllBare fs
 
--- process 0 with such frames
+-- process 0 with such frames, which asks for nothing between its steps
 abbrev pub IsBare : Process → Type 0
-IsBare q = (q.number ≡ 0) × AllBare q.frames
+IsBare q = (q.number ≡ 0) × (q.answers ≡ []) × AllBare q.frames
 
 -- so is what a step leads to
 abbrev pub BareStep : Step → Type 0
@@ -80,27 +80,27 @@ calls_parts at bt m n this that vs ws r t e = (cc, cc)
 
 bare_moves : (q : Process) (f : Frame) (fs : List Frame) (left : List Work) (ok : OkWorks q.setting.program f.method left) (fine : FineMethods q.setting.program q.setting.program.methods) (closed : env_part (env_of q f left) ≡ env_of q f left)
     → q.number ≡ 0 → Bare f → AllBare fs → (mv : Move) → Stated q f left ok fine closed mv → BareStep (moves q f fs left mv)
-bare_moves q f fs left ok fine closed n b bs (Goes vs ws) s = (n, ((b.0, sym (goes_variables _ _ _ _ s.1)), bs))
-bare_moves q f fs left ok fine closed n b bs (Turns at vs ws) s = bare_ticks q at _ (n, ((b.0, sym (turns_variables _ _ _ _ _ _ s.1)), bs))
+bare_moves q f fs left ok fine closed n b bs (Goes vs ws) s = (n, refl, ((b.0, sym (goes_variables _ _ _ _ s.1)), bs))
+bare_moves q f fs left ok fine closed n b bs (Turns at vs ws) s = bare_ticks q at _ (n, refl, ((b.0, sym (turns_variables _ _ _ _ _ _ s.1)), bs))
 bare_moves q f fs left ok fine closed n b bs Breaks s = go (has_mark left)
   where
     go : (t : Bool) → IsBare (if t then going q f fs (variables_at_mark left f.variables) (past_mark left) else going q f fs f.variables left)
-    go true = (n, ((b.0, closed_at_mark left f.variables b.1), bs))
-    go false = (n, (b, bs))
+    go true = (n, refl, ((b.0, closed_at_mark left f.variables b.1), bs))
+    go false = (n, refl, (b, bs))
 bare_moves q f fs left ok fine closed n b bs Continues s = go (has_mark left)
   where
     go : (t : Bool) → IsBare (if t then going q f fs (variables_at_mark left f.variables) (from_mark left) else going q f fs f.variables left)
-    go true = (n, ((b.0, closed_at_mark left f.variables b.1), bs))
-    go false = (n, (b, bs))
+    go true = (n, refl, ((b.0, closed_at_mark left f.variables b.1), bs))
+    go false = (n, refl, (b, bs))
 bare_moves q f fs left ok fine closed n b bs (Calls at m this ps r) s =
     bare_ticks q at _ (go (nat_lt (length (f ∷ fs)) most_frames))
   where
     go : (t : Bool) → BareStep (if t then To (spends (record q { frames = frame_of m this ps r ∷ record f { left = left } ∷ fs; wait = None; answers = [] })) else Faults Depth at)
-    go true = let k = calls_parts _ _ _ _ _ _ _ _ _ _ s.1.0 in (n, ((k.0, sym k.1), (b, bs)))
+    go true = let k = calls_parts _ _ _ _ _ _ _ _ _ _ s.1.0 in (n, refl, ((k.0, sym k.1), (b, bs)))
     go false = tt
-bare_moves q f fs left ok fine closed n b bs (Returns v) s = (n, bare_handed f.receiver v fs bs)
-bare_moves q f fs left ok fine closed n b bs (Meets wait given behind) s = bare_ticks q wait.place _ (λ r. (n, (b, bs)))
-bare_moves q f fs left ok fine closed n b bs (Deletes at region) s = bare_ticks q at _ (λ r. (n, (b, bs)))
+bare_moves q f fs left ok fine closed n b bs (Returns v) s = (n, refl, bare_handed f.receiver v fs bs)
+bare_moves q f fs left ok fine closed n b bs (Meets wait given behind) s = bare_ticks q wait.place _ (λ r. (n, refl, (b, bs)))
+bare_moves q f fs left ok fine closed n b bs (Deletes at region) s = bare_ticks q at _ (λ r. (n, refl, (b, bs)))
 
 -- ---- steps of the slice
 
@@ -177,9 +177,9 @@ frame_slices q f fs ws z y e n x o b bs =
             ∙ ap (λ i. moves_on q.setting (frame_part q.setting.program f) (frame_parts q.setting.program fs) (kept q.setting.program f.method i)) z,
         refl,
       ),
-      ((refl, o.1, tt, o.2), (n, bs)),
+      ((refl, o.1, tt, o.2), (n, refl, bs)),
     )
-    go false t [] z x = (inl (sym (same ∙ ap (λ k. record { frames = k; wait = None }) (if_false f.method.is_single _ _ t)), refl), ((refl, o.1, tt, o.2), (n, bs)))
+    go false t [] z x = (inl (sym (same ∙ ap (λ k. record { frames = k; wait = None }) (if_false f.method.is_single _ _ t)), refl), ((refl, o.1, tt, o.2), (n, refl, bs)))
     go t s (w ∷ left) z x = by_work (work_acts q.setting.program f.method left w) refl
       where
         stays : work_acts q.setting.program f.method left w ≡ false → kept q.setting.program f.method left ≡ kept q.setting.program f.method f.left
@@ -200,7 +200,7 @@ frame_slices q f fs ws z y e n x o b bs =
         by_work false h =
             subst (Slices q.setting q) (sym (if_false (work_acts q.setting.program f.method left w) _ _ h)) (
               inl (going_same q f fs f.variables left refl (stays h) ∙ sym same, refl),
-              ((refl, (x.2, (o.0.0, (λ c. stays h ∙ o.0.1 c), o.0.2, o.0.3), o.1), tt, o.2), (n, (b, bs))),
+              ((refl, (x.2, (o.0.0, (λ c. stays h ∙ o.0.1 c), o.0.2, o.0.3), o.1), tt, o.2), (n, refl, (b, bs))),
             )
 
 frames_slices : (q : Process) (fs : List Frame) → q.frames ≡ fs → q.wait ≡ None → q.number ≡ 0 → OkFrames q.setting.program fs → FineMethods q.setting.program q.setting.program.methods → AllBare fs → Slices q.setting q (slice_runs q fs)
@@ -208,7 +208,7 @@ frames_slices q [] y e n x g b = ap (sl.moves q.setting (frame_parts q.setting.p
 frames_slices q (f ∷ fs) y e n x g b = frame_slices q f fs f.left refl y e n x.0 (x.1, x.2, g) b.0 b.1
 
 wait_slices : (q : Process) (w : Option Wait) → q.wait ≡ w → Ok q.setting q → IsBare q → OkWait q.setting.program w q.frames → Slices q.setting q (slice_steps q w)
-wait_slices q None e ok b x = frames_slices q q.frames refl e b.0 ok.1 ok.3 b.1
+wait_slices q None e ok b x = frames_slices q q.frames refl e b.0 ok.1 ok.3 b.2
 wait_slices q (Some w) e ok b x =
     let moved : move_of q.setting (slice q) ≡ sl.moves q.setting (frame_parts q.setting.program q.frames) (Some w) = ap (sl.moves q.setting (frame_parts q.setting.program q.frames)) e in
     own_slices q.setting q _ (subst (λ m. Own q.setting q.spent m q.frames (slice_steps q (Some w))) (sym moved)
@@ -218,7 +218,7 @@ wait_slices q (Some w) e ok b x =
       refl,
       λ r. (ap (λ k. record { frames = k; wait = None }) (pushed q.setting.program w.receiver (value_asked w.wanted r) q.frames x), (refl, pushed_ok q.setting.program w.receiver (value_asked w.wanted r) q.frames (λ _. x) ok.1, tt, ok.3), refl),
     )))
-    (bare_ticks q w.place _ (λ r. (b.0, bare_handed w.receiver (value_asked w.wanted r) q.frames b.1)))
+    (bare_ticks q w.place _ (λ r. (b.0, refl, bare_handed w.receiver (value_asked w.wanted r) q.frames b.2)))
 
 -- each step of the slice is of one of these kinds
 pub slices : (n : Setting) (q : Process) → Sliced n q → Slices n q (slice_step q)
@@ -236,4 +236,4 @@ bare_main None = tt
 bare_main (Some m) = ((refl, refl), tt)
 
 pub begin_sliced : (n : Setting) → FineMethods n.program n.program.methods → Sliced n (begin n 0)
-begin_sliced n f = (begin_ok n 0 f, (refl, bare_main (slice_get n.program.methods n.program.main)))
+begin_sliced n f = (begin_ok n 0 f, (refl, refl, bare_main (slice_get n.program.methods n.program.main)))

@@ -1,10 +1,11 @@
 // What the slice of a program comes to.
 
-ghost use Rattle.std.specs.Prelude.{◌≡◌, List};
+ghost use Rattle.std.specs.Prelude.{◌≡◌, ℕ, List};
 ghost use Rattle.ti_base.specs.declared.entry.Answer.{Answer};
 ghost use Rattle.ti_lang.specs.Program.Views.{program_of};
 ghost use Rattle.ti_lang.specs.Meaning.Processes.{Setting};
 ghost use Rattle.ti_align.specs.Alignment.{OfEveryRun};
+ghost use Rattle.ti_align.specs.declared.slices.SliceStep.{SliceStep as Step};
 ghost use Rattle.ti_align.specs.Slice.{SliceAnswers, SliceTells};
 
 use ti_base::{CollKind, FaultKind, Place};
@@ -32,7 +33,8 @@ pub fn slice_tells(c: &Checked)
     ensures { OfEveryRun SliceTells (program_of c.now.program.parts) }
 {}
 
-/// The slice comes to one answer at most.
-pub fn one_slice_answer()
-    ensures { (n : Setting) (outcomes : List Answer) (x y : SliceStep) → SliceAnswers n outcomes x → SliceAnswers n outcomes y → x ≡ y }
+/// The slice of a checked program comes to an answer, whatever the outcomes, and to one alone.
+pub fn one_slice_answer(c: &Checked)
+    ensures some { (procs fuel : ℕ) (outcomes : List Answer) → (x : Step) × SliceAnswers (record { program = program_of c.now.program.parts; procs = procs; fuel = fuel }) outcomes x }
+    ensures one { (n : Setting) (outcomes : List Answer) (x y : Step) → SliceAnswers n outcomes x → SliceAnswers n outcomes y → x ≡ y }
 {}
