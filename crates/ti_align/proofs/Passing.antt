@@ -88,31 +88,31 @@ passes n p q ms o w = ways n p q ms o w
 
 -- ---- moves are one
 
-silent_same : (m : Move) (c d : Bool) (s t : State) → m ≡ Silent c s → m ≡ Silent d t → s ≡ t
-silent_same m c d s t a b = cc
+pub silent_same : (m : Move) (c d : Bool) (s t : State) → m ≡ Silent c s → m ≡ Silent d t → (s ≡ t) × (c ≡ d)
+silent_same m c d s t a b = (cc, cc)
 
-arrival_same : (m : Move) (c d : Wait) (s t : State) → m ≡ Arrival c s → m ≡ Arrival d t → (s ≡ t) × (c ≡ d)
+pub arrival_same : (m : Move) (c d : Wait) (s t : State) → m ≡ Arrival c s → m ≡ Arrival d t → (s ≡ t) × (c ≡ d)
 arrival_same m c d s t a b = (cc, cc)
 
-departure_same : (m : Move) (c d : Wait) (g h : Answer → State) → m ≡ Departure c g → m ≡ Departure d h → g ≡ h
+pub departure_same : (m : Move) (c d : Wait) (g h : Answer → State) → m ≡ Departure c g → m ≡ Departure d h → g ≡ h
 departure_same m c d g h a b = cc
 
-silent_arrival : (m : Move) (d : Bool) (s t : State) (c : Wait) → m ≡ Silent d s → m ≡ Arrival c t → ⊥
+pub silent_arrival : (m : Move) (d : Bool) (s t : State) (c : Wait) → m ≡ Silent d s → m ≡ Arrival c t → ⊥
 silent_arrival m d s t c a b = cc
 
-silent_departure : (m : Move) (d : Bool) (s : State) (c : Wait) (g : Answer → State) → m ≡ Silent d s → m ≡ Departure c g → ⊥
+pub silent_departure : (m : Move) (d : Bool) (s : State) (c : Wait) (g : Answer → State) → m ≡ Silent d s → m ≡ Departure c g → ⊥
 silent_departure m d s c g a b = cc
 
-arrival_departure : (m : Move) (s : State) (c d : Wait) (g : Answer → State) → m ≡ Arrival c s → m ≡ Departure d g → ⊥
+pub arrival_departure : (m : Move) (s : State) (c d : Wait) (g : Answer → State) → m ≡ Arrival c s → m ≡ Departure d g → ⊥
 arrival_departure m s c d g a b = cc
 
-over_silent : (m : Move) (d : Bool) (s : State) → m ≡ Over → m ≡ Silent d s → ⊥
+pub over_silent : (m : Move) (d : Bool) (s : State) → m ≡ Over → m ≡ Silent d s → ⊥
 over_silent m d s a b = cc
 
-over_arrival : (m : Move) (s : State) (c : Wait) → m ≡ Over → m ≡ Arrival c s → ⊥
+pub over_arrival : (m : Move) (s : State) (c : Wait) → m ≡ Over → m ≡ Arrival c s → ⊥
 over_arrival m s c a b = cc
 
-over_departure : (m : Move) (c : Wait) (g : Answer → State) → m ≡ Over → m ≡ Departure c g → ⊥
+pub over_departure : (m : Move) (c : Wait) (g : Answer → State) → m ≡ Over → m ≡ Departure c g → ⊥
 over_departure m c g a b = cc
 
 -- ---- of two ways from one state, one goes on from the other
@@ -132,7 +132,7 @@ both_came n u v a b c d e f ls ms x = ⊎_elim (λ y. inl (y.0, y.1, more_comes 
 pub compare : (n : Setting) (s u v : State) (ls ms : List Meeting) → Passes n s ls u → Passes n s ms v → SameAnswers ls ms → Compared n u ls v ms
 compare n s u v [] ms stop y a = inl (ms, y, omega arith)
 compare n s u v ls ms (silent m x) stop a = inr (ls, silent m x, omega arith)
-compare n s u v ls ms (silent {t = t} m x) (silent {t = t'} m' y) a = compare n t u v ls ms x (subst (λ z. Passes n z ms v) (silent_same _ _ _ _ _ m' m) y) a
+compare n s u v ls ms (silent {t = t} m x) (silent {t = t'} m' y) a = compare n t u v ls ms x (subst (λ z. Passes n z ms v) (silent_same _ _ _ _ _ m' m).0 y) a
 compare n s u v ls (d ∷ ms) (silent m x) (came m' e f g y) a = absurd (silent_arrival _ _ _ _ _ m m')
 compare n s u v ls (d ∷ ms) (silent m x) (left m' y) a = absurd (silent_departure _ _ _ _ _ m m')
 compare n s u v (c ∷ ls) ms (came m e f g x) stop a = inr (c ∷ ls, came m e f g x, omega arith)

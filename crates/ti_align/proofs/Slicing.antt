@@ -22,45 +22,11 @@ use Rattle.ti_align.proofs.Ways.{Meeting, Came, Left, answers_left}
 use Rattle.ti_align.proofs.Vars.{true_false}
 use Rattle.ti_align.proofs.Stepping.{MovesAt, Costs, GoesOn}
 use Rattle.ti_align.proofs.Sliced.{IsBare, Sliced, Slices, slices}
+use Rattle.ti_align.proofs.Passing.{silent_same, arrival_same, departure_same, silent_arrival, silent_departure, arrival_departure, over_silent, over_arrival, over_departure}
 use Rattle.ti_align.proofs.Pacing.{deletes_any, Paced, stop, silent, came, left, rests}
 use Rattle.ti_align.proofs.Pathed.{met_after}
 
 -- ---- which way on
-
-silent_same : (m : Move) (c d : Bool) (s t : State) → m ≡ Silent c s → m ≡ Silent d t → (c ≡ d) × (s ≡ t)
-silent_same m c d s t a b = (cc, cc)
-
-silent_arrival : {A : Type 0} (m : Move) (d : Bool) (s t : State) (c : Wait) → m ≡ Silent d s → m ≡ Arrival c t → A
-silent_arrival m d s t c a b = absurd (no a b)
-  where
-    no : m ≡ Silent d s → m ≡ Arrival c t → ⊥
-    no a b = cc
-
-silent_departure : {A : Type 0} (m : Move) (d : Bool) (s : State) (c : Wait) (g : Answer → State) → m ≡ Silent d s → m ≡ Departure c g → A
-silent_departure m d s c g a b = absurd (no a b)
-  where
-    no : m ≡ Silent d s → m ≡ Departure c g → ⊥
-    no a b = cc
-
-arrival_departure : {A : Type 0} (m : Move) (s : State) (c d : Wait) (g : Answer → State) → m ≡ Arrival c s → m ≡ Departure d g → A
-arrival_departure m s c d g a b = absurd (no a b)
-  where
-    no : m ≡ Arrival c s → m ≡ Departure d g → ⊥
-    no a b = cc
-
-arrival_same : (m : Move) (c d : Wait) (s t : State) → m ≡ Arrival c s → m ≡ Arrival d t → (c ≡ d) × (s ≡ t)
-arrival_same m c d s t a b = (cc, cc)
-
-departure_same : (m : Move) (c d : Wait) (g h : Answer → State) → m ≡ Departure c g → m ≡ Departure d h → g ≡ h
-departure_same m c d g h a b = cc
-
--- the move costs nothing and leads nowhere
-abbrev Stands : Move → Type 0
-Stands (Silent timed t) = ⊥
-Stands (Arrival w t) = ⊥
-Stands (Departure w go) = ⊥
-Stands Over = Unit {0}
-Stands (Fault kind place) = Unit {0}
 
 -- what the first step of a way is
 pub data First (n : Setting) (gone : List ℕ) (s : State) (ms : List Meeting) (d : ℕ) (u : State) : Type 0 where
@@ -165,24 +131,6 @@ step_faults (At request go) gone kind place e = by (deletes_one gone request.act
 step_faults (Ends p) gone kind place e = inl e
 step_faults (Faults k p) gone kind place e = inl e
 
-over_silent : {A : Type 0} (m : Move) (d : Bool) (s : State) → m ≡ Over → m ≡ Silent d s → A
-over_silent m d s a b = absurd (no a b)
-  where
-    no : m ≡ Over → m ≡ Silent d s → ⊥
-    no a b = cc
-
-over_arrival : {A : Type 0} (m : Move) (s : State) (c : Wait) → m ≡ Over → m ≡ Arrival c s → A
-over_arrival m s c a b = absurd (no a b)
-  where
-    no : m ≡ Over → m ≡ Arrival c s → ⊥
-    no a b = cc
-
-over_departure : {A : Type 0} (m : Move) (c : Wait) (g : Answer → State) → m ≡ Over → m ≡ Departure c g → A
-over_departure m c g a b = absurd (no a b)
-  where
-    no : m ≡ Over → m ≡ Departure c g → ⊥
-    no a b = cc
-
 fault_silent : {A : Type 0} (m : Move) (k : FaultKind) (at : Place) (d : Bool) (s : State) → m ≡ Fault k at → m ≡ Silent d s → A
 fault_silent m k at d s a b = absurd (no a b)
   where
@@ -207,7 +155,7 @@ fault_over m k at a b = absurd (no a b)
     no : m ≡ Fault k at → m ≡ Over → ⊥
     no a b = cc
 
-none_wait : {A : Type 0} (o : Option Wait) (w : Wait) → o ≡ None → o ≡ Some w → A
+pub none_wait : {A : Type 0} (o : Option Wait) (w : Wait) → o ≡ None → o ≡ Some w → A
 none_wait o w a b = absurd (no a b)
   where
     no : o ≡ None → o ≡ Some w → ⊥
@@ -245,12 +193,12 @@ module _ (n : Setting) (z : SliceStep) where
   by_silent x gone p q rs y o (inr g) ih ms d u w a l s = by (first n gone (slice p) ms d u w)
     where
       by : First n gone (slice p) ms d u → x ≡ z
-      by (here e f) = over_silent _ g.0 _ (shown_end n y rs ms (slice p) u z o a e f s).0 g.1
+      by (here e f) = absurd (over_silent _ g.0 _ (shown_end n y rs ms (slice p) u z o a e f s).0 g.1)
       by (on timed t c m k i) =
           let same = silent_same _ _ _ _ _ m g.1 in
-          ih ms c u (subst (λ t. Paced n gone t ms c u) same.1 k) a (still_left g.0 p.spent n.fuel c d q.spent g.2 l (subst (λ b. spent_by b c ≤ d) same.0 i)) s
-      by (arrives w t ns c m e f k i) = silent_arrival _ _ _ _ _ g.1 m
-      by (leaves w go r ns c m e k i) = silent_departure _ _ _ _ _ g.1 m
+          ih ms c u (subst (λ t. Paced n gone t ms c u) same.0 k) a (still_left g.0 p.spent n.fuel c d q.spent g.2 l (subst (λ b. spent_by b c ≤ d) same.1 i)) s
+      by (arrives w t ns c m e f k i) = absurd (silent_arrival _ _ _ _ _ g.1 m)
+      by (leaves w go r ns c m e k i) = absurd (silent_departure _ _ _ _ _ g.1 m)
 
   -- behind an arrival where nothing is left, the arrival itself is shown
   by_waiting : (gone : List ℕ) (t : State) (w : Wait) (x : SliceStep) → t.wait ≡ Some w → (ns : List Meeting) (c : ℕ) (u : State) → Paced n gone t ns c u → answers_left ns ≡ [] → Shows n (Some x) ns u z → x ≡ z
@@ -258,7 +206,7 @@ module _ (n : Setting) (z : SliceStep) where
     where
       shown : ns ≡ [] → t ≡ u → Shows n (Some x) ns u z → x ≡ z
       shown e f (inl g) = some_same x z (sym (ap (met_after (Some x)) e) ∙ g)
-      shown e f (inr g) = let l = leaving n t w h in over_departure _ _ _ (ap (move_of n) f ∙ g.0) l.1
+      shown e f (inr g) = let l = leaving n t w h in absurd (over_departure _ _ _ (ap (move_of n) f ∙ g.0) l.1)
 
       by : First n gone t ns c u → x ≡ z
       by (here e f) = shown e f s
@@ -270,13 +218,13 @@ module _ (n : Setting) (z : SliceStep) where
   by_stands gone p q w y o m ms d u k a l s = by (first n gone (slice p) ms d u k)
     where
       by : First n gone (slice p) ms d u → answer.At w.kind w.place w.arg ≡ z
-      by (here e f) = over_arrival _ _ _ (shown_end n y [] ms (slice p) u z o a e f s).0 m
-      by (on timed t c m' j i) = silent_arrival _ _ _ _ _ m' m
+      by (here e f) = absurd (over_arrival _ _ _ (shown_end n y [] ms (slice p) u z o a e f s).0 m)
+      by (on timed t c m' j i) = absurd (silent_arrival _ _ _ _ _ m' m)
       by (arrives v t ns c m' e f j i) =
           let same = arrival_same _ _ _ _ _ m m' in
-          ap (λ (w : Wait). answer.At w.kind w.place w.arg) same.0
+          ap (λ (w : Wait). answer.At w.kind w.place w.arg) same.1
           ∙ by_waiting gone t v (answer.At v.kind v.place v.arg) (rests n (slice p) _ m').1 ns c u j (sym (ap answers_left e) ∙ a) (subst (λ q. Shows n y q u z) e s)
-      by (leaves v go r ns c m' e j i) = arrival_departure _ _ _ _ _ m m'
+      by (leaves v go r ns c m' e j i) = absurd (arrival_departure _ _ _ _ _ m m')
 
   by_arrival : (x : SliceStep) (gone : List ℕ) (p q : Process) (w : Wait) (r : Answer) (rest : List Answer) (y : Option SliceStep) → move_of n (slice p) ≡ Arrival w (slice q) → q.spent ≡ p.spent + 1
       → Shown x gone (slice q) q.spent (Some (answer.At w.kind w.place w.arg)) (r ∷ rest) → Shown x gone (slice p) p.spent y (r ∷ rest)
@@ -284,12 +232,12 @@ module _ (n : Setting) (z : SliceStep) where
     where
       by : First n gone (slice p) ms d u → x ≡ z
       by (here e f) = nil_cons r rest (sym (ap answers_left e) ∙ a)
-      by (on timed t c m' j i) = silent_arrival _ _ _ _ _ m' m
+      by (on timed t c m' j i) = absurd (silent_arrival _ _ _ _ _ m' m)
       by (arrives v t ns c m' e f j i) =
           let same = arrival_same _ _ _ _ _ m' m in
-          ih ns c u (subst (λ t. Paced n gone t ns c u) same.1 j) (sym (ap answers_left e) ∙ a) (less_left p.spent n.fuel c d q.spent sp l i)
-          (subst (λ (w : Wait). Shows n (Some (answer.At w.kind w.place w.arg)) ns u z) same.0 (subst (λ q. Shows n y q u z) e s))
-      by (leaves v go r ns c m' e j i) = arrival_departure _ _ _ _ _ m m'
+          ih ns c u (subst (λ t. Paced n gone t ns c u) same.0 j) (sym (ap answers_left e) ∙ a) (less_left p.spent n.fuel c d q.spent sp l i)
+          (subst (λ (w : Wait). Shows n (Some (answer.At w.kind w.place w.arg)) ns u z) same.1 (subst (λ q. Shows n y q u z) e s))
+      by (leaves v go r ns c m' e j i) = absurd (arrival_departure _ _ _ _ _ m m')
 
   by_departure : (x : SliceStep) (gone : List ℕ) (p q : Process) (w : Wait) (next : Answer → State) (r : Answer) (rest : List Answer) (y : Option SliceStep) → move_of n (slice p) ≡ Departure w next → slice q ≡ next r → q.spent ≡ p.spent + 1
       → Shown x (deleted_by p.wait ++ gone) (slice q) q.spent None rest → Shown x gone (slice p) p.spent y (r ∷ rest)
@@ -297,8 +245,8 @@ module _ (n : Setting) (z : SliceStep) where
     where
       by : First n gone (slice p) ms d u → x ≡ z
       by (here e f) = nil_cons r rest (sym (ap answers_left e) ∙ a)
-      by (on timed t c m' j i) = silent_departure _ _ _ _ _ m' m
-      by (arrives v t ns c m' e f j i) = arrival_departure _ _ _ _ _ m' m
+      by (on timed t c m' j i) = absurd (silent_departure _ _ _ _ _ m' m)
+      by (arrives v t ns c m' e f j i) = absurd (arrival_departure _ _ _ _ _ m' m)
       by (leaves v go t ns c m' e j i) =
           let h = heads t r (answers_left ns) rest (sym (ap answers_left e) ∙ a) in
           let to : go t ≡ slice q = ap (λ (f : Answer → State). f t) (departure_same _ _ _ _ _ m' m) ∙ ap next h.0 ∙ sym g in
@@ -309,9 +257,9 @@ module _ (n : Setting) (z : SliceStep) where
     where
       by : First n gone (slice p) ms d u → answer.Ended ≡ z
       by (here e f) = sym (shown_end n y [] ms (slice p) u z o a e f s).1
-      by (on timed t c m' j i) = over_silent _ _ _ m m'
-      by (arrives v t ns c m' e f j i) = over_arrival _ _ _ m m'
-      by (leaves v go r ns c m' e j i) = over_departure _ _ _ m m'
+      by (on timed t c m' j i) = absurd (over_silent _ _ _ m m')
+      by (arrives v t ns c m' e f j i) = absurd (over_arrival _ _ _ m m')
+      by (leaves v go r ns c m' e j i) = absurd (over_departure _ _ _ m m')
 
   -- where no tick is left no way goes on
   by_fuel : (x : SliceStep) (gone : List ℕ) (p : Process) (y : Option SliceStep) → Open y [] → n.fuel ≤ p.spent → Costs (move_of n (slice p)) → Shown x gone (slice p) p.spent y []
@@ -337,11 +285,11 @@ module _ (n : Setting) (z : SliceStep) where
   by_gone x gone p q y w o m g ms d u k a l s = by (first n gone (slice p) ms d u k)
     where
       by : First n gone (slice p) ms d u → x ≡ z
-      by (here e f) = over_arrival _ _ _ (shown_end n y [] ms (slice p) u z o a e f s).0 m
-      by (on timed t c m' j i) = silent_arrival _ _ _ _ _ m' m
+      by (here e f) = absurd (over_arrival _ _ _ (shown_end n y [] ms (slice p) u z o a e f s).0 m)
+      by (on timed t c m' j i) = absurd (silent_arrival _ _ _ _ _ m' m)
       by (arrives v t ns c m' e f j i) =
-          absurd (true_false (sym g ∙ ap (λ (w : Wait). deletes_any gone w.kind w.arg) (arrival_same _ _ _ _ _ m m').0 ∙ f))
-      by (leaves v go r ns c m' e j i) = arrival_departure _ _ _ _ _ m m'
+          absurd (true_false (sym g ∙ ap (λ (w : Wait). deletes_any gone w.kind w.arg) (arrival_same _ _ _ _ _ m m').1 ∙ f))
+      by (leaves v go r ns c m' e j i) = absurd (arrival_departure _ _ _ _ _ m m')
 
   -- ---- the answer of the slice
 

@@ -23,18 +23,13 @@ use Rattle.ti_align.proofs.Fitting.{FineMethods}
 use Rattle.ti_align.proofs.Stepping.{MovesAt, GoesOn}
 use Rattle.ti_align.proofs.Sliced.{IsBare, Sliced, Slices, slices, begin_sliced}
 use Rattle.ti_align.proofs.Pacing.{rests}
+use Rattle.ti_align.proofs.Slicing.{none_wait}
 use Rattle.ti_align.proofs.Deciding.{fits_wanted, fits_decides}
 use Rattle.ti_align.proofs.Finishing.{slice_falls}
 
 -- what the slice comes to from here
 abbrev HasAnswer : Process → List ℕ → ℕ → List Answer → Type 0
 HasAnswer p gone k rs = (x : SliceStep) × Comes p gone k rs x
-
-none_wait : {A : Type 0} (o : Option Wait) (w : Wait) → o ≡ None → o ≡ Some w → A
-none_wait o w a b = absurd (no a b)
-  where
-    no : o ≡ None → o ≡ Some w → ⊥
-    no a b = cc
 
 -- ---- where it waits
 
