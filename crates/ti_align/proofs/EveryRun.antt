@@ -19,7 +19,9 @@ use Rattle.ti_align.specs.Literals.{LiteralsFit}
 use Rattle.ti_align.specs.Typed.{RunTyped}
 use Rattle.ti_align.specs.Formed.{ActionsFormed}
 use Rattle.ti_align.specs.Slice.{SliceTells}
+use Rattle.ti_align.specs.Names.{RunNamesFit}
 use Rattle.ti_align.proofs.Telling as telling
+use Rattle.ti_align.proofs.Ranged as ranged
 use Rattle.ti_align.proofs.Formed as formed
 use Rattle.ti_align.proofs.Aligning as aligning
 use Rattle.ti_align.proofs.Rounds.{same_departures}
@@ -66,3 +68,7 @@ actions_formed p c l procs fuel es a b d e w =
 
 pub slice_tells : (p : NumberedProgram) → IsChecked p → OfEveryRun SliceTells p
 slice_tells p c procs fuel es a b d e w = telling.tells (record { program = p; procs = procs; fuel = fuel }) (checked_fine p c) es w
+
+pub names_fit : (p : NumberedProgram) → IsChecked p → LiteralsFit p → OfEveryRun RunNamesFit p
+names_fit p c l procs fuel es a b d e w =
+    ranged.names_fit (record { program = p; procs = procs; fuel = fuel }) es w b e (λ ds r. run_typed p c l procs fuel ds a b d e r)

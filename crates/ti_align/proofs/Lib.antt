@@ -24,6 +24,8 @@ pub mod Slicing
 pub mod Ticking
 pub mod Telling
 pub mod OneAnswer
+pub mod Paying
+pub mod Ranged
 pub mod Deciding
 pub mod Finishing
 pub mod SomeAnswer

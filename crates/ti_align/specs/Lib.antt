@@ -9,4 +9,5 @@ pub mod Fitting
 pub mod Heap
 pub mod Work
 pub mod Typed
+pub mod Names
 pub mod Formed

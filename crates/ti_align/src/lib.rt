@@ -2,6 +2,7 @@
 #![tactic(auto)]
 
 mod laws;
+mod names;
 mod reading;
 mod slices;
 
@@ -10,5 +11,6 @@ pub use laws::{
     none_after_end, none_impossible, regions_made, rounds_balance, run_typed, values_have_forms,
     work_fits,
 };
+pub use names::names_fit;
 pub use reading::literals_fit;
 pub use slices::{SliceStep, one_slice_answer, slice_tells};
