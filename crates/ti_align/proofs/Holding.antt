@@ -2,6 +2,7 @@
 use Rattle.std.proofs.Common.{◌≡◌, ℕ, ◌<◌, ◌≤◌, ◌^◌, suc, ◌==◌, Bool, true, false, not, ◌&&◌, ◌||◌, ◌⊎◌, inl, inr, filter, map, Option, Some, None, List, [], ◌∷◌, ◌++◌, refl, ap, ap₂, sym, ◌∙◌, subst, arith, append-nil, eqb-true, eq-eqb}
 use Rattle.std.specs.Option.{option_map, option_and_then}
 use Rattle.ti_base.specs.declared.place.Place.{Place}
+use Rattle.ti_base.specs.declared.value.Id.{Id}
 use Rattle.ti_base.specs.declared.value.Value.{Value}
 use Rattle.ti_base.specs.declared.action.Action.{Action}
 use Rattle.ti_base.specs.declared.action.Action.TheVariants as act
@@ -16,6 +17,7 @@ use Rattle.ti_base.specs.declared.entry.Next.TheVariants as next
 use Rattle.ti_base.specs.Cells.{Cell}
 use Rattle.ti_lang.specs.Program.Types.{ValueType}
 use Rattle.ti_lang.specs.Program.Types as types
+use Rattle.ti_lang.specs.Typing.Kinds.{is_local}
 use Rattle.ti_lang.specs.Meaning.Held.{Plain}
 use Rattle.ti_lang.specs.Meaning.Asking.{Wanted, ToBeDone, told}
 use Rattle.ti_lang.specs.Meaning.Processes.{Setting, Wait, Process, begin}
@@ -32,6 +34,7 @@ use Rattle.ti_lang.specs.Meaning.Runs as run
 use Rattle.ti_lang.proofs.MeaningLaws.Steps.{after_same}
 use Rattle.ti_lang.proofs.MeaningLaws.Running.{taker, history_grows, run_answered}
 use Rattle.ti_align.specs.Alignment.{most_procs, ArrivalsAgree}
+use Rattle.ti_align.specs.Owners.{MadeWith}
 use Rattle.ti_align.specs.Things.{Things, Grows, IsOf}
 use Rattle.ti_align.specs.Sound.{IsThere, FitsAsked}
 use Rattle.ti_align.specs.Work.{DepositFits, IsOfRound, WantsOf}
@@ -52,8 +55,9 @@ use Rattle.ti_align.proofs.Rounds.{RoundAnswer, told_now, said, acts_as, arrival
 use Rattle.ti_align.proofs.Giving.{given_same, gives_more, gives_now}
 use Rattle.ti_align.proofs.Possible.{ThingsThere, by_kind}
 use Rattle.ti_align.proofs.Aligning.{way_next}
-use Rattle.ti_align.proofs.Computing.{of_stays}
+use Rattle.ti_align.proofs.Computing.{grows_for, of_stays, seen_from}
 use Rattle.ti_align.proofs.Heaping.{keeps_types}
+use Rattle.ti_align.proofs.Making.{MadeNow, made_cases, made_elements}
 use Rattle.ti_align.proofs.Staying.{stays, other_round}
 use Rattle.ti_align.proofs.Kept.{Performs, Known, begin_fits, step_fits, known_here, reaches_fits}
 use Rattle.ti_align.proofs.Framed.{frame_fine}
@@ -61,7 +65,7 @@ use Rattle.ti_align.proofs.Forms.{natural_fits}
 
 -- what is done next in a frame that fits
 pub performs : Performs
-performs pr f left w x known vars this k = frame_fine pr f left w x known.1 vars this known.0.fields known.0.storable known.0.methods k
+performs pr f left w x own known vars this k = frame_fine pr f left w x own known.1 vars this known.0.fields known.0.storable known.0.methods k
 
 -- ---- who waits
 
@@ -129,8 +133,8 @@ round_in G coll.MakeRegion a k g = absurd (true_false (sym k))
 round_in G coll.Barrier a k g = absurd (true_false (sym k))
 round_in G coll.DeleteRegion a k g = absurd (true_false (sym k))
 
-value_fits : (w : Things) (a : ValueType) (d : Deposit) (value : Value) → DepositFits w a d → value_in d ≡ Some value → IsOf w a (Plain value)
-value_fits w a (deposit.One x) value k z = subst (λ y. IsOf w a (Plain y)) (some_value x value z) k.0
+value_fits : (w : Things) (a : ValueType) (d : Deposit) (value : Value) → DepositFits w a d → value_in d ≡ Some value → IsOf w a (Plain value) × (is_local a ≡ false)
+value_fits w a (deposit.One x) value k z = (subst (λ y. IsOf w a (Plain y)) (some_value x value z) k.0, k.2)
   where
     some_value : (x y : Value) → Some x ≡ Some y → x ≡ y
     some_value x y z = cc
@@ -213,11 +217,11 @@ module _ (s : Setting)
     abbrev all : List Entry
     all = es ++ e ∷ []
 
-    abbrev w : Things
-    w = things_of fit.elements h
-
     abbrev i : ℕ
     i = e.proc
+
+    abbrev w : Things
+    w = things_of i fit.elements h
 
     abbrev q : Process
     q = t.is_next.0
@@ -234,15 +238,19 @@ module _ (s : Setting)
     q_fits : ProcessFits w (GivesLast s es i) q
     q_fits =
         let k = way_next s es i t.process t.process ran t.world here in
-        (reaches_fits performs w (GivesLast s es i) s i _ t.process q (known_of i t.within) (given_facts.stands s i t.process k.0 k.1) t.is_next.1.reaches (fit.processes i t.process t.within t.world)).0
+        (reaches_fits performs w (GivesLast s es i) s i _ t.process q refl (known_of i t.within) (given_facts.stands s i t.process k.0 k.1) t.is_next.1.reaches (fit.processes i t.process t.within t.world)).0
 
     -- where what the action names is there
     module _ (wanted : Wanted) (there : IsThere s.program w e.act wanted) where
       abbrev elements : Elements
       elements = elements_behind fit.elements e.act wanted e.answer
 
+      -- for each process
+      abbrev seen : ℕ → Things
+      seen j = things_of j elements (e ∷ h)
+
       abbrev u : Things
-      u = things_of elements (e ∷ h)
+      u = seen i
 
       keeps : KeepsTypes s.program fit.elements h i e.act wanted
       keeps = keeps_types s.program fit.elements h i e.act wanted fits.storable (run_answered s es ran) fit.heap there
@@ -254,34 +262,39 @@ module _ (s : Setting)
       asked_fits a z k = subst (λ b. FitsAsked s.program u b wanted e.answer) z (keeps.answered e.place e.answer (ap is_of_heap z ∙ k) said_now)
 
       -- a process that did nothing
-      other_fits : (j : ℕ) (p : Process) → j < s.procs → ((e.proc == j) && is_answered e) ≡ false → is_own j e ≡ false → World s all j p → ProcessFits u (GivesLast s all j) p
+      other_fits : (j : ℕ) (p : Process) → j < s.procs → ((e.proc == j) && is_answered e) ≡ false → is_own j e ≡ false → World s all j p → ProcessFits (seen j) (GivesLast s all j) p
       other_fits j p b k l x =
-          other_round u (GivesLast s es j) (GivesLast s all j) p (last_more s es e j l)
-          (stays w u (GivesLast s es j) p grown (fit.processes j p b (subst (λ (rs : List Answer). After (begin s j) rs p) (answers_still es e j k) x)))
+          other_round (seen j) (GivesLast s es j) (GivesLast s all j) p (last_more s es e j l)
+          (stays (things_of j fit.elements h) (seen j) (GivesLast s es j) p (grows_for j w u grown) (fit.processes j p b (subst (λ (rs : List Answer). After (begin s j) rs p) (answers_still es e j k) x)))
 
       -- all of it
       holds : ((p : Process) → World s all i p → ProcessFits u (GivesLast s all i) p)
-          → ((k : ℕ) (a : rounds.Arrival) (value : Value) → is_own i e ≡ true → arrivals i es ≡ k → arrival_in e.act ≡ Some a → hands_in a.kind ≡ true → value_in a.deposit ≡ Some value → (type : ValueType) × GivesAt s all i k type × IsOf u type (Plain value))
-          → RunFits s all
-      holds own_now deposit_now = record {
+          → ((k : ℕ) (a : rounds.Arrival) (value : Value) → is_own i e ≡ true → arrivals i es ≡ k → arrival_in e.act ≡ Some a → hands_in a.kind ≡ true → value_in a.deposit ≡ Some value → (type : ValueType) × GivesAt s all i k type × IsOf u type (Plain value) × (is_local type ≡ false))
+          → ((grid : Id) (element : ValueType) → MadeNow q e grid element → elements grid ≡ Some element) → RunFits s all
+      holds own_now deposit_now made_now = record {
         elements = elements;
+        made = λ grid element m. made_at grid element (made_cases s es e t grid element m);
         heap = subst (HeapFits s.program elements) (sym (history_grows es e)) (keeps.kept e.place e.answer said_now);
-        processes = λ j p b x. subst (λ h. ProcessFits (things_of elements h) (GivesLast s all j) p) (sym (history_grows es e)) (process_at j p b x (e.proc == j) refl);
-        deposits = λ j k a value z l m. subst (λ h. (type : ValueType) × GivesAt s all j k type × IsOf (things_of elements h) type (Plain value)) (sym (history_grows es e)) (deposit_at j k a value l m (comes j (suc k) e h a (sym (ap (arrival_at j (suc k)) (history_grows es e)) ∙ z)));
+        processes = λ j p b x. subst (λ h. ProcessFits (things_of j elements h) (GivesLast s all j) p) (sym (history_grows es e)) (process_at j p b x (e.proc == j) refl);
+        deposits = λ j k a value z l m. subst (λ h. (type : ValueType) × GivesAt s all j k type × IsOf (things_of j elements h) type (Plain value) × (is_local type ≡ false)) (sym (history_grows es e)) (deposit_at j k a value l m (comes j (suc k) e h a (sym (ap (arrival_at j (suc k)) (history_grows es e)) ∙ z)));
       }
         where
-          process_at : (j : ℕ) (p : Process) → j < s.procs → World s all j p → (b : Bool) → (e.proc == j) ≡ b → ProcessFits u (GivesLast s all j) p
-          process_at j p l x true z = let same : e.proc ≡ j = eqb-true e.proc j z in subst (λ n. ProcessFits u (GivesLast s all n) p) same (own_now p (subst (λ n. World s all n p) (sym same) x))
+          made_at : (grid : Id) (element : ValueType) → MadeWith s es grid element ⊎ MadeNow q e grid element → elements grid ≡ Some element
+          made_at grid element (inl m) = grown.elements grid element (fit.made grid element m)
+          made_at grid element (inr m) = made_now grid element m
+
+          process_at : (j : ℕ) (p : Process) → j < s.procs → World s all j p → (b : Bool) → (e.proc == j) ≡ b → ProcessFits (seen j) (GivesLast s all j) p
+          process_at j p l x true z = let same : e.proc ≡ j = eqb-true e.proc j z in subst (λ n. ProcessFits (seen n) (GivesLast s all n) p) same (own_now p (subst (λ n. World s all n p) (sym same) x))
           process_at j p l x false z = other_fits j p l (ap (λ b. b && is_answered e) z) (ap (λ b. b && is_arrival e.act) z) x
 
-          deposit_at : (j k : ℕ) (a : rounds.Arrival) (value : Value) → hands_in a.kind ≡ true → value_in a.deposit ≡ Some value → Comes j (suc k) e h a → (type : ValueType) × GivesAt s all j k type × IsOf u type (Plain value)
+          deposit_at : (j k : ℕ) (a : rounds.Arrival) (value : Value) → hands_in a.kind ≡ true → value_in a.deposit ≡ Some value → Comes j (suc k) e h a → (type : ValueType) × GivesAt s all j k type × IsOf (seen j) type (Plain value) × (is_local type ≡ false)
           deposit_at j k a value l m (before z) =
               let old = fit.deposits j k a value z l m in
-              (old.0, gives_more s es all e j k old.0 refl old.1, of_stays w u old.0 (Plain value) grown old.2)
+              (old.0, gives_more s es all e j k old.0 refl old.1, of_stays (things_of j fit.elements h) (seen j) old.0 (Plain value) (grows_for j w u grown) old.2, old.3)
           deposit_at j k a value l m (now o c z) =
               let same : e.proc ≡ j = eqb-true e.proc j (and_left (e.proc == j) _ o) in
               let count : arrivals i es ≡ k = ap (λ m. arrivals m es) same ∙ one_less (arrivals j es) k (ap suc (sym (back j es)) ∙ sym (more_own j e h o) ∙ c) in
-              subst (λ n. (type : ValueType) × GivesAt s all n k type × IsOf u type (Plain value)) same (deposit_now k a value (subst (λ n. is_own n e ≡ true) (sym same) o) count z l m)
+              subst (λ n. (type : ValueType) × GivesAt s all n k type × IsOf (seen n) type (Plain value) × (is_local type ≡ false)) same (deposit_now k a value (subst (λ n. is_own n e ≡ true) (sym same) o) count z l m)
             where
               one_less : (m n : ℕ) → suc m ≡ suc n → m ≡ n
               one_less m n x = omega arith
@@ -298,6 +311,7 @@ module _ (s : Setting)
         let no_arrival : (j : ℕ) → is_own j e ≡ false = λ j. none (e.proc == j) c.1 in
         holds ToBeDone c.0 (λ p x. other_fits ToBeDone c.0 i p t.within (none (e.proc == i) k) (no_arrival i) x)
         (λ n a value o. absurd (true_false (sym o ∙ no_arrival i)))
+        (λ grid element m. absurd (true_false (ap (λ a. not (is_end a || is_fault a)) (sym m.acts) ∙ k)))
       where
         none : (b : Bool) {x : Bool} → x ≡ false → (b && x) ≡ false
         none true z = z
@@ -306,7 +320,7 @@ module _ (s : Setting)
     -- an answer
     module _ (is : is_answered e ≡ true) (asked : Asked) (go : Answer → Process) (stands : step q ≡ At (asking e.place e.act asked) go) where
       step_here : StepFits w (GivesLast s es i) (GivesLast s all i) q (At (asking e.place e.act asked) go)
-      step_here = subst (StepFits w (GivesLast s es i) (GivesLast s all i) q) stands (step_fits performs w (GivesLast s es i) (GivesLast s all i) s i (last_kind i h) q (known_here performs s i (last_kind i h) q (known_of i t.within) q_stands) q_stands q_fits)
+      step_here = subst (StepFits w (GivesLast s es i) (GivesLast s all i) q) stands (step_fits performs w (GivesLast s es i) (GivesLast s all i) s i (last_kind i h) q refl (known_here performs s i (last_kind i h) q (known_of i t.within) q_stands) q_stands q_fits)
 
       there : IsThere s.program w e.act asked.1
       there = subst (λ (x : Setting). IsThere x.program w e.act asked.1) q_stands.0 step_here.0
@@ -335,7 +349,8 @@ module _ (s : Setting)
           let other_here : arrival_at who (suc g.0) h ≡ Some b = subst (λ n. arrival_at who n h ≡ Some b) n lb in
           let like = alike s es ran agree i who g.0 a b here other_here in
           let d = fit.deposits who g.0 b x other_here (ap hands_in (sym like.0) ∙ k) lx in
-          of_stays w after type (Plain x) grown_here (subst (λ z. IsOf w z (Plain x)) (given_same s fine es ran who i g.0 d.0 type d.1 g.2) d.2)
+          of_stays w after type (Plain x) grown_here
+          (subst (λ z. IsOf w z (Plain x)) (given_same s fine es ran who i g.0 d.0 type d.1 g.2) (seen_from (things_of who fit.elements h) i d.0 (Plain x) (λ z. absurd (true_false (sym z ∙ d.3))) d.2))
 
       departs_fit : e.act ≡ act.Depart → (wait : Wait) → q.wait ≡ Some wait → (type : ValueType) → IsOfRound (GivesLast s es i) wait.kind type → WantsOf wait.kind wait.wanted → (wait.wanted ≡ ToBeDone) ⊎ IsOf after type (told e.answer)
       departs_fit z wait wz type g k =
@@ -382,12 +397,13 @@ module _ (s : Setting)
       goes_fit (act.Fault kind) z x = same_round (x after grown_here e.answer tt) (ap is_arrival z)
 
       gives_fit : (a : Action) → e.act ≡ a → ActionFits w (GivesLast s es i) (GivesLast s all i) q (asking e.place e.act asked) a go
-          → (k : ℕ) (x : rounds.Arrival) (value : Value) → arrivals i es ≡ k → arrival_in a ≡ Some x → hands_in x.kind ≡ true → value_in x.deposit ≡ Some value → (type : ValueType) × GivesAt s all i k type × IsOf after type (Plain value)
+          → (k : ℕ) (x : rounds.Arrival) (value : Value) → arrivals i es ≡ k → arrival_in a ≡ Some x → hands_in x.kind ≡ true → value_in x.deposit ≡ Some value → (type : ValueType) × GivesAt s all i k type × IsOf after type (Plain value) × (is_local type ≡ false)
       gives_fit (act.Arrive kind arg d) z y k x value c l m n =
           let is : act.Arrive kind arg d ≡ act.Arrive x.kind x.arg x.deposit = arrival_is (act.Arrive kind arg d) x l in
           let kind_is : kind ≡ x.kind = (parts kind x.kind arg x.arg d x.deposit is).0 in
           let d_is : d ≡ x.deposit = (parts kind x.kind arg x.arg d x.deposit is).1 in
-          (y.0, subst (λ k. GivesAt s all i k y.0) c (gives_now s es all e i kind arg d y.0 t refl z (round_in _ kind y.0 (ap hands_in kind_is ∙ m) y.2)), of_stays w after y.0 (Plain value) grown_here (value_fits w y.0 d value y.1 (ap value_in d_is ∙ n)))
+          let held = value_fits w y.0 d value y.1 (ap value_in d_is ∙ n) in
+          (y.0, subst (λ k. GivesAt s all i k y.0) c (gives_now s es all e i kind arg d y.0 t refl z (round_in _ kind y.0 (ap hands_in kind_is ∙ m) y.2)), of_stays w after y.0 (Plain value) grown_here held.0, held.1)
         where
           parts : (k l : CollKind) (a b : Option ℕ) (d f : Deposit) → act.Arrive k a d ≡ act.Arrive l b f → (k ≡ l) × (d ≡ f)
           parts k l a b d f z = (cc, cc)
@@ -398,8 +414,9 @@ module _ (s : Setting)
 
       answered_holds : RunFits s all
       answered_holds =
-          holds asked.1 there (λ p x. subst (ProcessFits after (GivesLast s all i)) (after_same _ _ _ _ went x) (goes_fit e.act refl step_here.1))
-          (λ k a value o c l m n. gives_fit e.act refl step_here.1 k a value c l m n)
+          holds asked.1 there (λ p x. subst (ProcessFits after (GivesLast s all i)) (after_same _ _ _ _ went x) (goes_fit e.act refl step_here.2))
+          (λ k a value o c l m n. gives_fit e.act refl step_here.2 k a value c l m n)
+          (λ grid element m. made_elements fit.elements q e grid element (asking e.place e.act asked) go stands m)
 
     entry_holds : RunFits s all
     entry_holds = by (is_answered e) refl
@@ -416,11 +433,16 @@ module _ (s : Setting)
   begin_holds : RunFits s []
   begin_holds = record {
     elements = λ id. None;
+    made = λ grid element m. absurd (none_made m.before m.rest _ m.split);
     heap = record { cells = λ cell value z. absurd (none_written cell value z); blocks = λ block type z. absurd (no_type type z) };
-    processes = λ i p b x. subst (ProcessFits (things_of (λ id. None) []) (GivesLast s [] i)) (after_same (begin s i) (begin s i) p [] none x) (begin_fits performs (things_of (λ id. None) []) (GivesLast s [] i) s i (known_of i b));
+    processes = λ i p b x. subst (ProcessFits (things_of i (λ id. None) []) (GivesLast s [] i)) (after_same (begin s i) (begin s i) p [] none x) (begin_fits performs (things_of i (λ id. None) []) (GivesLast s [] i) s i refl (known_of i b));
     deposits = λ i k a value z. absurd (no_arrival a z);
   }
     where
+      none_made : (before rest : List Entry) (x : Entry) → [] ≡ before ++ x ∷ rest → ⊥
+      none_made [] rest x z = cc
+      none_made (y ∷ ys) rest x z = cc
+
       no_type : (type : ValueType) → ◌≡◌ {A = Option ValueType} None (Some type) → ⊥
       no_type type z = cc
 
@@ -436,24 +458,24 @@ module _ (s : Setting)
   -- ---- what is named
 
   next_fits : (es : List Entry) → IsRun s es → (fit : RunFits s es) → (i : ℕ) (p : Process) (at : Place) (a : Action) → i < s.procs → World s es i p → (n : IsNext p (next.Act at a))
-      → (asked : Asked) × (go : Answer → Process) × (n.0.setting ≡ s) × StepFits (things_of fit.elements (history_of es)) (GivesLast s es i) (GivesLast s es i) n.0 (At (asking at a asked) go)
+      → (asked : Asked) × (go : Answer → Process) × (n.0.setting ≡ s) × StepFits (things_of i fit.elements (history_of es)) (GivesLast s es i) (GivesLast s es i) n.0 (At (asking at a asked) go)
   next_fits es r fit i p at a b x n =
       let q = n.0 in
-      let w = things_of fit.elements (history_of es) in
+      let w = things_of i fit.elements (history_of es) in
       let k = way_next s es i p p r x here in
       let stand = given_facts.stands s i p k.0 k.1 in
-      let reached = reaches_fits performs w (GivesLast s es i) s i _ p q (known_of i b) stand n.1.reaches (fit.processes i p b x) in
+      let reached = reaches_fits performs w (GivesLast s es i) s i _ p q refl (known_of i b) stand n.1.reaches (fit.processes i p b x) in
       let acts = at_action (step q) at a n.1.stands in
-      (acts.0, acts.1, reached.1.0, subst (StepFits w (GivesLast s es i) (GivesLast s es i) q) acts.2 (step_fits performs w (GivesLast s es i) (GivesLast s es i) s i _ q (known_here performs s i _ q (known_of i b) reached.1) reached.1 reached.0))
+      (acts.0, acts.1, reached.1.0, subst (StepFits w (GivesLast s es i) (GivesLast s es i) q) acts.2 (step_fits performs w (GivesLast s es i) (GivesLast s es i) s i _ q refl (known_here performs s i _ q (known_of i b) reached.1) reached.1 reached.0))
 
-  next_there : (es : List Entry) → IsRun s es → (fit : RunFits s es) → (i : ℕ) (p : Process) (at : Place) (a : Action) → i < s.procs → World s es i p → IsNext p (next.Act at a) → (wanted : Wanted) × IsThere s.program (things_of fit.elements (history_of es)) a wanted
+  next_there : (es : List Entry) → IsRun s es → (fit : RunFits s es) → (i : ℕ) (p : Process) (at : Place) (a : Action) → i < s.procs → World s es i p → IsNext p (next.Act at a) → (wanted : Wanted) × IsThere s.program (things_of i fit.elements (history_of es)) a wanted
   next_there es r fit i p at a b x n =
       let k = next_fits es r fit i p at a b x n in
-      (k.0.1, subst (λ (y : Setting). IsThere y.program (things_of fit.elements (history_of es)) a k.0.1) k.2 k.3.0)
+      (k.0.1, subst (λ (y : Setting). IsThere y.program (things_of i fit.elements (history_of es)) a k.0.1) k.2 k.3.0)
 
   next_handed : (es : List Entry) → IsRun s es → (fit : RunFits s es) → (i : ℕ) (p : Process) (at : Place) (kind : CollKind) (arg : Option ℕ) (given : Deposit) → i < s.procs → World s es i p → IsNext p (next.Act at (act.Arrive kind arg given))
-      → (type : ValueType) × DepositFits (things_of fit.elements (history_of es)) type given
-  next_handed es r fit i p at kind arg given b x n = let k = next_fits es r fit i p at (act.Arrive kind arg given) b x n in (k.3.1.0, k.3.1.1)
+      → (type : ValueType) × DepositFits (things_of i fit.elements (history_of es)) type given
+  next_handed es r fit i p at kind arg given b x n = let k = next_fits es r fit i p at (act.Arrive kind arg given) b x n in (k.3.2.0, k.3.2.1)
 
   pub run_typed : ((es : List Entry) → IsRun s es → ArrivalsAgree s es) → (es : List Entry) → IsRun s es → RunTyped s es
   run_typed agree es r = let fit = run_holds agree es r in record { fits = fit; handed = next_handed es r fit; there = next_there es r fit }

@@ -24,6 +24,7 @@ pub mod Computing
 pub mod Operating
 pub mod Evaluating
 pub mod Heaping
+pub mod Making
 pub mod Storing
 pub mod Performed
 pub mod Working
@@ -64,3 +65,4 @@ pub mod Formed
 pub mod Stopping
 pub mod EveryRun
 pub mod Ended
+pub mod Owned

@@ -1,6 +1,7 @@
 pub mod SinglePart
 pub mod Alignment
 pub mod Stopping
+pub mod Owners
 pub mod Things
 pub mod Sound
 pub mod Literals

@@ -6,7 +6,7 @@ mod reading;
 
 pub use laws::{
     actions_formed, aligned, arrivals_agree, expressions_fit, fields_fit, heap_fits,
-    none_after_end, none_impossible, regions_made, rounds_balance, run_typed, values_have_forms,
-    work_fits,
+    none_after_end, none_impossible, owners_kept, regions_made, rounds_balance, run_typed,
+    values_have_forms, work_fits,
 };
 pub use reading::literals_fit;
