@@ -9,3 +9,4 @@ pub mod Heap
 pub mod Work
 pub mod Typed
 pub mod Formed
+pub mod Dangling
