@@ -63,7 +63,7 @@ module _ (p : NumberedProgram) (m : NumberedMethod) where
 
 -- ---- computations
 
-there_stays : (p : NumberedProgram) (u w : Things) (a : Action) (wanted : Wanted) → Grows u w → IsThere p u a wanted → IsThere p w a wanted
+pub there_stays : (p : NumberedProgram) (u w : Things) (a : Action) (wanted : Wanted) → Grows u w → IsThere p u a wanted → IsThere p w a wanted
 there_stays p u w (act.GetField obj field) wanted g k = (k.0, (k.1.0, g.classes obj k.1.0 k.1.1, k.1.2))
 there_stays p u w (act.PutField obj field v) wanted g k = (k.0, (k.1.0, g.classes obj k.1.0 k.1.1, k.1.2), of_stays u w k.0 (Plain v) g k.2)
 there_stays p u w (act.NewObj class region) wanted g k = (k.0, k.1, place_stays u w region g k.2)

@@ -10,3 +10,4 @@ pub mod Work
 pub mod Typed
 pub mod Formed
 pub mod Dangling
+pub mod Counted
