@@ -60,11 +60,11 @@ same_self a =
     (ap₂ (λ x y. x && y) (ap₂ (λ x y. x && y) (eq-eqb a.maker a.maker refl) (eq-eqb a.serial a.serial refl)) (eq-eqb a.owner a.owner refl))
     (eq-eqb a.region a.region refl)
 
-object_is : (id : Id) (r : Answer) → is_object id r ≡ true → r ≡ Val (v.Obj (Some id))
+pub object_is : (id : Id) (r : Answer) → is_object id r ≡ true → r ≡ Val (v.Obj (Some id))
 object_is id (Val (v.Obj (Some made))) h = ap (λ x. Val (v.Obj (Some x))) (sym (id_same id made h))
 object_is id _ h = absurd (true_false (sym h))
 
-grid_is : (id : Id) (r : Answer) → is_grid id r ≡ true → r ≡ Val (v.Grid (Some id))
+pub grid_is : (id : Id) (r : Answer) → is_grid id r ≡ true → r ≡ Val (v.Grid (Some id))
 grid_is id (Val (v.Grid (Some made))) h = ap (λ x. Val (v.Grid (Some x))) (sym (id_same id made h))
 grid_is id _ h = absurd (true_false (sym h))
 
@@ -143,7 +143,7 @@ field_zero p c field type h = by (slice_get p.classes c) refl h
 -- ---- cells
 
 -- what a cell holds that has a zero
-abbrev held_in : Option Value → Value → Value
+abbrev pub held_in : Option Value → Value → Value
 held_in o first = option_map_or (λ value. value) o first
 
 field_same : (p : NumberedProgram) (w : Things) (obj : Id) (field : ℕ) (s t : ValueType) → IsFieldOf p w obj field s → IsFieldOf p w obj field t → s ≡ t
@@ -286,10 +286,10 @@ cell_stays : (p : NumberedProgram) (u w : Things) (c : Cell) (value : Value) →
 cell_stays p u w (Field a f) value g k = (k.0, field_stays p u w a f k.0 g k.1, of_stays u w k.0 _ g k.2)
 cell_stays p u w (Element a q) value g k = (k.0, g.elements a k.0 k.1, of_stays u w k.0 _ g k.2)
 
-pair_first : (c d : Cell) (v x : Value) → ◌≡◌ {A = Option (Cell × Value)} (Some (c, v)) (Some (d, x)) → c ≡ d
+pub pair_first : (c d : Cell) (v x : Value) → ◌≡◌ {A = Option (Cell × Value)} (Some (c, v)) (Some (d, x)) → c ≡ d
 pair_first c d v x z = ap (λ (k : Cell × Value). k.0) (some_same (c, v) (d, x) z)
 
-pair_second : (c d : Cell) (v x : Value) → ◌≡◌ {A = Option (Cell × Value)} (Some (c, v)) (Some (d, x)) → v ≡ x
+pub pair_second : (c d : Cell) (v x : Value) → ◌≡◌ {A = Option (Cell × Value)} (Some (c, v)) (Some (d, x)) → v ≡ x
 pair_second c d v x z = ap (λ (k : Cell × Value). k.1) (some_same (c, v) (d, x) z)
 
 -- what an action that names what is there writes, the cell may hold
@@ -354,32 +354,32 @@ abbrev answer_in : Outcome → Answer
 answer_in (Answers r) = r
 answer_in o = Done
 
-answer_same : (r s : Answer) → Answers r ≡ Answers s → r ≡ s
+pub answer_same : (r s : Answer) → Answers r ≡ Answers s → r ≡ s
 answer_same r s z = ap answer_in z
 
-faults_answer : (b : Bool) (kind : FaultKind) (o : Outcome) (r : Answer) → faults_if b kind o ≡ Answers r → o ≡ Answers r
+pub faults_answer : (b : Bool) (kind : FaultKind) (o : Outcome) (r : Answer) → faults_if b kind o ≡ Answers r → o ≡ Answers r
 faults_answer true kind o r z = cc
 faults_answer false kind o r z = z
 
-possible_answer : (b : Bool) (o : Outcome) (r : Answer) → possible_if b o ≡ Answers r → o ≡ Answers r
+pub possible_answer : (b : Bool) (o : Outcome) (r : Answer) → possible_if b o ≡ Answers r → o ≡ Answers r
 possible_answer true o r z = z
 possible_answer false o r z = cc
 
-views_answer : (v : Option FaultKind) (o : Outcome) (r : Answer) → views v o ≡ Answers r → o ≡ Answers r
+pub views_answer : (v : Option FaultKind) (o : Outcome) (r : Answer) → views v o ≡ Answers r → o ≡ Answers r
 views_answer None o r z = z
 views_answer (Some kind) o r z = cc
 
-no_fault : (v : Option FaultKind) (o : Outcome) (r : Answer) → views v o ≡ Answers r → v ≡ None
+pub no_fault : (v : Option FaultKind) (o : Outcome) (r : Answer) → views v o ≡ Answers r → v ≡ None
 no_fault None o r z = refl
 no_fault (Some kind) o r z = cc
 
-some_answer : {A : Type 0} → (o : Option A) (a : A) (go : A → Outcome) (r : Answer) → o ≡ Some a → where_some o go ≡ Answers r → go a ≡ Answers r
+pub some_answer : {A : Type 0} → (o : Option A) (a : A) (go : A → Outcome) (r : Answer) → o ≡ Some a → where_some o go ≡ Answers r → go a ≡ Answers r
 some_answer o a go r s z = sym (ap (λ x. where_some x go) s) ∙ z
 
-makes_answer : (p : NumberedProgram) (h : History) (i : ℕ) (a : Action) (made : Value) (r : Answer) → makes p h i a made ≡ Answers r → r ≡ Val made
+pub makes_answer : (p : NumberedProgram) (h : History) (i : ℕ) (a : Action) (made : Value) (r : Answer) → makes p h i a made ≡ Answers r → r ≡ Val made
 makes_answer p h i a made r z = answer_same _ _ (sym (faults_answer _ fault.HeapFull _ _ z))
 
-places_answer : (region : ℕ) (h : History) (o : Outcome) (r : Answer) → places region h o ≡ Answers r → o ≡ Answers r
+pub places_answer : (region : ℕ) (h : History) (o : Outcome) (r : Answer) → places region h o ≡ Answers r → o ≡ Answers r
 places_answer region h o r z = faults_answer _ fault.RegionGone _ _ (possible_answer _ _ _ z)
 
 abbrev element_wanted : Wanted → ValueType

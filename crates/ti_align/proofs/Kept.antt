@@ -35,7 +35,7 @@ use Rattle.ti_align.proofs.Vars.{true_false}
 use Rattle.ti_align.proofs.Computing.{same_sound}
 use Rattle.ti_align.proofs.Operating.{none_some, some_same}
 use Rattle.ti_align.proofs.Asks.{Of}
-use Rattle.ti_align.proofs.Given.{NoTakes, LeftFine, AllFree, TopFine, WaitFine, Stands, tail_free, free_mark, free_past, step_fine}
+use Rattle.ti_align.proofs.Given.{HoldsNothing, LeftFine, AllFree, TopFine, WaitFine, Stands, tail_free, free_mark, free_past, step_fine}
 use Rattle.ti_align.proofs.Staying.{frames_stay}
 use Rattle.ti_align.proofs.Pending.{scope_both, mark_fits, works_both, body_fits, past_fits, from_fits, takes_free, takes_both, taken_first, none_first, body_first, taken_is, behind_is, FirstOf, free_first, handed_first, TakenAs, TakesAs, takes_as}
 
@@ -125,7 +125,7 @@ module _ (performs : Performs) where
     works : WorksFit pr.setting.program f.method (method_scope f.method) w left
     hands : HandsOn pr.setting.program f fs
     below : FramesFit pr.setting.program w fs
-    free : NoTakes left
+    free : HoldsNothing left
     others : AllFree fs
 
   if_fits : (w : Things) (G H : ValueType → Type 0) (pr : Process) (b : Bool) (x y : Step) → StepFits w G H pr x → StepFits w G H pr y → StepFits w G H pr (if b then x else y)

@@ -18,6 +18,8 @@ pub mod Running
 pub mod Aligning
 pub mod Rounds
 pub mod Giving
+pub mod Acted
+pub mod Waiting
 pub mod Possible
 pub mod Checked
 pub mod Computing
@@ -43,6 +45,10 @@ pub mod Spelled
 pub mod Naming
 pub mod Numbered
 pub mod Programs
+pub mod Counted
+pub mod Living
+pub mod Leaving
+pub mod Lasting
 pub mod Holding
 pub mod Scoped
 pub mod Found
@@ -66,3 +72,4 @@ pub mod Stopping
 pub mod EveryRun
 pub mod Ended
 pub mod Owned
+pub mod Dangling

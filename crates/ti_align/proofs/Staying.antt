@@ -18,7 +18,7 @@ use Rattle.ti_lang.specs.Meaning.Processes.{Work, Do, End, Before, Behind, Recei
 use Rattle.ti_lang.specs.Meaning.Scoping.{env_of}
 use Rattle.ti_lang.specs.Meaning.Moves.{Move, Goes, Turns, Breaks, Continues, Calls, Returns, Meets, Deletes}
 use Rattle.ti_lang.specs.Meaning.Performing.{performed}
-use Rattle.ti_align.specs.Owners.{thing_used}
+use Rattle.ti_align.specs.Dangling.{used_by}
 use Rattle.ti_align.specs.Things.{Things, seen_by, Grows}
 use Rattle.ti_align.specs.Sound.{IsThere, Sound, value, fault, asks}
 use Rattle.ti_align.specs.Work.{scope_over, ThisFits, DepositFits, given_type, taken_type, IsOfRound, WorkFits, WorksFit, MoveFits}
@@ -74,7 +74,7 @@ module _ (p : NumberedProgram) (m : NumberedMethod) where
 
 -- ---- computations
 
-there_stays : (p : NumberedProgram) (u w : Things) (a : Action) (wanted : Wanted) → Grows u w → IsThere p u a wanted → IsThere p w a wanted
+pub there_stays : (p : NumberedProgram) (u w : Things) (a : Action) (wanted : Wanted) → Grows u w → IsThere p u a wanted → IsThere p w a wanted
 there_stays p u w (act.GetField obj field) wanted g k = (k.0, (k.1.0, g.classes obj k.1.0 k.1.1, k.1.2))
 there_stays p u w (act.PutField obj field v) wanted g k = (k.0, (k.1.0, g.classes obj k.1.0 k.1.1, k.1.2), of_stays (seen_by obj.owner u) (seen_by obj.owner w) k.0 (Plain v) (grows_for obj.owner u w g) k.2)
 there_stays p u w (act.NewObj class region) wanted g k = (k.0, k.1, place_stays u w region g k.2)
@@ -88,7 +88,7 @@ there_stays p u w _ wanted g k = k
 sound_stays : (p : NumberedProgram) {A : Type 0} (P : Things → A → Type 0) (u w : Things) (m : Asking A) → ((a : A) → P u a → P w a) → Grows u w → Sound p P u m → Sound p P w m
 sound_stays p P u w m f g (value a h e) = value a (f a h) e
 sound_stays p P u w m f g (fault kind at e) = fault kind at e
-sound_stays p P u w m f g (asks q z i k) = asks q z (there_stays p u w q.action q.wanted g i.0, λ l. same_owner u.owner w.owner (thing_used q.action) g.owner (i.1 l)) (λ x j r t. k x (grows_then u w x g j) r t)
+sound_stays p P u w m f g (asks q z i k) = asks q z (there_stays p u w q.action q.wanted g i.0, λ l. same_owner u.owner w.owner (used_by q.action) g.owner (i.1 l)) (λ x j r t. k x (grows_then u w x g j) r t)
 
 -- ---- processes
 

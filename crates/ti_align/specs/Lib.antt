@@ -10,3 +10,5 @@ pub mod Heap
 pub mod Work
 pub mod Typed
 pub mod Formed
+pub mod Dangling
+pub mod Counted

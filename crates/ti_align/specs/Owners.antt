@@ -1,5 +1,5 @@
 -- Owners: what a reference of local type names lies in the memory of its own process.
-use Rattle.std.specs.Prelude.{◌≡◌, ℕ, ◌<◌, Bool, true, List, [], ◌∷◌, ◌++◌, Option, Some, None}
+use Rattle.std.specs.Prelude.{◌≡◌, ℕ, ◌<◌, Bool, true, List, [], ◌∷◌, ◌++◌, Some}
 use Rattle.ti_base.specs.declared.place.Place.{Place}
 use Rattle.ti_base.specs.declared.point.Point.{Point}
 use Rattle.ti_base.specs.declared.point.Rect.{Rect}
@@ -27,22 +27,13 @@ use Rattle.ti_lang.specs.Meaning.NextStep.{Reaches}
 use Rattle.ti_lang.specs.Meaning.Histories.{history_of}
 use Rattle.ti_lang.specs.Meaning.HeapOf.{class_of, cell_value}
 use Rattle.ti_lang.specs.Meaning.Runs.{World}
+use Rattle.ti_align.specs.Dangling.{used_by}
 
 -- ---- actions
 
--- the thing whose cells an action reads or writes, or of which it takes a view or asks the domain
-abbrev pub thing_used : Action → Option Id
-thing_used (act.GetField obj field) = Some obj
-thing_used (act.PutField obj field value) = Some obj
-thing_used (act.GetElem grid at) = Some grid
-thing_used (act.PutElem grid at value) = Some grid
-thing_used (act.MakeView grid how) = Some grid
-thing_used (act.DomainOf grid) = Some grid
-thing_used a = None
-
 -- an action of a process through a reference of this type uses a thing in its own memory, where the type is local
 abbrev pub IsOwnAction : ℕ → ValueType → Action → Type 0
-IsOwnAction i through a = is_local through ≡ true → is_own i (thing_used a) ≡ true
+IsOwnAction i through a = is_local through ≡ true → is_own i (used_by a) ≡ true
 
 -- ---- variables
 

@@ -15,7 +15,7 @@ ghost use Rattle.ti_lang.specs.Meaning.Answers.{HasForm};
 ghost use Rattle.ti_lang.specs.Meaning.Asking.{Wanted};
 ghost use Rattle.ti_lang.specs.Meaning.Processes.{Process, Frame, Work};
 ghost use Rattle.ti_lang.specs.Meaning.Performing.{performed};
-ghost use Rattle.ti_lang.specs.Meaning.Histories.{History};
+ghost use Rattle.ti_lang.specs.Meaning.Histories.{History, history_of};
 ghost use Rattle.ti_lang.specs.Meaning.HeapAnswers.{IsAnswered};
 ghost use Rattle.ti_align.specs.Alignment.{ArrivalsAgree, NoneAfterEnd, OfEveryRun, IsAligned};
 ghost use Rattle.ti_align.specs.Stopping.{NoneImpossible, RoundsBalance, RegionsMade};
@@ -26,6 +26,8 @@ ghost use Rattle.ti_align.specs.Fitting.{EnvFits, FieldsFit, IsWritten};
 ghost use Rattle.ti_align.specs.Work.{VariablesFit, scope_over, MethodsFit, ThisFits, HasNumber, given_type, taken_type, WorksFit, MoveFits};
 ghost use Rattle.ti_align.specs.Typed.{RunTyped};
 ghost use Rattle.ti_align.specs.Formed.{ActionsFormed};
+ghost use Rattle.ti_align.specs.Dangling.{NothingDangles};
+ghost use Rattle.ti_align.specs.Counted.{CellsCounted};
 ghost use Rattle.ti_align.specs.Heap.{Elements, things_of, FieldsStorable, HeapFits, KeepsTypes};
 
 use crate::reading::literals_fit;
@@ -105,6 +107,22 @@ pub fn owners_kept(c: &Checked)
 /// action that it has next are in their one form.
 pub fn actions_formed(c: &Checked)
     ensures { OfEveryRun ActionsFormed (program_of c.now.program.parts) }
+{
+    literals_fit(c.program());
+}
+
+/// In every run of a checked program whatever a process has next neither uses nor hands on a thing in a
+/// region that is gone; and 0, which is no region, is never gone.
+pub fn nothing_dangles(c: &Checked)
+    ensures { OfEveryRun NothingDangles (program_of c.now.program.parts) }
+{
+    literals_fit(c.program());
+}
+
+/// In every run of a checked program all cells are counted among those of the run: each that was
+/// written, each field that holds something, and each that a grid has for a point of its domain.
+pub fn cells_are_counted(c: &Checked)
+    ensures { OfEveryRun (λ s es. CellsCounted s.program (history_of es)) (program_of c.now.program.parts) }
 {
     literals_fit(c.program());
 }
