@@ -1,5 +1,5 @@
 -- The cells of a history are counted: each that is written, and each that a thing has.
-use Rattle.std.proofs.Common.{◌≡◌, ℕ, zero, suc, ◌+◌, zero-lt-suc, Bool, true, false, not, ◌&&◌, ◌==◌, if◌then◌else◌, inl, inr, map, slice_get, Contains, option_map, Option, Some, None, List, [], ◌∷◌, refl, ap, sym, ◌∙◌, subst, arith, eqb-true}
+use Rattle.std.proofs.Common.{◌≡◌, ℕ, zero, suc, ◌+◌, zero-lt-suc, Bool, true, false, not, ◌&&◌, ◌==◌, if◌then◌else◌, inl, inr, map, slice_get, Contains, option_map, Option, Some, None, List, [], ◌∷◌, refl, ap, sym, ◌∙◌, subst, arith}
 use Rattle.std.specs.List.{list_any}
 use Rattle.std.specs.Option.{option_and_then, option_map_or}
 use Rattle.std.proofs.lemmas.List.Elements.{Contains-append_left, Contains-append_right}
@@ -16,8 +16,7 @@ use Rattle.ti_base.specs.declared.entry.Answer.TheVariants.{Done, Val}
 use Rattle.ti_base.specs.declared.entry.Entry.{Entry}
 use Rattle.ti_base.specs.PointSets.{IsAmong}
 use Rattle.ti_base.specs.Rects.{IsRect, IsIn, is_in, points_of}
-use Rattle.ti_base.specs.Cells.{Cell, Field, Element, Grid, same_id, same_cell, zero_value, cell_of, whole_grid, view, view_fault, suits, seen_point}
-use Rattle.ti_base.proofs.DomainLaws.{same_from}
+use Rattle.ti_base.specs.Cells.{Cell, Field, Element, Grid, same_cell, zero_value, cell_of, whole_grid, view, view_fault, suits, seen_point}
 use Rattle.ti_rect.specs.Views.{IsView}
 use Rattle.ti_rect.proofs.PointLists.{points_listed}
 use Rattle.ti_rect.proofs.TestLaws.{in_tests}
@@ -29,9 +28,9 @@ use Rattle.ti_lang.specs.Meaning.HeapOf.{view_id, is_object, is_grid, class_made
 use Rattle.ti_lang.specs.Meaning.HeapAnswers.{Answers, possible_if, faults_if, makes, at_point, views, heap_answer, IsAnswered}
 use Rattle.ti_lang.proofs.MeaningLaws.Things.{possible_then, some_then}
 use Rattle.ti_align.specs.Counted.{CellsCounted}
-use Rattle.ti_align.proofs.Vars.{true_false, and_left, and_right, not_true}
+use Rattle.ti_align.proofs.Vars.{true_false, and_right, not_true}
 use Rattle.ti_align.proofs.Operating.{none_some, some_same}
-use Rattle.ti_align.proofs.Heaping.{id_same, object_is, grid_is, pair_first, no_fault}
+use Rattle.ti_align.proofs.Heaping.{same_cells, object_is, grid_is, pair_first, no_fault}
 use Rattle.ti_align.proofs.Rounds.{said}
 
 -- ---- lists of cells
@@ -131,12 +130,6 @@ none_counted p = record {
 
 abbrev OverRect : Grid → (Cell → Type 0) → Type 0
 OverRect g Counts = IsRect g.domain × ((at : Point) → IsIn g.domain at → Counts (cell_of g at))
-
-same_cells : (c o : Cell) → same_cell c o ≡ true → c ≡ o
-same_cells (Field a f) (Field b g) s = ap (λ i. Field i f) (id_same a b (and_left (same_id a b) (f == g) s)) ∙ ap (Field b) (eqb-true f g (and_right (same_id a b) (f == g) s))
-same_cells (Element a q) (Element b r) s = ap (λ i. Element i q) (id_same a b (and_left (same_id a b) _ s)) ∙ ap (Element b) (same_from q r (and_right (same_id a b) _ s))
-same_cells (Field a f) (Element b q) s = absurd (true_false (sym s))
-same_cells (Element a q) (Field b f) s = absurd (true_false (sym s))
 
 -- behind an entry that got its answer and is in its form
 module _ (p : NumberedProgram) (h : History) (e : Entry) (answered : IsAnswered p (e ∷ h)) (formed : MakesFormed e.act) (old : Counted p h) where

@@ -20,6 +20,7 @@ use Rattle.ti_base.specs.declared.entry.Answer.TheVariants.{Done, Val}
 use Rattle.ti_base.specs.declared.entry.Entry.{Entry}
 use Rattle.ti_base.specs.Points.{IsDim}
 use Rattle.ti_base.specs.Cells.{Cell, Field, Element, thing_of, Grid, same_id, same_cell, zero_value, cell_of, whole_grid, view, view_fault}
+use Rattle.ti_base.proofs.DomainLaws.{same_from}
 use Rattle.ti_lang.specs.Program.Types.{ValueType}
 use Rattle.ti_lang.specs.Program.Types as t
 use Rattle.ti_lang.specs.Program.Classes.{NumberedField, NumberedClass, NumberedProgram}
@@ -273,14 +274,11 @@ module _ (p : NumberedProgram) (elements : Elements) (h : History) (fits : HeapF
 
 -- ---- what is kept
 
-id_cells : (p : NumberedProgram) (elements : Elements) (h : History) (c o : Cell) (value : Value) → same_cell c o ≡ true → HoldsIn p elements h o value → HoldsIn p elements h c value
-id_cells p elements h (Field a f) (Field b g) value s k =
-    let x = id_same a b (and_left (same_id a b) (f == g) s) in
-    let y = eqb-true f g (and_right (same_id a b) (f == g) s) in
-    subst (λ i. HoldsIn p elements h (Field i f) value) (sym x) (subst (λ i. HoldsIn p elements h (Field b i) value) (sym y) k)
-id_cells p elements h (Element a q) (Element b r) value s k = subst (λ i. HoldsIn p elements h (Element i q) value) (sym (id_same a b (and_left (same_id a b) _ s))) k
-id_cells p elements h (Field a f) (Element b q) value s k = absurd (true_false (sym s))
-id_cells p elements h (Element a q) (Field b f) value s k = absurd (true_false (sym s))
+pub same_cells : (c o : Cell) → same_cell c o ≡ true → c ≡ o
+same_cells (Field a f) (Field b g) s = ap (λ i. Field i f) (id_same a b (and_left (same_id a b) (f == g) s)) ∙ ap (Field b) (eqb-true f g (and_right (same_id a b) (f == g) s))
+same_cells (Element a q) (Element b r) s = ap (λ i. Element i q) (id_same a b (and_left (same_id a b) _ s)) ∙ ap (Element b) (same_from q r (and_right (same_id a b) _ s))
+same_cells (Field a f) (Element b q) s = absurd (true_false (sym s))
+same_cells (Element a q) (Field b f) s = absurd (true_false (sym s))
 
 cell_stays : (p : NumberedProgram) (u w : Things) (c : Cell) (value : Value) → Grows u w → MayHold p u c value → MayHold p w c value
 cell_stays p u w (Field a f) value g k = (k.0, field_stays p u w a f k.0 g k.1, of_stays u w k.0 _ g k.2)
@@ -335,7 +333,7 @@ module _ (p : NumberedProgram) (h : History) (e : Entry) (a : IsAnswered p (e �
   }
     where
       hit : (c o : Cell) (x value : Value) (b : Bool) → same_cell c o ≡ b → HoldsIn p elements h o value → or_else (if b then Some value else None) (last_written c h) ≡ Some x → HoldsIn p elements h c x
-      hit c o x value true s k z = subst (HoldsIn p elements h c) (some_same value x z) (id_cells p elements h c o value s k)
+      hit c o x value true s k z = subst (HoldsIn p elements h c) (some_same value x z) (subst (λ x. HoldsIn p elements h x value) (sym (same_cells c o s)) k)
       hit c o x value false s k z = f.cells c x z
 
       old : (c : Cell) (x : Value) (o : Option (Cell × Value)) → written_by e.act h ≡ o → or_else (written_to c o) (last_written c h) ≡ Some x → HoldsIn p elements h c x
