@@ -18,12 +18,15 @@ pub mod Running
 pub mod Aligning
 pub mod Rounds
 pub mod Giving
+pub mod Acted
+pub mod Waiting
 pub mod Possible
 pub mod Checked
 pub mod Computing
 pub mod Operating
 pub mod Evaluating
 pub mod Heaping
+pub mod Making
 pub mod Storing
 pub mod Performed
 pub mod Working
@@ -42,6 +45,10 @@ pub mod Spelled
 pub mod Naming
 pub mod Numbered
 pub mod Programs
+pub mod Counted
+pub mod Living
+pub mod Leaving
+pub mod Lasting
 pub mod Holding
 pub mod Scoped
 pub mod Found
@@ -64,3 +71,5 @@ pub mod Formed
 pub mod Stopping
 pub mod EveryRun
 pub mod Ended
+pub mod Owned
+pub mod Dangling

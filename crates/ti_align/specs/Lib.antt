@@ -1,6 +1,7 @@
 pub mod SinglePart
 pub mod Alignment
 pub mod Stopping
+pub mod Owners
 pub mod Things
 pub mod Sound
 pub mod Literals
@@ -9,3 +10,5 @@ pub mod Heap
 pub mod Work
 pub mod Typed
 pub mod Formed
+pub mod Dangling
+pub mod Counted
