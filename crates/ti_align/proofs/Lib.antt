@@ -31,12 +31,15 @@ pub mod Finishing
 pub mod SomeAnswer
 pub mod Rounds
 pub mod Giving
+pub mod Acted
+pub mod Waiting
 pub mod Possible
 pub mod Checked
 pub mod Computing
 pub mod Operating
 pub mod Evaluating
 pub mod Heaping
+pub mod Making
 pub mod Storing
 pub mod Performed
 pub mod Working
@@ -55,6 +58,10 @@ pub mod Spelled
 pub mod Naming
 pub mod Numbered
 pub mod Programs
+pub mod Counted
+pub mod Living
+pub mod Leaving
+pub mod Lasting
 pub mod Holding
 pub mod Scoped
 pub mod Found
@@ -77,3 +84,5 @@ pub mod Formed
 pub mod Stopping
 pub mod EveryRun
 pub mod Ended
+pub mod Owned
+pub mod Dangling

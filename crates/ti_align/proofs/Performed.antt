@@ -19,7 +19,7 @@ use Rattle.ti_lang.specs.Typing.Expressions.{all_fit, takes, called, member_give
 use Rattle.ti_lang.specs.Typing.Expressions as typing
 use Rattle.ti_lang.specs.Typing.Called.{method_behind}
 use Rattle.ti_lang.specs.Meaning.Held.{Held, Plain, thing_of}
-use Rattle.ti_lang.specs.Meaning.Asking.{Reference, Asking, needed}
+use Rattle.ti_lang.specs.Meaning.Asking.{Asking, needed}
 use Rattle.ti_lang.specs.Meaning.Conversions.{converted}
 use Rattle.ti_lang.specs.Meaning.Processes.{Variable, Receiver}
 use Rattle.ti_lang.specs.Meaning.Scoping.{Env, type_of}
@@ -35,9 +35,9 @@ use Rattle.ti_align.specs.Fitting.{EnvFits, FieldsFit, IsWritten, AreWritten}
 use Rattle.ti_align.specs.Heap.{FieldsStorable}
 use Rattle.ti_align.specs.Work.{VariablesFit, uses_of, WholeFits, ReceiverFits, MethodFits, MethodsFit, ThisFits, MoveFits}
 use Rattle.ti_align.proofs.Vars.{true_false, and_left, and_right}
-use Rattle.ti_align.proofs.Computing.{grows_then, sound_then, sound_value}
+use Rattle.ti_align.proofs.Computing.{grows_then, sound_then, sound_value, Names, needed_as}
 use Rattle.ti_align.proofs.Operating.{none_some, some_same, where_some, seen_same, converted_fine}
-use Rattle.ti_align.proofs.Evaluating.{joined_there, one_there, needed_fine, object_of, not_object, env_stays, eval_fine}
+use Rattle.ti_align.proofs.Evaluating.{joined_there, one_there, object_of, not_object, env_stays, eval_fine}
 use Rattle.ti_align.proofs.Storing.{variables_stay, into_fine}
 
 -- ---- methods
@@ -250,8 +250,8 @@ module _ (s : ScopeContents) (env : Env) where
   needed_this : (w : Things) (at : Place) (m : NumberedMethod) (o : Option Held) → ObjectFits w m o → Sound p (λ u this. ThisFits u m this) w (maybe_needed at o)
   needed_this w at m None f = sound_value p _ w _ (λ class c id z. absurd (none_some id z))
   needed_this w at m (Some h) f =
-      sound_then p (λ u (r : Reference). (class : ℕ) → this_of m ≡ Some class → u.class_at r.thing ≡ Some class) _ w (needed at t.Void h) _ (needed_fine p w at t.Void h (λ u id. (class : ℕ) → this_of m ≡ Some class → u.class_at id ≡ Some class) (λ id z class c. f h refl class c id z)) (λ u g r k.
-      sound_value p _ u _ (λ class c id z. subst (λ i. u.class_at i ≡ Some class) (some_same r.thing id z) (k class c)))
+      sound_then p (λ u r. Names (λ u id. (class : ℕ) → this_of m ≡ Some class → u.class_at id ≡ Some class) t.Void u r) _ w (needed at t.Void h) _ (needed_as p w at t.Void h (λ u id. (class : ℕ) → this_of m ≡ Some class → u.class_at id ≡ Some class) (λ id z class c. f h refl class c id z) (λ z. absurd (true_false (sym z)))) (λ u g r k.
+      sound_value p _ u _ (λ class c id z. subst (λ i. u.class_at i ≡ Some class) (some_same r.thing id z) (k.thing class c)))
 
   object_stays : (u w : Things) (m : NumberedMethod) (o : Option Held) → Grows u w → ObjectFits u m o → ObjectFits w m o
   object_stays u w m o g f = λ h z class c id q. g.classes id class (f h z class c id q)

@@ -339,8 +339,8 @@ ranged s all (run.more {es = es} {i = i} {e = e} w c z) p f typed =
         let n : c.next ≡ next.Act e.place (act.Arrive kind arg d) = acts_as s es i c.next e c.entry (arrive_answered e (ap is_arrival a)) ∙ ap (next.Act e.place) a in
         let ty = typed es w in
         let x = ty.handed i c.process e.place kind arg d c.within c.world (subst (λ x. IsNext c.process x) n c.is_next) in
-        let u = subst (DepositFits (things_of ty.fits.elements (history_of es)) x.0) (one_value d (v.Region r) y) x.1 in
-        by (region_placed (things_of ty.fits.elements (history_of es)) x.0 r u.0 u.1)
+        let u = subst (DepositFits (things_of i ty.fits.elements (history_of es)) x.0) (one_value d (v.Region r) y) x.1 in
+        by (region_placed (things_of i ty.fits.elements (history_of es)) x.0 r u.0 u.1)
       where
         by : (r ≡ 0) ⊎ (is_made r (history_of es) ≡ true) → IsCount r
         by (inl z) = zero_count r z

@@ -2,6 +2,7 @@ pub mod SinglePart
 pub mod Alignment
 pub mod Slice
 pub mod Stopping
+pub mod Owners
 pub mod Things
 pub mod Sound
 pub mod Literals
@@ -11,3 +12,5 @@ pub mod Work
 pub mod Typed
 pub mod Names
 pub mod Formed
+pub mod Dangling
+pub mod Counted

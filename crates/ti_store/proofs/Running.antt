@@ -261,7 +261,7 @@ all_formed program w _ wanted x form = form
 run_formed : (s : Setting) (es : List Entry) (p : ℕ) (q : Process) (at : Place) (a : Action) → RunTyped s es → ActionsFormed s es → p < s.procs → World s es p q → IsNext q (next.Act at a) → AllFormed a
 run_formed s es p q at a typed formed inside world is =
     let there = typed.there p q at a inside world is in
-    all_formed s.program (things_of typed.fits.elements (history_of es)) a there.0 there.1 (formed p q at a inside world is)
+    all_formed s.program (things_of p typed.fits.elements (history_of es)) a there.0 there.1 (formed p q at a inside world is)
 
 pub may_do : (s : Setting) (es : List Entry) (p : ℕ) (at : Place) (a : Action) → IsWithin s.procs s.fuel → KeepsLaws s.program → IsRun s es → p < s.procs → has_fault es ≡ false
     → HasNext s p (entries_of p es) (next.Act at a) → IsReady s es p (next.Act at a) → (is_departure a ≡ true → AllArrived s.procs p es) → is_delete a ≡ false
