@@ -397,14 +397,14 @@ module _ (s : Setting)
           same : (n : ℕ) → n ≤ n
           same n = omega arith
 
-      departs_fit : e.act ≡ act.Depart → (wait : Wait) → q.wait ≡ Some wait → (type : ValueType) → IsOfRound (GivesLast s es i) wait.kind type → WantsOf wait.kind wait.wanted → (wait.wanted ≡ ToBeDone) ⊎ IsOf after type (told e.answer)
+      departs_fit : e.act ≡ act.Depart → (wait : Wait) → q.wait ≡ Some wait → (type : ValueType) → IsOfRound (GivesLast s es i) wait.kind type → WantsOf wait.kind wait.wanted type → (wait.wanted ≡ ToBeDone) ⊎ IsOf after type (told e.answer)
       departs_fit z wait wz type g k =
           let told_here = told_now s.program h i e.answer (sym (ap (heap_answer s.program h i) z) ∙ said_now) in
           let came = waits_there s es i t.process q ran t.world t.is_next.1.reaches wait wz in
           let kind_is : wait.kind ≡ told_here.arrival.kind = sym came.2 ∙ ap (λ (a : rounds.Arrival). a.kind) (some_same came.0 told_here.arrival (sym came.1 ∙ told_here.is)) in
-          by told_here.arrival told_here.is told_here.arrival.kind refl (subst (λ kind. IsOfRound (GivesLast s es i) kind type) kind_is g) (subst (λ kind. WantsOf kind wait.wanted) kind_is k) told_here.gives
+          by told_here.arrival told_here.is told_here.arrival.kind refl (subst (λ kind. IsOfRound (GivesLast s es i) kind type) kind_is g) (subst (λ kind. WantsOf kind wait.wanted type) kind_is k) told_here.gives
         where
-          by : (a : rounds.Arrival) → last_arrival i h ≡ Some a → (kind : CollKind) → a.kind ≡ kind → IsOfRound (GivesLast s es i) kind type → WantsOf kind wait.wanted → RoundAnswer h i (arrivals i h) kind a.arg e.answer
+          by : (a : rounds.Arrival) → last_arrival i h ≡ Some a → (kind : CollKind) → a.kind ≡ kind → IsOfRound (GivesLast s es i) kind type → WantsOf kind wait.wanted type → RoundAnswer h i (arrivals i h) kind a.arg e.answer
               → (wait.wanted ≡ ToBeDone) ⊎ IsOf after type (told e.answer)
           by a l coll.Barrier ka g k r = inl k
           by a l coll.Exchange ka g k r = inl k

@@ -170,7 +170,7 @@ module _ (performs : Performs) where
 
     -- an arrival, behind which this work is left
     arrives_fit : (left xs : List Work) → Top w pr f fs left → (wait : Wait) (given : Deposit) (type : ValueType) → WorksFit p f.method (method_scope f.method) w xs → DepositFits w type given → IsOfRound (λ u. given_by pr ≡ Some u) wait.kind type
-        → IsAwaited p f.method (s xs) wait.wanted wait.receiver type → WantsOf wait.kind wait.wanted → TakesOf (taken_behind wait.kind type) xs → StepFits w G H pr (arrives pr (record f { left = xs } ∷ fs) wait given)
+        → IsAwaited p f.method (s xs) wait.wanted wait.receiver type → WantsOf wait.kind wait.wanted type → TakesOf (taken_behind wait.kind type) xs → StepFits w G H pr (arrives pr (record f { left = xs } ∷ fs) wait given)
     arrives_fit left xs top wait given type k d r a o i =
         ticks_fit w G H pr wait.place _ (tt, (λ z. absurd (true_false (sym z))), (type, d, r, λ z u g answer. (frames_stay p w u (record f { left = xs } ∷ fs) g (frames_with left top f.variables xs top.variables k), ((type, a, z, o, i), refl))))
 

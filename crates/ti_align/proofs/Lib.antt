@@ -44,6 +44,7 @@ pub mod Storing
 pub mod Performed
 pub mod Working
 pub mod Stated
+pub mod Dimmed
 pub mod Framed
 pub mod Staying
 pub mod Pending

@@ -22,7 +22,7 @@ use Rattle.ti_lang.specs.Meaning.Held.{Held, Plain, thing_of}
 use Rattle.ti_lang.specs.Meaning.Asking.{Asking, needed}
 use Rattle.ti_lang.specs.Meaning.Conversions.{converted}
 use Rattle.ti_lang.specs.Meaning.Processes.{Variable, Receiver}
-use Rattle.ti_lang.specs.Meaning.Scoping.{Env, type_of}
+use Rattle.ti_lang.specs.Meaning.Scoping.{Env, type_of, type_here}
 use Rattle.ti_lang.specs.Meaning.Evaluation.{eval}
 use Rattle.ti_lang.specs.Meaning.Targets.{into}
 use Rattle.ti_lang.specs.Meaning.Moves.{Move, receives}
@@ -90,6 +90,8 @@ pub record Ready (s : ScopeContents) (w : Things) (env : Env) : Type 0 where
   pub fields : FieldsFit env.program
   pub store : FieldsStorable env.program
   pub methods : MethodsFit env.program env.program.methods
+  -- an expression inside another has its type in the text
+  pub types : (x : NumberedExp) (type : ValueType) → IsWritten (uses_of env.method) x → operand_type env.program s x ≡ Some type → type_here env x ≡ type
 
 pub ready_stays : (s : ScopeContents) (u w : Things) (env : Env) → Grows u w → Ready s u env → Ready s w env
 ready_stays s u w env g r = record {
@@ -98,6 +100,7 @@ ready_stays s u w env g r = record {
   fields = r.fields;
   store = r.store;
   methods = r.methods;
+  types = r.types;
 }
 
 module _ (s : ScopeContents) (env : Env) where

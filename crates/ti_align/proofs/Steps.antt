@@ -20,7 +20,7 @@ ActionFits w G H pr request (act.Arrive kind arg given) go =
     (type : ValueType) × DepositFits w type given × IsOfRound (λ u. given_by pr ≡ Some u) kind type
     × (IsOfRound H kind type → (u : Things) → Grows w u → (r : Answer) → ProcessFits u H (go r))
 ActionFits w G H pr request act.Depart go =
-    (wait : Wait) × (type : ValueType) × (pr.wait ≡ Some wait) × IsOfRound G wait.kind type × WantsOf wait.kind wait.wanted
+    (wait : Wait) × (type : ValueType) × (pr.wait ≡ Some wait) × IsOfRound G wait.kind type × WantsOf wait.kind wait.wanted type
     × ((u : Things) → Grows w u → (r : Answer) → (wait.wanted ≡ ToBeDone) ⊎ IsOf u type (told r) → ProcessFits u G (go r))
 ActionFits w G H pr request (act.Take who) go =
     (type : ValueType) × G type × ((u : Things) → Grows w u → (r : Answer) → IsOf u type (told r) → ProcessFits u G (go r))

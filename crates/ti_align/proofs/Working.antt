@@ -23,7 +23,7 @@ use Rattle.ti_lang.specs.Meaning.Conversions.{converted}
 use Rattle.ti_lang.specs.Meaning.Zeros.{zero_of_type}
 use Rattle.ti_lang.specs.Meaning.Makers.{region_for, spread, new_object, new_grid}
 use Rattle.ti_lang.specs.Meaning.Processes.{Variable, Receiver, Nowhere, Declared, Assigned, Updated, Loop, While, Foreach, Work, Do, End, Before, Behind, Receive, CopyAll, TakeAll}
-use Rattle.ti_lang.specs.Meaning.Scoping.{Env}
+use Rattle.ti_lang.specs.Meaning.Scoping.{Env, type_here}
 use Rattle.ti_lang.specs.Meaning.Evaluation.{eval}
 use Rattle.ti_lang.specs.Meaning.Moves.{Goes, Turns}
 use Rattle.ti_lang.specs.Meaning.Collectives.{root_among, root_deposit}
@@ -112,7 +112,7 @@ module _ (s : ScopeContents) (env : Env) where
 
   pub init_fine : (untaken : Option ValueType) (w : Things) → Ready s w env → (receiver : Receiver) (value : NumberedInit) (type : ValueType) → InitFits p env.method s value type → ReceiverFits p env.method s receiver type → Fine s env (given_at p s value) untaken w (initialized env receiver value)
   init_fine untaken w r receiver (st.Value x) type k q = whole_fine s env None untaken w r receiver x type k.0 k.1 q
-  init_fine untaken w r receiver (st.NewRegion at) type k q = sound_value p _ w _ ((type, q, tt, k, tt, tt), tt)
+  init_fine untaken w r receiver (st.NewRegion at) type k q = sound_value p _ w _ ((type, q, tt, k, refl, tt), tt)
   init_fine untaken w r receiver (st.NewObject at region class) type k q =
       made_fine None untaken w r receiver type (new_object env at region class) q (subst (λ y. Sound p (λ u h. IsOf u y h) w (new_object env at region class)) (sym k.0) (
       sound_then p (λ u r. IsPlaced u r) _ w (region_for env region) _ (region_fine w r region k.1) (λ u g i y.
@@ -132,7 +132,7 @@ module _ (s : ScopeContents) (env : Env) where
       sound_then p (λ u h. IsOf u t.Int h) _ w (eval env root) _ (inner_fine s env w r root t.Int k.3.0 k.3.1) (λ u g h y.
       sound_then p (λ u n. Unit {0}) _ u (root_among env.procs at h) _ (sound_guarded p _ u _ fault.BadRoot at _ tt) (λ a i n o.
       sound_then p (λ u given. Work.DepositFits u (as_global k.0) given) _ a (root_deposit env n x) _ (root_fine a (ready_stays s w a env (grows_then w u a g i) r) n x k.0 k.2 k.4) (λ b j given l.
-      sound_value p _ b _ ((as_global k.0, subst (ReceiverFits p env.method s receiver) k.1 q, l, ap (option_map as_global) k.2.1, tt, tt), tt))))
+      sound_value p _ b _ ((as_global k.0, subst (ReceiverFits p env.method s receiver) k.1 q, l, ap (option_map as_global) k.2.1, (type_here env x, refl, ap as_global (sym (r.types x k.0 k.2.0 k.2.1)), subst (λ y. can_broadcast y ≡ true) (sym (r.types x k.0 k.2.0 k.2.1)) k.4), tt), tt))))
 
   -- ---- prints
 

@@ -89,7 +89,7 @@ abbrev pub WaitFits : NumberedProgram → (ValueType → Type 0) → Wait → Li
 WaitFits p G wait [] = ⊥
 WaitFits p G wait (f ∷ fs) =
     (type : ValueType) × IsAwaited p f.method (scope_over p (method_scope f.method) f.left) wait.wanted wait.receiver type
-    × IsOfRound G wait.kind type × WantsOf wait.kind wait.wanted × TakesOf (taken_behind wait.kind type) f.left
+    × IsOfRound G wait.kind type × WantsOf wait.kind wait.wanted type × TakesOf (taken_behind wait.kind type) f.left
 
 -- what the process does next fits
 abbrev pub NextFits : Things → (ValueType → Type 0) → Process → Option Wait → List Frame → Type 0

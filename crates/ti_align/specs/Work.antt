@@ -246,11 +246,12 @@ IsOfRound G coll.Exchange type = G type
 IsOfRound G coll.MakeRegion type = type ≡ t.Region
 IsOfRound G kind type = Unit {0}
 
--- only a broadcast and the making of a region have an answer that is wanted
-abbrev pub WantsOf : CollKind → Wanted → Type 0
-WantsOf coll.Broadcast wanted = Unit {0}
-WantsOf coll.MakeRegion wanted = Unit {0}
-WantsOf kind wanted = wanted ≡ ToBeDone
+-- What is wanted at a collective with values of this type: at a broadcast one of the type of its value, which is handed in as a global
+-- one, and a region where one is made. Nothing else is.
+abbrev pub WantsOf : CollKind → Wanted → ValueType → Type 0
+WantsOf coll.Broadcast wanted type = (u : ValueType) × (wanted ≡ ValueOf u) × (type ≡ as_global u) × (can_broadcast u ≡ true)
+WantsOf coll.MakeRegion wanted type = wanted ≡ ValueOf t.Region
+WantsOf kind wanted type = wanted ≡ ToBeDone
 
 -- each number is one of 32 bits
 abbrev pub AreCounted : List ℕ → Type 0
@@ -292,7 +293,7 @@ module _ (p : NumberedProgram) (m : NumberedMethod) where
   MoveFits gives takes s w (Returns None) = Unit {0}
   MoveFits gives takes s w (Returns (Some h)) = IsOf w (result_type m) h
   MoveFits gives takes s w (Meets wait given behind) =
-      ((type : ValueType) × IsAwaited (scope_over p s behind) wait.wanted wait.receiver type × DepositFits w type given × IsOfRound (λ u. gives ≡ Some u) wait.kind type × WantsOf wait.kind wait.wanted
+      ((type : ValueType) × IsAwaited (scope_over p s behind) wait.wanted wait.receiver type × DepositFits w type given × IsOfRound (λ u. gives ≡ Some u) wait.kind type × WantsOf wait.kind wait.wanted type
       × TakesOf (taken_behind wait.kind type) behind) × WorksFit s w behind
   MoveFits gives takes s w (Deletes at region) = IsPlaced w region
   MoveFits gives takes s w move = Unit {0}
