@@ -28,6 +28,7 @@ use Rattle.ti_align.proofs.Rounds.{same_departures}
 use Rattle.ti_align.proofs.Programs.{checked_fits}
 use Rattle.ti_align.proofs.Holding as holding
 use Rattle.ti_align.proofs.Stopping as stopping
+use Rattle.ti_align.proofs.Departed.{departure_fits}
 use Rattle.ti_align.proofs.Checked.{checked_fine}
 
 pub arrivals_agree : (p : NumberedProgram) → IsChecked p → OfEveryRun ArrivalsAgree p
@@ -66,8 +67,11 @@ pub actions_formed : (p : NumberedProgram) → IsChecked p → LiteralsFit p →
 actions_formed p c l procs fuel es a b d e w =
     formed.actions_formed (record { program = p; procs = procs; fuel = fuel }) es (checked_fits p c l).storable (run_typed p c l procs fuel es a b d e w)
 
-pub slice_tells : (p : NumberedProgram) → IsChecked p → OfEveryRun SliceTells p
-slice_tells p c procs fuel es a b d e w = telling.tells (record { program = p; procs = procs; fuel = fuel }) (checked_fine p c) es w
+pub slice_tells : (p : NumberedProgram) → IsChecked p → LiteralsFit p → OfEveryRun SliceTells p
+slice_tells p c l procs fuel es a b d e w =
+    let s : Setting = record { program = p; procs = procs; fuel = fuel } in
+    let agree : (ds : List Entry) → IsRun s ds → ArrivalsAgree s ds = λ ds r. arrivals_agree p c procs fuel ds a b d e r in
+    telling.tells s (checked_fine p c) (λ i ds r k. departure_fits s (checked_fits p c l) (checked_fine p c) b e agree ds r i k) es w
 
 pub names_fit : (p : NumberedProgram) → IsChecked p → LiteralsFit p → OfEveryRun RunNamesFit p
 names_fit p c l procs fuel es a b d e w =

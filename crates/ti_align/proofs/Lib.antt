@@ -18,6 +18,7 @@ pub mod Running
 pub mod Aligning
 pub mod Sure
 pub mod Sliced
+pub mod FitWays
 pub mod Pacing
 pub mod Pathed
 pub mod Slicing
@@ -64,6 +65,7 @@ pub mod Living
 pub mod Leaving
 pub mod Lasting
 pub mod Holding
+pub mod Departed
 pub mod Scoped
 pub mod Found
 pub mod Suited

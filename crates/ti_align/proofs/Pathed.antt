@@ -1,5 +1,5 @@
 -- The way of a process in a run: it arrives at no delete of a region that is gone, and where it waits, it arrived last.
-use Rattle.std.proofs.Common.{◌≡◌, ℕ, ◌+◌, ◌==◌, Bool, true, false, ◌&&◌, ◌||◌, if◌then◌else◌, map, filter, length, length-append, Option, Some, None, List, [], ◌∷◌, ◌++◌, refl, ap, ap₂, sym, ◌∙◌, subst, arith, eq-eqb, eqb-true}
+use Rattle.std.proofs.Common.{◌≡◌, ℕ, ◌+◌, ◌<◌, ◌==◌, Bool, true, false, ◌&&◌, ◌||◌, if◌then◌else◌, map, filter, length, length-append, Option, Some, None, List, [], ◌∷◌, ◌++◌, refl, ap, ap₂, sym, ◌∙◌, subst, arith, eq-eqb, eqb-true}
 use Rattle.std.specs.List.{list_any}
 use Rattle.ti_base.specs.declared.place.Place.{Place}
 use Rattle.ti_base.specs.declared.fault.FaultKind.{FaultKind}
@@ -13,7 +13,9 @@ use Rattle.ti_base.specs.declared.entry.Answer.{Answer}
 use Rattle.ti_base.specs.declared.entry.Answer.TheVariants.{Done}
 use Rattle.ti_base.specs.declared.entry.Entry.{Entry}
 use Rattle.ti_lang.specs.Meaning.Processes.{Setting, Process, begin}
-use Rattle.ti_lang.specs.Meaning.NextStep.{After, none}
+use Rattle.ti_lang.specs.Meaning.Asking.{Wanted}
+use Rattle.ti_lang.specs.Meaning.Steps.{At, step}
+use Rattle.ti_lang.specs.Meaning.NextStep.{Reaches, After, none}
 use Rattle.ti_lang.specs.Meaning.Histories.{History, history_of, is_arrival, is_departure, answers_of, arrivals}
 use Rattle.ti_lang.specs.Meaning.RoundsOf as rounds
 use Rattle.ti_lang.specs.Meaning.RoundsOf.{is_delete_of, last_arrival, arrival_at, arrival_in}
@@ -23,16 +25,17 @@ use Rattle.ti_lang.specs.Meaning.HeapAnswers as heap
 use Rattle.ti_lang.specs.Meaning.Runs.{World, CanTake, IsRun}
 use Rattle.ti_lang.specs.Meaning.Runs as run
 use Rattle.ti_lang.proofs.MeaningLaws.Steps.{after_same}
-use Rattle.ti_lang.proofs.MeaningLaws.Running.{history_grows}
+use Rattle.ti_lang.proofs.MeaningLaws.Running.{taker, history_grows}
 use Rattle.ti_align.specs.declared.slices.SliceStep.{SliceStep}
 use Rattle.ti_align.specs.declared.slices.SliceStep.TheVariants as answer
 use Rattle.ti_align.specs.Slice.{answers_at_departures, deleted_at}
-use Rattle.ti_align.proofs.Ways.{Meeting, Came, Left, Way, comings, answers_left, last_from}
-use Rattle.ti_align.proofs.Ways as way
+use Rattle.ti_align.proofs.Ways.{Asked, Meeting, Came, Left, asking, comings, answers_left, last_from}
+use Rattle.ti_align.proofs.FitWays.{FitWay, fit_then, fit_reach, fit_one}
+use Rattle.ti_align.proofs.FitWays as way
 use Rattle.ti_align.proofs.Vars.{true_false, not_true, if_true, if_false}
 use Rattle.ti_align.proofs.Entries.{departures_both, arrivals_both, own}
 use Rattle.ti_align.proofs.Arrived.{is_own, more_other, at_other, at_last, one_own}
-use Rattle.ti_align.proofs.Running.{meeting, Grows, still, acted, grows, way_then, reach_way, one_way, left_both, after_more}
+use Rattle.ti_align.proofs.Running.{meeting, Grows, still, acted, grows, left_both, after_more}
 use Rattle.ti_align.proofs.Pacing.{deletes_any, Free}
 
 -- ---- what stands at the end of meetings
@@ -165,10 +168,10 @@ met_in j [] = None
 met_in j (e ∷ h) = if e.proc == j then met_by e e.act (met_in j h) else met_in j h
 
 -- the way of a process of a run
-pub record Path (s : Setting) (es : List Entry) (j : ℕ) (ms : List Meeting) : Type 0 where
+pub record Path (F : Wanted → Answer → Type 0) (s : Setting) (es : List Entry) (j : ℕ) (ms : List Meeting) : Type 0 where
   pub process : Process
   pub world : World s es j process
-  pub goes : Way (begin s j) ms process
+  pub goes : FitWay F (begin s j) ms process
   pub told : answers_left ms ≡ answers_at_departures j es
   pub free : Free [] [] ms
   pub gone : AllGone (history_of es) (gone_after [] [] ms)
@@ -213,14 +216,14 @@ met_still j e h k d = go (e.proc == j) refl
     go true z = if_true (e.proc == j) _ _ z ∙ met_quiet e e.act (met_in j h) (sym (ap (λ b. b && is_arrival e.act) z) ∙ k) (d z)
     go false z = if_false (e.proc == j) _ _ z
 
-still_path : (s : Setting) (es all : List Entry) (j : ℕ) (e : Entry) (ms : List Meeting) (p : Process) → all ≡ es ++ e ∷ [] → arrivals j all ≡ arrivals j es → World s all j p → answers_at_departures j all ≡ answers_at_departures j es
-    → (o : Path s es j ms) → o.process ≡ p → Path s all j ms
+still_path : {F : Wanted → Answer → Type 0} (s : Setting) (es all : List Entry) (j : ℕ) (e : Entry) (ms : List Meeting) (p : Process) → all ≡ es ++ e ∷ [] → arrivals j all ≡ arrivals j es → World s all j p → answers_at_departures j all ≡ answers_at_departures j es
+    → (o : Path F s es j ms) → o.process ≡ p → Path F s all j ms
 still_path s es all j e ms p z k w d o q =
     let grown = ap history_of z ∙ history_grows es e in
     let none = quiet s es all j e z k in record {
       process = p;
       world = w;
-      goes = subst (Way (begin s j) ms) q o.goes;
+      goes = subst (FitWay _ (begin s j) ms) q o.goes;
       told = o.told ∙ sym d;
       free = o.free;
       gone = subst (λ h. AllGone h (gone_after [] [] ms)) (sym grown) (gone_on e (history_of es) (gone_after [] [] ms) o.gone);
@@ -265,17 +268,30 @@ left_one_more : (s : Setting) (es : List Entry) (j : ℕ) (at : Place) (a : Acti
     → answers_left (ms ++ meeting at a r) ≡ answers_at_departures j all
 left_one_more s es j at a r ms all t m = left_both ms (meeting at a r) ∙ ap (λ x. x ++ answers_left (meeting at a r)) t ∙ sym m
 
-step_path : (s : Setting) (es all : List Entry) (j : ℕ) (e : Entry) (ms : List Meeting) → all ≡ es ++ e ∷ [] → Grows s es all j → Path s es j ms → (ns : List Meeting) × Path s all j ns
-step_path s es all j e ms z (still u) o = (ms, still_path s es all j e ms o.process z u.1 (subst (λ rs. After (begin s j) rs o.process) (sym u.0) o.world) u.2 o refl)
-step_path s es all j e ms z (acted p q at a w go r x y t k l m n c v) o =
+-- what a process is answered next at a departure suits what is wanted there
+abbrev pub Suits : (Wanted → Answer → Type 0) → Setting → List Entry → ℕ → Type 0
+Suits F s es j =
+    j < s.procs → (p q : Process) (at : Place) (asked : Asked) (go : Answer → Process) (r : Answer) → World s es j p → Reaches p q → step q ≡ At (asking at act.Depart asked) go → heap_answer s.program (history_of es) j act.Depart ≡ Answers r → F asked.1 r
+
+cons_same : (x y : Entry) (xs ys : List Entry) → x ∷ xs ≡ y ∷ ys → (x ≡ y) × (xs ≡ ys)
+cons_same x y xs ys e = (cc, cc)
+
+last_same : (es : List Entry) (d e : Entry) → es ++ d ∷ [] ≡ es ++ e ∷ [] → d ≡ e
+last_same [] d e z = (cons_same d e [] [] z).0
+last_same (x ∷ xs) d e z = last_same xs d e (cons_same x x (xs ++ d ∷ []) (xs ++ e ∷ []) z).1
+
+step_path : (F : Wanted → Answer → Type 0) (s : Setting) (es all : List Entry) (j : ℕ) (e : Entry) (ms : List Meeting) → e.proc < s.procs → Suits F s es j → all ≡ es ++ e ∷ [] → Grows s es all j → Path F s es j ms → (ns : List Meeting) × Path F s all j ns
+step_path F s es all j e ms b i z (still u) o = (ms, still_path s es all j e ms o.process z u.1 (subst (λ rs. After (begin s j) rs o.process) (sym u.0) o.world) u.2 o refl)
+step_path F s es all j e ms b i z (acted p q at a w go r x y t k l m n c v) o =
     let same : o.process ≡ p = after_same _ _ _ _ o.world x in
-    let goes : Way (begin s j) ms p = subst (λ z. Way (begin s j) ms z) same o.goes in
+    let goes : FitWay F (begin s j) ms p = subst (λ z. FitWay F (begin s j) ms z) same o.goes in
     let grown = ap history_of v ∙ history_grows es (record { proc = j; place = at; act = a; answer = r }) in (
       ms ++ meeting at a r,
       record {
         process = go r;
         world = subst (λ rs. After (begin s j) rs (go r)) (sym k) (after_more (begin s j) p q (answers_of j es) at a w go r x y t);
-        goes = way_then (begin s j) p (go r) ms (meeting at a r) goes (reach_way p q (go r) (meeting at a r) y (one_way q at a w go r t));
+        goes = fit_then (begin s j) p (go r) ms (meeting at a r) goes (fit_reach p q (go r) (meeting at a r) y (fit_one q at a w go r t
+            (λ d. i (subst (λ k. k < s.procs) (ap (λ (e : Entry). e.proc) (last_same es e (record { proc = j; place = at; act = a; answer = r }) (sym z ∙ v))) b) p q at w go r x y (subst (λ b. step q ≡ At (asking at b w) go) d t) (subst (λ b. heap_answer s.program (history_of es) j b ≡ Answers r) d c))));
         told = left_one_more s es j at a r ms all o.told m;
         free = free_both [] [] ms (meeting at a r) o.free (free_one s es j at r a (pend_after [] ms) (gone_after [] [] ms) c o.gone);
         gone = subst (λ g. AllGone (history_of all) g) (sym (gone_both [] [] ms (meeting at a r))) (subst (λ h. AllGone h (gone_after (pend_after [] ms) (gone_after [] [] ms) (meeting at a r))) (sym grown) (gone_one s es j at r a (pend_after [] ms) (gone_after [] [] ms) o.gone o.pend));
@@ -285,6 +301,6 @@ step_path s es all j e ms z (acted p q at a w go r x y t k l m n c v) o =
     )
 
 -- in every run each process has its way
-pub on_path : (s : Setting) (es : List Entry) → IsRun s es → (j : ℕ) → (ms : List Meeting) × Path s es j ms
-on_path s es run.none j = ([], record { process = begin s j; world = none; goes = way.stop; told = refl; free = tt; gone = tt; pend = tt; met = refl })
-on_path s all (run.more {es = es} {i = i} {e = e} w t z) j = let o = on_path s es w j in step_path s es all j e o.0 z (grows s es all i j e t z) o.1
+pub on_path : (F : Wanted → Answer → Type 0) (s : Setting) (es : List Entry) → IsRun s es → (j : ℕ) → ((ds : List Entry) → IsRun s ds → Suits F s ds j) → (ms : List Meeting) × Path F s es j ms
+on_path F s es run.none j f = ([], record { process = begin s j; world = none; goes = way.stop; told = refl; free = tt; gone = tt; pend = tt; met = refl })
+on_path F s all (run.more {es = es} {i = i} {e = e} w t z) j f = let o = on_path F s es w j f in step_path F s es all j e o.0 (subst (λ k. k < s.procs) (sym (taker s es i e t)) t.within) (f es w) z (grows s es all i j e t z) o.1

@@ -51,7 +51,7 @@ use Rattle.ti_align.proofs.Paying.{at_most_fuel}
 
 -- ---- numbers
 
-small : (n fuel : ℕ) → n ≤ fuel → fuel ≤ 4000000 → IsCount n
+pub small : (n fuel : ℕ) → n ≤ fuel → fuel ≤ 4000000 → IsCount n
 small n fuel h k = omega (arith, h, k)
 
 few : (i procs : ℕ) → i < procs → procs ≤ 32 → IsCount i
@@ -293,7 +293,7 @@ making_answered e z = by e.act z
     by (act.MakeView grid how) z = refl
     by _ z = absurd (true_false (sym z))
 
-region_answered : (e : Entry) → makes_region e.act ≡ true → is_answered e ≡ true
+pub region_answered : (e : Entry) → makes_region e.act ≡ true → is_answered e ≡ true
 region_answered e z = by e.act z
   where
     by : (a : Action) → makes_region a ≡ true → is_answered (record e { act = a }) ≡ true

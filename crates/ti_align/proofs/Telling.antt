@@ -3,6 +3,7 @@ use Rattle.std.proofs.Common.{◌≡◌, ℕ, suc, ◌+◌, ◌≤◌, ◌==◌,
 use Rattle.ti_base.specs.declared.action.Action.TheVariants as act
 use Rattle.ti_base.specs.declared.entry.Answer.{Answer}
 use Rattle.ti_base.specs.declared.entry.Entry.{Entry}
+use Rattle.ti_lang.specs.Meaning.Answers.{FitsWanted}
 use Rattle.ti_lang.specs.Meaning.Processes.{Setting, Wait, Process, begin}
 use Rattle.ti_lang.specs.Meaning.Steps.{Ends, At, step}
 use Rattle.ti_lang.specs.Meaning.Histories.{is_departure, has_end}
@@ -15,20 +16,20 @@ use Rattle.ti_align.specs.declared.slices.SliceStep.TheVariants as answer
 use Rattle.ti_align.specs.Alignment.{Arrival, ArrivesAt}
 use Rattle.ti_align.specs.Slice.{SliceAnswers, AllFit, answers_at_departures, SliceTells}
 use Rattle.ti_align.proofs.Slice.{slice}
-use Rattle.ti_align.proofs.Ways.{Meeting, Way, comings, answers_left, waiting, asking}
-use Rattle.ti_align.proofs.Ways as way
+use Rattle.ti_align.proofs.Ways.{Meeting, comings, answers_left, waiting, asking}
+use Rattle.ti_align.proofs.FitWays.{FitWay, stop, fit_then, fit_reach}
 use Rattle.ti_align.proofs.Vars.{if_true}
 use Rattle.ti_align.proofs.Entries.{departures_both, own}
 use Rattle.ti_align.proofs.Fitting.{FineMethods}
 use Rattle.ti_align.proofs.Stepping.{Ok, begin_ok}
 use Rattle.ti_align.proofs.Passing.{kind_of}
 use Rattle.ti_align.proofs.Balance.{step_waits, balanced}
-use Rattle.ti_align.proofs.Running.{way_then, reach_way, at_action}
+use Rattle.ti_align.proofs.Running.{at_action}
 use Rattle.ti_align.proofs.Aligning.{run_before, way_next, ends_at}
 use Rattle.ti_align.proofs.Sliced.{begin_sliced}
 use Rattle.ti_align.proofs.Pacing.{Free, paced}
-use Rattle.ti_align.proofs.Pathed.{met_after, met_in, on_path}
-use Rattle.ti_align.proofs.Slicing.{Open, Shows, follow}
+use Rattle.ti_align.proofs.Pathed.{met_after, met_in, Suits, on_path}
+use Rattle.ti_align.proofs.Slicing.{Open, Shows, follow, blames_none}
 use Rattle.ti_align.proofs.Ticking.{fed}
 
 -- ---- lists
@@ -62,11 +63,23 @@ begun [] = refl
 begun (r ∷ rest) = tt
 
 -- where the way of a process shows an answer, the slice comes to it
-shown : (s : Setting) → FineMethods s.program s.program.methods → (i : ℕ) (p : Process) (ms : List Meeting) (outcomes : List Answer) (x z : SliceStep) → Way (begin s i) ms p → Free [] [] ms → (Ok s p → Shows s None ms (slice p) z)
+shown : (s : Setting) → FineMethods s.program s.program.methods → (i : ℕ) (p : Process) (ms : List Meeting) (outcomes : List Answer) (x z : SliceStep) → FitWay FitsWanted (begin s i) ms p → Free [] [] ms → (Ok s p → Shows s None ms (slice p) z)
     → SliceAnswers s outcomes x → AllFit x → answers_left ms ≡ outcomes → p.spent ≤ s.fuel → x ≡ z
 shown s fine i p ms outcomes x z w f o a fit t l =
-    let y = paced s [] [] (begin s i) p ms (begin_ok s i fine) w refl f in
-    follow s z (begin s 0) [] 0 outcomes x a fit (begin_sliced s fine) None (begun outcomes) ms y.1.0 (slice p) y.1.1 t (no_more_than y.1.0 p.spent s.fuel y.1.2 l) (o y.0)
+    let y = paced s FitsWanted [] [] (begin s i) p ms (begin_ok s i fine) w refl f in
+    follow s FitsWanted z (begin s 0) [] 0 outcomes x a fit (begin_sliced s fine) None (begun outcomes) ms y.1.0 (slice p) y.1.1 t (no_more_than y.1.0 p.spent s.fuel y.1.2 l) (o y.0)
+
+-- ---- outcomes
+
+-- what processes are answered at departures in all runs fits what is wanted there
+abbrev pub AllSuit : Setting → Type 0
+AllSuit s = (i : ℕ) (es : List Entry) → IsRun s es → Suits FitsWanted s es i
+
+fits : (s : Setting) → FineMethods s.program s.program.methods → AllSuit s → (es : List Entry) → IsRun s es → (i : ℕ) (x : SliceStep) → SliceAnswers s (answers_at_departures i es) x → AllFit x
+fits s fine suit es w i x ans =
+    let o = on_path FitsWanted s es w i (suit i) in
+    let y = paced s FitsWanted [] [] (begin s i) o.1.process o.0 (begin_ok s i fine) o.1.goes refl o.1.free in
+    blames_none s FitsWanted (λ v r k. k) (begin s 0) [] 0 (answers_at_departures i es) x ans (begin_sliced s fine) None o.0 y.1.0 (slice o.1.process) y.1.1 o.1.told (no_more_than y.1.0 o.1.process.spent s.fuel y.1.2 (limits.within s i _ o.1.process o.1.world).0) tt
 
 -- ---- arrivals
 
@@ -94,15 +107,16 @@ no_departure i e h d = ap (λ x. map (λ (e : Entry). e.answer) (filter (λ (e :
     none : map (λ (e : Entry). e.answer) (filter (λ (e : Entry). is_departure e.act) (e ∷ [])) ≡ []
     none = rw d refl
 
-arrives : (s : Setting) → FineMethods s.program s.program.methods → (es : List Entry) → IsRun s es → (i : ℕ) (outcomes others : List Answer) (x : SliceStep) (a : Arrival) → SliceAnswers s outcomes x → AllFit x → answers_at_departures i es ≡ outcomes ++ others
+arrives : (s : Setting) → FineMethods s.program s.program.methods → AllSuit s → (es : List Entry) → IsRun s es → (i : ℕ) (outcomes others : List Answer) (x : SliceStep) (a : Arrival) → SliceAnswers s outcomes x → answers_at_departures i es ≡ outcomes ++ others
     → ArrivesAt s es i (length outcomes) a → x ≡ answer.At a.kind a.place a.arg
-arrives s fine es w i outcomes others x a ans fit d y =
+arrives s fine suit es w i outcomes others x a ans d y =
     let e = arrival_entry s es i (length outcomes) a y in
     let run : IsRun s (y.before ++ e ∷ []) = fronts s (y.before ++ e ∷ []) y.rest (subst (IsRun s) (y.split ∙ sym (append_assoc y.before (e ∷ []) y.rest)) w) in
-    let o = on_path s (y.before ++ e ∷ []) run i in
+    let o = on_path FitsWanted s (y.before ++ e ∷ []) run i (suit i) in
     let same : outcomes ≡ answers_at_departures i y.before =
     front_same outcomes (answers_at_departures i y.before) others (answers_at_departures i (e ∷ y.rest))
     (sym d ∙ ap (answers_at_departures i) y.split ∙ departures_both i y.before (e ∷ y.rest)) (sym (left_all s es i (length outcomes) a w y)) in
+    let fit : AllFit x = fits s fine suit y.before (run_before s es y.before y.rest _ w y.split) i x (subst (λ rs. SliceAnswers s rs x) same ans) in
     let none : answers_at_departures i (y.before ++ e ∷ []) ≡ answers_at_departures i y.before =
     departures_both i y.before (e ∷ []) ∙ ap (λ l. answers_at_departures i y.before ++ l) (no_departure i e (eq-eqb i i refl) refl) ∙ append-nil (answers_at_departures i y.before) in
     let met : met_after None o.0 ≡ Some (answer.At a.kind a.place a.arg) =
@@ -111,21 +125,21 @@ arrives s fine es w i outcomes others x a ans fit d y =
 
 -- ---- ends
 
-ends : (s : Setting) → FineMethods s.program s.program.methods → (es : List Entry) → IsRun s es → (i : ℕ) (x : SliceStep) → SliceAnswers s (answers_at_departures i es) x → AllFit x → has_end i es ≡ true → x ≡ answer.Ended
-ends s fine es w i x ans fit h =
+ends : (s : Setting) → FineMethods s.program s.program.methods → AllSuit s → (es : List Entry) → IsRun s es → (i : ℕ) (x : SliceStep) → SliceAnswers s (answers_at_departures i es) x → has_end i es ≡ true → x ≡ answer.Ended
+ends s fine suit es w i x ans h =
     let e = ends_at s fine es i w h in
-    let o = on_path s es w i in
+    let o = on_path FitsWanted s es w i (suit i) in
     let same : o.1.process ≡ e.process = after_same _ _ _ _ o.1.world e.world in
-    let on : Way (begin s i) (o.0 ++ []) e.settled = way_then (begin s i) e.process e.settled o.0 [] (subst (Way (begin s i) o.0) same o.1.goes) (reach_way e.process e.settled e.settled [] e.reaches way.stop) in
-    let goes : Way (begin s i) o.0 e.settled = subst (λ ms. Way (begin s i) ms e.settled) (append-nil o.0) on in
-    let first = paced s [] [] (begin s i) e.process o.0 (begin_ok s i fine) (subst (Way (begin s i) o.0) same o.1.goes) refl o.1.free in
-    let last = paced s [] [] (begin s i) e.settled o.0 (begin_ok s i fine) goes refl o.1.free in
+    let on : FitWay FitsWanted (begin s i) (o.0 ++ []) e.settled = fit_then (begin s i) e.process e.settled o.0 [] (subst (FitWay FitsWanted (begin s i) o.0) same o.1.goes) (fit_reach e.process e.settled e.settled [] e.reaches stop) in
+    let goes : FitWay FitsWanted (begin s i) o.0 e.settled = subst (λ ms. FitWay FitsWanted (begin s i) ms e.settled) (append-nil o.0) on in
+    let first = paced s FitsWanted [] [] (begin s i) e.process o.0 (begin_ok s i fine) (subst (FitWay FitsWanted (begin s i) o.0) same o.1.goes) refl o.1.free in
+    let last = paced s FitsWanted [] [] (begin s i) e.settled o.0 (begin_ok s i fine) goes refl o.1.free in
     let spent : e.settled.spent ≤ s.fuel =
     subst (λ (k : Setting). e.settled.spent ≤ k.fuel) last.0.0
     (fed e.process e.settled (subst (λ (k : Setting). e.process.spent ≤ k.fuel) (sym first.0.0) (limits.within s i _ e.process e.world).0) e.reaches) in
-    shown s fine i e.settled o.0 (answers_at_departures i es) x answer.Ended goes o.1.free (λ k. inr (kind_of s e.settled (Ends e.place) k e.stands, refl)) ans fit o.1.told spent
+    shown s fine i e.settled o.0 (answers_at_departures i es) x answer.Ended goes o.1.free (λ k. inr (kind_of s e.settled (Ends e.place) k e.stands, refl)) ans (fits s fine suit es w i x ans) o.1.told spent
 
--- ---- both
+-- ---- all of it
 
-pub tells : (s : Setting) → FineMethods s.program s.program.methods → (es : List Entry) → IsRun s es → SliceTells s es
-tells s fine es w = record { arrives = arrives s fine es w; ends = ends s fine es w }
+pub tells : (s : Setting) → FineMethods s.program s.program.methods → AllSuit s → (es : List Entry) → IsRun s es → SliceTells s es
+tells s fine suit es w = record { fits = fits s fine suit es w; arrives = arrives s fine suit es w; ends = ends s fine suit es w }

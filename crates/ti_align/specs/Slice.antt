@@ -251,10 +251,12 @@ AllFit x = Unit {0}
 abbrev pub answers_at_departures : ℕ → List Entry → List Answer
 answers_at_departures i es = map (λ (e : Entry). e.answer) (filter (λ (e : Entry). is_departure e.act) (entries_of i es))
 
--- what the slice says of a run, where these outcomes are right
+-- what the slice says of a run
 pub record SliceTells (s : Setting) (es : List Entry) : Type 0 where
+  -- what the departures of a process were answered are outcomes that fit
+  pub fits : (i : ℕ) (x : SliceStep) → SliceAnswers s (answers_at_departures i es) x → AllFit x
   -- the arrival of a process that comes behind so many departures is the one at which the slice arrives behind their outcomes
-  pub arrives : (i : ℕ) (outcomes others : List Answer) (x : SliceStep) (a : Arrival) → SliceAnswers s outcomes x → AllFit x → answers_at_departures i es ≡ outcomes ++ others
+  pub arrives : (i : ℕ) (outcomes others : List Answer) (x : SliceStep) (a : Arrival) → SliceAnswers s outcomes x → answers_at_departures i es ≡ outcomes ++ others
       → ArrivesAt s es i (length outcomes) a → x ≡ answer.At a.kind a.place a.arg
   -- where a process has its end, the slice ends behind the outcomes of all its departures
-  pub ends : (i : ℕ) (x : SliceStep) → SliceAnswers s (answers_at_departures i es) x → AllFit x → has_end i es ≡ true → x ≡ answer.Ended
+  pub ends : (i : ℕ) (x : SliceStep) → SliceAnswers s (answers_at_departures i es) x → has_end i es ≡ true → x ≡ answer.Ended

@@ -8,6 +8,7 @@ ghost use Rattle.ti_align.specs.Alignment.{OfEveryRun};
 ghost use Rattle.ti_align.specs.declared.slices.SliceStep.{SliceStep as Step};
 ghost use Rattle.ti_align.specs.Slice.{SliceAnswers, SliceTells};
 
+use crate::reading::literals_fit;
 use ti_base::{CollKind, FaultKind, Place};
 use ti_rules::Checked;
 
@@ -26,12 +27,14 @@ pub enum SliceStep {
     Unfit(u64),
 }
 
-/// In every run of a checked program, where the slice's answer doesn't blame an outcome: an arrival of a
-/// process, whose departures before it got these outcomes, is the one at which the slice arrives, and a
-/// process has its end only where the slice has ended behind the outcomes of all its departures.
+/// In every run of a checked program the slice blames no outcome that a process got at its departures. An
+/// arrival of a process is the one at which the slice arrives behind the outcomes of the departures before
+/// it, and a process has its end only where the slice has ended behind those of all its departures.
 pub fn slice_tells(c: &Checked)
     ensures { OfEveryRun SliceTells (program_of c.now.program.parts) }
-{}
+{
+    literals_fit(c.program());
+}
 
 /// The slice of a checked program comes to an answer, whatever the outcomes, and to one alone.
 pub fn one_slice_answer(c: &Checked)
