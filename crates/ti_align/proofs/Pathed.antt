@@ -29,7 +29,7 @@ use Rattle.ti_lang.proofs.MeaningLaws.Running.{taker, history_grows}
 use Rattle.ti_align.specs.declared.slices.SliceStep.{SliceStep}
 use Rattle.ti_align.specs.declared.slices.SliceStep.TheVariants as answer
 use Rattle.ti_align.specs.Slice.{answers_at_departures, deleted_at}
-use Rattle.ti_align.proofs.Ways.{Asked, Meeting, Came, Left, asking, comings, answers_left, last_from}
+use Rattle.ti_align.proofs.Ways.{Asked, Meeting, Came, Left, asking, answers_left}
 use Rattle.ti_align.proofs.FitWays.{FitWay, fit_then, fit_reach, fit_one}
 use Rattle.ti_align.proofs.FitWays as way
 use Rattle.ti_align.proofs.Vars.{true_false, not_true, if_true, if_false}

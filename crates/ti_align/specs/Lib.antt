@@ -11,6 +11,7 @@ pub mod Heap
 pub mod Work
 pub mod Typed
 pub mod Names
+pub mod Departing
 pub mod Formed
 pub mod Dangling
 pub mod Counted
