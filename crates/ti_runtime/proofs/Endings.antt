@@ -13,8 +13,11 @@ use Rattle.ti_exec.specs.Standing as exec
 use Rattle.ti_runtime.specs.declared.cursor.Cursor.{Cursor}
 use Rattle.ti_runtime.specs.declared.seat.Seat.{Seat}
 use Rattle.ti_runtime.specs.declared.seat.Stop.TheVariants as stop
-use Rattle.ti_runtime.specs.declared.run.How.TheVariants as how
-use Rattle.ti_runtime.specs.MirrorsWaiting.{Rests}
+use Rattle.ti_runtime.specs.declared.runner.How.{How}
+use Rattle.ti_runtime.specs.declared.runner.How.TheVariants as how
+use Rattle.ti_runtime.specs.declared.runner.RunEnd.{RunEnd}
+use Rattle.ti_runtime.specs.Ran.{Ran}
+use Rattle.ti_runtime.specs.MirrorsWaiting.{Waits, Rests}
 use Rattle.ti_runtime.specs.MirrorsTeam.{Seated, Points, Stands, Stopped, CameTo}
 use Rattle.ti_runtime.proofs.Waiting.{rest_takes_none}
 
@@ -54,7 +57,7 @@ begins s seats count seated = record {
     most = no_more s.procs;
     few = no_more s.procs;
     before = λ i l. none_below (Rests s []) i l;
-    together = λ i l. none_below _ i l;
+    together = λ i l. none_below (λ k. Waits s [] k → (j : ℕ) → j < 0 → Rests s [] j) i l;
   };
 }
 
@@ -97,3 +100,13 @@ unbegun s l = record {
   where
     some : (n : ℕ) → 1 ≤ n → 0 < n
     some n l = omega arith
+
+-- what came of a run
+pub ran : (s : Setting) (end : RunEnd) (es : List Entry) → end.history.items ≡ es → CameTo s es end.how → Ran s end
+ran s end es is x =
+    let y = subst (λ xs. CameTo s xs end.how) (sym is) x in
+    record { run = solo_run s end.history.items y.solo; solo = y.solo; ended = y.ended; faulted = y.faulted }
+
+-- the same under other names
+pub came_so : (s t : Setting) (es ds : List Entry) (h k : How) → t ≡ s → ds ≡ es → k ≡ h → CameTo t es h → CameTo s ds k
+came_so s t es ds h k e f g x = subst (λ u. CameTo u ds k) e (subst (λ xs. CameTo t xs k) (sym f) (subst (CameTo t es) (sym g) x))

@@ -1,5 +1,5 @@
 -- What the turn of a process makes of its seat.
-use Rattle.std.proofs.Common.{◌≡◌, ℕ, suc, ◌+◌, ◌-◌, ◌<◌, ◌≤◌, ◌==◌, Bool, true, false, not, ◌||◌, if◌then◌else◌, map, filter, length, inl, inr, Option, Some, List, [], ◌∷◌, ◌++◌, refl, sym, ap, ◌∙◌, subst, arith, length-append}
+use Rattle.std.proofs.Common.{◌≡◌, ℕ, suc, ◌+◌, ◌-◌, ◌<◌, ◌≤◌, ◌==◌, Bool, true, false, not, ◌||◌, if◌then◌else◌, map, filter, length, inl, inr, Option, Some, Ok, List, [], ◌∷◌, ◌++◌, refl, sym, ap, ◌∙◌, subst, arith, length-append}
 use Rattle.std.specs.List.{list_any}
 use Rattle.ti_base.specs.declared.place.Place.{Place}
 use Rattle.ti_base.specs.declared.fault.FaultKind.{FaultKind}
@@ -116,6 +116,10 @@ taken st i seat e l f u y b =
       entry = b.entry;
     }
 
+-- the entry of what a process does, with its answer
+abbrev entry_with : ℕ → Seat → Answer → Entry
+entry_with i seat answer = record { proc = i; place = seat.place; act = seat.action; answer = answer }
+
 or_none : (a b : Bool) → b ≡ false → (a || b) ≡ a
 or_none true b h = refl
 or_none false b h = h
@@ -127,11 +131,8 @@ or_there false b h = h
 -- ---- the seat behind an answer
 
 module _ (s : Setting) (es : List Entry) (i : ℕ) (old : Seat) (answer : Answer) (y : Seated s es i old) where
-  entry : Entry
-  entry = record { proc = i; place = old.place; act = old.action; answer = answer }
-
   abbrev here : Entry
-  here = record { proc = i; place = old.place; act = old.action; answer = answer }
+  here = entry_with i old answer
 
   -- behind its end a process stands where it stood
   seated_end : is_end old.action ≡ true → Seated s (es ++ here ∷ []) i (record old { ended = true })
@@ -176,18 +177,15 @@ module _ (s : Setting) (es : List Entry) (i : ℕ) (old : Seat) (answer : Answer
 went_with : (st new : StoreState) (i : ℕ) (old seat : Seat) (answer : Answer) (t : Turn) → i < st.procs → has_fault st.entries ≡ false → old.ended ≡ false → Seated (setting_of st) st.entries i old
     → IsDone st i old.place old.action answer new → Moves old answer seat t → (b : Bool) → is_arrival old.action ≡ b → GoesOn (setting_of st) st.entries i old new.entries seat b
 went_with st new i old seat answer t l f u y d m b a = record {
-  takes = record { entry = entry s st.entries i old answer y; can = taken st i old (entry s st.entries i old answer y) l f u y d.becomes; after = ap (λ (x : StoreState). x.entries) d.after };
+  takes = record { entry = entry_with i old answer; can = taken st i old (entry_with i old answer) l f u y d.becomes; after = ap (λ (x : StoreState). x.entries) d.after };
   arrives_is = a;
   no_fault = d.no_fault;
-  seated = subst (λ xs. Seated s xs i seat) (sym (ap (λ (x : StoreState). x.entries) d.after)) (seated (is_end old.action) refl);
+  seated = subst (λ xs. Seated (setting_of st) xs i seat) (sym (ap (λ (x : StoreState). x.entries) d.after)) (seated (is_end old.action) refl);
   lighter = lighter (is_end old.action) refl;
 }
   where
-    s : Setting
-    s = setting_of st
-
-    seated : (b : Bool) → is_end old.action ≡ b → Seated (setting_of st) (st.entries ++ record { proc = i; place = old.place; act = old.action; answer = answer } ∷ []) i seat
-    seated true e = subst (Seated (setting_of st) (st.entries ++ record { proc = i; place = old.place; act = old.action; answer = answer } ∷ []) i) (sym (m.ends e)) (seated_end (setting_of st) st.entries i old answer y e)
+    seated : (b : Bool) → is_end old.action ≡ b → Seated (setting_of st) (st.entries ++ entry_with i old answer ∷ []) i seat
+    seated true e = subst (Seated (setting_of st) (st.entries ++ entry_with i old answer ∷ []) i) (sym (m.ends e)) (seated_end (setting_of st) st.entries i old answer y e)
     seated false e = seated_heard (setting_of st) st.entries i old answer y seat e d.no_fault (m.hears e)
 
     lighter : (b : Bool) → is_end old.action ≡ b → steps_left (setting_of st) seat < steps_left (setting_of st) old
@@ -206,8 +204,7 @@ went st new i old seat answer t l f u y d m = by (is_arrival old.action) refl m.
 pub wants_behind : (st new : StoreState) (i : ℕ) (old : Seat) (answer : Answer) → i < st.procs → has_fault st.entries ≡ false → old.ended ≡ false → Seated (setting_of st) st.entries i old
     → IsDone st i old.place old.action answer new → is_end old.action ≡ false → StopsAt (setting_of st) st.entries i new.entries stop.Memory
 wants_behind st new i old answer l f u y d e =
-    let entry : Entry = record { proc = i; place = old.place; act = old.action; answer = answer } in
-    inr (record { entry = entry; can = taken st i old entry l f u y d.becomes; after = ap (λ (x : StoreState). x.entries) d.after }, d.no_fault, e)
+    inr (record { entry = entry_with i old answer; can = taken st i old (entry_with i old answer) l f u y d.becomes; after = ap (λ (x : StoreState). x.entries) d.after }, d.no_fault, e)
 
 -- what has to wait is a departure
 is_departing : (s : Setting) (es : List Entry) (i : ℕ) (at : Place) (a : Action) → (IsReady s es i (next_of at a) → ⊥) → a ≡ act.Depart
@@ -261,7 +258,7 @@ seated_first p procs fuel i t u n d e h k z =
       ended = refl;
     }
 
-pub heard : (old : Seat) (answer : Answer) (t u : Standing) (n : Next) (d : Place × Action)
+heard : (old : Seat) (answer : Answer) (t u : Standing) (n : Next) (d : Place × Action)
     → t ≡ record old.process { told = old.process.told ++ answer ∷ []; asks = false } → HasNext t n → u ≡ record t { asks = is_act n } → d ≡ doing_of n
     → Hears old answer (record { process = u; place = d.0; action = d.1; ended = old.ended })
 heard old answer t u n d e h k z =
@@ -272,3 +269,8 @@ heard old answer t u n d e h k z =
       next = subst (λ (d : Place × Action). HasNext u (next_of d.0 d.1)) (sym z) x.0;
       ended = refl;
     }
+
+pub moved : (old : Seat) (answer : Answer) (t u : Standing) (n : Next) (d : Place × Action) (taken : Turn) → taken ≡ (if is_arrival old.action then turn.Arrived else turn.Went) → false ≡ is_end old.action
+    → t ≡ record old.process { told = old.process.told ++ answer ∷ []; asks = false } → HasNext t n → u ≡ record t { asks = is_act n } → d ≡ doing_of n
+    → Moves old answer (record { process = u; place = d.0; action = d.1; ended = old.ended }) taken
+moved old answer t u n d taken w x e h k z = record { turn = w; ends = λ y. absurd (true_false (sym y ∙ sym x)); hears = λ y. heard old answer t u n d e h k z }

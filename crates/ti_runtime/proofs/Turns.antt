@@ -10,8 +10,9 @@ use Rattle.ti_lang.specs.Meaning.Processes.{Setting}
 use Rattle.ti_lang.specs.Meaning.Histories.{is_end, is_fault, is_arrival, is_answered, entries_of, answers_of, has_end, has_fault}
 use Rattle.ti_lang.specs.Meaning.Runs.{CanTake, IsSolo, none, more, AllEnded}
 use Rattle.ti_lang.proofs.MeaningLaws.Running.{taker, solo_run}
-use Rattle.ti_align.specs.Alignment.{NoneStuck}
+use Rattle.ti_align.specs.Alignment.{OfEveryRun}
 use Rattle.ti_align.specs.Stopping.{RoundsBalance}
+use Rattle.ti_store.specs.Conditions.{IsWithin}
 use Rattle.ti_runtime.specs.declared.cursor.Cursor.{Cursor}
 use Rattle.ti_runtime.specs.declared.cursor.Turn.{Turn}
 use Rattle.ti_runtime.specs.declared.cursor.Turn.TheVariants as turn
@@ -19,12 +20,16 @@ use Rattle.ti_runtime.specs.declared.seat.Seat.{Seat}
 use Rattle.ti_runtime.specs.declared.seat.Stop.{Stop}
 use Rattle.ti_runtime.specs.declared.seat.Stop.TheVariants as stop
 use Rattle.ti_runtime.specs.MirrorsWaiting.{Waits, Rests}
-use Rattle.ti_runtime.specs.MirrorsTeam.{Seated, Takes, steps_left, all_steps_left, GoesOn, StopsAt, TurnLeaves, cursor_after, Points, Stands, turns_left, Stopped}
+use Rattle.ti_runtime.specs.MirrorsTeam.{Seated, Takes, steps_left, all_steps_left, GoesOn, StopsAt, TurnLeaves, cursor_after, Points, Stands, turns_left, StandsOn, Stopped}
 use Rattle.ti_runtime.proofs.Entries.{end_more, other_more, fault_more}
 use Rattle.ti_runtime.proofs.Waiting.{rest_takes_none, rests_still, wait_together}
 
 true_false : true ≡ false → ⊥
 true_false e = cc
+
+-- what holds of every run of a program holds of a solo run
+pub law_of : (fact : Setting → List Entry → Type 0) (s : Setting) (es : List Entry) → OfEveryRun fact s.program → IsWithin s.procs s.fuel → IsSolo s es → fact s es
+law_of fact s es all w solo = all s.procs s.fuel es w.some w.few w.fueled w.limited (solo_run s es solo)
 
 -- ---- a run with one entry more
 
@@ -204,11 +209,6 @@ further m n = omega arith
 one_further : (m : ℕ) → m < m + 1
 one_further m = omega arith
 
--- where the team stands after a turn, with fewer turns left
-pub record Onward (s : Setting) (seats : List Seat) (c : Cursor) (all : List Entry) (new : List Seat) (d : Cursor) : Type 0 where
-  pub stands : Stands s all new d
-  pub lighter : turns_left s new d < turns_left s seats c
-
 set_same : (xs : List Seat) (k : ℕ) (d : Seat) → slice_set xs k (get_or xs k d) ≡ xs
 set_same [] k d = refl
 set_same (y ∷ ys) zero d = refl
@@ -219,7 +219,7 @@ module _ (s : Setting) (es : List Entry) (seats : List Seat) (c : Cursor) (x : S
   within = subst (λ n. c.at < n) (sym x.count) inside
 
   -- by an entry
-  onward : (all : List Entry) (new : Seat) (arrives : Bool) (d : Cursor) → GoesOn s es c.at old all new arrives → Points s all d → Onward s seats c all (slice_set seats c.at new) d
+  onward : (all : List Entry) (new : Seat) (arrives : Bool) (d : Cursor) → GoesOn s es c.at old all new arrives → Points s all d → StandsOn s seats c all (slice_set seats c.at new) d
   onward all new arrives d g p = record {
     stands = record {
       solo = solo_on s es all c.at g.takes x.solo x.points.before;
@@ -232,18 +232,18 @@ module _ (s : Setting) (es : List Entry) (seats : List Seat) (c : Cursor) (x : S
   }
 
   -- by none
-  still : (d : Cursor) → Points s es d → c.at < d.at → Onward s seats c es seats d
+  still : (d : Cursor) → Points s es d → c.at < d.at → StandsOn s seats c es seats d
   still d p l = record {
     stands = record { solo = x.solo; goes_on = x.goes_on; count = x.count; seated = x.seated; points = p };
     lighter = falls_same (all_steps_left s seats * (s.procs + 1)) s.procs d.at c.at l inside;
   }
 
-  rested : (all : List Entry) (new : Seat) (d : Cursor) → all ≡ es → new ≡ old → Points s es d → c.at < d.at → Onward s seats c all (slice_set seats c.at new) d
+  rested : (all : List Entry) (new : Seat) (d : Cursor) → all ≡ es → new ≡ old → Points s es d → c.at < d.at → StandsOn s seats c all (slice_set seats c.at new) d
   rested all new d e same p l =
-      subst (λ xs. Onward s seats c xs (slice_set seats c.at new) d) (sym e)
-      (subst (λ xs. Onward s seats c es xs d) (sym (ap (slice_set seats c.at) (same ∙ is) ∙ set_same seats c.at old)) (still d p l))
+      subst (λ xs. StandsOn s seats c xs (slice_set seats c.at new) d) (sym e)
+      (subst (λ xs. StandsOn s seats c es xs d) (sym (ap (slice_set seats c.at) (same ∙ is) ∙ set_same seats c.at old)) (still d p l))
 
-  pub turned : RoundsBalance s es → (all : List Entry) (new : Seat) (t : Turn) → TurnLeaves s es c.at old all new (Ok t) → Onward s seats c all (slice_set seats c.at new) (cursor_after c t)
+  pub turned : RoundsBalance s es → (all : List Entry) (new : Seat) (t : Turn) → TurnLeaves s es c.at old all new (Ok t) → StandsOn s seats c all (slice_set seats c.at new) (cursor_after c t)
   turned balance all new turn.Arrived g = onward all new true (cursor_after c turn.Arrived) g (points_arrived s es c x.points inside x.solo balance all g.takes g.arrives_is)
   turned balance all new turn.Went g = onward all new false (cursor_after c turn.Went) g (points_went s es c x.points inside all g.takes g.arrives_is)
   turned balance all new turn.Ended g = rested all new (cursor_after c turn.Ended) g.0 g.1 (points_ended s es c x.points inside g.2) (one_further c.at)

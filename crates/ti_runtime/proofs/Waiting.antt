@@ -87,7 +87,7 @@ arrivals_same : (i : ℕ) (es : List Entry) (e : Entry) → is_arrival e.act ≡
 arrivals_same i es e a = by (e.proc == i) refl
   where
     by : (b : Bool) → (e.proc == i) ≡ b → arrivals i (es ++ e ∷ []) ≡ arrivals i es
-    by true h = omega (arith, arrivals_more i es e (eqb-true e.proc i h), ap (λ b. cond b 1 0) a)
+    by true h = omega (arith, arrivals_more i es e (eqb-true e.proc i h), ap {B = ℕ} (λ b. cond b 1 0) a)
     by false h = ap (count_by (λ (x : Entry). is_arrival x.act)) (other_more i es e h)
 
 one_less : (c l a b : ℕ) → c ≡ l + 1 → l < a → a ≤ b → c ≤ b
@@ -116,7 +116,7 @@ left_by_all s all (more {es = es} {i = k} {e = e} run t split) i j l =
         (subst (λ m. departures m es < arrivals j es) me (departs_when s es k t.next e t.entry d t.ready j l)) kept
     by true false h d before =
         none_less _ (departures i es) (arrivals j es) _
-        (none_more _ (departures i es) (cond (is_departure e.act) 1 0) (departures_more i es e (eqb-true e.proc i h)) (ap (λ b. cond b 1 0) d)) before kept
+        (none_more _ (departures i es) (cond (is_departure e.act) 1 0) (departures_more i es e (eqb-true e.proc i h)) (ap {B = ℕ} (λ b. cond b 1 0) d)) before kept
     by false d h x before = none_less _ (departures i es) (arrivals j es) _ (ap (count_by (λ (x : Entry). is_departure x.act)) (other_more i es e h)) before kept
 
 -- ---- who rests, as the run grows

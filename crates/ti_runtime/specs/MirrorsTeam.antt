@@ -23,8 +23,8 @@ use Rattle.ti_runtime.specs.declared.seat.Seat.{Seat}
 use Rattle.ti_runtime.specs.declared.seat.Stop.{Stop}
 use Rattle.ti_runtime.specs.declared.seat.Stop.TheVariants as stop
 use Rattle.ti_runtime.specs.declared.team.Team.{Team}
-use Rattle.ti_runtime.specs.declared.run.How.{How}
-use Rattle.ti_runtime.specs.declared.run.How.TheVariants as how
+use Rattle.ti_runtime.specs.declared.runner.How.{How}
+use Rattle.ti_runtime.specs.declared.runner.How.TheVariants as how
 use Rattle.ti_runtime.specs.MirrorsWaiting.{Waits, Rests}
 
 -- ---- seats
@@ -126,10 +126,10 @@ pub record Stands (s : Setting) (es : List Entry) (seats : List Seat) (c : Curso
 abbrev pub turns_left : Setting → List Seat → Cursor → ℕ
 turns_left s seats c = all_steps_left s seats * (s.procs + 1) + (s.procs - c.at)
 
--- the run goes on
-pub record StandsOn (s : Setting) (old : Team) (all : List Entry) (new : Team) : Type 0 where
-  pub stands : Stands s all new.seats.items new.cursor
-  pub lighter : turns_left s new.seats.items new.cursor < turns_left s old.seats.items old.cursor
+-- the run goes on, with fewer turns left
+pub record StandsOn (s : Setting) (old : List Seat) (was : Cursor) (es : List Entry) (new : List Seat) (is : Cursor) : Type 0 where
+  pub stands : Stands s es new is
+  pub lighter : turns_left s new is < turns_left s old was
 
 -- a run that stopped before all had their end
 pub record Stopped (s : Setting) (es : List Entry) (why : Stop) : Type 0 where
@@ -139,7 +139,7 @@ pub record Stopped (s : Setting) (es : List Entry) (why : Stop) : Type 0 where
 
 -- what a step of a team makes of it and of the entries
 abbrev pub StepLeaves : {U : Type 0} → Setting → Team → List Entry → Team → Result U Stop → Type 0
-StepLeaves s old all new (Ok u) = StandsOn s old all new
+StepLeaves s old all new (Ok u) = StandsOn s old.seats.items old.cursor all new.seats.items new.cursor
 StepLeaves s old all new (Err why) = Stopped s all why
 
 -- ---- runs

@@ -2,8 +2,8 @@
 #![tactic(auto)]
 
 mod cursor;
-mod run;
+mod runner;
 mod seat;
 mod team;
 
-pub use run::{How, RunEnd, run};
+pub use runner::{How, RunEnd, run};

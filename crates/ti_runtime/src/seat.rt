@@ -1,7 +1,7 @@
 // A process's place in the team of a run.
-ghost use Rattle.std.specs.Prelude.{◌≡◌, ◌<◌, ◌^◌, [], true, false, IfOk, IfErr};
+ghost use Rattle.std.specs.Prelude.{◌≡◌, ◌<◌, ◌^◌, [], true, false, IfOk, IfErr, if◌then◌else◌};
 ghost use Rattle.ti_lang.specs.Program.Views.{program_of};
-ghost use Rattle.ti_lang.specs.Meaning.Histories.{is_end as end_spec, is_arrival as arrival_spec};
+ghost use Rattle.ti_lang.specs.Meaning.Histories.{is_end as end_spec, is_arrival};
 ghost use Rattle.ti_eval.specs.Forms.{IsFormedAnswer};
 ghost use Rattle.ti_store.specs.Stores.{setting_of};
 ghost use Rattle.ti_runtime.specs.MirrorsTeam.{doing_of, Seated, Moves, IsOpen, TurnLeaves};
@@ -20,12 +20,6 @@ pub enum Stop {
     Faulted,
     /// Out of memory.
     Memory,
-}
-
-impl From<Memory> for Stop {
-    fn from(_wanting: Memory) -> Self {
-        Stop::Memory
-    }
 }
 
 /// A process of a run with what it does next, and whether it had its end.
@@ -55,11 +49,15 @@ fn is_end(action: Action) -> bool
     matches!(action, Action::End)
 }
 
-// Whether an action is an arrival at a collective.
-fn is_arrival(action: Action) -> bool
-    ensures { result ≡ arrival_spec action }
+// How a process goes on that was answered.
+fn turn_of(action: Action) -> Turn
+    ensures { result ≡ (if is_arrival action then Turn.Arrived else Turn.Went) }
 {
-    matches!(action, Action::Arrive { .. })
+    if matches!(action, Action::Arrive { .. }) {
+        Turn::Arrived
+    } else {
+        Turn::Went
+    }
 }
 
 impl Seat {
@@ -97,12 +95,12 @@ impl Seat {
             self.ended = true;
             return Ok(Turn::Went);
         }
-        let arrives = is_arrival(self.action);
+        let turn = turn_of(self.action);
         self.process.answer(answer);
         let (place, action) = doing(self.process.advance(alloc, c)?);
         self.place = place;
         self.action = action;
-        Ok(if arrives { Turn::Arrived } else { Turn::Went })
+        Ok(turn)
     }
 
     /// The process takes its turn: it does what it has next, if it needn't wait.
@@ -123,7 +121,10 @@ impl Seat {
             return Ok(Turn::Ended);
         }
         match store.act(alloc, number, self.place, self.action) {
-            Ok(answer) => Ok(self.go_on(alloc, c, answer)?),
+            Ok(answer) => match self.go_on(alloc, c, answer) {
+                Ok(turn) => Ok(turn),
+                Err(Memory) => Err(Stop::Memory),
+            },
             Err(ActErr::NotYet) => Ok(Turn::Waits),
             Err(ActErr::Faulted(_)) => Err(Stop::Faulted),
             Err(ActErr::Halted | ActErr::Memory) => Err(Stop::Memory),

@@ -46,8 +46,12 @@ impl Team {
     {
         rounds_balance(c);
         let number = self.cursor.at;
-        let turn = self.seats[number as usize].take_turn(alloc, c, store, number)?;
-        self.cursor = self.cursor.after(turn);
-        Ok(())
+        match self.seats[number as usize].take_turn(alloc, c, store, number) {
+            Ok(turn) => {
+                self.cursor = self.cursor.after(turn);
+                Ok(())
+            }
+            Err(stop) => Err(stop),
+        }
     }
 }

@@ -41,7 +41,7 @@ fn play(alloc: Global, c: &Checked, mut team: Team, store: &mut Store) -> How
     ensures came { CameTo (setting_of store.old) store.new.entries result }
     ensures setting { setting_of store.new ≡ setting_of store.old }
 {
-    while (team.cursor.at as usize) < team.seats.len() {
+    'turns: while (team.cursor.at as usize) < team.seats.len() {
         match team.step(alloc, c, store) {
             Ok(()) => {}
             Err(Stop::Faulted) => return How::Faulted,
