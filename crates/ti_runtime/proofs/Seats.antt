@@ -17,6 +17,7 @@ use Rattle.ti_lang.specs.Meaning.Steps.{Step, To, At, Ends, Faults, step}
 use Rattle.ti_lang.specs.Meaning.NextStep.{shown, IsNext, After}
 use Rattle.ti_lang.specs.Meaning.Histories.{is_end, is_fault, is_arrival, is_answered, entries_of, answers_of, has_end, has_fault}
 use Rattle.ti_lang.specs.Meaning.Runs.{IsReady, CanTake}
+use Rattle.ti_lang.proofs.MeaningLaws.Limits.{within}
 use Rattle.ti_lang.proofs.MeaningLaws.Requests.{no_end_asked}
 use Rattle.ti_exec.specs.Standing.{Standing, HasNext, is_act}
 use Rattle.ti_exec.specs.Standing as exec
@@ -24,7 +25,7 @@ use Rattle.ti_store.specs.Conditions as condition
 use Rattle.ti_store.specs.Stores.{StoreState, setting_of, is_halted, next_of, Becomes, fault_entry, IsDone, IsRefused}
 use Rattle.ti_store.specs.declared.act_err.ActErr.{ActErr}
 use Rattle.ti_store.specs.declared.act_err.ActErr.TheVariants as err
-use Rattle.ti_store.proofs.Ticks.{answers_few}
+use Rattle.ti_store.proofs.Ticks.{after_costs}
 use Rattle.ti_runtime.specs.declared.cursor.Turn.{Turn}
 use Rattle.ti_runtime.specs.declared.cursor.Turn.TheVariants as turn
 use Rattle.ti_runtime.specs.declared.seat.Seat.{Seat}
@@ -64,11 +65,12 @@ next_back p (next.Fault kind at) x = refl
 
 -- what is next hangs on what the process is and was told alone
 next_same : (t u : Standing) (n : Next) → exec.setting_of t ≡ exec.setting_of u → t.number ≡ u.number → t.told ≡ u.told → HasNext t n → HasNext u n
-next_same t u n s i r h =
-    (h.0,
-    subst (λ k. After (begin k u.number) u.told h.0) s
-    (subst (λ k. After (begin (exec.setting_of t) k) u.told h.0) i (subst (λ k. After (begin (exec.setting_of t) t.number) k h.0) r h.1)),
-    h.2)
+next_same t u n s i r h = (
+  h.0,
+  subst (λ k. After (begin k u.number) u.told h.0) s
+      (subst (λ k. After (begin (exec.setting_of t) k) u.told h.0) i (subst (λ k. After (begin (exec.setting_of t) t.number) k h.0) r h.1)),
+  h.2,
+)
 
 -- a process that advanced stands at what it has next
 pub advanced : (t u : Standing) (n : Next) → HasNext t n → u ≡ record t { asks = is_act n }
@@ -81,6 +83,13 @@ advanced t u n h e =
 
 -- ---- what a seat tells
 
+within_ticks : (n s f : ℕ) → 0 + n ≤ s → s ≤ f → n ≤ f
+within_ticks n s f h k = omega arith
+
+-- each answer cost a tick
+answers_few : (s : Setting) (i : ℕ) (rs : List Answer) (p : Process) → After (begin s i) rs p → length rs ≤ s.fuel
+answers_few s i rs p x = within_ticks (length rs) p.spent s.fuel (after_costs (begin s i) p rs x) (within s i rs p x).0
+
 module _ (s : Setting) (es : List Entry) (i : ℕ) (seat : Seat) (y : Seated s es i seat) where
   -- the process of the seat in the world of the entries
   world : After (begin s i) (answers_of i es) y.next.0
@@ -91,7 +100,6 @@ module _ (s : Setting) (es : List Entry) (i : ℕ) (seat : Seat) (y : Seated s e
   pub next_there : has_end i es ≡ false → condition.HasNext s i (entries_of i es) (next_of seat.place seat.action)
   next_there h = record { unended = h; process = y.next.0; world = world; is_next = y.next.2 }
 
-  -- each answer cost a tick
   few : length seat.process.told ≤ s.fuel
   few = subst (λ xs. length xs ≤ s.fuel) (sym y.told) (answers_few s i (answers_of i es) y.next.0 world)
 

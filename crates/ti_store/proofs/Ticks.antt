@@ -98,17 +98,10 @@ more_spent a b c d n h k l = omega arith
 none_spent : (a b : ℕ) → a + 0 ≡ a
 none_spent a b = omega arith
 
-after_costs : (p q : Process) (rs : List Answer) → After p rs q → p.spent + length rs ≤ q.spent
+pub after_costs : (p q : Process) (rs : List Answer) → After p rs q → p.spent + length rs ≤ q.spent
 after_costs p q [] none = subst (λ n. n ≤ p.spent) (sym (none_spent p.spent 0)) (same_least p.spent)
 after_costs p q (r ∷ rs) (more {q = x} {go = go} a b c) =
     more_spent p.spent x.spent (go r).spent q.spent (length rs) (reach_costs p x a) (subst (Costs x.spent) b (step_costs x) r) (after_costs (go r) q rs c)
-
--- no process gets more answers than it has ticks
-within_ticks : (n s f : ℕ) → 0 + n ≤ s → s ≤ f → n ≤ f
-within_ticks n s f h k = omega arith
-
-pub answers_few : (s : Setting) (i : ℕ) (rs : List Answer) (p : Process) → After (begin s i) rs p → length rs ≤ s.fuel
-answers_few s i rs p x = within_ticks (length rs) p.spent s.fuel (after_costs (begin s i) p rs x) (within s i rs p x).0
 
 -- ---- arrivals
 
