@@ -1,15 +1,12 @@
 -- How a run begins and ends.
-use Rattle.std.proofs.Common.{◌≡◌, ℕ, ◌+◌, ◌<◌, ◌≤◌, nat_lt, Bool, true, false, inl, inr, List, [], ◌∷◌, ◌++◌, length, get_or, refl, sym, ap, ◌∙◌, subst, arith, ltb-true, length-append}
+use Rattle.std.proofs.Common.{◌≡◌, ℕ, ◌<◌, ◌≤◌, nat_lt, Bool, true, false, List, [], ◌∷◌, ◌++◌, length, get_or, refl, sym, ◌∙◌, subst, arith, ltb-true, length-append}
 use Rattle.std.proofs.lemmas.Bool.{ltb-false}
 use Rattle.std.proofs.lemmas.List.{get_or_append_left, get_or_push}
 use Rattle.ti_base.specs.declared.entry.Entry.{Entry}
 use Rattle.ti_lang.specs.Meaning.Processes.{Setting}
-use Rattle.ti_lang.specs.Meaning.Histories.{has_end, has_fault}
-use Rattle.ti_lang.specs.Meaning.Runs.{IsSolo, none, AllEnded}
+use Rattle.ti_lang.specs.Meaning.Runs.{none, AllEnded}
 use Rattle.ti_lang.proofs.MeaningLaws.Running.{solo_run}
 use Rattle.ti_align.specs.Alignment.{NoneStuck}
-use Rattle.ti_exec.specs.Standing.{Standing, HasNext, is_act}
-use Rattle.ti_exec.specs.Standing as exec
 use Rattle.ti_runtime.specs.declared.cursor.Cursor.{Cursor}
 use Rattle.ti_runtime.specs.declared.seat.Seat.{Seat}
 use Rattle.ti_runtime.specs.declared.seat.Stop.TheVariants as stop
@@ -18,7 +15,7 @@ use Rattle.ti_runtime.specs.declared.runner.How.TheVariants as how
 use Rattle.ti_runtime.specs.declared.runner.RunEnd.{RunEnd}
 use Rattle.ti_runtime.specs.Ran.{Ran}
 use Rattle.ti_runtime.specs.MirrorsWaiting.{Waits, Rests}
-use Rattle.ti_runtime.specs.MirrorsTeam.{Seated, Points, Stands, Stopped, CameTo}
+use Rattle.ti_runtime.specs.MirrorsTeam.{Seated, Stands, Stopped, CameTo}
 use Rattle.ti_runtime.proofs.Waiting.{rest_takes_none}
 
 true_false : true ≡ false → ⊥

@@ -1,6 +1,5 @@
 -- What the turn of a process makes of its seat.
-use Rattle.std.proofs.Common.{◌≡◌, ℕ, suc, ◌+◌, ◌-◌, ◌<◌, ◌≤◌, ◌==◌, Bool, true, false, not, ◌||◌, if◌then◌else◌, map, filter, length, inl, inr, Option, Some, Ok, List, [], ◌∷◌, ◌++◌, refl, sym, ap, ◌∙◌, subst, arith, length-append}
-use Rattle.std.specs.List.{list_any}
+use Rattle.std.proofs.Common.{◌≡◌, ℕ, ◌+◌, ◌-◌, ◌<◌, ◌≤◌, Bool, true, false, not, ◌||◌, if◌then◌else◌, length, inr, Some, Ok, List, [], ◌∷◌, ◌++◌, refl, sym, ap, ◌∙◌, subst, arith, length-append}
 use Rattle.ti_base.specs.declared.place.Place.{Place}
 use Rattle.ti_base.specs.declared.fault.FaultKind.{FaultKind}
 use Rattle.ti_base.specs.declared.action.Action.{Action}
@@ -15,15 +14,13 @@ use Rattle.ti_lang.specs.Meaning.Asking.{Request}
 use Rattle.ti_lang.specs.Meaning.Processes.{Setting, Process, begin}
 use Rattle.ti_lang.specs.Meaning.Steps.{Step, To, At, Ends, Faults, step}
 use Rattle.ti_lang.specs.Meaning.NextStep.{shown, IsNext, After}
-use Rattle.ti_lang.specs.Meaning.Histories.{is_end, is_fault, is_arrival, is_answered, entries_of, answers_of, has_end, has_fault}
+use Rattle.ti_lang.specs.Meaning.Histories.{is_end, is_fault, is_arrival, is_answered, answers_of, has_end, has_fault}
 use Rattle.ti_lang.specs.Meaning.Runs.{IsReady, CanTake}
 use Rattle.ti_lang.proofs.MeaningLaws.Limits.{within}
 use Rattle.ti_lang.proofs.MeaningLaws.Requests.{no_end_asked}
 use Rattle.ti_exec.specs.Standing.{Standing, HasNext, is_act}
 use Rattle.ti_exec.specs.Standing as exec
-use Rattle.ti_store.specs.Conditions as condition
-use Rattle.ti_store.specs.Stores.{StoreState, setting_of, is_halted, next_of, Becomes, fault_entry, IsDone, IsRefused}
-use Rattle.ti_store.specs.declared.act_err.ActErr.{ActErr}
+use Rattle.ti_store.specs.Stores.{StoreState, setting_of, next_of, Becomes, fault_entry, IsDone, IsRefused}
 use Rattle.ti_store.specs.declared.act_err.ActErr.TheVariants as err
 use Rattle.ti_store.proofs.Ticks.{after_costs}
 use Rattle.ti_runtime.specs.declared.cursor.Turn.{Turn}
@@ -31,7 +28,7 @@ use Rattle.ti_runtime.specs.declared.cursor.Turn.TheVariants as turn
 use Rattle.ti_runtime.specs.declared.seat.Seat.{Seat}
 use Rattle.ti_runtime.specs.declared.seat.Stop.TheVariants as stop
 use Rattle.ti_runtime.specs.MirrorsWaiting.{Waits}
-use Rattle.ti_runtime.specs.MirrorsTeam.{doing_of, Seated, Hears, Moves, Takes, steps_left, GoesOn, StopsAt, TurnLeaves, IsOpen}
+use Rattle.ti_runtime.specs.MirrorsTeam.{doing_of, Seated, Hears, Moves, steps_left, GoesOn, StopsAt, TurnLeaves}
 use Rattle.ti_runtime.proofs.Entries.{end_more, answers_more, answers_still}
 
 true_false : true ≡ false → ⊥
@@ -97,14 +94,8 @@ module _ (s : Setting) (es : List Entry) (i : ℕ) (seat : Seat) (y : Seated s e
       subst (λ k. After (begin s i) k y.next.0) y.told
       (subst (λ k. After (begin s k) seat.process.told y.next.0) y.number (subst (λ k. After (begin k seat.process.number) seat.process.told y.next.0) y.setting y.next.1))
 
-  pub next_there : has_end i es ≡ false → condition.HasNext s i (entries_of i es) (next_of seat.place seat.action)
-  next_there h = record { unended = h; process = y.next.0; world = world; is_next = y.next.2 }
-
   few : length seat.process.told ≤ s.fuel
   few = subst (λ xs. length xs ≤ s.fuel) (sym y.told) (answers_few s i (answers_of i es) y.next.0 world)
-
-  pub asks_now : is_end seat.action ≡ false → is_fault seat.action ≡ false → seat.process.asks ≡ true
-  asks_now e f = y.asks ∙ ap is_act (acts_as seat.place seat.action e f)
 
 -- ---- an entry
 
@@ -241,14 +232,6 @@ pub faulted : (st new : StoreState) (i : ℕ) (old : Seat) (kind : FaultKind) �
     → IsRefused st i old.place old.action (err.Faulted kind) new → StopsAt (setting_of st) st.entries i new.entries stop.Faulted
 faulted st new i old kind l f u y r =
     (record { entry = fault_entry i old.place kind; can = taken st i old (fault_entry i old.place kind) l f u y r.0; after = ap (λ (x : StoreState). x.entries) r.1 }, refl)
-
-pub wanted : (st new : StoreState) (i : ℕ) (old : Seat) → old.ended ≡ false → Seated (setting_of st) st.entries i old → IsRefused st i old.place old.action err.Memory new
-    → StopsAt (setting_of st) st.entries i new.entries stop.Memory
-wanted st new i old u y r = inl (ap (λ (x : StoreState). x.entries) r.2, y.ended ∙ u)
-
--- an open store isn't halted
-pub never_halted : (st new : StoreState) (i : ℕ) (at : Place) (a : Action) → st.halted ≡ false → has_fault st.entries ≡ false → IsRefused st i at a err.Halted new → ⊥
-never_halted st new i at a h f r = true_false (sym r.0 ∙ ap (λ b. b || has_fault st.entries) h ∙ f)
 
 -- ---- seats that are taken, and that hear an answer
 

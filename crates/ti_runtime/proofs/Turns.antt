@@ -1,5 +1,5 @@
 -- What the turn of a process makes of its team.
-use Rattle.std.proofs.Common.{◌≡◌, ℕ, zero, suc, ◌+◌, ◌-◌, ◌*◌, ◌<◌, ◌≤◌, max, nat_lt, ◌==◌, Bool, true, false, ◌||◌, map, filter, inl, inr, Result, Ok, Err, Option, Some, List, [], ◌∷◌, ◌++◌, length, get_or, slice_set, sum_by, refl, sym, ap, ◌∙◌, subst, arith, eqb-true, ltb-true, length-set, get_or-set_same, get_or-set_other}
+use Rattle.std.proofs.Common.{◌≡◌, ℕ, zero, suc, ◌+◌, ◌-◌, ◌*◌, ◌<◌, ◌≤◌, max, nat_lt, ◌==◌, Bool, true, false, ◌||◌, map, filter, inl, inr, Ok, List, [], ◌∷◌, length, get_or, slice_set, refl, sym, ap, ◌∙◌, subst, arith, eqb-true, ltb-true, length-set, get_or-set_same, get_or-set_other}
 use Rattle.std.specs.List.{list_any}
 use Rattle.std.proofs.lemmas.Bool.{eqb-false, ltb-false}
 use Rattle.std.proofs.lemmas.List.Sums.{sum_by-set}
@@ -7,8 +7,8 @@ use Rattle.ti_base.specs.declared.action.Action.{Action}
 use Rattle.ti_base.specs.declared.action.Action.TheVariants as act
 use Rattle.ti_base.specs.declared.entry.Entry.{Entry}
 use Rattle.ti_lang.specs.Meaning.Processes.{Setting}
-use Rattle.ti_lang.specs.Meaning.Histories.{is_end, is_fault, is_arrival, is_answered, entries_of, answers_of, has_end, has_fault}
-use Rattle.ti_lang.specs.Meaning.Runs.{CanTake, IsSolo, none, more, AllEnded}
+use Rattle.ti_lang.specs.Meaning.Histories.{is_end, is_fault, is_arrival, is_answered, entries_of, has_end, has_fault}
+use Rattle.ti_lang.specs.Meaning.Runs.{IsSolo, more}
 use Rattle.ti_lang.proofs.MeaningLaws.Running.{taker, solo_run}
 use Rattle.ti_align.specs.Alignment.{OfEveryRun}
 use Rattle.ti_align.specs.Stopping.{RoundsBalance}
@@ -20,7 +20,7 @@ use Rattle.ti_runtime.specs.declared.seat.Seat.{Seat}
 use Rattle.ti_runtime.specs.declared.seat.Stop.{Stop}
 use Rattle.ti_runtime.specs.declared.seat.Stop.TheVariants as stop
 use Rattle.ti_runtime.specs.MirrorsWaiting.{Waits, Rests}
-use Rattle.ti_runtime.specs.MirrorsTeam.{Seated, Takes, steps_left, all_steps_left, GoesOn, StopsAt, TurnLeaves, cursor_after, Points, Stands, turns_left, StandsOn, Stopped}
+use Rattle.ti_runtime.specs.MirrorsTeam.{Seated, Takes, steps_left, all_steps_left, GoesOn, StopsAt, TurnLeaves, cursor_after, Points, Stands, StandsOn, Stopped}
 use Rattle.ti_runtime.proofs.Entries.{end_more, other_more, fault_more}
 use Rattle.ti_runtime.proofs.Waiting.{rest_takes_none, rests_still, wait_together}
 

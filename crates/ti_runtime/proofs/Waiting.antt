@@ -1,26 +1,24 @@
 -- Which processes can't go on, as a run grows: only an arrival lets one go on that waits, and those that wait below the process that
 -- arrives wait in one round.
-use Rattle.std.proofs.Common.{◌≡◌, ℕ, ◌+◌, ◌<◌, ◌≤◌, nat_lt, ◌==◌, Bool, true, false, cond, ◌||◌, if◌then◌else◌, map, filter, count_by, ⊎_elim, inl, inr, Option, Some, None, List, [], ◌∷◌, ◌++◌, refl, sym, ap, ◌∙◌, subst, arith, eqb-true, ltb-true}
+use Rattle.std.proofs.Common.{◌≡◌, ℕ, ◌+◌, ◌<◌, ◌≤◌, nat_lt, ◌==◌, Bool, true, false, cond, if◌then◌else◌, map, filter, count_by, inl, inr, Some, List, [], ◌∷◌, ◌++◌, refl, sym, ap, ◌∙◌, subst, arith, eqb-true, ltb-true}
 use Rattle.std.specs.List.{list_any}
 use Rattle.std.proofs.lemmas.Bool.{ltb-false}
 use Rattle.ti_base.specs.declared.place.Place.{Place}
-use Rattle.ti_base.specs.declared.fault.FaultKind.{FaultKind}
 use Rattle.ti_base.specs.declared.action.Action.{Action}
 use Rattle.ti_base.specs.declared.action.Action.TheVariants as act
-use Rattle.ti_base.specs.declared.entry.Answer.{Answer}
 use Rattle.ti_base.specs.declared.entry.Entry.{Entry}
 use Rattle.ti_base.specs.declared.entry.Next.{Next}
 use Rattle.ti_base.specs.declared.entry.Next.TheVariants as next
 use Rattle.ti_lang.specs.Meaning.Processes.{Setting, Process, begin}
 use Rattle.ti_lang.specs.Meaning.NextStep.{IsNext, After}
-use Rattle.ti_lang.specs.Meaning.Histories.{history_of, is_end, is_arrival, is_departure, is_answered, entries_of, arrivals, departures, has_end}
+use Rattle.ti_lang.specs.Meaning.Histories.{history_of, is_end, is_arrival, is_departure, is_answered, entries_of, arrivals, departures}
 use Rattle.ti_lang.specs.Meaning.HeapAnswers.{Outcome, Answers, Faults, Impossible, heap_answer}
 use Rattle.ti_lang.specs.Meaning.Runs.{World, IsReady, entry_with, entry_of, CanTake, IsRun, none, more}
 use Rattle.ti_lang.proofs.MeaningLaws.Steps.{next_same}
 use Rattle.ti_lang.proofs.MeaningLaws.Running.{world_same, taker}
 use Rattle.ti_align.specs.Stopping.{RoundsBalance}
 use Rattle.ti_runtime.specs.MirrorsWaiting.{Waits, Rests}
-use Rattle.ti_runtime.proofs.Entries.{arrivals_more, departures_more, end_more, other_more}
+use Rattle.ti_runtime.proofs.Entries.{arrivals_more, departures_more, other_more}
 
 true_false : true ≡ false → ⊥
 true_false e = cc

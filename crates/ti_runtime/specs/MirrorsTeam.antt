@@ -15,7 +15,7 @@ use Rattle.ti_lang.specs.Meaning.Histories.{is_end, is_fault, is_arrival, answer
 use Rattle.ti_lang.specs.Meaning.Runs.{CanTake, IsSolo, AllEnded}
 use Rattle.ti_exec.specs.Standing.{HasNext, is_act}
 use Rattle.ti_exec.specs.Standing as exec
-use Rattle.ti_store.specs.Stores.{StoreState, setting_of, next_of}
+use Rattle.ti_store.specs.Stores.{StoreState, next_of}
 use Rattle.ti_runtime.specs.declared.cursor.Cursor.{Cursor}
 use Rattle.ti_runtime.specs.declared.cursor.Turn.{Turn}
 use Rattle.ti_runtime.specs.declared.cursor.Turn.TheVariants as turn

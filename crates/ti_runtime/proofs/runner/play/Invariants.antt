@@ -1,7 +1,6 @@
-use Rattle.std.proofs.Common.{◌≡◌, false}
+use Rattle.std.proofs.Common.{◌≡◌}
 use Rattle.ti_lang.specs.Program.Views.{program_of}
-use Rattle.ti_store.specs.Conditions.{IsWithin}
-use Rattle.ti_store.specs.Stores.{StoreState, setting_of}
+use Rattle.ti_store.specs.Stores.{setting_of}
 use Rattle.ti_runtime.specs.MirrorsTeam.{IsOpen, Stands, turns_left}
 use Rattle.ti_runtime.proofs.runner.play.Given as goal
 
