@@ -1,6 +1,5 @@
 // Runs on one thread.
 
-ghost use Rattle.std.specs.Prelude.{◌≡◌, false};
 ghost use Rattle.ti_lang.specs.Program.Views.{program_of};
 ghost use Rattle.ti_store.specs.Conditions.{IsWithin};
 ghost use Rattle.ti_store.specs.Stores.{setting_of};
@@ -38,8 +37,7 @@ fn play(alloc: Global, c: &Checked, mut team: Team, store: &mut Store) -> How
     requires within { IsWithin store.old.procs store.old.fuel }
     requires open { IsOpen (program_of c.now.program.parts) store.old }
     requires stands { Stands (setting_of store.old) store.old.entries team.seats.items team.cursor }
-    ensures came { CameTo (setting_of store.old) store.new.entries result }
-    ensures setting { setting_of store.new ≡ setting_of store.old }
+    ensures { CameTo (setting_of store.old) store.new.entries result }
 {
     'turns: while (team.cursor.at as usize) < team.seats.len() {
         match team.step(alloc, c, store) {

@@ -9,8 +9,8 @@ use Rattle.ti_runtime.proofs.Turns.{law_of}
 use Rattle.ti_runtime.proofs.Endings.{ends}
 use Rattle.ti_runtime.proofs.runner.play.Goals as goal
 
-pub returns-clause-came : goal.returns-clause-came
-returns-clause-came c =
+pub returns : goal.returns
+returns c =
     let store = c.turns.store in
     let s = setting_of store in
     let same = c.turns.invariant.same in

@@ -20,7 +20,7 @@ returns c =
     let came : CameTo s end.store.entries end.how = elim end.branch [
       | in-Ok-begin w ↦
           came_so s (setting_of c.in-Ok.store) w.play-how.new.store.entries end.store.entries w.play-how.result end.how c.in-Ok.ensures.setting (ap (λ (t : StoreState). t.entries) w.store-is) w.how-is
-          w.play-how.ensures.came
+          w.play-how.ensures
       | in-Err w ↦
           came_so s s [] end.store.entries how.Memory end.how refl (ap (λ (t : StoreState). t.entries) w.store-is ∙ c.in-Ok.ensures.entries) w.how-is (unbegun s c.requires.within.some)
     ] in
