@@ -1,6 +1,6 @@
 //! Runs of checked programs.
 #![tactic(auto)]
 
-mod run;
+mod runner;
 
-pub use run::{How, RunEnd, run};
+pub use runner::{How, RunEnd, run};
