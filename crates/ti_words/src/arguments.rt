@@ -20,6 +20,7 @@ pub struct Given<'a> {
     pub procs: Option<&'a str>,
     pub workers: Option<&'a str>,
     pub fuel: Option<&'a str>,
+    pub seed: Option<&'a str>,
     pub trace: bool,
     pub stats: bool,
     pub file: Option<&'a str>,
@@ -52,6 +53,7 @@ fn command<'a>(alloc: Global) -> Result<Command<'a>, AllocError>
         .arg(setting(alloc, "procs"))?
         .arg(setting(alloc, "workers"))?
         .arg(setting(alloc, "fuel"))?
+        .arg(setting(alloc, "seed"))?
         .arg(report(alloc, "trace"))?
         .arg(report(alloc, "stats"))?
         .arg(Arg::new(alloc, "FILE").action(ArgAction::Set))
@@ -74,6 +76,7 @@ fn given_in<'a>(matches: &ArgMatches<'a>) -> Given<'a>
     ensures procs { option_map (λ s. s.now) result.procs ≡ first_value (found_of matches.now) (codes "procs") }
     ensures workers { option_map (λ s. s.now) result.workers ≡ first_value (found_of matches.now) (codes "workers") }
     ensures fuel { option_map (λ s. s.now) result.fuel ≡ first_value (found_of matches.now) (codes "fuel") }
+    ensures seed { option_map (λ s. s.now) result.seed ≡ first_value (found_of matches.now) (codes "seed") }
     ensures trace { result.trace ≡ is_from_words (option_and_then (λ a. a.source) (matched_of (found_of matches.now) (codes "trace"))) }
     ensures stats { result.stats ≡ is_from_words (option_and_then (λ a. a.source) (matched_of (found_of matches.now) (codes "stats"))) }
     ensures file { option_map (λ s. s.now) result.file ≡ first_value (found_of matches.now) (codes "FILE") }
@@ -83,6 +86,7 @@ fn given_in<'a>(matches: &ArgMatches<'a>) -> Given<'a>
         procs: matches.get_str("procs"),
         workers: matches.get_str("workers"),
         fuel: matches.get_str("fuel"),
+        seed: matches.get_str("seed"),
         trace: is_from_words(matches, "trace"),
         stats: is_from_words(matches, "stats"),
         file: matches.get_str("FILE"),

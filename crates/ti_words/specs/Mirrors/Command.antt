@@ -55,6 +55,6 @@ bare = record (new_app (codes "titan")) { top = record (new_app (codes "titan"))
 -- the command and its arguments
 abbrev pub titan : App
 titan =
-    with_rule (with_rule (with_rule (with_rule (with_rule (with_rule (with_rule bare
+    with_rule (with_rule (with_rule (with_rule (with_rule (with_rule (with_rule (with_rule bare
     (setting_rule (codes "mode"))) (setting_rule (codes "procs"))) (setting_rule (codes "workers"))) (setting_rule (codes "fuel")))
-    (report_rule (codes "trace"))) (report_rule (codes "stats"))) file_rule
+    (setting_rule (codes "seed"))) (report_rule (codes "trace"))) (report_rule (codes "stats"))) file_rule

@@ -20,6 +20,7 @@ returns c =
     c.in_ok-arg-2.ensures.shape c.setting-2.ensures.local ∙ ap₂ with_rule mode c.setting-2.ensures.rule in
     let workers : app_of c.in_ok-arg-3.field-0 ≡ _ = c.in_ok-arg-3.ensures.shape c.setting-3.ensures.local ∙ ap₂ with_rule procs c.setting-3.ensures.rule in
     let fuel : app_of c.in_ok-arg-4.field-0 ≡ _ = c.in_ok-arg-4.ensures.shape c.setting-4.ensures.local ∙ ap₂ with_rule workers c.setting-4.ensures.rule in
-    let trace : app_of c.in_ok-arg-5.field-0 ≡ _ = c.in_ok-arg-5.ensures.shape c.report.ensures.local ∙ ap₂ with_rule fuel c.report.ensures.rule in
-    let stats : app_of c.in_ok-arg-6.field-0 ≡ _ = c.in_ok-arg-6.ensures.shape c.report-2.ensures.local ∙ ap₂ with_rule trace c.report-2.ensures.rule in
-    IfOk-weaker c.arg-7.result _ _ (λ r h. h.shape (search rules) ∙ ap₂ with_rule stats file) c.arg-7.ensures
+    let seed : app_of c.in_ok-arg-5.field-0 ≡ _ = c.in_ok-arg-5.ensures.shape c.setting-5.ensures.local ∙ ap₂ with_rule fuel c.setting-5.ensures.rule in
+    let trace : app_of c.in_ok-arg-6.field-0 ≡ _ = c.in_ok-arg-6.ensures.shape c.report.ensures.local ∙ ap₂ with_rule seed c.report.ensures.rule in
+    let stats : app_of c.in_ok-arg-7.field-0 ≡ _ = c.in_ok-arg-7.ensures.shape c.report-2.ensures.local ∙ ap₂ with_rule trace c.report-2.ensures.rule in
+    IfOk-weaker c.arg-8.result _ _ (λ r h. h.shape (search rules) ∙ ap₂ with_rule stats file) c.arg-8.ensures
