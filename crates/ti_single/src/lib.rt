@@ -1,6 +1,7 @@
 //! Which expressions are single, and which statements have global effects.
 #![tactic(auto)]
 
+mod boxes;
 mod doings;
 mod effects;
 mod loops;
