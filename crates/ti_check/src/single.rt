@@ -19,7 +19,10 @@ use ti_base::Place;
 use ti_lang::program::{Expr, Init, Method, Param, Params, Stmt, TypeUse};
 use ti_lang::typing::{BuiltIn, called_method, member_called};
 use ti_rules::{Refusal, Rule, refused_if, sooner};
-use ti_single::{doings_of_statement, has_single_result, is_single_target};
+use ti_single::{
+    boxed_expression, boxed_initial, boxed_statement, doings_of_statement, has_single_result,
+    is_single_target, listed_expressions,
+};
 
 // ---- calls
 
@@ -94,11 +97,11 @@ impl<'a> Site<'a> {
         match e {
             Expr::Call { args, .. } => {
                 let m = called_method(&self.program.parts, self.this(), e);
-                self.call(m, args)
+                self.call(m, listed_expressions(args))
             }
             Expr::OwnCall { args, .. } => {
                 let m = called_method(&self.program.parts, self.this(), e);
-                self.call(m, args)
+                self.call(m, listed_expressions(args))
             }
             Expr::Member {
                 place,
@@ -107,8 +110,8 @@ impl<'a> Site<'a> {
                 args,
             } => {
                 let m = called_method(&self.program.parts, self.this(), e);
-                let call = self.call(m, args);
-                sooner(call, self.delete(*place, receiver, *name))
+                let call = self.call(m, listed_expressions(args));
+                sooner(call, self.delete(*place, boxed_expression(receiver), *name))
             }
             _ => None,
         }
@@ -193,7 +196,7 @@ impl<'a> Site<'a> {
         ensures { result ≡ (doings_of_maybe (program_at self.entry) (this_of (around_of self.entry).method) (maybe_in update.now)).jumps }
     {
         match update {
-            Some(x) => doings_of_statement(self.program, self.this(), x).jumps,
+            Some(x) => doings_of_statement(self.program, self.this(), boxed_statement(x)).jumps,
             None => false,
         }
     }
@@ -241,12 +244,12 @@ impl<'a> Site<'a> {
                 ty,
                 value,
                 ..
-            } => self.declare_single(*place, ty, value),
+            } => self.declare_single(*place, ty, boxed_initial(value)),
             Stmt::Assign {
                 place,
                 target,
                 value,
-            } => self.assign_single(*place, target, value),
+            } => self.assign_single(*place, target, boxed_initial(value)),
             Stmt::Update {
                 place,
                 target,

@@ -11,14 +11,14 @@ pub fn boxed_expression(x: &Box<Expr>) -> &Expr
 }
 
 /// The expressions of a list.
-pub fn expressions(xs: &Vec<Expr>) -> &[Expr]
+pub fn listed_expressions(xs: &Vec<Expr>) -> &[Expr]
     ensures { result.now ≡ xs.now.items }
 {
     xs
 }
 
 /// The ranges of a list.
-pub fn ranges(xs: &Vec<Range>) -> &[Range]
+pub fn listed_ranges(xs: &Vec<Range>) -> &[Range]
     ensures { result.now ≡ xs.now.items }
 {
     xs
@@ -46,7 +46,7 @@ pub fn boxed_statement(x: &Box<Stmt>) -> &Stmt
 }
 
 /// The statements of a list.
-pub fn statements(xs: &Vec<Stmt>) -> &[Stmt]
+pub fn listed_statements(xs: &Vec<Stmt>) -> &[Stmt]
     ensures { result.now ≡ xs.now.items }
 {
     xs

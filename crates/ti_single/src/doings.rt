@@ -10,7 +10,7 @@ ghost use Rattle.ti_lang.specs.Typing.Singleness.{has_single_result};
 ghost use Rattle.ti_lang.specs.Typing.Effects.{is_collective, is_collective_call, acts, initial_acts, nothing, acting, together, kept_in_loop, doings, doings_of_all, doings_of_method, return_acts, jump_acts, has_global_effects};
 ghost use Rattle.ti_single.specs.Doings.{doings_of};
 
-use crate::boxes::{boxed_initial, boxed_statement, statements};
+use crate::boxes::{boxed_initial, boxed_statement, listed_statements};
 use crate::singleness::is_single_target;
 use ti_lang::program::{Expr, Init, Method, Program, ResultType, Stmt, has_static};
 use ti_lang::typing::{BuiltIn, called_method, member_called};
@@ -174,7 +174,7 @@ pub fn doings_of_statement(p: &Program, this: Option<u32>, x: &Stmt) -> Doings
         Stmt::Step { target, .. } => Doings::acting(is_single_target(target)),
         Stmt::Call(e) => Doings::acting(acts(p, this, e)),
         Stmt::Barrier(_) => Doings::acting(true),
-        Stmt::Block(body) => doings_of_statements(p, this, statements(body)),
+        Stmt::Block(body) => doings_of_statements(p, this, listed_statements(body)),
         Stmt::If {
             then,
             otherwise,
@@ -252,7 +252,7 @@ pub fn has_single_result(m: &Method) -> bool
 pub fn doings_of_method(p: &Program, m: &Method) -> Doings
     ensures { doings_of result ≡ doings_of_method (program_of p.now.parts) (numbered_method_of m.now) }
 {
-    doings_of_statements(p, this_of(m), statements(&m.body))
+    doings_of_statements(p, this_of(m), listed_statements(&m.body))
 }
 
 /// Whether a `return` of a method has an effect: the method has a single result or a statement that acts.

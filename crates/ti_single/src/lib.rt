@@ -7,6 +7,10 @@ mod effects;
 mod loops;
 mod singleness;
 
+pub use boxes::{
+    boxed_expression, boxed_initial, boxed_statement, boxed_type, listed_expressions,
+    listed_ranges, listed_statements,
+};
 pub use doings::{
     Doings, doings_of_method, doings_of_statement, doings_of_statements, has_global_effects,
     has_single_result, jump_acts, return_acts, this_of,

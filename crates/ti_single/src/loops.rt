@@ -7,7 +7,7 @@ ghost use Rattle.ti_single.specs.Doings.{doings_of};
 ghost use Rattle.ti_single.specs.EffectsAt.{doings_in_loop};
 ghost use Rattle.ti_single.specs.Mirrors.Loops.{loop_in, loop_in_all};
 
-use crate::boxes::{boxed_statement, statements};
+use crate::boxes::{boxed_statement, listed_statements};
 use crate::doings::{Doings, doings_of_statement, this_of};
 use ti_base::Place;
 use ti_lang::program::{Method, Program, Stmt};
@@ -41,7 +41,7 @@ fn loop_in<'a>(at: Place, x: &'a Stmt) -> Option<&'a Stmt>
     ensures { option_map (λ y. statement_of y.now) result ≡ loop_in at (statement_of x.now) }
 {
     match x {
-        Stmt::Block(body) => loop_in_all(at, statements(body)),
+        Stmt::Block(body) => loop_in_all(at, listed_statements(body)),
         Stmt::If {
             then,
             otherwise,

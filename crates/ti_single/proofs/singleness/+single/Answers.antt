@@ -16,14 +16,14 @@ pub is_single_part-returns-in-Point : goal.is_single_part-returns-in-Point
 is_single_part-returns-in-Point t c =
     let p = program_of c.args.p.now.parts in
     let singles = singles_in (contents_of c.args.scope.now) in
-    same_arguments p c.args.scope.now.this singles c.expressions.result.now c.in-Point.xs.items c.are_single.result c.expressions.ensures c.are_single.ensures
+    same_arguments p c.args.scope.now.this singles c.listed_expressions.result.now c.in-Point.xs.items c.are_single.result c.listed_expressions.ensures c.are_single.ensures
     ∙ sym (ap (is_single_part p c.args.scope.now.this singles) (seen_numbered_point c.args.e.now c.in-Point.field-0 c.in-Point.xs c.in-Point.is))
 
 pub is_single_part-returns-in-Rect : goal.is_single_part-returns-in-Rect
 is_single_part-returns-in-Rect t c =
     let p = program_of c.args.p.now.parts in
     let singles = singles_in (contents_of c.args.scope.now) in
-    same_ranges p c.args.scope.now.this singles c.ranges-in-Rect.result.now c.in-Rect.found.items c.are_single_ranges.result c.ranges-in-Rect.ensures c.are_single_ranges.ensures
+    same_ranges p c.args.scope.now.this singles c.listed_ranges.result.now c.in-Rect.found.items c.are_single_ranges.result c.listed_ranges.ensures c.are_single_ranges.ensures
     ∙ sym (ap (is_single_part p c.args.scope.now.this singles) (seen_numbered_rect c.args.e.now c.in-Rect.field-0 c.in-Rect.found c.in-Rect.is))
 
 pub is_single_part-returns-in-Index : goal.is_single_part-returns-in-Index
@@ -35,7 +35,7 @@ is_single_part-returns-in-Index t c =
     c.all_hold.result c.all_hold.ensures
     (c.is_point-of_point.ensures ∙ ap is_point (c.type_in_text.ensures ∙ ap (λ z. type_in_text p this (expression_of z)) c.boxed_expression-receiver.ensures))
     (c.is_single_part-part.ensures ∙ ap (λ z. is_single_part p this singles (expression_of z)) c.boxed_expression-receiver.ensures)
-    (same_arguments p this singles c.expressions-in-Index.result.now c.in-Index.indices.items c.are_single-in-Index.result c.expressions-in-Index.ensures c.are_single-in-Index.ensures)
+    (same_arguments p this singles c.listed_expressions-in-Index.result.now c.in-Index.indices.items c.are_single-in-Index.result c.listed_expressions-in-Index.ensures c.are_single-in-Index.ensures)
     ∙ sym (ap (is_single_part p this singles) (seen_numbered_index c.args.e.now c.in-Index.place c.in-Index.receiver c.in-Index.indices c.in-Index.is))
 
 pub is_single_part-returns-in-Member : goal.is_single_part-returns-in-Member
@@ -47,5 +47,5 @@ is_single_part-returns-in-Member t c =
     c.is_single_part-part-in-Member.result c.are_single-in-Member.result c.all_hold-in-Member.result c.all_hold-in-Member.ensures
     (c.tells_of_domain-tells.ensures ∙ ap tells_of_domain (c.member_called.ensures ∙ ap (λ z. member_called p this (expression_of z) c.in-Member.name) c.boxed_expression-receiver-in-Member.ensures))
     (c.is_single_part-part-in-Member.ensures ∙ ap (λ z. is_single_part p this singles (expression_of z)) c.boxed_expression-receiver-in-Member.ensures)
-    (same_arguments p this singles c.expressions-in-Member.result.now c.in-Member.args.items c.are_single-in-Member.result c.expressions-in-Member.ensures c.are_single-in-Member.ensures)
+    (same_arguments p this singles c.listed_expressions-in-Member.result.now c.in-Member.args.items c.are_single-in-Member.result c.listed_expressions-in-Member.ensures c.are_single-in-Member.ensures)
     ∙ sym (ap (is_single_part p this singles) (seen_numbered_member c.args.e.now c.in-Member.place c.in-Member.receiver c.in-Member.name c.in-Member.args c.in-Member.is))

@@ -25,8 +25,8 @@ returns-in-Member c =
     c.sooner.ensures
     ∙ ap (λ a. sooner a c.delete.result)
     (c.call-call.ensures
-    ∙ ap (λ m. first_of (call_refusals p around m (numbered_exps (map expression_of c.deref-in-Member.result.now)))) method
-    ∙ ap (λ l. first_of (call_refusals p around (called_method p this form) (numbered_exps (map expression_of l)))) c.deref-in-Member.ensures.value)
-    ∙ ap (sooner (first_of call)) (c.delete.ensures ∙ ap (λ z. first_of (delete_refusals p around c.in-Member.place (expression_of z) c.in-Member.name)) c.deref-in-Member-2.ensures)
+    ∙ ap (λ m. first_of (call_refusals p around m (numbered_exps (map expression_of c.listed_expressions-in-Member.result.now)))) method
+    ∙ ap (λ l. first_of (call_refusals p around (called_method p this form) (numbered_exps (map expression_of l)))) c.listed_expressions-in-Member.ensures)
+    ∙ ap (sooner (first_of call)) (c.delete.ensures ∙ ap (λ z. first_of (delete_refusals p around c.in-Member.place (expression_of z) c.in-Member.name)) c.boxed_expression.ensures)
     ∙ sym (first_append call own)
     ∙ sym (ap (λ z. first_of (whole_refusals p around z)) seen)
