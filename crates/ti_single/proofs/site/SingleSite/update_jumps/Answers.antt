@@ -2,8 +2,9 @@ use Rattle.std.proofs.Common.{sym, ap, ◌∙◌}
 use Rattle.ti_lang.specs.Program.Scope.{this_of}
 use Rattle.ti_lang.specs.Program.Views.{statement_of, numbered_method_of}
 use Rattle.ti_lang.specs.Typing.Effects.{Doings, doings, doings_of_maybe}
-use Rattle.ti_check.specs.Mirrors.Sites.{program_at, maybe_in}
-use Rattle.ti_check.proofs.site.Site.update_jumps.Goals as goal
+use Rattle.ti_single.specs.Mirrors.Maybe.{maybe_in}
+use Rattle.ti_single.specs.Sites.{program_at}
+use Rattle.ti_single.proofs.site.SingleSite.update_jumps.Goals as goal
 
 pub returns-in-Some : goal.returns-in-Some
 returns-in-Some c =

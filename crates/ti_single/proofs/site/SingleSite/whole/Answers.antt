@@ -8,8 +8,8 @@ use Rattle.ti_rules.specs.First.{sooner, first_of}
 use Rattle.ti_rules.specs.SingleRules.{call_refusals, delete_refusals, whole_refusals}
 use Rattle.ti_rules.proofs.First.{first_append}
 use Rattle.ti_lang.proofs.ProgramBridges.{seen_numbered_member}
-use Rattle.ti_check.specs.Mirrors.Sites.{program_at, around_of}
-use Rattle.ti_check.proofs.site.Site.whole.Goals as goal
+use Rattle.ti_single.specs.Sites.{program_at, around_of}
+use Rattle.ti_single.proofs.site.SingleSite.whole.Goals as goal
 
 pub returns-in-Member : goal.returns-in-Member
 returns-in-Member c =
