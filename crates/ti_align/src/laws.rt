@@ -76,6 +76,11 @@ pub fn fields_fit(c: &Checked)
     ensures { FieldsFit (program_of c.now.program.parts) }
 {}
 
+/// The fields of a checked program have types that a field may have.
+pub fn fields_storable(c: &Checked)
+    ensures { FieldsStorable (program_of c.now.program.parts) }
+{}
+
 /// In every run of a checked program a process has left each round that it reached, but for the round
 /// that it leaves next.
 pub fn rounds_balance(c: &Checked)

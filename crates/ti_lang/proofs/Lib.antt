@@ -1,13 +1,7 @@
 pub mod Copies
-pub mod Counting
 pub mod Elements
-pub mod Entries
 pub mod Erased
 pub mod MeaningLaws
-pub mod Moves
 pub mod Names
-pub mod OneListing
 pub mod ProgramBridges
 pub mod RangeDims
-pub mod Standing
-pub mod Steps

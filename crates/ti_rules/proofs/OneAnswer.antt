@@ -6,17 +6,13 @@ use Rattle.ti_syntax.specs.declared.token.Token.{Token}
 use Rattle.ti_syntax.specs.Tokenizing.{IsTokenized}
 use Rattle.ti_syntax.specs.Trees.Classes.{TextTree}
 use Rattle.ti_syntax.specs.Spelling.{Spells, Misfit, IsGrammarRefusal, fits}
-use Rattle.ti_lang.specs.Listed.{ListedProgram}
 use Rattle.ti_lang.specs.Program.Classes.{NumberedProgram}
 use Rattle.ti_lang.specs.Numbering.{Numbers}
-use Rattle.ti_lang.specs.Listings.{IsListing}
-use Rattle.ti_lang.proofs.OneListing.{one_listing as one_listing_of}
 use Rattle.ti_rules.specs.declared.refusal.Refusal.{Refusal}
-use Rattle.ti_rules.specs.Refusals.{IsFirstRefusal}
 use Rattle.ti_rules.specs.LexicalRefusals.{most_bytes, IsLexicalRefusal}
 use Rattle.ti_rules.specs.BrokenNames.{BreaksNames}
 use Rattle.ti_rules.specs.ProgramRefusals.{IsProgramRefusal}
-use Rattle.ti_rules.specs.RefusalOf.{IsTreeRefusal, of_names, of_program, HasUnbuilt, HasTokens, HasTree, rule_of_misfit, IsRefusal, of_bytes, of_tokens, of_tree, HasProgram, HasListing, IsUnbuiltRefusal, of_forms}
+use Rattle.ti_rules.specs.RefusalOf.{IsTreeRefusal, of_names, of_program, HasTokens, HasTree, rule_of_misfit, IsRefusal, of_bytes, of_tokens, of_tree, HasProgram}
 use Rattle.ti_rules.proofs.FirstRefusal.{first_only}
 use Rattle.ti_rules.proofs.OneProgramRefusal.{one_first as only_refusal, not_both as unbroken_or_refused_by}
 
@@ -82,26 +78,3 @@ pub one_program : OneReading → (text : List ℕ) (p q : NumberedProgram) → H
 one_program known text p q has other =
     let same = one_tree_of known text has.tree other.tree has.has_tree other.has_tree in
     known.one_numbered other.tree p q (subst (λ (t : TextTree). Numbers t p) same has.numbers) other.numbers
-
-pub one_listing : OneReading → (text : List ℕ) (p q : ListedProgram) → HasListing text p → HasListing text q → p ≡ q
-one_listing known text p q has other =
-    let same = one_program known text has.program other.program has.has_program other.has_program in
-    one_listing_of other.program p q (subst (λ (x : NumberedProgram). IsListing x p) same has.is_listing) other.is_listing
-
--- the forms of a text that aren't built are those of each of its trees
-same_unbuilt : OneReading → (text : List ℕ) (p q : NumberedProgram) (has : HasProgram text p) (other : HasProgram text q) (r : Refusal) → IsFirstRefusal (HasUnbuilt has.tree) r → IsFirstRefusal (HasUnbuilt other.tree) r
-same_unbuilt known text p q has other r first =
-    subst (λ (t : TextTree). IsFirstRefusal (HasUnbuilt t) r) (one_tree_of known text has.tree other.tree has.has_tree other.has_tree) first
-
-pub one_unbuilt : OneReading → (text : List ℕ) (r s : Refusal) → IsUnbuiltRefusal text r → IsUnbuiltRefusal text s → r ≡ s
-one_unbuilt known text r s (of_forms {program = p} has first) (of_forms {program = q} others other) =
-    first_only (HasUnbuilt others.tree) r s (same_unbuilt known text p q has others r first) other
-
--- a program with a listing has no form that isn't built
-pub listed_or_unbuilt : OneReading → (text : List ℕ) (listing : ListedProgram) (r : Refusal) → HasListing text listing → IsUnbuiltRefusal text r → ⊥
-listed_or_unbuilt known text listing r has (of_forms {program = p} other first) =
-    let same = same_unbuilt known text p has.program other has.has_program r first in has.built r same.is_broken
-
--- and a program that can't be run has no refusal
-pub refused_or_unbuilt : OneReading → (text : List ℕ) (r s : Refusal) → IsRefusal text r → IsUnbuiltRefusal text s → ⊥
-refused_or_unbuilt known text r s is (of_forms {program = p} has first) = never_both known text p r has is

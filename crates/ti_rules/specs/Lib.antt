@@ -13,4 +13,3 @@ pub mod Rules
 pub mod SingleRules
 pub mod Standing
 pub mod TypeRules
-pub mod Unbuilt

@@ -6,18 +6,15 @@ use Rattle.ti_syntax.specs.declared.token.Token.{Token}
 use Rattle.ti_syntax.specs.Tokenizing.{IsTokenized}
 use Rattle.ti_syntax.specs.Trees.Classes.{TextTree}
 use Rattle.ti_syntax.specs.Spelling.{Spells, IsShallow, Misfit, Unexpected, TooDeep, IsGrammarRefusal}
-use Rattle.ti_lang.specs.Listed.{ListedProgram}
-use Rattle.ti_lang.specs.Listings.{IsListing}
 use Rattle.ti_lang.specs.Program.Classes.{NumberedProgram}
 use Rattle.ti_lang.specs.Numbering.{Numbers}
 use Rattle.ti_rules.specs.declared.rule.Rule.{Rule}
-use Rattle.ti_rules.specs.declared.rule.Rule.TheVariants.{G1, G2, Y1}
+use Rattle.ti_rules.specs.declared.rule.Rule.TheVariants.{G1, G2}
 use Rattle.ti_rules.specs.declared.refusal.Refusal.{Refusal}
 use Rattle.ti_rules.specs.Refusals.{IsFirstRefusal}
 use Rattle.ti_rules.specs.LexicalRefusals.{most_bytes, IsLexicalRefusal}
 use Rattle.ti_rules.specs.BrokenNames.{BreaksNames}
 use Rattle.ti_rules.specs.ProgramRefusals.{IsProgramRefusal, BreaksNothing}
-use Rattle.ti_rules.specs.Unbuilt.{IsUnbuilt}
 
 -- ---- the phases over trees
 
@@ -63,20 +60,3 @@ pub record HasProgram (text : List ℕ) (program : NumberedProgram) : Type 0 whe
   pub named : HasNone (BreaksNames tree)
   pub numbers : Numbers tree program
   pub unbroken : BreaksNothing program
-
--- ---- forms that can't be run yet
-
--- a form of the tree that isn't built, refused at its first token
-pub data HasUnbuilt (tree : TextTree) : Refusal → Type 0 where
-  unbuilt : {place : Place} → IsUnbuilt tree place → HasUnbuilt tree (record { rule = Y1; place = place })
-
--- the text has no refusal, but can't be run: the first of its forms that aren't built is refused
-pub data IsUnbuiltRefusal (text : List ℕ) : Refusal → Type 0 where
-  of_forms : {program : NumberedProgram} {refusal : Refusal} → (has : HasProgram text program) → IsFirstRefusal (HasUnbuilt has.tree) refusal → IsUnbuiltRefusal text refusal
-
--- what the `main` of the program of a text does, where all its forms are built
-pub record HasListing (text : List ℕ) (listing : ListedProgram) : Type 0 where
-  pub program : NumberedProgram
-  pub has_program : HasProgram text program
-  pub built : HasNone (HasUnbuilt has_program.tree)
-  pub is_listing : IsListing program listing

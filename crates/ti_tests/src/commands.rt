@@ -41,6 +41,13 @@ struct Refused {
     err: &'static str,
 }
 
+/// A text that one process runs to its end, and what stands on out.
+struct Printed {
+    frame: Frame,
+    text: &'static str,
+    out: &'static str,
+}
+
 /// The numbers of the calls that fail: of the source, out and err.
 #[derive(Clone, Copy)]
 struct Fails {
@@ -161,7 +168,7 @@ const COMMANDS: &[Command] = &[
             err: "",
         },
     },
-    // it is checked, though it can't be run yet
+    // it is checked and not run
     Command {
         words: "--mode=check a.ti",
         frame: MAIN,
@@ -201,6 +208,16 @@ const COMMANDS: &[Command] = &[
             status: 2,
             out: "0\n",
             err: "titan: fault fuel in process 0 at 1:100\n",
+        },
+    },
+    Command {
+        words: "--procs 2 a.ti",
+        frame: MAIN,
+        text: "println(7); println(1 / 0);",
+        end: End {
+            status: 2,
+            out: "7\n",
+            err: "titan: fault divZero in process 0 at 1:84\n",
         },
     },
     Command {
@@ -358,92 +375,112 @@ const REFUSED: &[Refused] = &[
     },
 ];
 
-/// Forms that the command doesn't run yet are refused at their first token.
-const UNBUILT: &[Refused] = &[
-    Refused {
+/// Each kind of value that is printed, and forms beside the prints and barriers of main.
+const PRINTED: &[Printed] = &[
+    Printed {
         frame: MAIN,
         text: "int x = 1;",
-        err: "1:62",
+        out: "",
     },
-    Refused {
+    Printed {
         frame: MAIN,
         text: "println(1 + 2);",
-        err: "1:70",
+        out: "3\n",
     },
-    Refused {
+    Printed {
         frame: MAIN,
         text: "println((-1));",
-        err: "1:71",
+        out: "-1\n",
     },
-    Refused {
+    Printed {
         frame: MAIN,
         text: "println(1L);",
-        err: "1:70",
+        out: "1\n",
     },
-    Refused {
+    Printed {
         frame: MAIN,
         text: "long x = 1L;",
-        err: "1:62",
+        out: "",
     },
-    Refused {
+    Printed {
         frame: MAIN,
         text: "println(); { ; if (true) ; }",
-        err: "1:77",
+        out: "\n",
     },
-    Refused {
+    Printed {
         frame: MAIN,
         text: "return;",
-        err: "1:62",
+        out: "",
     },
-    Refused {
+    Printed {
         frame: WITH_MAIN,
         text: "class C { }",
-        err: "1:1",
+        out: "",
     },
-    Refused {
+    Printed {
         frame: WHOLE,
         text: "class Main { int x; public static single void main(String[] args) { return; } }",
-        err: "1:14",
+        out: "",
     },
-    Refused {
+    Printed {
         frame: WITH_METHOD,
         text: "void f() { int x = 1; }",
-        err: "1:14",
+        out: "7\n",
     },
-    Refused {
+    Printed {
         frame: WITH_METHOD,
         text: "static void f(int n) { }",
-        err: "1:14",
+        out: "7\n",
     },
-    Refused {
+    Printed {
         frame: WITH_METHOD,
         text: "static int f() { return 1; }",
-        err: "1:14",
+        out: "7\n",
     },
-    Refused {
+    Printed {
         frame: WITH_METHOD,
         text: "static void f() { long x = 1; }",
-        err: "1:14",
+        out: "7\n",
     },
-    Refused {
+    Printed {
         frame: WITH_METHOD,
         text: "static single void f() { int single x = 1; }",
-        err: "1:14",
+        out: "7\n",
     },
-    Refused {
+    Printed {
         frame: WITH_METHOD,
         text: "static void f() { int x = 1 + 1; }",
-        err: "1:14",
+        out: "7\n",
     },
-    Refused {
+    Printed {
         frame: WITH_METHOD,
         text: "static void f() { int x = 1; x = 2; }",
-        err: "1:14",
+        out: "7\n",
     },
-    Refused {
+    Printed {
         frame: WITH_METHOD,
         text: "static void f() { ; }",
-        err: "1:14",
+        out: "7\n",
+    },
+    Printed {
+        frame: MAIN,
+        text: "println(-9223372036854775807L - 1L);",
+        out: "-9223372036854775808\n",
+    },
+    Printed {
+        frame: MAIN,
+        text: "println(true); println(\"b \" + (1 > 2));",
+        out: "true\nb false\n",
+    },
+    Printed {
+        frame: MAIN,
+        text: "println([7]); println(\"p\" + [1, -2]);",
+        out: "[7]\np[1,-2]\n",
+    },
+    Printed {
+        frame: MAIN,
+        text: "int low = -2147483647 - 1; println([low, low, low]);",
+        out: "[-2147483648,-2147483648,-2147483648]\n",
     },
 ];
 
@@ -591,10 +628,24 @@ fn commands_are_done(rt: HostRuntime) -> Result<(), Fail> {
     Ok(())
 }
 
-/// Whether a text is refused with this line on err behind the name of the file, and a further text behind the line.
-fn is_refused(rt: &HostRuntime, row: &Refused, rest: &str) -> Result<bool, Fail> {
+#[test]
+fn values_are_printed(rt: HostRuntime) -> Result<(), Fail> {
+    for row in PRINTED {
+        let text = framed(rt.alloc(), row.frame, row.text)?;
+        let end = End {
+            status: 0,
+            out: row.out,
+            err: "",
+        };
+        assert!(rt; leaves(&rt, "a.ti", text, NONE_FAILS, end)?, "{}", row.text);
+    }
+    Ok(())
+}
+
+/// Whether a text is refused with this line on err behind the name of the file.
+fn is_refused(rt: &HostRuntime, row: &Refused) -> Result<bool, Fail> {
     let text = framed(rt.alloc(), row.frame, row.text)?;
-    let line = format!(in rt.alloc(); "a.ti:{}{rest}\n", row.err)?;
+    let line = format!(in rt.alloc(); "a.ti:{}\n", row.err)?;
     let end = End {
         status: 1,
         out: "",
@@ -606,11 +657,7 @@ fn is_refused(rt: &HostRuntime, row: &Refused, rest: &str) -> Result<bool, Fail>
 #[test]
 fn texts_are_refused(rt: HostRuntime) -> Result<(), Fail> {
     for row in REFUSED {
-        assert!(rt; is_refused(&rt, row, "")?, "{}", row.err);
-    }
-    for row in UNBUILT {
-        let holds = is_refused(&rt, row, ": Y1 an operand of the wrong type")?;
-        assert!(rt; holds, "{}", row.text);
+        assert!(rt; is_refused(&rt, row)?, "{}", row.err);
     }
     Ok(())
 }

@@ -3,11 +3,11 @@ use Rattle.std.proofs.Common.{◌≡◌, ◌⊎◌, inl, inr, ℕ, ◌≤◌, tr
 use Rattle.ti_base.specs.declared.entry.Entry.{Entry}
 use Rattle.ti_io.specs.Source.{IsMissing, SameFiles}
 use Rattle.ti_io.specs.Sink.{SinkState, GrewBy, GrewByFront}
-use Rattle.ti_lang.specs.Listed.{ListedProgram}
-use Rattle.ti_lang.specs.Runs.{AllEnded, IsRun, IsSolo, IsComplete as IsCompleteRun, none}
-use Rattle.ti_lang.specs.Alignment.{IsAligned}
-use Rattle.ti_lang.proofs.Standing.{true_false}
+use Rattle.ti_lang.specs.Program.Classes.{NumberedProgram}
+use Rattle.ti_lang.specs.Meaning.Runs.{AllEnded, IsRun, IsSolo, IsComplete as IsCompleteRun, none}
+use Rattle.ti_align.specs.Alignment.{IsAligned}
 use Rattle.ti_rules.specs.declared.refusal.Refusal.{Refusal}
+use Rattle.ti_rules.specs.RefusalOf.{HasProgram}
 use Rattle.ti_top.specs.declared.fault.Fault.{Fault}
 use Rattle.ti_top.specs.declared.reading.ReadEnd.{ReadEnd}
 use Rattle.ti_top.specs.declared.reading.ReadEnd.TheVariants as Read
@@ -16,7 +16,6 @@ use Rattle.ti_top.specs.declared.ending.Ending.TheVariants.{Done, Refused, Fault
 use Rattle.ti_words.specs.declared.job.Job.{Job}
 use Rattle.ti_words.specs.declared.job.Mode.{Mode}
 use Rattle.ti_words.specs.declared.job.Mode.TheVariants.{Run, Check}
-use Rattle.ti_top.specs.Modes.{RefusalIn, AcceptedIn}
 use Rattle.ti_top.specs.Reports.{wanted, output, WroteFew}
 use Rattle.ti_top.specs.Mirrors.Reading.{ReadsWhole}
 use Rattle.ti_top.specs.Ending.{status_of}
@@ -25,13 +24,12 @@ use Rattle.ti_top.specs.Run.{fault_entry, EndsWithFault}
 use Rattle.ti_top.specs.Run.{run_of}
 use Rattle.ti_top.specs.Mirrors.Work.{RanNothing, Ran, WasRefused, WasChecked, TextSays, FileSays, WorkSays, work_of, DidNothing}
 use Rattle.ti_top.specs.Call.{most_read, Call, IsCommand, IsNoCommand, file_in, file_of, SourceRose, ErrRose, Yields, WantsReport}
-use Rattle.ti_top.specs.Clauses.{IsReadWhole, ReadsText, RefusesExactly, KeepsRun, WhereRun, WritesAll, WritesOutput, IsAlignedRun, EndsRun, NothingFailed, IsComplete, MeetsBesideErr, Says, before_err, Meets}
+use Rattle.ti_top.specs.Clauses.{IsAccepted, IsReadWhole, ReadsText, RefusesExactly, KeepsRun, WhereRun, WritesAll, WritesOutput, IsAlignedRun, EndsRun, NothingFailed, IsComplete, MeetsBesideErr, Says, before_err, Meets}
 use Rattle.ti_top.proofs.StatusFrom.{StatusFrom, status_from, not_five, is_done, is_faulted, is_no_memory}
 use Rattle.ti_top.proofs.WordsAnswered.{known, not_both, no_command_answers, command_answers}
 use Rattle.ti_top.proofs.TextRead.{EndsAs, read_whole, reads_text}
 use Rattle.ti_top.proofs.ErrWritten.{writes_err}
-use Rattle.ti_top.proofs.RunWritten.{fault_is_there}
-use Rattle.ti_top.proofs.Turns.{unbegun}
+use Rattle.ti_top.proofs.FaultLast.{true_false, fault_is_there, unbegun}
 
 -- a status that neither the ending nor a failed err gives
 never : (before : Ending) (c : Call) (n : ℕ) → StatusFrom before c → (status_of before ≡ n → ⊥) → (5 ≡ n → ⊥) → c.status ≡ n → ⊥
@@ -129,7 +127,7 @@ not_no_command Read.CantRead before fits is = let x = sym fits ∙ is in cc
 not_no_command Read.NoMemory before fits is = let x = sym fits ∙ is in cc
 
 -- the text is refused
-clauses_refused : (refusal : Refusal) (job : Job) (c : Call) → StatusFrom (Refused refusal) c → IsReadWhole job c → WasRefused job.mode c.text c.out c.out_after c.history refusal → Clauses job c
+clauses_refused : (refusal : Refusal) (job : Job) (c : Call) → StatusFrom (Refused refusal) c → IsReadWhole job c → WasRefused c.text c.out c.out_after c.history refusal → Clauses job c
 clauses_refused refusal job c from whole refused = let x = refused.nothing in record {
   refusal = record {
     only_where = λ _. (refusal, record { whole = whole; refused = refused.is });
@@ -246,8 +244,8 @@ clauses_ran : (before : Ending) (job : Job) (c : Call) → job.mode ≡ Run → 
 clauses_ran before job c mode command from whole x =
     let says = x.says in
     let only = x.compiled.only in
-    let unrefused : (refusal : Refusal) → RefusalIn job.mode c.text refusal → ⊥ = λ refusal is. x.compiled.unrefused refusal (subst (λ m. RefusalIn m c.text refusal) mode is) in
-    let accepted : AcceptedIn job.mode c.text = subst (λ m. AcceptedIn m c.text) (sym mode) (x.program, x.compiled.has) in
+    let unrefused = x.compiled.unrefused in
+    let accepted : IsAccepted c.text = (x.program, x.compiled.has) in
     record {
       refusal = record {
         only_where = λ is. absurd (other 1 (λ e. omega arith) (λ e. omega arith) (λ e. omega arith) (λ e. omega arith) is);
@@ -277,8 +275,8 @@ clauses_ran before job c mode command from whole x =
         no_memory = λ is told. run_alone (λ j q. WroteFew (run_of q j) (wanted j c.watchers) c.history c.out c.out_after) (says.few (no_memory_at before c from is) told);
       };
       alignment = record {
-        done = λ _ p has. subst IsAligned (sym (only p has)) says.aligned;
-        faulted = λ _ p has. subst IsAligned (sym (only p has)) says.aligned;
+        done = λ _ p has. subst IsAligned (sym (only p has)) x.compiled.aligned;
+        faulted = λ _ p has. subst IsAligned (sym (only p has)) x.compiled.aligned;
       };
       end = record {
         ended = λ is _ p has. subst (λ q. AllEnded (run_of q job) c.history) (sym (only p has)) (says.ended (done_at before c from is));
@@ -335,18 +333,19 @@ clauses_ran before job c mode command from whole x =
     other n a b d e is = never before c n from (λ s. by_end (λ k. a (sym (ap status_of k) ∙ s)) (λ k. b (sym (ap status_of k.1) ∙ s)) (λ k. d (sym (ap status_of k) ∙ s)) (λ k. e (sym (ap status_of k) ∙ s))) e is
 
     -- what holds of this job and this program holds of each that the call has
-    run_alone : (P : Job → ListedProgram → Type 0) → P job x.program → WhereRun c P
+    run_alone : (P : Job → NumberedProgram → Type 0) → P job x.program → WhereRun c P
     run_alone P it j some _ p has = subst (λ k. P k p) (job_same c job j command some) (subst (P job) (sym (x.compiled.only p has)) it)
 
     all : (before ≡ CantWrite → ⊥) → (before ≡ NoMemory → ⊥) → c.out.tells ≡ true → WritesAll c
     all whole there told = run_alone (λ j q. GrewBy c.out c.out_after (output q c.history (wanted j c.watchers))) (x.says.all whole there told)
 
 -- the text was checked, and has a program
-clauses_checked : (job : Job) (c : Call) → IsCommand c job → ((p : ListedProgram) → IsAligned p) → job.mode ≡ Check → 1 ≤ job.procs → StatusFrom Done c → IsReadWhole job c → WasChecked c.text c.out c.out_after c.history → Clauses job c
-clauses_checked job c command aligned mode some from whole x =
+clauses_checked : (job : Job) (c : Call) → IsCommand c job → job.mode ≡ Check → StatusFrom Done c → IsReadWhole job c → WasChecked c.text c.out c.out_after c.history → Clauses job c
+clauses_checked job c command mode from whole x =
     let unrun : (other : Job) → IsCommand c other → other.mode ≡ Run → ⊥ = λ other is run. run_or_check job.mode (subst (λ (k : Job). k.mode ≡ Run) (job_same c other job is command) run) mode in
-    let accepted : AcceptedIn job.mode c.text = subst (λ m. AcceptedIn m c.text) (sym mode) x.accepted in
-    let unrefused : (refusal : Refusal) → RefusalIn job.mode c.text refusal → ⊥ = λ refusal is. x.unrefused refusal (subst (λ m. RefusalIn m c.text refusal) mode is) in
+    let unrefused = x.compiled.unrefused in
+    let accepted : IsAccepted c.text = (x.program, x.compiled.has) in
+    let aligned : (p : NumberedProgram) → HasProgram c.text p → IsAligned p = λ p has. subst IsAligned (sym (x.compiled.only p has)) x.compiled.aligned in
     record {
       refusal = record {
         only_where = λ is. absurd (never Done c 1 from (λ e. omega arith) (λ e. omega arith) is);
@@ -358,7 +357,7 @@ clauses_checked job c command aligned mode some from whole x =
       };
       run = run_nothing job c x.nothing;
       output = output_nothing c (λ _ other is run _ _. unrun other is run) (λ _ other is run _ _. unrun other is run) (λ _ other is run _ _. absurd (unrun other is run)) x.nothing;
-      alignment = record { done = λ _ p _. aligned p; faulted = λ _ p _. aligned p };
+      alignment = record { done = λ _. aligned; faulted = λ _. aligned };
       end = record {
         ended = λ _ run. absurd (run_or_check job.mode run mode);
         fault_only_where = λ is. absurd (never Done c 2 from (λ e. omega arith) (λ e. omega arith) is);
@@ -379,7 +378,6 @@ clauses_checked job c command aligned mode some from whole x =
 record Commanded (before : Ending) (job : Job) (c : Call) : Type 0 where
   pub command : IsCommand c job
   pub some : 1 ≤ job.procs
-  pub aligned : (p : ListedProgram) → IsAligned p
   pub work : WorkSays job before (work_of c)
 
 ends_text : (mode : Mode) (before : Ending) (job : Job) (c : Call) → TextSays mode before job (wanted job c.watchers) c.text c.out c.out_after c.history → EndsAs Read.Whole before
@@ -412,42 +410,42 @@ pub record Told (before : Ending) (job : Job) (c : Call) : Type 0 where
 each_has : (job : Job) (c : Call) → IsCommand c job → 1 ≤ job.procs → (other : Job) → IsCommand c other → 1 ≤ other.procs
 each_has job c command some other is = subst (λ (j : Job). 1 ≤ j.procs) (job_same c job other command is) some
 
-told_refused : (refusal : Refusal) (job : Job) (c : Call) → IsCommand c job → StatusFrom (Refused refusal) c → IsReadWhole job c → WasRefused job.mode c.text c.out c.out_after c.history refusal → Told (Refused refusal) job c
+told_refused : (refusal : Refusal) (job : Job) (c : Call) → IsCommand c job → StatusFrom (Refused refusal) c → IsReadWhole job c → WasRefused c.text c.out c.out_after c.history refusal → Told (Refused refusal) job c
 told_refused refusal job c command from whole refused = record { clauses = clauses_refused refusal job c from whole refused; says = (job, command, record { whole = whole; refused = refused.is }) }
 
-told_text : (mode : Mode) (before : Ending) (job : Job) (c : Call) → job.mode ≡ mode → IsCommand c job → 1 ≤ job.procs → ((p : ListedProgram) → IsAligned p) → IsReadWhole job c
+told_text : (mode : Mode) (before : Ending) (job : Job) (c : Call) → job.mode ≡ mode → IsCommand c job → 1 ≤ job.procs → IsReadWhole job c
     → TextSays mode before job (wanted job c.watchers) c.text c.out c.out_after c.history → StatusFrom before c → Told before job c
-told_text Run Done job c mode command some aligned whole says from =
-    record { clauses = clauses_ran Done job c mode command from whole says; says = (job, command, subst (λ m. AcceptedIn m c.text) (sym mode) (says.program, says.compiled.has)) }
-told_text Run (Refused refusal) job c mode command some aligned whole says from = told_refused refusal job c command from whole (subst (λ m. WasRefused m c.text c.out c.out_after c.history refusal) (sym mode) says)
-told_text Run (Faulted fault) job c mode command some aligned whole says from = record { clauses = clauses_ran (Faulted fault) job c mode command from whole says; says = (job, command, says.says.faulted fault refl) }
-told_text Run NoCommand job c mode command some aligned whole says from = absurd says
-told_text Run CantRead job c mode command some aligned whole says from = absurd says
-told_text Run CantWrite job c mode command some aligned whole says from = record { clauses = clauses_ran CantWrite job c mode command from whole says; says = (job, command, says.says.rose refl) }
-told_text Run NoMemory job c mode command some aligned whole says from =
+told_text Run Done job c mode command some whole says from =
+    record { clauses = clauses_ran Done job c mode command from whole says; says = (job, command, (says.program, says.compiled.has)) }
+told_text Run (Refused refusal) job c mode command some whole says from = told_refused refusal job c command from whole says
+told_text Run (Faulted fault) job c mode command some whole says from = record { clauses = clauses_ran (Faulted fault) job c mode command from whole says; says = (job, command, says.says.faulted fault refl) }
+told_text Run NoCommand job c mode command some whole says from = absurd says
+told_text Run CantRead job c mode command some whole says from = absurd says
+told_text Run CantWrite job c mode command some whole says from = record { clauses = clauses_ran CantWrite job c mode command from whole says; says = (job, command, says.says.rose refl) }
+told_text Run NoMemory job c mode command some whole says from =
     record { clauses = elim says [ inl nothing ↦ clauses_no_memory job c command (each_has job c command some) from nothing | inr ran ↦ clauses_ran NoMemory job c mode command from whole ran ]; says = tt }
-told_text Check Done job c mode command some aligned whole says from =
-    record { clauses = clauses_checked job c command aligned mode some from whole says; says = (job, command, subst (λ m. AcceptedIn m c.text) (sym mode) says.accepted) }
-told_text Check (Refused refusal) job c mode command some aligned whole says from = told_refused refusal job c command from whole (subst (λ m. WasRefused m c.text c.out c.out_after c.history refusal) (sym mode) says)
-told_text Check (Faulted fault) job c mode command some aligned whole says from = absurd says
-told_text Check NoCommand job c mode command some aligned whole says from = absurd says
-told_text Check CantRead job c mode command some aligned whole says from = absurd says
-told_text Check CantWrite job c mode command some aligned whole says from = absurd says
-told_text Check NoMemory job c mode command some aligned whole says from = record { clauses = clauses_no_memory job c command (each_has job c command some) from says; says = tt }
+told_text Check Done job c mode command some whole says from =
+    record { clauses = clauses_checked job c command mode from whole says; says = (job, command, (says.program, says.compiled.has)) }
+told_text Check (Refused refusal) job c mode command some whole says from = told_refused refusal job c command from whole says
+told_text Check (Faulted fault) job c mode command some whole says from = absurd says
+told_text Check NoCommand job c mode command some whole says from = absurd says
+told_text Check CantRead job c mode command some whole says from = absurd says
+told_text Check CantWrite job c mode command some whole says from = absurd says
+told_text Check NoMemory job c mode command some whole says from = record { clauses = clauses_no_memory job c command (each_has job c command some) from says; says = tt }
 
-told_file : (before : Ending) (end : ReadEnd) (job : Job) (c : Call) → IsCommand c job → 1 ≤ job.procs → ((p : ListedProgram) → IsAligned p) → ReadsWhole job.file c.source c.source_after c.text end → FileSays end before job (work_of c) → StatusFrom before c → Told before job c
-told_file before Read.Whole job c command some aligned read says from =
-    told_text job.mode before job c refl command some aligned (read_whole before job c read (ends_as Read.Whole before job c says) from) says from
-told_file before Read.CantRead job c command some aligned read says from =
+told_file : (before : Ending) (end : ReadEnd) (job : Job) (c : Call) → IsCommand c job → 1 ≤ job.procs → ReadsWhole job.file c.source c.source_after c.text end → FileSays end before job (work_of c) → StatusFrom before c → Told before job c
+told_file before Read.Whole job c command some read says from =
+    told_text job.mode before job c refl command some (read_whole before job c read (ends_as Read.Whole before job c says) from) says from
+told_file before Read.CantRead job c command some read says from =
     let cause = read.cause refl in
     let from' = subst (λ b. StatusFrom b c) says.0 from in
     subst (λ b. Told b job c) (sym says.0) (record { clauses = clauses_cant_read job c from' cause says.1; says = (job, command, cause) })
-told_file before Read.NoMemory job c command some aligned read says from =
+told_file before Read.NoMemory job c command some read says from =
     let from' = subst (λ b. StatusFrom b c) says.0 from in
     subst (λ b. Told b job c) (sym says.0) (record { clauses = clauses_no_memory job c command (each_has job c command some) from' says.1; says = tt })
 
 told : (before : Ending) (job : Job) (c : Call) → Commanded before job c → StatusFrom before c → Told before job c
-told before job c x from = told_file before x.work.end job c x.command x.some x.aligned x.work.read x.work.says from
+told before job c x from = told_file before x.work.end job c x.command x.some x.work.read x.work.says from
 
 beside_command : (before : Ending) (job : Job) (c : Call) → Commanded before job c → StatusFrom before c → MeetsBesideErr c
 beside_command before job c x from =
@@ -464,13 +462,13 @@ beside_command before job c x from =
     }
 
 -- what was done, and how the line on err was written, meet the clauses
-pub meets_command : (before : Ending) (job : Job) (c : Call) → IsCommand c job → 1 ≤ job.procs → ((p : ListedProgram) → IsAligned p) → WorkSays job before (work_of c) → Ended before job.file c.err c.err_after c.status → Meets c
-meets_command before job c command some aligned work written =
+pub meets_command : (before : Ending) (job : Job) (c : Call) → IsCommand c job → 1 ≤ job.procs → WorkSays job before (work_of c) → Ended before job.file c.err c.err_after c.status → Meets c
+meets_command before job c command some work written =
     let ended = subst (λ file. Ended before file c.err c.err_after c.status) (sym (ap file_in command)) written in
-    let x : Commanded before job c = record { command = command; some = some; aligned = aligned; work = work } in
+    let x : Commanded before job c = record { command = command; some = some; work = work } in
     let from = status_from before c ended in
     let all = told before job c x from in
-    let earlier : Commanded before job (before_err c before) = record { command = command; some = some; aligned = aligned; work = work } in
+    let earlier : Commanded before job (before_err c before) = record { command = command; some = some; work = work } in
     record {
       beside_err = beside_command before job c x from;
       err = writes_err c before all.says (beside_command before job (before_err c before) earlier (inl refl)) ended;

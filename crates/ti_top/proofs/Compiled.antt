@@ -1,23 +1,21 @@
 -- From the answers of the phases to that of the compiler.
-use Rattle.std.proofs.Common.{◌≡◌, inl, inr, ℕ, List, Ok, Err, sym, ap, subst}
+use Rattle.std.proofs.Common.{◌≡◌, ℕ, List, Ok, Err, sym, ap, subst}
 use Rattle.std.specs.declared.vec.Vec.{Vec}
 use Rattle.std.specs.declared.alloc.Global.{Global}
 use Rattle.ti_base.specs.declared.place.Place.{Place}
 use Rattle.ti_syntax.specs.declared.token.Token.{Token}
 use Rattle.ti_syntax.specs.declared.tree.text.Tree.{Tree}
-use Rattle.ti_lang.specs.declared.listing.Listing.{Listing}
-use Rattle.ti_lang.specs.Listed.{ListedProgram, listed_program}
+use Rattle.ti_lang.specs.declared.program.numbered.Program.{Program}
 use Rattle.ti_lang.specs.Program.Classes.{NumberedProgram}
 use Rattle.ti_lang.specs.Program.Views.{program_of}
 use Rattle.ti_lang.specs.Numbering.{Numbers}
-use Rattle.ti_lang.specs.Listings.{IsListing}
+use Rattle.ti_align.specs.Alignment.{IsAligned}
 use Rattle.ti_syntax.specs.Trees.Text.{tree_of}
+use Rattle.ti_rules.specs.declared.checked.Checked.{Checked}
 use Rattle.ti_rules.specs.declared.rule.Rule.{Rule}
 use Rattle.ti_rules.specs.declared.refusal.Refusal.{Refusal}
 use Rattle.ti_rules.specs.BrokenNames.{BreaksNames}
-use Rattle.ti_rules.specs.Refusals.{IsFirstRefusal}
-use Rattle.ti_rules.specs.ProgramRefusals.{BreaksNothing}
-use Rattle.ti_rules.specs.RefusalOf.{HasNone, of_names as of_names_first, of_program, HasTokens, HasTree, rule_of_misfit, IsRefusal, of_bytes, of_tokens, of_tree, HasProgram, HasUnbuilt, HasListing, IsUnbuiltRefusal, of_forms}
+use Rattle.ti_rules.specs.RefusalOf.{HasNone, of_names as of_names_first, of_program, HasTokens, HasTree, rule_of_misfit, IsRefusal, of_bytes, of_tokens, of_tree, HasProgram}
 use Rattle.ti_lex.specs.declared.error.LexErr.{LexErr}
 use Rattle.ti_lex.specs.declared.error.LexErr.TheVariants as lexer
 use Rattle.ti_lex.specs.Answer.{Lexes}
@@ -27,28 +25,23 @@ use Rattle.ti_parse.specs.Answer.{Parsed}
 use Rattle.ti_names.specs.declared.error.NameErr.{NameErr}
 use Rattle.ti_names.specs.declared.error.NameErr.TheVariants as names
 use Rattle.ti_names.specs.Answer.{Resolves}
-use Rattle.ti_lang.specs.declared.program.numbered.Program.{Program}
 use Rattle.ti_check.specs.Answer.{GivesChecked}
 use Rattle.ti_check.specs.declared.error.CheckErr.{CheckErr}
 use Rattle.ti_check.specs.declared.error.CheckErr.TheVariants as checker
-use Rattle.ti_top.specs.declared.compiling.Compiled.{Compiled}
 use Rattle.ti_top.specs.declared.compiling.CompileErr.TheVariants.{Refused}
-use Rattle.ti_top.specs.Mirrors.Compiling.{IsCompiled, HasNoListing, Compiles, Lists, of_lexer, of_parser, of_names, of_check}
+use Rattle.ti_top.specs.Mirrors.Compiling.{HasNoProgram, Compiles, of_lexer, of_parser, of_names, of_check}
 
 -- that a text has one answer
 pub record OneAnswer : Type 0 where
-  pub one_listing : (text : List ℕ) (p q : ListedProgram) → HasListing text p → HasListing text q → p ≡ q
+  pub one_program : (text : List ℕ) (p q : NumberedProgram) → HasProgram text p → HasProgram text q → p ≡ q
   pub never_both : (text : List ℕ) (program : NumberedProgram) (refusal : Refusal) → HasProgram text program → IsRefusal text refusal → ⊥
-  pub never_unbuilt : (text : List ℕ) (listing : ListedProgram) (refusal : Refusal) → HasListing text listing → IsUnbuiltRefusal text refusal → ⊥
 
--- ---- programs
-
--- a refused text has no listing
-no_listing : OneAnswer → (text : List ℕ) (refusal : Refusal) → IsRefusal text refusal → HasNoListing text
-no_listing known text refusal is = λ listing has. known.never_both text has.program refusal has.has_program is
+-- a refused text has no program
+no_program : OneAnswer → (text : List ℕ) (refusal : Refusal) → IsRefusal text refusal → HasNoProgram text
+no_program known text refusal is = λ program has. known.never_both text program refusal has is
 
 refused : OneAnswer → (text : List ℕ) (refusal : Refusal) → IsRefusal text refusal → Compiles text (Err (Refused refusal))
-refused known text refusal is = (is, no_listing known text refusal is)
+refused known text refusal is = (is, no_program known text refusal is)
 
 has_tokens : (text : List ℕ) (tokens : Vec Token Global) → Lexes text (Ok tokens) → HasTokens text tokens.items
 has_tokens text tokens lexed = record { short = lexed.0; tokenized = lexed.1 }
@@ -82,39 +75,14 @@ not_checked known text tree p (checker.Refused refusal) has named numbers is = r
 not_checked known text tree p checker.Memory has named numbers is = tt
 
 -- it breaks none
-pub is_compiled : (text : List ℕ) (tree : Tree) (p : Program) (c : Compiled) → c.tree ≡ tree → HasTree text (tree_of tree) → HasNone (BreaksNames (tree_of tree)) → Numbers (tree_of tree) (program_of p.parts) → GivesChecked p (Ok c.checked) → IsCompiled text c
-is_compiled text tree p c same has named numbers checks = record {
-  has_tree = subst (λ t. HasTree text (tree_of t)) (sym same) has;
-  named = subst (λ t. HasNone (BreaksNames (tree_of t))) (sym same) named;
-  numbers = subst (λ t. Numbers (tree_of t) (program_of c.checked.program.parts)) (sym same) (subst (λ (q : Program). Numbers (tree_of tree) (program_of q.parts)) (sym checks.0) numbers);
-  unbroken = subst (λ (q : Program). BreaksNothing (program_of q.parts)) (sym checks.0) checks.1;
+pub has_program : (text : List ℕ) (tree : Tree) (p : Program) (c : Checked) → HasTree text (tree_of tree) → HasNone (BreaksNames (tree_of tree)) → Numbers (tree_of tree) (program_of p.parts) → GivesChecked p (Ok c) → HasProgram text (program_of c.program.parts)
+has_program text tree p c has named numbers checks =
+    subst (λ (q : Program). HasProgram text (program_of q.parts)) (sym checks.0) (record { tree = tree_of tree; has_tree = has; named = named; numbers = numbers; unbroken = checks.1 })
+
+pub compiled : OneAnswer → (text : List ℕ) (c : Checked) → HasProgram text (program_of c.program.parts) → IsAligned (program_of c.program.parts) → Compiles text (Ok c)
+compiled known text c has aligned = record {
+  has = has;
+  only = λ other others. known.one_program text other (program_of c.program.parts) others has;
+  unrefused = λ refusal is. known.never_both text (program_of c.program.parts) refusal has is;
+  aligned = aligned;
 }
-
-pub has_program : (text : List ℕ) (compiled : Compiled) → IsCompiled text compiled → HasProgram text (program_of compiled.checked.program.parts)
-has_program text compiled is = record { tree = tree_of compiled.tree; has_tree = is.has_tree; named = is.named; numbers = is.numbers; unbroken = is.unbroken }
-
-pub compiled : OneAnswer → (text : List ℕ) (c : Compiled) → IsCompiled text c → Compiles text (Ok c)
-compiled known text c is = (is, λ refusal other. known.never_both text (program_of c.checked.program.parts) refusal (has_program text c is) other)
-
--- ---- listings
-
--- a form of the program isn't built
-pub not_listed : OneAnswer → (text : List ℕ) (c : Compiled) (refusal : Refusal) → IsCompiled text c → IsFirstRefusal (HasUnbuilt (tree_of c.tree)) refusal → Lists text (Err (Refused refusal))
-unfolding has_program
-not_listed known text c refusal is first =
-    let unbuilt : IsUnbuiltRefusal text refusal = of_forms (has_program text c is) first in
-    (unbuilt, λ listing has. known.never_unbuilt text listing refusal has unbuilt)
-
--- all are
-pub listed : OneAnswer → (text : List ℕ) (c : Compiled) (listing : Listing) → IsCompiled text c → HasNone (HasUnbuilt (tree_of c.tree)) → IsListing (program_of c.checked.program.parts) (listed_program listing) → Lists text (Ok listing)
-unfolding has_program
-listed known text c listing is built lists =
-    let has : HasListing text (listed_program listing) = record { program = program_of c.checked.program.parts; has_program = has_program text c is; built = built; is_listing = lists } in
-    record {
-      has = has;
-      only = λ other others. known.one_listing text other (listed_program listing) others has;
-      unrefused = λ refusal other. elim other [
-        | inl rule ↦ known.never_both text (program_of c.checked.program.parts) refusal (has_program text c is) rule
-        | inr form ↦ known.never_unbuilt text (listed_program listing) refusal has form
-      ];
-    }

@@ -1,4 +1,4 @@
--- Each text has a program or a refusal, since each phase has an answer; and each program a listing or a refusal.
+-- Each text has a program or a refusal, since each phase has an answer.
 use Rattle.std.proofs.Common.{◌≡◌, ◌⊎◌, inl, inr, ℕ, ◌≤◌, List, length, Option, None, Some, refl}
 use Rattle.ti_base.specs.declared.place.Place.{Place}
 use Rattle.ti_base.specs.Places.{end_place}
@@ -7,20 +7,15 @@ use Rattle.ti_syntax.specs.declared.token.TokenKind.TheVariants as k
 use Rattle.ti_syntax.specs.Tokenizing.{IsTokenized}
 use Rattle.ti_syntax.specs.Trees.Classes.{TextTree}
 use Rattle.ti_syntax.specs.Spelling.{Misfit, IsGrammarRefusal, fits}
-use Rattle.ti_lang.specs.Listed.{ListedProgram}
 use Rattle.ti_lang.specs.Program.Classes.{NumberedProgram}
 use Rattle.ti_lang.specs.Numbering.{Numbers}
 use Rattle.ti_rules.specs.declared.refusal.Refusal.{Refusal}
 use Rattle.ti_rules.specs.Refusals.{IsFirstRefusal}
 use Rattle.ti_rules.specs.LexicalRefusals.{most_bytes, IsLexicalRefusal}
-use Rattle.ti_rules.specs.Unbuilt.{unbuilt_places}
 use Rattle.ti_rules.specs.ProgramRefusals.{IsProgramRefusal, BreaksNothing, program_refusal}
 use Rattle.ti_rules.specs.BrokenNames.{BreaksNames}
-use Rattle.ti_rules.specs.RefusalOf.{HasNone, of_names, of_program, HasTokens, HasTree, IsRefusal, of_bytes, of_tokens, of_tree, HasProgram, HasListing, IsUnbuiltRefusal, of_forms}
+use Rattle.ti_rules.specs.RefusalOf.{HasNone, of_names, of_program, HasTokens, HasTree, IsRefusal, of_bytes, of_tokens, of_tree, HasProgram}
 use Rattle.ti_parse_expr.specs.Answers.{EndsAtEnd}
-use Rattle.ti_top.specs.Mirrors.Unbuilt.{first_unbuilt}
-use Rattle.ti_top.proofs.BuiltPrograms.{has_listing}
-use Rattle.ti_top.proofs.TreeRefusals.{first_form, all_built, none_unbuilt}
 
 -- that the phases have answers
 pub record Answered : Type 0 where
@@ -62,16 +57,3 @@ some_answer known text =
           tokens_answer known text read.0 has fitting.0 fitting.1
       | inr flaw ↦ inr (flaw.0, of_bytes flaw.1)
     ]
-
--- ---- listings
-
--- a program whose forms are built has a listing
-pub built_answer : (text : List ℕ) (program : NumberedProgram) → HasProgram text program → ((listing : ListedProgram) × HasListing text listing) ⊎ ((refusal : Refusal) × IsUnbuiltRefusal text refusal)
-built_answer text program has = by (first_unbuilt (unbuilt_places has.tree)) refl
-  where
-    by : (o : Option Refusal) → first_unbuilt (unbuilt_places has.tree) ≡ o → ((listing : ListedProgram) × HasListing text listing) ⊎ ((refusal : Refusal) × IsUnbuiltRefusal text refusal)
-    by None found =
-        let built = all_built has.tree found in
-        let listing = has_listing has.tree program built has.numbers in
-        inl (listing.0, record { program = program; has_program = has; built = none_unbuilt has.tree built; is_listing = listing.1 })
-    by (Some refusal) found = inr (refusal, of_forms has (first_form has.tree refusal found))

@@ -6,7 +6,7 @@ use Rattle.ti_words.specs.Uses.{Word}
 use Rattle.ti_words.specs.Job.{Values, values_in, mode_of, is_number, number_of, number_in, number_up_to, most_fuel, procs_of, workers_of, fuel_of, job_by, job_of}
 use Rattle.ti_words.specs.declared.job.Job.{Job}
 use Rattle.ti_words.specs.declared.job.Mode.{Mode}
-use Rattle.ti_top.specs.Mirrors.Jobs.{IsInRange}
+use Rattle.ti_store.specs.Conditions.{IsWithin}
 
 no_some : {A B : Type 0} (b : B) → ◌≡◌ {A = Option B} None (Some b) → A
 no_some {A} {B} b h = absurd (wrong b h)
@@ -68,7 +68,10 @@ abbrev job_with : Values → Word → Mode → ℕ → ℕ → ℕ → Job
 job_with values file mode procs workers fuel =
     record { mode = mode; procs = procs; workers = workers; fuel = fuel; trace = values.trace; stats = values.stats; file = file }
 
-ranges : (values : Values) (job : Job) → job_by values ≡ Some job → IsInRange job
+within : (values : Values) (file : Word) (mode : Mode) (procs workers fuel : ℕ) (job : Job) → job_with values file mode procs workers fuel ≡ job → IsWithin procs fuel → IsWithin job.procs job.fuel
+within values file mode procs workers fuel job same is = subst (λ (j : Job). IsWithin j.procs j.fuel) same is
+
+ranges : (values : Values) (job : Job) → job_by values ≡ Some job → IsWithin job.procs job.fuel
 ranges values job e =
     let file = stepped values.file (λ file. option_and_then (λ mode. option_and_then (λ procs. option_and_then (λ workers. option_map (job_with values file mode procs workers) (fuel_of procs values)) (workers_of procs values)) (procs_of values)) (mode_of values.mode)) job e in
     let mode = stepped (mode_of values.mode) (λ mode. option_and_then (λ procs. option_and_then (λ workers. option_map (job_with values file.first mode procs workers) (fuel_of procs values)) (workers_of procs values)) (procs_of values)) job file.next in
@@ -77,7 +80,7 @@ ranges values job e =
     let fuel = mapped (job_with values file.first mode.first procs.first workers.first) (fuel_of procs.first values) job workers.next in
     let p = up_to 32 1 values.procs procs.first (omega arith) (omega arith) procs.is in
     let f = fuel_up_to procs.first values fuel.0 fuel.1 in
-    subst IsInRange fuel.2 (record { procs_some = p.0; procs_most = p.1; fuel_some = f.0; fuel_most = f.1 })
+    within values file.first mode.first procs.first workers.first fuel.0 job fuel.2 (record { some = p.0; few = p.1; fueled = f.0; limited = f.1 })
 
-pub in_ranges : (words : List Word) (job : Job) → job_of words ≡ Some job → IsInRange job
+pub in_ranges : (words : List Word) (job : Job) → job_of words ≡ Some job → IsWithin job.procs job.fuel
 in_ranges words job e = let k = stepped (values_in words) job_by job e in ranges k.first job k.next

@@ -2,17 +2,16 @@
 use Rattle.std.specs.Prelude.{◌≡◌, ◌⊎◌, ℕ, ◌≤◌, true, false, List, [], length, take}
 use Rattle.ti_io.specs.Source.{SameFiles, IsMissing, Holds}
 use Rattle.ti_io.specs.Sink.{IsFront, GrewBy, GrewByFront}
-use Rattle.ti_lang.specs.Listed.{ListedProgram}
-use Rattle.ti_lang.specs.Runs.{AllEnded, IsRun, IsSolo, IsComplete as IsCompleteRun}
-use Rattle.ti_lang.specs.Alignment.{IsAligned}
+use Rattle.ti_lang.specs.Program.Classes.{NumberedProgram}
+use Rattle.ti_lang.specs.Meaning.Runs.{AllEnded, IsRun, IsSolo, IsComplete as IsCompleteRun}
+use Rattle.ti_align.specs.Alignment.{IsAligned}
 use Rattle.ti_rules.specs.declared.refusal.Refusal.{Refusal}
-use Rattle.ti_rules.specs.RefusalOf.{HasNone, HasListing}
+use Rattle.ti_rules.specs.RefusalOf.{HasNone, HasProgram, IsRefusal}
 use Rattle.ti_words.specs.declared.job.Job.{Job}
 use Rattle.ti_words.specs.declared.job.Mode.TheVariants.{Run, Check}
 use Rattle.ti_top.specs.declared.fault.Fault.{Fault}
 use Rattle.ti_top.specs.declared.ending.Ending.{Ending}
 use Rattle.ti_top.specs.declared.ending.Ending.TheVariants.{Done, Refused, Faulted, NoCommand, CantRead, CantWrite, NoMemory}
-use Rattle.ti_top.specs.Modes.{RefusalIn, AcceptedIn}
 use Rattle.ti_top.specs.Run.{EndsWithFault}
 use Rattle.ti_top.specs.Ending.{status_of, err_line}
 use Rattle.ti_top.specs.Run.{run_of}
@@ -49,10 +48,14 @@ pub record ReadsText (job : Job) (c : Call) : Type 0 where
   pub missing : IsMissing c.source job.file → (c.status ≡ 4) ⊎ Yields c
   pub same_files : SameFiles c.source c.source_after
 
+-- the text has a program
+abbrev pub IsAccepted : List ℕ → Type 0
+IsAccepted text = (program : NumberedProgram) × HasProgram text program
+
 -- The text was read whole, and this is its refusal.
 pub record IsRefused (job : Job) (c : Call) (refusal : Refusal) : Type 0 where
   pub whole : IsReadWhole job c
-  pub refused : RefusalIn job.mode c.text refusal
+  pub refused : IsRefusal c.text refusal
 
 -- The refusal: status 1 says that the text is refused, and then nothing was run and nothing written; with status 0 or 2 it
 -- is accepted.
@@ -60,22 +63,22 @@ pub record RefusesExactly (job : Job) (c : Call) : Type 0 where
   pub only_where : c.status ≡ 1 → (refusal : Refusal) × IsRefused job c refusal
   -- it may run out of memory, and a sink or a reading may fail
   pub everywhere : (refusal : Refusal) → IsRefused job c refusal → (c.status ≡ 1) ⊎ (Yields c ⊎ ((c.status ≡ 4) × SourceRose c))
-  pub no_history : (refusal : Refusal) → RefusalIn job.mode c.text refusal → c.history ≡ []
-  pub no_output : (refusal : Refusal) → RefusalIn job.mode c.text refusal → c.out_after.taken ≡ c.out.taken
-  pub accepted_at_zero : c.status ≡ 0 → AcceptedIn job.mode c.text
-  pub accepted_at_two : c.status ≡ 2 → AcceptedIn job.mode c.text
+  pub no_history : (refusal : Refusal) → IsRefusal c.text refusal → c.history ≡ []
+  pub no_output : (refusal : Refusal) → IsRefusal c.text refusal → c.out_after.taken ≡ c.out.taken
+  pub accepted_at_zero : c.status ≡ 0 → IsAccepted c.text
+  pub accepted_at_two : c.status ≡ 2 → IsAccepted c.text
 
 -- The run: whatever the status, the history is a run of the text's program, and as far as it goes the one in which each
 -- entry is that of the lowest-numbered process that can take one; where there is no program, or the text is only checked, it is empty.
 pub record KeepsRun (job : Job) (c : Call) : Type 0 where
-  pub run : (program : ListedProgram) → HasListing c.text program → IsRun (run_of program job) c.history
-  pub solo : (program : ListedProgram) → HasListing c.text program → IsSolo (run_of program job) c.history
-  pub none : ((program : ListedProgram) → HasListing c.text program → ⊥) → c.history ≡ []
+  pub run : (program : NumberedProgram) → HasProgram c.text program → IsRun (run_of program job) c.history
+  pub solo : (program : NumberedProgram) → HasProgram c.text program → IsSolo (run_of program job) c.history
+  pub none : ((program : NumberedProgram) → HasProgram c.text program → ⊥) → c.history ≡ []
   pub checked : job.mode ≡ Check → c.history ≡ []
 
--- this holds of the job and the listing wherever the text is to be run and has one
-abbrev pub WhereRun : Call → (Job → ListedProgram → Type 0) → Type 0
-WhereRun c P = (job : Job) → IsCommand c job → job.mode ≡ Run → (program : ListedProgram) → HasListing c.text program → P job program
+-- this holds of the job and the program wherever the text is to be run and has one
+abbrev pub WhereRun : Call → (Job → NumberedProgram → Type 0) → Type 0
+WhereRun c P = (job : Job) → IsCommand c job → job.mode ≡ Run → (program : NumberedProgram) → HasProgram c.text program → P job program
 
 -- out grew by the lines of the history and the reports of all wanted watchers
 abbrev pub WritesAll : Call → Type 0
@@ -90,7 +93,7 @@ pub record WritesOutput (c : Call) : Type 0 where
   pub nothing_at_four : c.status ≡ 4 → c.out_after.taken ≡ c.out.taken
   pub no_command : IsNoCommand c → c.out_after.taken ≡ c.out.taken
   pub not_whole : (job : Job) → IsCommand c job → (IsReadWhole job c → ⊥) → c.out_after.taken ≡ c.out.taken
-  pub no_program : ((program : ListedProgram) → HasListing c.text program → ⊥) → c.out_after.taken ≡ c.out.taken
+  pub no_program : ((program : NumberedProgram) → HasProgram c.text program → ⊥) → c.out_after.taken ≡ c.out.taken
   pub checked : (job : Job) → IsCommand c job → job.mode ≡ Check → c.out_after.taken ≡ c.out.taken
   -- a write to out or err failed
   pub failed : c.status ≡ 5 → c.out.tells ≡ true → WhereRun c (λ job program. GrewByFront c.out c.out_after (output program c.history (wanted job c.watchers)))
@@ -99,17 +102,17 @@ pub record WritesOutput (c : Call) : Type 0 where
 
 -- Alignment: with status 0 or 2 the program of the text is aligned.
 pub record IsAlignedRun (c : Call) : Type 0 where
-  pub done : c.status ≡ 0 → (program : ListedProgram) → HasListing c.text program → IsAligned program
-  pub faulted : c.status ≡ 2 → (program : ListedProgram) → HasListing c.text program → IsAligned program
+  pub done : c.status ≡ 0 → (program : NumberedProgram) → HasProgram c.text program → IsAligned program
+  pub faulted : c.status ≡ 2 → (program : NumberedProgram) → HasProgram c.text program → IsAligned program
 
 -- The end: where the text is run, all processes have their end with status 0, and status 2 says that the last entry is a fault,
 -- which the line on err names with its process and place; status 6 never comes with a complete history, unless a watcher is wanted.
 pub record EndsRun (job : Job) (c : Call) : Type 0 where
-  pub ended : c.status ≡ 0 → job.mode ≡ Run → (program : ListedProgram) → HasListing c.text program → AllEnded (run_of program job) c.history
+  pub ended : c.status ≡ 0 → job.mode ≡ Run → (program : NumberedProgram) → HasProgram c.text program → AllEnded (run_of program job) c.history
   pub fault_only_where : c.status ≡ 2 → (job.mode ≡ Run) × ((fault : Fault) × EndsWithFault c.history fault)
   -- a sink may fail, and memory for a wanted report
   pub fault_everywhere : (fault : Fault) → EndsWithFault c.history fault → (c.status ≡ 2) ⊎ (((c.status ≡ 5) × SinkRose c) ⊎ ((c.status ≡ 6) × WantsReport job c))
-  pub unfinished : c.status ≡ 6 → (program : ListedProgram) → HasListing c.text program → IsCompleteRun (run_of program job) c.history → WantsReport job c
+  pub unfinished : c.status ≡ 6 → (program : NumberedProgram) → HasProgram c.text program → IsCompleteRun (run_of program job) c.history → WantsReport job c
 
 -- What the command promises of everything but its line on err.
 pub record MeetsBesideErr (c : Call) : Type 0 where
@@ -123,7 +126,7 @@ pub record MeetsBesideErr (c : Call) : Type 0 where
 
 -- What an ending says of the call.
 abbrev pub Says : Call → Ending → Type 0
-Says c Done = (job : Job) × IsCommand c job × AcceptedIn job.mode c.text
+Says c Done = (job : Job) × IsCommand c job × IsAccepted c.text
 Says c (Refused refusal) = (job : Job) × IsCommand c job × IsRefused job c refusal
 Says c (Faulted fault) = (job : Job) × IsCommand c job × EndsWithFault c.history fault
 Says c NoCommand = IsNoCommand c
@@ -167,10 +170,10 @@ pub record NothingFailed (job : Job) (c : Call) : Type 0 where
 -- Completeness: where nothing failed the text decides, and one without a refusal has a program; where it is to be run, it is run until
 -- all processes have their end, or one has a fault.
 pub record IsComplete (job : Job) (c : Call) : Type 0 where
-  pub refused : (refusal : Refusal) → RefusalIn job.mode c.text refusal → c.status ≡ 1
-  pub accepted : HasNone (RefusalIn job.mode c.text) → (c.status ≡ 0) ⊎ (c.status ≡ 2)
-  pub program : HasNone (RefusalIn job.mode c.text) → AcceptedIn job.mode c.text
-  pub ended : job.mode ≡ Run → (program : ListedProgram) → HasListing c.text program → IsCompleteRun (run_of program job) c.history
+  pub refused : (refusal : Refusal) → IsRefusal c.text refusal → c.status ≡ 1
+  pub accepted : HasNone (IsRefusal c.text) → (c.status ≡ 0) ⊎ (c.status ≡ 2)
+  pub program : HasNone (IsRefusal c.text) → IsAccepted c.text
+  pub ended : job.mode ≡ Run → (program : NumberedProgram) → HasProgram c.text program → IsCompleteRun (run_of program job) c.history
 
 -- What the command promises.
 pub record Meets (c : Call) : Type 0 where

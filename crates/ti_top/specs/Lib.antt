@@ -2,6 +2,5 @@ pub mod Call
 pub mod Clauses
 pub mod Ending
 pub mod Mirrors
-pub mod Modes
 pub mod Reports
 pub mod Run

@@ -1,13 +1,8 @@
 -- Definitions that mirror code, as its private contracts speak of it: nobody has to believe them.
 pub mod Compiling
 pub mod Ended
-pub mod Flattening
-pub mod Jobs
 pub mod Line
 pub mod Reading
 pub mod Reporting
 pub mod RunEnds
-pub mod Team
-pub mod Unbuilt
-pub mod Walking
 pub mod Work

@@ -2,10 +2,10 @@
 use Rattle.std.specs.Prelude.{◌≡◌, ℕ, ◌==◌, Bool, false, if◌then◌else◌, List, [], ◌++◌, filter, flat_map}
 use Rattle.ti_base.specs.declared.entry.Entry.{Entry}
 use Rattle.ti_io.specs.Sink.{SinkState, GrewBy}
-use Rattle.ti_lang.specs.Listed.{ListedProgram}
-use Rattle.ti_lang.specs.Lines.{lines_of}
-use Rattle.ti_lang.specs.Processes.{Setting}
-use Rattle.ti_lang.specs.Runs.{IsComplete}
+use Rattle.ti_lang.specs.Program.Classes.{NumberedProgram}
+use Rattle.ti_lang.specs.Meaning.Lines.{lines_of}
+use Rattle.ti_lang.specs.Meaning.Processes.{Setting}
+use Rattle.ti_lang.specs.Meaning.Runs.{IsComplete}
 use Rattle.ti_watch.specs.Reports.{watch_text}
 use Rattle.ti_words.specs.declared.job.Job.{Job}
 
@@ -35,7 +35,7 @@ abbrev pub reports : List Watcher → List Entry → List ℕ
 reports watchers history = flat_map (report_of history) watchers
 
 -- what is written of a run: the lines of its history, and then the reports of watchers
-abbrev pub output : ListedProgram → List Entry → List Watcher → List ℕ
+abbrev pub output : NumberedProgram → List Entry → List Watcher → List ℕ
 output program history watchers = lines_of program history ++ reports watchers history
 
 -- the lines of a history were written, and the reports of the first few of these watchers

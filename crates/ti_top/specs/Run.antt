@@ -3,13 +3,13 @@ use Rattle.std.specs.Prelude.{◌≡◌, ◌++◌, ◌∷◌, [], List}
 use Rattle.ti_base.specs.declared.action.Action.TheVariants as act
 use Rattle.ti_base.specs.declared.entry.Answer.TheVariants.{Done}
 use Rattle.ti_base.specs.declared.entry.Entry.{Entry}
-use Rattle.ti_lang.specs.Listed.{ListedProgram}
-use Rattle.ti_lang.specs.Processes.{Setting}
+use Rattle.ti_lang.specs.Program.Classes.{NumberedProgram}
+use Rattle.ti_lang.specs.Meaning.Processes.{Setting}
 use Rattle.ti_words.specs.declared.job.Job.{Job}
 use Rattle.ti_top.specs.declared.fault.Fault.{Fault}
 
 -- the program, run by as many processes as the job asks for, with as many ticks each
-abbrev pub run_of : ListedProgram → Job → Setting
+abbrev pub run_of : NumberedProgram → Job → Setting
 run_of program job = record { program = program; procs = job.procs; fuel = job.fuel }
 
 -- the entry of a fault

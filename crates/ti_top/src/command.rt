@@ -8,7 +8,6 @@ use crate::work::work;
 use std::alloc::{AllocGlobal, Global};
 use ti_base::Entry;
 use ti_io::{Sink, Source};
-use ti_lang::aligned;
 use ti_watch::Watch;
 use ti_words::{WordsErr, read_words};
 
@@ -70,7 +69,6 @@ pub fn titan_top<R: AllocGlobal, S: Source, K: Sink>(
       history = result.history.items;
     }) }
 {
-    aligned();
     let alloc = rt.alloc();
     let job = match read_words(alloc, words) {
         Ok(job) => job,

@@ -1,22 +1,17 @@
 // From a text to its program.
 ghost use Rattle.std.specs.Prelude.{◌≡◌, ◌⊎◌, ℕ, List};
-ghost use Rattle.ti_lang.specs.Listed.{ListedProgram};
 ghost use Rattle.ti_lang.specs.Program.Classes.{NumberedProgram};
 ghost use Rattle.ti_rules.specs.declared.refusal.Refusal.{Refusal as RefusalSeen};
-ghost use Rattle.ti_rules.specs.RefusalOf.{HasProgram, HasListing, IsRefusal, IsUnbuiltRefusal};
-ghost use Rattle.ti_top.specs.Mirrors.Compiling.{IsCompiled, Compiles, Lists};
+ghost use Rattle.ti_rules.specs.RefusalOf.{HasProgram, IsRefusal};
+ghost use Rattle.ti_top.specs.Mirrors.Compiling.{Compiles};
 
-use crate::flatten::flatten;
-use crate::unbuilt::unbuilt;
 use std::alloc::Global;
-use ti_base::Memory;
+use ti_align::aligned;
 use ti_check::{CheckErr, check};
-use ti_lang::Listing;
 use ti_lex::{LexErr, lex, one_reading};
 use ti_names::{NameErr, one_program, resolve};
 use ti_parse::{ParseErr, one_text, parse};
 use ti_rules::{Checked, Refusal, one_program_refusal};
-use ti_syntax::tree::Tree;
 
 /// Why a text has no program.
 #[derive(Clone, Copy, Debug, PartialEq, Eq)]
@@ -83,35 +78,12 @@ impl From<CheckErr> for CompileErr {
     }
 }
 
-impl From<Memory> for CompileErr {
-    ghost use Rattle.std.specs.Prelude.{◌≡◌};
-    ghost use Rattle.ti_top.specs.declared.compiling.CompileErr.TheVariants as compiled;
-
-    ghost from_gives = { λ _ found. found ≡ compiled.Memory };
-
-    fn from(_: Memory) -> CompileErr {
-        CompileErr::Memory
-    }
-}
-
-/// The tree of a text that breaks no rule, and its program.
-#[derive(Drop)]
-pub struct Compiled {
-    pub tree: Tree,
-    pub checked: Checked,
-}
-
-/// That a text has one program or one refusal, and never both; and a program one listing, or one refusal of a form that isn't built,
-/// and never both.
+/// That a text has one program or one refusal, and never both.
 pub fn one_answer()
     ensures some { (text : List ℕ) → ((program : NumberedProgram) × HasProgram text program) ⊎ ((refusal : RefusalSeen) × IsRefusal text refusal) }
-    ensures built { (text : List ℕ) (program : NumberedProgram) → HasProgram text program → ((listing : ListedProgram) × HasListing text listing) ⊎ ((refusal : RefusalSeen) × IsUnbuiltRefusal text refusal) }
     ensures one_program { (text : List ℕ) (p q : NumberedProgram) → HasProgram text p → HasProgram text q → p ≡ q }
-    ensures one_listing { (text : List ℕ) (p q : ListedProgram) → HasListing text p → HasListing text q → p ≡ q }
     ensures one_refusal { (text : List ℕ) (a b : RefusalSeen) → IsRefusal text a → IsRefusal text b → a ≡ b }
-    ensures one_unbuilt { (text : List ℕ) (a b : RefusalSeen) → IsUnbuiltRefusal text a → IsUnbuiltRefusal text b → a ≡ b }
     ensures never_both { (text : List ℕ) (program : NumberedProgram) (refusal : RefusalSeen) → HasProgram text program → IsRefusal text refusal → ⊥ }
-    ensures never_unbuilt { (text : List ℕ) (listing : ListedProgram) (refusal : RefusalSeen) → HasListing text listing → IsUnbuiltRefusal text refusal → ⊥ }
 {
     one_reading();
     one_text();
@@ -119,9 +91,9 @@ pub fn one_answer()
     one_program_refusal();
 }
 
-/// The program of a text: the text becomes tokens, these become a tree, the tree becomes a program with a number in place of each name,
-/// and a program is checked against the rules of types, qualifiers and single values.
-pub fn compile(alloc: Global, text: &[u8]) -> Result<Compiled, CompileErr>
+/// The program of a text, which is aligned: the text becomes tokens, these become a tree, the tree becomes a program with a number in
+/// place of each name, and a program is checked against the rules of types, qualifiers and single values.
+pub fn compile(alloc: Global, text: &[u8]) -> Result<Checked, CompileErr>
     ensures { Compiles text.now result }
 {
     one_answer();
@@ -130,18 +102,6 @@ pub fn compile(alloc: Global, text: &[u8]) -> Result<Compiled, CompileErr>
     let tree = parse(alloc, &tokens)?;
     let program = resolve(alloc, &tree)?;
     let checked = check(alloc, program)?;
-    Ok(Compiled { tree, checked })
-}
-
-/// What the program of a text does, as a list of statements, where all its forms are built.
-pub fn list(alloc: Global, compiled: Compiled) -> Result<Listing, CompileErr>
-    requires { (text : List ℕ) × IsCompiled text compiled }
-    ensures { (text : List ℕ) → IsCompiled text compiled → Lists text result }
-{
-    one_answer();
-    if let Some(refusal) = unbuilt(&compiled.tree) {
-        return Err(CompileErr::Refused(refusal));
-    }
-    let listing = flatten(alloc, compiled.checked.program)?;
-    Ok(listing)
+    aligned(&checked);
+    Ok(checked)
 }

@@ -7,10 +7,10 @@ ghost use Rattle.ti_top.specs.Mirrors.Ended.{Ended};
 ghost use Rattle.ti_top.specs.Ending.{status_of, refused_as, fault_line as fault_spec, err_line};
 
 use crate::fault::Fault;
-use crate::line::Line;
 use ti_base::{FaultKind, fault_name};
 use ti_io::{Failed, Sink, write_piece};
 use ti_rules::{Refusal, Rule, rule_text};
+use ti_watch::Line;
 
 /// How a call ends, before its line on err is written.
 #[derive(Clone, Copy, PartialEq, Eq)]

@@ -1,6 +1,8 @@
 // The fault that ended a run.
+ghost use Rattle.std.specs.Prelude.{◌≡◌, Some};
+ghost use Rattle.ti_top.specs.Run.{EndsWithFault};
 
-use ti_base::{FaultKind, Place};
+use ti_base::{Action, Entry, FaultKind, Place};
 
 /// The fault that ended a run: which one, in which process, and where.
 #[derive(Clone, Copy, Debug, PartialEq, Eq)]
@@ -8,4 +10,23 @@ pub struct Fault {
     pub kind: FaultKind,
     pub proc: u32,
     pub place: Place,
+}
+
+impl Fault {
+    ghost use Rattle.ti_top.specs.declared.fault.Fault.{Fault};
+
+    /// The fault at the end of a history, if the last entry is one.
+    pub fn at_end(history: &[Entry]) -> Option<Fault>
+        ensures { (fault : Fault) → EndsWithFault history.now fault → result ≡ Some fault }
+    {
+        let entry = history.last()?;
+        match entry.act {
+            Action::Fault { kind } => Some(Fault {
+                kind,
+                proc: entry.proc,
+                place: entry.place,
+            }),
+            _ => None,
+        }
+    }
 }

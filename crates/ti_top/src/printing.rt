@@ -1,16 +1,16 @@
 // Writing the lines of a run.
 ghost use Rattle.std.specs.Prelude.{◌≡◌, ◌≤◌, ◌++◌, ◌∷◌, [], length};
 ghost use Rattle.ti_io.specs.Sink.{Writes};
-ghost use Rattle.ti_lang.specs.Listed.{listed_program};
-ghost use Rattle.ti_lang.specs.Lines.{line_of as line_spec, lines_of, literal_text, printed_text};
+ghost use Rattle.ti_lang.specs.Meaning.Lines.{line_of as line_spec, lines_of, literal_text, printed_text};
+ghost use Rattle.ti_lang.specs.Program.Views.{program_of};
 ghost use Rattle.ti_top.specs.Mirrors.Line.{HasRoom};
 
-use crate::line::Line;
 use crate::run_line::RunLine;
 use ti_base::{Action, Entry, Value};
 use ti_io::{Failed, Sink, write_piece};
-use ti_lang::Listing;
+use ti_lang::program::Program;
 use ti_syntax::Spelled;
+use ti_watch::Line;
 
 // What the literal of a print spells.
 fn literal_bytes(literals: &[Spelled], literal: Option<u32>) -> &[u8]
@@ -25,14 +25,22 @@ fn literal_bytes(literals: &[Spelled], literal: Option<u32>) -> &[u8]
     }
 }
 
-// The text of a printed value.
-fn value_text(value: Option<Value>) -> Line
+// The text of the value of a print.
+fn value_line(value: Option<Value>) -> Line
     ensures text { result ≡ printed_text value }
-    ensures short { length result ≤ 11 }
+    ensures short { length result ≤ 37 }
 {
     let mut line = Line::new();
-    if let Some(Value::Int(n)) = value {
-        line.int(n);
+    let Some(value) = value else {
+        return line;
+    };
+    match value {
+        Value::Int(n) => line.number(n),
+        Value::Long(n) => line.number(n),
+        Value::Bool(true) => line.text(b"true"),
+        Value::Bool(false) => line.text(b"false"),
+        Value::Pt(p) => line.point(&p),
+        _ => {}
     }
     line
 }
@@ -46,7 +54,7 @@ fn form_line(line: &mut RunLine, literals: &[Spelled], action: Action)
     line.clear();
     if let Action::Print { literal, value } = action {
         line.text(literal_bytes(literals, literal));
-        line.text(value_text(value).as_slice());
+        line.text(value_line(value).as_slice());
         line.text(b"\n");
     }
 }
@@ -55,14 +63,14 @@ fn form_line(line: &mut RunLine, literals: &[Spelled], action: Action)
 fn write_entries<K: Sink>(
     out: &mut K,
     line: &mut RunLine,
-    listing: &Listing,
+    program: &Program,
     history: &[Entry],
 ) -> Result<(), Failed>
-    requires { HasRoom listing.now.literals.items line.old }
-    ensures { Writes (lines_of (listed_program listing.now) history.now) (K.state out.old) (K.state out.new) result }
+    requires { HasRoom program.now.parts.literals.items line.old }
+    ensures { Writes (lines_of (program_of program.now.parts) history.now) (K.state out.old) (K.state out.new) result }
 {
     'entries: for entry in history {
-        form_line(line, &listing.literals, entry.act);
+        form_line(line, &program.parts.literals, entry.act);
         write_piece(out, line.as_slice())?;
     }
     Ok(())
@@ -72,12 +80,12 @@ fn write_entries<K: Sink>(
 pub fn write_lines<K: Sink>(
     out: &mut K,
     line: &mut RunLine,
-    listing: &Listing,
+    program: &Program,
     history: &[Entry],
 ) -> Result<(), Failed>
-    requires { HasRoom listing.now.literals.items line.old }
-    ensures { Writes (lines_of (listed_program listing.now) history.now) (K.state out.old) (K.state out.new) result }
+    requires { HasRoom program.now.parts.literals.items line.old }
+    ensures { Writes (lines_of (program_of program.now.parts) history.now) (K.state out.old) (K.state out.new) result }
 {
-    write_entries(out, line, listing, history)?;
+    write_entries(out, line, program, history)?;
     out.flush()
 }

@@ -7,8 +7,8 @@ use std::marker::Model;
 use ti_base::Memory;
 use ti_syntax::Spelled;
 
-/// A value has at most 11 bytes, and a line end one.
-const VALUE_ROOM: usize = 12;
+/// A value has at most 37 bytes, those of a point, and a line end one.
+const VALUE_ROOM: usize = 38;
 
 /// A line of a run. Contracts see its bytes, and for how many it has room.
 #[derive(Drop)]

@@ -1,23 +1,28 @@
 // What is done before the line on err.
 ghost use Rattle.std.specs.Prelude.{◌≡◌, ℕ, List, [], map};
-ghost use Rattle.ti_lang.specs.Listed.{listed_program};
+ghost use Rattle.ti_lang.specs.Meaning.Processes.{Setting};
+ghost use Rattle.ti_lang.specs.Program.Views.{program_of};
+ghost use Rattle.ti_runtime.specs.Ran.{Ran};
+ghost use Rattle.ti_store.specs.Conditions.{IsWithin};
 ghost use Rattle.ti_top.specs.Mirrors.Compiling.{IsCompiled};
-ghost use Rattle.ti_top.specs.Mirrors.Jobs.{IsInRange};
 ghost use Rattle.ti_top.specs.Mirrors.Line.{HasRoom};
+ghost use Rattle.ti_top.specs.Mirrors.RunEnds.{RunEnds};
 ghost use Rattle.ti_top.specs.Mirrors.Work.{ending_after as after_spec, WroteRun, RunSays, RunTextSays, TextSays, WorkSays};
 ghost use Rattle.ti_top.specs.Reports.{Watcher};
 
-use crate::compiling::{CompileErr, Compiled, compile, list};
+use crate::compiling::{CompileErr, compile};
 use crate::ending::Ending;
+use crate::fault::Fault;
 use crate::printing::write_lines;
 use crate::reading::{ReadEnd, read_whole};
 use crate::reports::{ReportEnd, keep_wanted, write_reports};
 use crate::run_line::RunLine;
-use crate::runner::{How, run};
 use std::alloc::Global;
 use ti_base::{Entry, Memory};
 use ti_io::{Sink, Source};
-use ti_lang::{Listing, aligned, solo_is_run};
+use ti_lang::program::Program;
+use ti_rules::Checked;
+use ti_runtime::{How, RunEnd, run};
 use ti_watch::Watch;
 use ti_words::{Job, Mode};
 
@@ -49,6 +54,21 @@ impl Written {
     }
 }
 
+// How the work ends where all of a run is written.
+fn ending_of(end: &RunEnd) -> Ending
+    requires { (s : Setting) × Ran s end.now }
+    ensures { (s : Setting) → Ran s end.now → RunEnds s end.now.history.items result }
+{
+    match end.how {
+        How::Ended => Ending::Done,
+        How::Faulted => match Fault::at_end(&end.history) {
+            Some(fault) => Ending::Faulted(fault),
+            None => unreachable!(),
+        },
+        How::Memory => Ending::NoMemory,
+    }
+}
+
 // How the work ends after reports that ended so.
 fn ending_after(reports: ReportEnd, ending: Ending) -> Ending
     ensures { result ≡ after_spec reports ending }
@@ -63,27 +83,23 @@ fn ending_after(reports: ReportEnd, ending: Ending) -> Ending
 // Writes the lines of a run, and behind them the reports on it where it wasn't cut short.
 fn write_run<K: Sink>(
     alloc: Global,
-    listing: &Listing,
+    program: &Program,
     line: &mut RunLine,
-    how: How,
+    ended: Ending,
     history: &[Entry],
     watchers: Vec<Box<dyn Watch>>,
     out: &mut K,
 ) -> Ending
-    requires { HasRoom listing.now.literals.items line.old }
-    ensures { WroteRun how (listed_program listing.now) (map {B = Watcher} (λ w. record { kind = kind_of w; told = told w }) watchers.items) history.now (K.state out.old) (K.state out.new) result }
+    requires { HasRoom program.now.parts.literals.items line.old }
+    ensures { WroteRun ended (program_of program.now.parts) (map {B = Watcher} (λ w. record { kind = kind_of w; told = told w }) watchers.items) history.now (K.state out.old) (K.state out.new) result }
 {
-    match write_lines(out, line, listing, history) {
-        Ok(()) => match how {
-            How::Ended => {
+    match write_lines(out, line, program, history) {
+        Ok(()) => match ended {
+            Ending::NoMemory => ended,
+            _ => {
                 let reports = write_reports(alloc, watchers, history, out);
-                ending_after(reports, Ending::Done)
+                ending_after(reports, ended)
             }
-            How::Faulted(fault) => {
-                let reports = write_reports(alloc, watchers, history, out);
-                ending_after(reports, Ending::Faulted(fault))
-            }
-            How::Memory => Ending::NoMemory,
         },
         Err(_) => Ending::CantWrite,
     }
@@ -94,44 +110,39 @@ fn write_run<K: Sink>(
 fn run_program<K: Sink>(
     alloc: Global,
     job: &Job,
-    listing: &Listing,
+    checked: &Checked,
     line: &mut RunLine,
     watchers: Vec<Box<dyn Watch>>,
     out: &mut K,
 ) -> Written
-    requires range { IsInRange job.now }
-    requires room { HasRoom listing.now.literals.items line.old }
-    ensures { RunSays (listed_program listing.now) job.now (map {B = Watcher} (λ w. record { kind = kind_of w; told = told w }) watchers.items) (K.state out.old) (K.state out.new) result.history.items result.ending }
+    requires within { IsWithin job.now.procs job.now.fuel }
+    requires room { HasRoom checked.now.program.parts.literals.items line.old }
+    ensures { RunSays (program_of checked.now.program.parts) job.now (map {B = Watcher} (λ w. record { kind = kind_of w; told = told w }) watchers.items) (K.state out.old) (K.state out.new) result.history.items result.ending }
 {
-    let run = run(alloc, listing, job.procs, job.fuel);
-    solo_is_run();
-    aligned();
-    let ending = write_run(alloc, listing, line, run.how, &run.history, watchers, out);
+    let end = run(alloc, checked, job.procs, job.fuel);
+    let ended = ending_of(&end);
+    let program = &checked.program;
+    let ending = write_run(alloc, program, line, ended, &end.history, watchers, out);
     Written {
         ending,
-        history: run.history,
+        history: end.history,
     }
 }
 
-// Runs a program whose forms are all built. Room for its lines is taken before the run.
+// Runs the program of a text. Room for its lines is taken before the run.
 fn run_compiled<K: Sink>(
     alloc: Global,
     job: &Job,
-    compiled: Compiled,
+    checked: &Checked,
     watchers: Vec<Box<dyn Watch>>,
     out: &mut K,
 ) -> Written
-    requires range { IsInRange job.now }
-    requires compiled { (text : List ℕ) × IsCompiled text compiled }
-    ensures { (text : List ℕ) → IsCompiled text compiled → RunTextSays result.ending job.now (map {B = Watcher} (λ w. record { kind = kind_of w; told = told w }) watchers.items) text (K.state out.old) (K.state out.new) result.history.items }
+    requires { IsWithin job.now.procs job.now.fuel }
+    ensures { (text : List ℕ) → IsCompiled text (program_of checked.now.program.parts) → RunTextSays result.ending job.now (map {B = Watcher} (λ w. record { kind = kind_of w; told = told w }) watchers.items) text (K.state out.old) (K.state out.new) result.history.items }
 {
-    match list(alloc, compiled) {
-        Ok(listing) => match RunLine::with_room(alloc, &listing.literals) {
-            Ok(mut line) => run_program(alloc, job, &listing, &mut line, watchers, out),
-            Err(Memory) => Written::nothing(alloc, Ending::NoMemory),
-        },
-        Err(CompileErr::Refused(refusal)) => Written::nothing(alloc, Ending::Refused(refusal)),
-        Err(CompileErr::Memory) => Written::nothing(alloc, Ending::NoMemory),
+    match RunLine::with_room(alloc, &checked.program.parts.literals) {
+        Ok(mut line) => run_program(alloc, job, checked, &mut line, watchers, out),
+        Err(Memory) => Written::nothing(alloc, Ending::NoMemory),
     }
 }
 
@@ -143,13 +154,13 @@ fn do_text<K: Sink>(
     watchers: Vec<Box<dyn Watch>>,
     out: &mut K,
 ) -> Written
-    requires { IsInRange job.now }
+    requires { IsWithin job.now.procs job.now.fuel }
     ensures { TextSays job.now.mode result.ending job.now (map {B = Watcher} (λ w. record { kind = kind_of w; told = told w }) watchers.items) text.now (K.state out.old) (K.state out.new) result.history.items }
 {
     match compile(alloc, text) {
-        Ok(compiled) => match job.mode {
+        Ok(checked) => match job.mode {
             Mode::Check => Written::nothing(alloc, Ending::Done),
-            Mode::Run => run_compiled(alloc, job, compiled, watchers, out),
+            Mode::Run => run_compiled(alloc, job, &checked, watchers, out),
         },
         Err(CompileErr::Refused(refusal)) => Written::nothing(alloc, Ending::Refused(refusal)),
         Err(CompileErr::Memory) => Written::nothing(alloc, Ending::NoMemory),
@@ -165,7 +176,7 @@ pub fn work<S: Source, K: Sink>(
     out: &mut K,
     watchers: Vec<Box<dyn Watch>>,
 ) -> Worked
-    requires { IsInRange job.now }
+    requires { IsWithin job.now.procs job.now.fuel }
     ensures { WorkSays job.now result.ending (record {
       watchers = map {B = Watcher} (λ w. record { kind = kind_of w; told = told w }) watchers.items;
       source = S.state source.old;

@@ -1,4 +1,4 @@
 pub mod Acts
-pub mod Mirrors
+pub mod Lines
 pub mod Reports
 pub mod Texts

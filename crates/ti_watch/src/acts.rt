@@ -1,7 +1,7 @@
 // How acts and answers are written.
 ghost use Rattle.std.specs.Prelude.{◌≡◌, ◌+◌, ◌≤◌, ◌++◌, length, codes, decimal};
 ghost use Rattle.ti_base.specs.FaultNames.{name_of};
-ghost use Rattle.ti_watch.specs.Mirrors.{line_room};
+ghost use Rattle.ti_watch.specs.Lines.{line_room};
 ghost use Rattle.ti_watch.specs.Acts as spec;
 ghost use Rattle.ti_watch.specs.Texts as text;
 

@@ -1,4 +1,4 @@
-//! Watchers: they are told the entries of a run one by one, and report on them.
+//! Watchers, which are told the entries of a run one by one and report on them, and the lines that they write.
 #![tactic(auto)]
 
 mod acts;
@@ -8,6 +8,7 @@ mod trace;
 mod values;
 mod watch;
 
+pub use line::Line;
 pub use stats::StatsWatch;
 pub use trace::TraceWatch;
 pub use watch::Watch;

@@ -1,12 +1,12 @@
-// A line of a report, which is formed without taking memory.
+// A line that is formed without taking memory.
 ghost use Rattle.std.specs.Prelude.{◌≡◌, ◌+◌, ◌≤◌, [], ◌++◌, length};
-ghost use Rattle.ti_watch.specs.Mirrors.{line_room};
+ghost use Rattle.ti_watch.specs.Lines.{line_room};
 
 use arrayvec::ArrayVec;
 use itoa::{Buffer, Integer};
 use std::marker::Model;
 
-/// Up to 512 bytes, which contracts see as a list.
+/// A line of up to 512 bytes, which is formed without taking memory. Contracts see it as a list.
 #[derive(Drop)]
 pub struct Line {
     bytes: ArrayVec<u8, 512>,

@@ -1,7 +1,7 @@
 // Statistics: how many entries there are of each act.
 ghost use Rattle.std.specs.Prelude.{◌≡◌, ◌+◌, ◌≤◌, [], ◌++◌, length, take, vec_len, count_by, flat_map, bytes_eq, OnOk};
 ghost use Rattle.ti_watch.specs.Acts.{word_of};
-ghost use Rattle.ti_watch.specs.Mirrors.{line_room};
+ghost use Rattle.ti_watch.specs.Lines.{line_room};
 ghost use Rattle.ti_watch.specs.Reports.{number_text, count_text, stats_text};
 
 use crate::Watch;

@@ -1,6 +1,6 @@
 // Traces: a line for each entry.
 ghost use Rattle.std.specs.Prelude.{◌≡◌, ◌+◌, ◌≤◌, [], ◌++◌, length, take, vec_len, OnOk};
-ghost use Rattle.ti_watch.specs.Mirrors.{line_room};
+ghost use Rattle.ti_watch.specs.Lines.{line_room};
 ghost use Rattle.ti_watch.specs.Reports.{entry_text, trace_text};
 
 use crate::Watch;

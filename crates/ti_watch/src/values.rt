@@ -1,7 +1,7 @@
 // How places, points, domains, things and values are written.
 ghost use Rattle.std.specs.Prelude.{◌≡◌, ◌+◌, ◌≤◌, ◌++◌, length};
 ghost use Rattle.ti_base.specs.Rects.{is_empty};
-ghost use Rattle.ti_watch.specs.Mirrors.{line_room};
+ghost use Rattle.ti_watch.specs.Lines.{line_room};
 ghost use Rattle.ti_watch.specs.Texts as text;
 
 use crate::line::Line;

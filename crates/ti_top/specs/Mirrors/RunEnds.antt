@@ -2,13 +2,16 @@
 -- How a run ends.
 use Rattle.std.specs.Prelude.{◌≡◌, false, List}
 use Rattle.ti_base.specs.declared.entry.Entry.{Entry}
-use Rattle.ti_lang.specs.Processes.{Setting}
-use Rattle.ti_lang.specs.Runs.{AllEnded, IsComplete, has_fault}
-use Rattle.ti_top.specs.declared.runner.How.{How}
+use Rattle.ti_lang.specs.Meaning.Processes.{Setting}
+use Rattle.ti_lang.specs.Meaning.Histories.{has_fault}
+use Rattle.ti_lang.specs.Meaning.Runs.{AllEnded, IsComplete}
+use Rattle.ti_top.specs.declared.ending.Ending.{Ending}
+use Rattle.ti_top.specs.declared.ending.Ending.TheVariants.{Done, Faulted, NoMemory}
 use Rattle.ti_top.specs.Run.{EndsWithFault}
 
--- what the entries of a run that ended so are
-abbrev pub RunEnds : Setting → List Entry → How → Type 0
-RunEnds s es How.Ended = AllEnded s es × (has_fault es ≡ false)
-RunEnds s es (How.Faulted fault) = EndsWithFault es fault
-RunEnds s es How.Memory = IsComplete s es → ⊥
+-- what the entries of a run are, of which the work ends so where all is written
+abbrev pub RunEnds : Setting → List Entry → Ending → Type 0
+RunEnds s es Done = AllEnded s es × (has_fault es ≡ false)
+RunEnds s es (Faulted fault) = EndsWithFault es fault
+RunEnds s es NoMemory = IsComplete s es → ⊥
+RunEnds s es ending = ⊥

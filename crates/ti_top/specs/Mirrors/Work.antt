@@ -5,23 +5,22 @@ use Rattle.ti_base.specs.declared.entry.Entry.{Entry}
 use Rattle.ti_io.specs.Faults.{Rose}
 use Rattle.ti_io.specs.Source.{SourceState}
 use Rattle.ti_io.specs.Sink.{SinkState, GrewBy, GrewByFront}
-use Rattle.ti_lang.specs.Listed.{ListedProgram}
-use Rattle.ti_lang.specs.Runs.{AllEnded, IsComplete, IsRun, IsSolo, has_fault}
-use Rattle.ti_lang.specs.Alignment.{IsAligned}
+use Rattle.ti_lang.specs.Program.Classes.{NumberedProgram}
+use Rattle.ti_lang.specs.Meaning.Histories.{has_fault}
+use Rattle.ti_lang.specs.Meaning.Runs.{AllEnded, IsComplete, IsRun, IsSolo}
 use Rattle.ti_top.specs.declared.fault.Fault.{Fault}
 use Rattle.ti_top.specs.declared.reading.ReadEnd.{ReadEnd}
 use Rattle.ti_top.specs.declared.reading.ReadEnd.TheVariants as Read
 use Rattle.ti_top.specs.declared.reports.ReportEnd.{ReportEnd}
 use Rattle.ti_top.specs.declared.reports.ReportEnd.TheVariants as Report
-use Rattle.ti_top.specs.declared.runner.How.{How}
 use Rattle.ti_top.specs.declared.ending.Ending.{Ending}
 use Rattle.ti_top.specs.declared.ending.Ending.TheVariants.{Done, Refused, Faulted, NoCommand, CantRead, CantWrite, NoMemory}
 use Rattle.ti_rules.specs.declared.refusal.Refusal.{Refusal}
+use Rattle.ti_rules.specs.RefusalOf.{IsRefusal}
 use Rattle.ti_words.specs.declared.job.Job.{Job}
 use Rattle.ti_words.specs.declared.job.Mode.{Mode}
 use Rattle.ti_words.specs.declared.job.Mode.TheVariants.{Run, Check}
-use Rattle.ti_top.specs.Modes.{RefusalIn, AcceptedIn}
-use Rattle.ti_top.specs.Mirrors.Compiling.{IsUnrefused, HasNoListing, HasListingAlone}
+use Rattle.ti_top.specs.Mirrors.Compiling.{IsCompiled, HasNoProgram}
 use Rattle.ti_top.specs.Call.{Call}
 use Rattle.ti_top.specs.Reports.{Watcher, wanted, output, WroteFew}
 use Rattle.ti_top.specs.Mirrors.Reading.{ReadsWhole}
@@ -37,12 +36,6 @@ pub record Work : Type 0 where
   pub text : List ℕ
   pub history : List Entry
 
--- how the work ends where all is written, by how the run ended
-abbrev pub ending_of : How → Ending
-ending_of How.Ended = Done
-ending_of (How.Faulted fault) = Faulted fault
-ending_of How.Memory = NoMemory
-
 -- how the work ends after reports that ended so
 abbrev pub ending_after : ReportEnd → Ending → Ending
 ending_after Report.Written ending = ending
@@ -50,24 +43,24 @@ ending_after Report.CantWrite ending = CantWrite
 ending_after Report.NoMemory ending = NoMemory
 
 -- the lines of a run that ended so were written, and the reports of the first few of these watchers: where memory was wanting in the run, of none
-pub record WroteFewOf (how : How) (program : ListedProgram) (watchers : List Watcher) (history : List Entry) (out out_after : SinkState) : Type 0 where
+pub record WroteFewOf (ended : Ending) (program : NumberedProgram) (watchers : List Watcher) (history : List Entry) (out out_after : SinkState) : Type 0 where
   pub few : List Watcher
   pub others : List Watcher
   pub first : few ++ others ≡ watchers
   pub grew : GrewBy out out_after (output program history few)
-  pub none_of_cut : how ≡ How.Memory → few ≡ []
-  pub not_all : (how ≡ How.Memory → ⊥) → others ≡ [] → ⊥
+  pub none_of_cut : ended ≡ NoMemory → few ≡ []
+  pub not_all : (ended ≡ NoMemory → ⊥) → others ≡ [] → ⊥
 
 -- the lines of a run that ended so were written, and then the reports of these watchers, up to the first call that failed
-pub record WroteRun (how : How) (program : ListedProgram) (watchers : List Watcher) (history : List Entry) (out out_after : SinkState) (ending : Ending) : Type 0 where
+pub record WroteRun (ended : Ending) (program : NumberedProgram) (watchers : List Watcher) (history : List Entry) (out out_after : SinkState) (ending : Ending) : Type 0 where
   pub never_falls : out.faults ≤ out_after.faults
   pub tells : out_after.tells ≡ out.tells
-  pub known : (ending ≡ ending_of how) ⊎ (ending ≡ NoMemory) ⊎ (ending ≡ CantWrite)
-  pub rose : ending ≡ CantWrite → Rose out.faults out_after.faults
+  pub known : (ending ≡ ended) ⊎ (ending ≡ NoMemory) ⊎ (ending ≡ CantWrite)
+  pub rose : ending ≡ CantWrite → (ended ≡ CantWrite → ⊥) → Rose out.faults out_after.faults
   pub all : (ending ≡ CantWrite → ⊥) → (ending ≡ NoMemory → ⊥) → out.tells ≡ true → GrewBy out out_after (output program history watchers)
   pub part : out.tells ≡ true → GrewByFront out out_after (output program history watchers)
-  pub needed : ending ≡ NoMemory → (how ≡ How.Memory → ⊥) → watchers ≡ [] → ⊥
-  pub few : ending ≡ NoMemory → out.tells ≡ true → WroteFewOf how program watchers history out out_after
+  pub needed : ending ≡ NoMemory → (ended ≡ NoMemory → ⊥) → watchers ≡ [] → ⊥
+  pub few : ending ≡ NoMemory → out.tells ≡ true → WroteFewOf ended program watchers history out out_after
 
 -- nothing was run and nothing written
 pub record RanNothing (out out_after : SinkState) (history : List Entry) : Type 0 where
@@ -75,8 +68,7 @@ pub record RanNothing (out out_after : SinkState) (history : List Entry) : Type 
   pub no_entry : history ≡ []
 
 -- the program was run, and its lines and the reports of these watchers were written up to the first call that failed
-pub record RunSays (program : ListedProgram) (job : Job) (watchers : List Watcher) (out out_after : SinkState) (history : List Entry) (ending : Ending) : Type 0 where
-  pub aligned : IsAligned program
+pub record RunSays (program : NumberedProgram) (job : Job) (watchers : List Watcher) (out out_after : SinkState) (history : List Entry) (ending : Ending) : Type 0 where
   pub run : IsRun (run_of program job) history
   pub solo : IsSolo (run_of program job) history
   pub ended : ending ≡ Done → AllEnded (run_of program job) history
@@ -93,26 +85,26 @@ pub record RunSays (program : ListedProgram) (job : Job) (watchers : List Watche
 
 -- so was the program of the text
 pub record Ran (job : Job) (watchers : List Watcher) (text : List ℕ) (out out_after : SinkState) (history : List Entry) (ending : Ending) : Type 0 where
-  pub program : ListedProgram
-  pub compiled : HasListingAlone text program
+  pub program : NumberedProgram
+  pub compiled : IsCompiled text program
   pub says : RunSays program job watchers out out_after history ending
 
--- the text is refused in a mode, and nothing was run
-pub record WasRefused (mode : Mode) (text : List ℕ) (out out_after : SinkState) (history : List Entry) (refusal : Refusal) : Type 0 where
-  pub is : RefusalIn mode text refusal
-  pub no_program : HasNoListing text
+-- the text is refused, and nothing was run
+pub record WasRefused (text : List ℕ) (out out_after : SinkState) (history : List Entry) (refusal : Refusal) : Type 0 where
+  pub is : IsRefusal text refusal
+  pub no_program : HasNoProgram text
   pub nothing : RanNothing out out_after history
 
--- the text has a program and no refusal, and nothing was run
+-- the text has a program, and nothing was run
 pub record WasChecked (text : List ℕ) (out out_after : SinkState) (history : List Entry) : Type 0 where
-  pub accepted : AcceptedIn Check text
-  pub unrefused : IsUnrefused text
+  pub program : NumberedProgram
+  pub compiled : IsCompiled text program
   pub nothing : RanNothing out out_after history
 
 -- what became of a text that was read whole and is to be run
 abbrev pub RunTextSays : Ending → Job → List Watcher → List ℕ → SinkState → SinkState → List Entry → Type 0
 RunTextSays Done job watchers text out out_after history = Ran job watchers text out out_after history Done
-RunTextSays (Refused refusal) job watchers text out out_after history = WasRefused Run text out out_after history refusal
+RunTextSays (Refused refusal) job watchers text out out_after history = WasRefused text out out_after history refusal
 RunTextSays (Faulted fault) job watchers text out out_after history = Ran job watchers text out out_after history (Faulted fault)
 RunTextSays CantWrite job watchers text out out_after history = Ran job watchers text out out_after history CantWrite
 RunTextSays NoMemory job watchers text out out_after history = RanNothing out out_after history ⊎ Ran job watchers text out out_after history NoMemory
@@ -122,7 +114,7 @@ RunTextSays CantRead job watchers text out out_after history = ⊥
 -- what became of one that is to be checked
 abbrev pub CheckTextSays : Ending → List ℕ → SinkState → SinkState → List Entry → Type 0
 CheckTextSays Done text out out_after history = WasChecked text out out_after history
-CheckTextSays (Refused refusal) text out out_after history = WasRefused Check text out out_after history refusal
+CheckTextSays (Refused refusal) text out out_after history = WasRefused text out out_after history refusal
 CheckTextSays NoMemory text out out_after history = RanNothing out out_after history
 CheckTextSays ending text out out_after history = ⊥
 

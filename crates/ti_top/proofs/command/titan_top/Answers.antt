@@ -13,7 +13,7 @@ returns-in-Err-Usage g c =
 
 pub returns-in-Err-Memory : goal.returns-in-Err-Memory
 returns-in-Err-Memory g c =
-    meets_unread _ (λ job command. (in_ranges (map (string_bytes {Z = Global}) c.args.words.now) job command).procs_some)
+    meets_unread _ (λ job command. (in_ranges (map (string_bytes {Z = Global}) c.args.words.now) job command).some)
     (record { source = refl; text = c.nothing-in-Err-Memory.ensures.text; nothing = record { unwritten = refl; no_entry = c.nothing-in-Err-Memory.ensures.history } })
     (subst (λ (s : ℕ). Ended NoMemory [] (g.K.Sink.state c.args.err.now) (g.K.Sink.state c.end_with-in-Err-Memory.new.err) s) (sym c.nothing-in-Err-Memory.ensures.status) c.end_with-in-Err-Memory.ensures)
 
@@ -22,5 +22,5 @@ work-worked-requires g c = in_ranges (map (string_bytes {Z = Global}) c.args.wor
 
 pub returns : goal.returns
 returns g c =
-    meets_command c.work-worked.result.ending c.in-Ok.job _ c.in-Ok.ensures.job (in_ranges (map (string_bytes {Z = Global}) c.args.words.now) c.in-Ok.job c.in-Ok.ensures.job).procs_some c.aligned.ensures c.work-worked.ensures
+    meets_command c.work-worked.result.ending c.in-Ok.job _ c.in-Ok.ensures.job (in_ranges (map (string_bytes {Z = Global}) c.args.words.now) c.in-Ok.job c.in-Ok.ensures.job).some c.work-worked.ensures
     (subst (λ (file : List ℕ). Ended c.work-worked.result.ending file (g.K.Sink.state c.args.err.now) (g.K.Sink.state c.end_with-status.new.err) c.end_with-status.result) c.as_str.ensures c.end_with-status.ensures)

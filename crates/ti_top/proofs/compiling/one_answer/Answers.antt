@@ -1,5 +1,5 @@
-use Rattle.ti_rules.proofs.OneAnswer.{OneReading, one_program, one_listing, one_refusal, one_unbuilt, never_both, listed_or_unbuilt}
-use Rattle.ti_top.proofs.EachAnswered.{Answered, some_answer, built_answer}
+use Rattle.ti_rules.proofs.OneAnswer.{OneReading, one_program, one_refusal, never_both}
+use Rattle.ti_top.proofs.EachAnswered.{Answered, some_answer}
 use Rattle.ti_top.proofs.compiling.one_answer.Goals as goal
 
 pub returns : goal.returns
@@ -22,11 +22,7 @@ returns c =
     } in
     record {
       some = some_answer answered;
-      built = built_answer;
       one_program = one_program known;
-      one_listing = one_listing known;
       one_refusal = one_refusal known;
-      one_unbuilt = one_unbuilt known;
       never_both = never_both known;
-      never_unbuilt = listed_or_unbuilt known;
     }

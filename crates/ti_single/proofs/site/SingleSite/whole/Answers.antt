@@ -1,0 +1,32 @@
+use Rattle.std.proofs.Common.{map, sym, ap, ◌∙◌}
+use Rattle.ti_lang.specs.Program.Expressions.{numbered_exps}
+use Rattle.ti_lang.specs.Program.Expressions as x
+use Rattle.ti_lang.specs.Program.Scope.{this_of}
+use Rattle.ti_lang.specs.Program.Views.{expression_of, numbered_method_of}
+use Rattle.ti_lang.specs.Typing.Called.{called_method}
+use Rattle.ti_rules.specs.First.{sooner, first_of}
+use Rattle.ti_rules.specs.SingleRules.{call_refusals, delete_refusals, whole_refusals}
+use Rattle.ti_rules.proofs.First.{first_append}
+use Rattle.ti_lang.proofs.ProgramBridges.{seen_numbered_member}
+use Rattle.ti_single.specs.Sites.{program_at, around_of}
+use Rattle.ti_single.proofs.site.SingleSite.whole.Goals as goal
+
+pub returns-in-Member : goal.returns-in-Member
+returns-in-Member c =
+    let p = program_at c.args.self in
+    let around = around_of c.args.self in
+    let this = this_of (numbered_method_of c.args.self.method.now) in
+    let seen = seen_numbered_member c.args.e.now c.in-Member.place c.in-Member.receiver c.in-Member.name c.in-Member.args c.in-Member.is in
+    let args = numbered_exps (map expression_of c.in-Member.args.items) in
+    let form = x.member c.in-Member.place (expression_of c.in-Member.receiver.value) c.in-Member.name (map expression_of c.in-Member.args.items) in
+    let call = call_refusals p around (called_method p this form) args in
+    let own = delete_refusals p around c.in-Member.place (expression_of c.in-Member.receiver.value) c.in-Member.name in
+    let method = c.called_method-m-in-Member.ensures ∙ ap (λ t. called_method p t (expression_of c.args.e.now)) c.this-in-Member.ensures ∙ ap (called_method p this) seen in
+    c.sooner.ensures
+    ∙ ap (λ a. sooner a c.delete.result)
+    (c.call-call.ensures
+    ∙ ap (λ m. first_of (call_refusals p around m (numbered_exps (map expression_of c.listed_expressions-in-Member.result.now)))) method
+    ∙ ap (λ l. first_of (call_refusals p around (called_method p this form) (numbered_exps (map expression_of l)))) c.listed_expressions-in-Member.ensures)
+    ∙ ap (sooner (first_of call)) (c.delete.ensures ∙ ap (λ z. first_of (delete_refusals p around c.in-Member.place (expression_of z) c.in-Member.name)) c.boxed_expression.ensures)
+    ∙ sym (first_append call own)
+    ∙ sym (ap (λ z. first_of (whole_refusals p around z)) seen)
