@@ -1,28 +1,21 @@
 -- What is found of statements, from what is found of those in them.
-use Rattle.std.proofs.Common.{◌≡◌, ℕ, ◌+◌, ◌<◌, ◌≤◌, List, [], ◌∷◌, ◌++◌, ◌&&◌, map, flat_map, drop, length, get_or, slice_get, Option, None, Some, refl, ap, sym, ◌∙◌, subst}
-use Rattle.std.specs.declared.boxed.Box.{Box}
-use Rattle.std.specs.declared.alloc.Global.{Global}
+use Rattle.std.proofs.Common.{◌≡◌, ℕ, ◌+◌, ◌<◌, ◌≤◌, List, [], ◌∷◌, ◌++◌, map, flat_map, drop, length, get_or, slice_get, Option, Some, refl, ap, sym, ◌∙◌, subst}
 use Rattle.std.proofs.lemmas.List.{drop_all}
 use Rattle.std.proofs.lemmas.Option.{slice_get-get_or}
-use Rattle.ti_base.specs.declared.place.Place.{Place}
-use Rattle.ti_syntax.specs.Trees.Views.{maybe_of}
-use Rattle.ti_lang.specs.declared.program.exprs.Expr.{Expr}
-use Rattle.ti_lang.specs.declared.program.stmts.Stmt.{Stmt, If, For}
+use Rattle.ti_lang.specs.declared.program.stmts.Stmt.{Stmt}
 use Rattle.ti_lang.specs.Program.Statements.{NumberedStm, numbered_stms}
 use Rattle.ti_lang.specs.Program.Statements as st
 use Rattle.ti_lang.specs.Program.Classes.{NumberedProgram}
-use Rattle.ti_lang.specs.Program.Views.{expression_of, statement_of}
+use Rattle.ti_lang.specs.Program.Views.{statement_of}
 use Rattle.ti_rules.specs.declared.refusal.Refusal.{Refusal}
-use Rattle.ti_rules.specs.First.{sooner, first_of, refused_if}
+use Rattle.ti_rules.specs.First.{sooner, first_of}
 use Rattle.ti_rules.specs.Standing.{Around, Standing, stands, inside, inside_all}
-use Rattle.ti_rules.specs.declared.rule.Rule.TheVariants.{S1}
 use Rattle.ti_rules.specs.Broken.Statements.{statement_refusals, standing_refusals}
-use Rattle.ti_rules.specs.SingleRules.{has_effects, is_plain_part, single_refusals_at, standing_single_refusals}
+use Rattle.ti_rules.specs.SingleRules.{single_refusals_at, standing_single_refusals}
 use Rattle.ti_rules.proofs.First.{sooner_none, sooner_assoc, first_cons_each, first_append_each}
 use Rattle.ti_types.proofs.Loops.{drop_next, each_step}
 use Rattle.ti_check.specs.declared.found.Found.{Found}
 use Rattle.ti_check.specs.Mirrors.Found.{IsFirst, IsFound, below}
-use Rattle.ti_check.specs.Mirrors.Sites.{maybe_in}
 
 -- ---- one statement
 
@@ -117,22 +110,6 @@ left_last p around xs i found le left = (
   sym (left.0 ∙ ap (λ l. sooner found.types (first_of (flat_map (standing_refusals p) (inside_all p around (numbered_stms (map statement_of l)))))) (drop_all i xs le) ∙ sooner_nil found.types),
   sym (left.1 ∙ ap (λ l. sooner found.single (first_of (flat_map (standing_single_refusals p) (inside_all p around (numbered_stms (map statement_of l)))))) (drop_all i xs le) ∙ sooner_nil found.single),
 )
-
--- ---- forms of the code
-
--- a `for`, whose head and update may be missing
-pub for_seen : (place : Place) (first : Option (Box Stmt Global)) (c : Option Expr) (update : Option (Box Stmt Global)) (body : Box Stmt Global)
-    → statement_of (For place first c update body) ≡ st.For place (maybe_in first) (maybe_of expression_of c) (maybe_in update) (statement_of body.value)
-for_seen place None c None body = refl
-for_seen place None c (Some u) body = refl
-for_seen place (Some f) c None body = refl
-for_seen place (Some f) c (Some u) body = refl
-
--- an `if` is judged the same with and without an `else`
-pub if_single : (p : NumberedProgram) (around : Around) (place : Place) (c : Expr) (x : Box Stmt Global) (y : Option (Box Stmt Global))
-    → single_refusals_at p around (statement_of (If place c x y)) ≡ refused_if (has_effects p around (statement_of (If place c x y)) && is_plain_part p around (expression_of c)) S1 place
-if_single p around place c x None = refl
-if_single p around place c x (Some y) = refl
 
 -- ---- elements by number
 

@@ -8,7 +8,6 @@ mod found;
 mod methods;
 mod modifiers;
 mod right_sides;
-mod single;
 mod site;
 mod statements;
 mod targets;

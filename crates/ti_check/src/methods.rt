@@ -15,7 +15,7 @@ use std::alloc::Global;
 use ti_base::Memory;
 use ti_lang::program::{Method, Program, ResultType, Scope, Stmt};
 use ti_rules::{Refusal, Rule, refused_if, sooner};
-use ti_single::{doings_of_method, has_global_effects, return_acts};
+use ti_single::{doings_of_method, has_global_effects, listed_statements, return_acts};
 use ti_syntax::tree::{Qualifier, QualifierWord};
 use ti_types::result_type;
 
@@ -108,7 +108,7 @@ pub fn method(alloc: Global, p: &Program, number: u32, m: &Method) -> Result<Fou
         return_has,
         jump_has: None,
     };
-    let body = statements(alloc, site, &m.body)?;
+    let body = statements(alloc, site, listed_statements(&m.body))?;
     let own = Found {
         types: sooner(head(m), end(m)),
         single: sooner(

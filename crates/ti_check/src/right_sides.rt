@@ -20,6 +20,7 @@ use ti_base::Place;
 use ti_lang::program::{Dims, Expr, Init, TypeUse};
 use ti_lang::typing::Seen;
 use ti_rules::{Refusal, sooner};
+use ti_single::listed_ranges;
 use ti_types::{Literal, mistaken, type_words};
 
 // ---- broadcasts
@@ -214,7 +215,7 @@ impl<'a> Site<'a> {
                 }
             }
             Dims::Ranges(ranges) => {
-                let found = self.literal(ranges);
+                let found = self.literal(listed_ranges(ranges));
                 Spread {
                     first: found.first,
                     types: found.types,

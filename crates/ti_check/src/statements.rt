@@ -22,6 +22,7 @@ use ti_base::Place;
 use ti_lang::program::{Expr, Init, Printed, Stmt, Ty, TypeUse};
 use ti_lang::typing::Seen;
 use ti_rules::{Refusal, Rule, refused_if, sooner};
+use ti_single::boxed_initial;
 use ti_syntax::tree::{BinaryOperator, StepOperator};
 use ti_types::{binary_type, misfit, mistaken, result_type, type_words};
 
@@ -331,12 +332,12 @@ impl<'a> Site<'a> {
                 ty,
                 variable,
                 value,
-            } => self.declare(*place, ty, *variable, value),
+            } => self.declare(*place, ty, *variable, boxed_initial(value)),
             Stmt::Assign {
                 place,
                 target,
                 value,
-            } => self.assign(*place, target, value),
+            } => self.assign(*place, target, boxed_initial(value)),
             Stmt::Update {
                 place,
                 operator,

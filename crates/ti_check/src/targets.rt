@@ -14,6 +14,7 @@ use ti_base::Place;
 use ti_lang::program::{Declared, Expr, Parts};
 use ti_lang::typing::{Seen, field_type, named_field_type};
 use ti_rules::{Refusal, Rule, refused_if, sooner};
+use ti_single::boxed_expression;
 
 /// Whether this is a variable that a foreach declares.
 #[tactic(auto, using(ti_lang::proofs::ProgramBridges::program_bridges))]
@@ -90,7 +91,7 @@ impl<'a> Site<'a> {
         ensures { result ≡ is_coordinate (program_at self.entry) (scope_at self.entry) (expression_of target.now) }
     {
         match target {
-            Expr::Index { receiver, .. } => is_point(self.target(receiver).ty),
+            Expr::Index { receiver, .. } => is_point(self.target(boxed_expression(receiver)).ty),
             _ => false,
         }
     }
@@ -103,9 +104,12 @@ impl<'a> Site<'a> {
         match target {
             Expr::OwnField(_, field) => is_own_local(&self.program.parts, self.this(), *field),
             Expr::Select { receiver, name, .. } => {
-                hidden_field(&self.program.parts, self.target(receiver).ty, *name)
+                let t = self.target(boxed_expression(receiver)).ty;
+                hidden_field(&self.program.parts, t, *name)
             }
-            Expr::Index { receiver, .. } => hidden_element(self.target(receiver).ty),
+            Expr::Index { receiver, .. } => hidden_element(
+                self.target(boxed_expression(receiver)).ty,
+            ),
             _ => false,
         }
     }

@@ -1,10 +1,10 @@
-// Expressions of a statement: what counts of the rules of types in them, and whether they are single.
+// Expressions of a statement, and what the rules of single values say of it.
 ghost use Rattle.std.specs.Prelude.{◌≡◌, ◌++◌, map, flat_map, not, false};
-ghost use Rattle.std.specs.Option.{option_map, unwrap_or};
+ghost use Rattle.std.specs.Option.{option_map};
 ghost use Rattle.ti_lang.specs.Members.{only_if};
 ghost use Rattle.ti_lang.specs.Program.Expressions.{numbered_ranges};
 ghost use Rattle.ti_lang.specs.Program.Scope.{this_of};
-ghost use Rattle.ti_lang.specs.Program.Views.{expression_of, bound_of, initial_of, statement_of};
+ghost use Rattle.ti_lang.specs.Program.Views.{expression_of, bound_of, statement_of};
 ghost use Rattle.ti_lang.specs.Typing.Effects.{jump_acts, return_acts};
 ghost use Rattle.ti_lang.specs.Typing.Expressions.{bounds, range_count, operand_type};
 ghost use Rattle.ti_lang.specs.Typing.Kinds.{is_void};
@@ -17,19 +17,17 @@ ghost use Rattle.ti_rules.specs.Parts.{parts_of_ranges};
 ghost use Rattle.ti_rules.specs.Broken.Expressions.{refusals_at, exp_refusals};
 ghost use Rattle.ti_rules.specs.Broken.Misplaced.{gives_nothing, bounds_misplaced};
 ghost use Rattle.ti_rules.specs.Broken.RightSides.{inner_refusals, value_refusals};
-ghost use Rattle.ti_rules.specs.SingleRules.{is_plain_part, is_plain, is_plain_initial, has_effects};
+ghost use Rattle.ti_rules.specs.SingleRules.{single_refusals_at};
 ghost use Rattle.ti_single.specs.EffectsAt.{doings_in_loop};
+ghost use Rattle.ti_single.specs.Sites as single;
 ghost use Rattle.ti_types.specs.Judging.{IsJudged, literal, literal_of};
 ghost use Rattle.ti_check.specs.Mirrors.Sites.{program_at, around_of, scope_at};
 
 use crate::site::Site;
-use ti_lang::program::{Expr, Init, Range, Stmt};
+use ti_lang::program::{Expr, Range, Stmt};
 use ti_lang::typing::Seen;
 use ti_rules::{Refusal, Rule, refused_if, sooner};
-use ti_single::{
-    doings_in_loop, doings_of_statement, has_global_effects, is_single, is_single_initial,
-    is_single_part, jump_acts, this_of,
-};
+use ti_single::{SingleSite, this_of};
 use ti_types::{Judge, Judged, Ranges};
 
 /// A value: its type, where it has one, and what counts of the rules of types that are broken in it.
@@ -56,15 +54,6 @@ fn given<'a>(t: Option<Seen<'a>>) -> Option<Seen<'a>>
     match t {
         Some(t) => if t.is_void() { None } else { Some(t) },
         None => None,
-    }
-}
-
-fn or_false(b: Option<bool>) -> bool
-    ensures { result ≡ unwrap_or b false }
-{
-    match b {
-        Some(b) => b,
-        None => false,
     }
 }
 
@@ -129,34 +118,6 @@ impl<'a> Site<'a> {
         }
     }
 
-    /// Whether an expression inside another one, or a condition, is single.
-    pub fn is_single_inside(self, e: &Expr) -> bool
-        ensures { result ≡ is_single_part (program_at self.entry) (this_of (around_of self.entry).method) (singles_in (scope_at self.entry)) (expression_of e.now) }
-    {
-        is_single_part(self.program, self.scope, e)
-    }
-
-    /// Whether it is plain.
-    pub fn is_plain_part(self, e: &Expr) -> bool
-        ensures { result ≡ is_plain_part (program_at self.entry) (around_of self.entry) (expression_of e.now) }
-    {
-        !self.is_single_inside(e)
-    }
-
-    /// Whether an expression that is a whole right side is plain.
-    pub fn is_plain(self, e: &Expr) -> bool
-        ensures { result ≡ is_plain (program_at self.entry) (around_of self.entry) (expression_of e.now) }
-    {
-        !is_single(self.program, self.scope, e)
-    }
-
-    /// Whether a right side is plain.
-    pub fn is_plain_initial(self, value: &Init) -> bool
-        ensures { result ≡ is_plain_initial (program_at self.entry) (around_of self.entry) (initial_of value.now) }
-    {
-        !is_single_initial(self.program, self.scope, value)
-    }
-
     /// The class of `this`, where there is one.
     pub fn this(self) -> Option<u32>
         ensures { result ≡ this_of (around_of self.entry).method }
@@ -164,21 +125,38 @@ impl<'a> Site<'a> {
         this_of(self.method)
     }
 
-    /// Whether a statement has global effects.
-    pub fn has_effects(self, x: &Stmt) -> bool
-        ensures { result ≡ has_effects (program_at self.entry) (around_of self.entry) (statement_of x.now) }
+    // The same for the rules of single values.
+    fn for_single(self) -> SingleSite<'a>
+        ensures program { single.program_at result ≡ program_at self.entry }
+        ensures around { single.around_of result ≡ around_of self.entry }
     {
-        let jump_has = or_false(self.jump_has);
-        let this = self.this();
-        let doings = doings_of_statement(self.program, this, x);
-        has_global_effects(self.return_has, jump_has, doings)
+        SingleSite {
+            program: self.program,
+            method: self.method,
+            scope: self.scope,
+            return_has: self.return_has,
+            jump_has: self.jump_has,
+        }
+    }
+
+    /// Whether an expression inside another one, or a condition, is single.
+    pub fn is_single_inside(self, e: &Expr) -> bool
+        ensures { result ≡ is_single_part (program_at self.entry) (this_of (around_of self.entry).method) (singles_in (scope_at self.entry)) (expression_of e.now) }
+    {
+        self.for_single().is_single_inside(e)
     }
 
     /// Whether a loop has global effects, and a jump out of it one.
     pub fn loop_acts(self, x: &Stmt) -> bool
         ensures { result ≡ jump_acts (return_acts (program_at self.entry) (around_of self.entry).method) (doings_in_loop (program_at self.entry) (around_of self.entry).method (statement_of x.now)) }
     {
-        let doings = doings_in_loop(self.program, self.method, x);
-        jump_acts(self.return_has, doings)
+        self.for_single().loop_acts(x)
+    }
+
+    /// What counts of the rules of single values that a statement breaks, apart from those that the statements in it break.
+    pub fn single(self, x: &Stmt) -> Option<Refusal>
+        ensures { result ≡ first_of (single_refusals_at (program_at self.entry) (around_of self.entry) (statement_of x.now)) }
+    {
+        self.for_single().refusal(x)
     }
 }

@@ -20,6 +20,7 @@ use std::alloc::Global;
 use ti_base::Memory;
 use ti_lang::program::{Expr, InScope, Scope, Stmt};
 use ti_lang::typing::Seen;
+use ti_single::{boxed_statement, listed_statements};
 
 // ---- scopes
 
@@ -153,7 +154,7 @@ fn statement<'a>(alloc: Global, site: Site<'a>, x: &'a Stmt) -> Result<Found, Me
     let own = site.own(x);
     match x {
         Stmt::Block(body) => {
-            let inner = statements(alloc, site, body)?;
+            let inner = statements(alloc, site, listed_statements(body))?;
             Ok(own.and(inner))
         }
         Stmt::If {
@@ -161,17 +162,17 @@ fn statement<'a>(alloc: Global, site: Site<'a>, x: &'a Stmt) -> Result<Found, Me
             otherwise,
             ..
         } => {
-            let then = statement(alloc, site, then)?;
+            let then = statement(alloc, site, boxed_statement(then))?;
             match otherwise {
                 Some(otherwise) => {
-                    let otherwise = statement(alloc, site, otherwise)?;
+                    let otherwise = statement(alloc, site, boxed_statement(otherwise))?;
                     Ok(own.and(then.and(otherwise)))
                 }
                 None => Ok(own.and(then)),
             }
         }
         Stmt::While { body, .. } => {
-            let inner = statement(alloc, site.in_loop(x), body)?;
+            let inner = statement(alloc, site.in_loop(x), boxed_statement(body))?;
             Ok(own.and(inner))
         }
         Stmt::For {
@@ -180,13 +181,13 @@ fn statement<'a>(alloc: Global, site: Site<'a>, x: &'a Stmt) -> Result<Found, Me
             body,
             ..
         } => {
-            let inner = statement(alloc, site.in_loop(x), body)?;
+            let inner = statement(alloc, site.in_loop(x), boxed_statement(body))?;
             let first = match first {
-                Some(first) => statement(alloc, site, first)?,
+                Some(first) => statement(alloc, site, boxed_statement(first))?,
                 None => Found::nothing(),
             };
             let update = match update {
-                Some(update) => statement(alloc, site, update)?,
+                Some(update) => statement(alloc, site, boxed_statement(update))?,
                 None => Found::nothing(),
             };
             Ok(own.and(first.and(update.and(inner))))
@@ -199,7 +200,7 @@ fn statement<'a>(alloc: Global, site: Site<'a>, x: &'a Stmt) -> Result<Found, Me
         } => {
             let scope = site.inside_foreach(alloc, *variable, domain)?;
             let inside = site.in_loop(x);
-            let inner = statement(alloc, inside.with_scope(&scope), body)?;
+            let inner = statement(alloc, inside.with_scope(&scope), boxed_statement(body))?;
             Ok(own.and(inner))
         }
         Stmt::Empty

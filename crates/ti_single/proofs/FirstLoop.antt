@@ -1,5 +1,5 @@
 -- The loop at a place that is looked for in the statements is the first of all statements that is one.
-use Rattle.std.proofs.Common.{◌≡◌, List, ◌++◌, map, Option, refl, ap, sym, ◌∙◌, Bool, true, false, if◌then◌else◌, Some}
+use Rattle.std.proofs.Common.{◌≡◌, List, ◌++◌, map, Option, refl, ap, ◌∙◌, if◌then◌else◌, Some}
 use Rattle.std.specs.List.{find}
 use Rattle.std.specs.Option.{option_or}
 use Rattle.std.proofs.lemmas.List.{map-append}
@@ -9,7 +9,7 @@ use Rattle.ti_lang.specs.Program.Statements.{NumberedStm, MaybeNumbered, Numbere
 use Rattle.ti_lang.specs.Program.Statements as st
 use Rattle.ti_lang.specs.Program.Classes.{NumberedMethod, NumberedProgram}
 use Rattle.ti_rules.specs.First.{same_place}
-use Rattle.ti_rules.specs.Standing.{Around, Standing, in_loop, in_foreach, inside, inside_maybe, inside_all, around_method, standing_in_method}
+use Rattle.ti_rules.specs.Standing.{Around, Standing, in_loop, in_foreach, inside, inside_maybe, inside_all, around_method}
 use Rattle.ti_single.specs.EffectsAt.{is_loop_at, loop_at}
 use Rattle.ti_single.specs.Mirrors.Loops.{loop_in, loop_in_maybe, loop_in_all}
 

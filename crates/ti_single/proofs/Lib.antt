@@ -1,3 +1,5 @@
+pub mod Arguments
 pub mod FirstLoop
 pub mod Parts
+pub mod Sites
 pub mod Together

@@ -1,3 +1,4 @@
 pub mod Doings
 pub mod EffectsAt
+pub mod Sites
 pub mod Mirrors

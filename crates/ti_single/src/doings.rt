@@ -10,6 +10,7 @@ ghost use Rattle.ti_lang.specs.Typing.Singleness.{has_single_result};
 ghost use Rattle.ti_lang.specs.Typing.Effects.{is_collective, is_collective_call, acts, initial_acts, nothing, acting, together, kept_in_loop, doings, doings_of_all, doings_of_method, return_acts, jump_acts, has_global_effects};
 ghost use Rattle.ti_single.specs.Doings.{doings_of};
 
+use crate::boxes::{boxed_initial, boxed_statement, listed_statements};
 use crate::singleness::is_single_target;
 use ti_lang::program::{Expr, Init, Method, Program, ResultType, Stmt, has_static};
 use ti_lang::typing::{BuiltIn, called_method, member_called};
@@ -162,10 +163,10 @@ pub fn doings_of_statement(p: &Program, this: Option<u32>, x: &Stmt) -> Doings
 {
     match x {
         Stmt::Declare { ty, value, .. } => {
-            Doings::acting(ty.single || initial_acts(p, this, value))
+            Doings::acting(ty.single || initial_acts(p, this, boxed_initial(value)))
         }
         Stmt::Assign { target, value, .. } => {
-            Doings::acting(is_single_target(target) || initial_acts(p, this, value))
+            Doings::acting(is_single_target(target) || initial_acts(p, this, boxed_initial(value)))
         }
         Stmt::Update { target, value, .. } => {
             Doings::acting(is_single_target(target) || acts(p, this, value))
@@ -173,19 +174,27 @@ pub fn doings_of_statement(p: &Program, this: Option<u32>, x: &Stmt) -> Doings
         Stmt::Step { target, .. } => Doings::acting(is_single_target(target)),
         Stmt::Call(e) => Doings::acting(acts(p, this, e)),
         Stmt::Barrier(_) => Doings::acting(true),
-        Stmt::Block(body) => doings_of_statements(p, this, body),
+        Stmt::Block(body) => doings_of_statements(p, this, listed_statements(body)),
         Stmt::If {
             then,
             otherwise,
             ..
         } => {
-            let then = doings_of_statement(p, this, then);
+            let then = doings_of_statement(p, this, boxed_statement(then));
             match otherwise {
-                Some(otherwise) => then.together(doings_of_statement(p, this, otherwise)),
+                Some(otherwise) => then.together(doings_of_statement(
+                    p,
+                    this,
+                    boxed_statement(otherwise),
+                )),
                 None => then,
             }
         }
-        Stmt::While { body, .. } => doings_of_statement(p, this, body).kept_in_loop(),
+        Stmt::While { body, .. } => doings_of_statement(
+            p,
+            this,
+            boxed_statement(body),
+        ).kept_in_loop(),
         Stmt::For {
             first,
             update,
@@ -193,17 +202,21 @@ pub fn doings_of_statement(p: &Program, this: Option<u32>, x: &Stmt) -> Doings
             ..
         } => {
             let first = match first {
-                Some(first) => doings_of_statement(p, this, first),
+                Some(first) => doings_of_statement(p, this, boxed_statement(first)),
                 None => Doings::none(),
             };
             let update = match update {
-                Some(update) => doings_of_statement(p, this, update),
+                Some(update) => doings_of_statement(p, this, boxed_statement(update)),
                 None => Doings::none(),
             };
-            let body = doings_of_statement(p, this, body);
+            let body = doings_of_statement(p, this, boxed_statement(body));
             first.together(update.together(body).kept_in_loop())
         }
-        Stmt::Foreach { body, .. } => doings_of_statement(p, this, body).kept_in_loop(),
+        Stmt::Foreach { body, .. } => doings_of_statement(
+            p,
+            this,
+            boxed_statement(body),
+        ).kept_in_loop(),
         Stmt::Break(_) => Doings::jumping(),
         Stmt::Continue(_) => Doings::jumping(),
         Stmt::Return(_, _) => Doings::returning(),
@@ -239,7 +252,7 @@ pub fn has_single_result(m: &Method) -> bool
 pub fn doings_of_method(p: &Program, m: &Method) -> Doings
     ensures { doings_of result ≡ doings_of_method (program_of p.now.parts) (numbered_method_of m.now) }
 {
-    doings_of_statements(p, this_of(m), &m.body)
+    doings_of_statements(p, this_of(m), listed_statements(&m.body))
 }
 
 /// Whether a `return` of a method has an effect: the method has a single result or a statement that acts.

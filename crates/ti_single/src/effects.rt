@@ -4,6 +4,7 @@ ghost use Rattle.ti_lang.specs.Program.Scope.{whereabouts_of};
 ghost use Rattle.ti_lang.specs.Program.Views.{program_of, statement_of, numbered_method_of};
 ghost use Rattle.ti_single.specs.EffectsAt.{jump_acts_at, has_effects_at};
 
+use crate::boxes::listed_statements;
 use crate::doings::{doings_of_statement, has_global_effects, jump_acts, return_acts, this_of};
 use crate::loops::{doings_in_loop, loop_in_all};
 use ti_base::Place;
@@ -16,7 +17,7 @@ fn jump_acts_at(p: &Program, m: &Method, at: Option<Place>) -> bool
     ensures { result ≡ jump_acts_at (program_of p.now.parts) (numbered_method_of m.now) at }
 {
     match at {
-        Some(at) => match loop_in_all(at, &m.body) {
+        Some(at) => match loop_in_all(at, listed_statements(&m.body)) {
             Some(x) => jump_acts(return_acts(p, m), doings_in_loop(p, m, x)),
             None => false,
         },

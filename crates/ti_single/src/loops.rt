@@ -7,6 +7,7 @@ ghost use Rattle.ti_single.specs.Doings.{doings_of};
 ghost use Rattle.ti_single.specs.EffectsAt.{doings_in_loop};
 ghost use Rattle.ti_single.specs.Mirrors.Loops.{loop_in, loop_in_all};
 
+use crate::boxes::{boxed_statement, listed_statements};
 use crate::doings::{Doings, doings_of_statement, this_of};
 use ti_base::Place;
 use ti_lang::program::{Method, Program, Stmt};
@@ -40,15 +41,15 @@ fn loop_in<'a>(at: Place, x: &'a Stmt) -> Option<&'a Stmt>
     ensures { option_map (λ y. statement_of y.now) result ≡ loop_in at (statement_of x.now) }
 {
     match x {
-        Stmt::Block(body) => loop_in_all(at, body),
+        Stmt::Block(body) => loop_in_all(at, listed_statements(body)),
         Stmt::If {
             then,
             otherwise,
             ..
         } => {
-            let then = loop_in(at, then);
+            let then = loop_in(at, boxed_statement(then));
             match otherwise {
-                Some(otherwise) => either(then, loop_in(at, otherwise)),
+                Some(otherwise) => either(then, loop_in(at, boxed_statement(otherwise))),
                 None => then,
             }
         }
@@ -56,7 +57,7 @@ fn loop_in<'a>(at: Place, x: &'a Stmt) -> Option<&'a Stmt>
             if at == *place {
                 Some(x)
             } else {
-                loop_in(at, body)
+                loop_in(at, boxed_statement(body))
             }
         }
         Stmt::For {
@@ -70,20 +71,20 @@ fn loop_in<'a>(at: Place, x: &'a Stmt) -> Option<&'a Stmt>
                 return Some(x);
             }
             let first = match first {
-                Some(first) => loop_in(at, first),
+                Some(first) => loop_in(at, boxed_statement(first)),
                 None => None,
             };
             let update = match update {
-                Some(update) => loop_in(at, update),
+                Some(update) => loop_in(at, boxed_statement(update)),
                 None => None,
             };
-            either(first, either(update, loop_in(at, body)))
+            either(first, either(update, loop_in(at, boxed_statement(body))))
         }
         Stmt::Foreach { place, body, .. } => {
             if at == *place {
                 Some(x)
             } else {
-                loop_in(at, body)
+                loop_in(at, boxed_statement(body))
             }
         }
         Stmt::Empty
@@ -106,15 +107,17 @@ pub fn doings_in_loop(p: &Program, m: &Method, x: &Stmt) -> Doings
 {
     let this = this_of(m);
     match x {
-        Stmt::While { body, .. } => doings_of_statement(p, this, body),
+        Stmt::While { body, .. } => doings_of_statement(p, this, boxed_statement(body)),
         Stmt::For { update, body, .. } => {
-            let body = doings_of_statement(p, this, body);
+            let body = doings_of_statement(p, this, boxed_statement(body));
             match update {
-                Some(update) => doings_of_statement(p, this, update).together(body),
+                Some(update) => doings_of_statement(p, this, boxed_statement(update)).together(
+                    body,
+                ),
                 None => body,
             }
         }
-        Stmt::Foreach { body, .. } => doings_of_statement(p, this, body),
+        Stmt::Foreach { body, .. } => doings_of_statement(p, this, boxed_statement(body)),
         _ => Doings::none(),
     }
 }

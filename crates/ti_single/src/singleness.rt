@@ -10,6 +10,7 @@ ghost use Rattle.ti_lang.specs.Typing.Singleness.{declared_single, tells_of_doma
 ghost use Rattle.ti_lang.specs.Typing.Effects.{is_single_target};
 ghost use Rattle.ti_rules.specs.Standing.{singles_in};
 
+use crate::boxes::{boxed_expression, boxed_type, listed_expressions, listed_ranges};
 use crate::doings::has_single_result;
 use ti_lang::program::{Declared, Expr, Init, Program, Range, Scope, Variable};
 use ti_lang::typing::{BuiltIn, Seen, called_method, member_called, type_in_text};
@@ -129,23 +130,30 @@ pub fn is_single_part(p: &Program, scope: &Scope, e: &Expr) -> bool
         Expr::Truth(_, _) => true,
         Expr::NumProcs(_) => true,
         Expr::Variable(_, v) => is_single_variable(scope, v),
-        Expr::Point(_, xs) => are_single(p, scope, xs),
-        Expr::Rect(_, ranges) => are_single_ranges(p, scope, ranges),
-        Expr::Unary { operand, .. } => is_single_part(p, scope, operand),
+        Expr::Point(_, xs) => are_single(p, scope, listed_expressions(xs)),
+        Expr::Rect(_, found) => are_single_ranges(p, scope, listed_ranges(found)),
+        Expr::Unary { operand, .. } => is_single_part(p, scope, boxed_expression(operand)),
         Expr::Binary { left, right, .. } => {
-            is_single_part(p, scope, left) && is_single_part(p, scope, right)
+            is_single_part(p, scope, boxed_expression(left))
+                && is_single_part(p, scope, boxed_expression(right))
         }
         Expr::Cast { to, operand, .. } => {
-            !Seen::of(&to.ty, false).is_local() && is_single_part(p, scope, operand)
+            !Seen::of(&boxed_type(to).ty, false).is_local()
+                && is_single_part(p, scope, boxed_expression(operand))
         }
         Expr::Index {
             receiver,
             indices,
             ..
         } => {
+            let receiver = boxed_expression(receiver);
             let of_point = is_point(type_in_text(&p.parts, scope.this, receiver));
             let part = is_single_part(p, scope, receiver);
-            all_hold(of_point, part, are_single(p, scope, indices))
+            all_hold(
+                of_point,
+                part,
+                are_single(p, scope, listed_expressions(indices)),
+            )
         }
         Expr::Member {
             receiver,
@@ -153,9 +161,10 @@ pub fn is_single_part(p: &Program, scope: &Scope, e: &Expr) -> bool
             args,
             ..
         } => {
+            let receiver = boxed_expression(receiver);
             let tells = tells_of_domain(member_called(&p.parts, scope.this, receiver, *name));
             let part = is_single_part(p, scope, receiver);
-            all_hold(tells, part, are_single(p, scope, args))
+            all_hold(tells, part, are_single(p, scope, listed_expressions(args)))
         }
         Expr::Null(_)
         | Expr::This(_)

@@ -11,6 +11,7 @@ struct Wanted {
     procs: u32,
     workers: u32,
     fuel: u32,
+    seed: u32,
     trace: bool,
     stats: bool,
     file: &'static str,
@@ -22,9 +23,17 @@ const PLAIN: Wanted = Wanted {
     procs: 1,
     workers: 1,
     fuel: 100_000,
+    seed: 1,
     trace: false,
     stats: false,
     file: "a.ti",
+};
+
+/// The job of mode gen alone.
+const GENERATED: Wanted = Wanted {
+    mode: Mode::Gen,
+    file: "",
+    ..PLAIN
 };
 
 /// Words, and the job that they ask for.
@@ -102,6 +111,40 @@ const COMMANDS: &[Row] = &[
             ..PLAIN
         },
     },
+    Row {
+        words: &["--mode", "gen"],
+        job: GENERATED,
+    },
+    Row {
+        words: &["--mode", "gen", "--procs", "4"],
+        job: Wanted {
+            procs: 4,
+            workers: 4,
+            ..GENERATED
+        },
+    },
+    Row {
+        words: &["--seed", "4294967295", "--stats", "--mode=gen"],
+        job: Wanted {
+            seed: 4_294_967_295,
+            stats: true,
+            ..GENERATED
+        },
+    },
+    Row {
+        words: &["--mode", "gen", "--seed=0"],
+        job: Wanted {
+            seed: 0,
+            ..GENERATED
+        },
+    },
+    Row {
+        words: &["--mode", "gen", "--seed", "0000000007"],
+        job: Wanted {
+            seed: 7,
+            ..GENERATED
+        },
+    },
 ];
 
 /// Words that are no command.
@@ -140,9 +183,17 @@ const NONE: &[&[&str]] = &[
     &["--mode", "", "a.ti"],
     &["--mode", "Run", "a.ti"],
     &["--mode", "code", "a.ti"],
-    &["--mode", "gen"],
     &["--mode", "gen", "a.ti"],
+    &["--mode", "gen", "--seed", "4294967296"],
+    &["--mode", "gen", "--seed", "00000000001"],
+    &["--mode", "gen", "--seed", "-1"],
+    &["--mode", "gen", "--seed"],
+    &["--mode", "gen", "--seed="],
+    &["--mode", "gen", "--seed", "1", "--seed", "1"],
+    &["--mode", "gen", "--procs", "32", "--fuel", "125001"],
     &["--seed", "1", "a.ti"],
+    &["--mode", "check", "--seed=1", "a.ti"],
+    &["--seed", "1"],
     &["--proc", "2", "a.ti"],
     &["a.ti", "--procs"],
 ];
@@ -160,6 +211,7 @@ fn is_wanted(job: &Job, wanted: Wanted) -> bool {
         && job.procs == wanted.procs
         && job.workers == wanted.workers
         && job.fuel == wanted.fuel
+        && job.seed == wanted.seed
         && job.trace == wanted.trace
         && job.stats == wanted.stats
         && job.file.as_str() == wanted.file

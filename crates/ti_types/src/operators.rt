@@ -1,7 +1,7 @@
 // The types that operators take, and what they give.
 ghost use Rattle.std.specs.Prelude.{◌≡◌};
 ghost use Rattle.std.specs.Option.{option_map, option_or};
-ghost use Rattle.ti_lang.specs.Typing.Operators.{wider, whole_type, truth_type, point_type, rect_type, domain_type, are_references, are_comparable, are_ordered, binary_type, unary_type};
+ghost use Rattle.ti_lang.specs.Typing.Operators.{wider, whole_type, truth_type, point_type, rect_type, domain_type, are_references, are_comparable, are_ordered, Sum, Product, Shift, Bits, row_type, binary_type, unary_type};
 ghost use Rattle.ti_lang.specs.Program.Types.{Boolean};
 ghost use Rattle.ti_lang.specs.Typing.Kinds.{where_true};
 ghost use Rattle.ti_lang.specs.Typing.Seen.{seen};
@@ -101,33 +101,52 @@ fn truth_if<'p>(test: bool) -> Option<Seen<'p>>
     if test { Some(Seen::Bool) } else { None }
 }
 
+// What `+` and `-` give.
+fn sum_type<'p>(t: Seen<'p>, u: Seen<'p>) -> Option<Seen<'p>>
+    ensures { option_map seen result ≡ row_type Sum (seen t.entry) (seen u.entry) }
+{
+    let others = either(point_type(t, u), domain_type(t, u));
+    either(whole_type(t, u), others)
+}
+
+// What `*` gives.
+fn product_type<'p>(t: Seen<'p>, u: Seen<'p>) -> Option<Seen<'p>>
+    ensures { option_map seen result ≡ row_type Product (seen t.entry) (seen u.entry) }
+{
+    let others = either(rect_type(t, u), domain_type(t, u));
+    either(whole_type(t, u), others)
+}
+
+// What a shift gives.
+fn shift_type<'p>(t: Seen<'p>, u: Seen<'p>) -> Option<Seen<'p>>
+    ensures { option_map seen result ≡ row_type Shift (seen t.entry) (seen u.entry) }
+{
+    if t.is_whole() && u.is_whole() {
+        Some(t)
+    } else {
+        None
+    }
+}
+
+// What `&`, `|` and `^` give.
+fn bits_type<'p>(t: Seen<'p>, u: Seen<'p>) -> Option<Seen<'p>>
+    ensures { option_map seen result ≡ row_type Bits (seen t.entry) (seen u.entry) }
+{
+    either(whole_type(t, u), truth_type(t, u))
+}
+
 /// What an operator gives of two operands, where it takes them.
 pub fn binary_type<'p>(op: BinaryOperator, t: Seen<'p>, u: Seen<'p>) -> Option<Seen<'p>>
     ensures { option_map seen result ≡ binary_type op (seen t.entry) (seen u.entry) }
 {
     match op {
-        BinaryOperator::Add | BinaryOperator::Subtract => {
-            either(
-                whole_type(t, u),
-                either(point_type(t, u), domain_type(t, u)),
-            )
-        }
-        BinaryOperator::Multiply => {
-            either(whole_type(t, u), either(rect_type(t, u), domain_type(t, u)))
-        }
+        BinaryOperator::Add | BinaryOperator::Subtract => sum_type(t, u),
+        BinaryOperator::Multiply => product_type(t, u),
         BinaryOperator::Divide | BinaryOperator::Remainder => whole_type(t, u),
         BinaryOperator::ShiftLeft
         | BinaryOperator::ShiftRight
-        | BinaryOperator::UnsignedShiftRight => {
-            if t.is_whole() && u.is_whole() {
-                Some(t)
-            } else {
-                None
-            }
-        }
-        BinaryOperator::Or | BinaryOperator::Xor | BinaryOperator::And => {
-            either(whole_type(t, u), truth_type(t, u))
-        }
+        | BinaryOperator::UnsignedShiftRight => shift_type(t, u),
+        BinaryOperator::Or | BinaryOperator::Xor | BinaryOperator::And => bits_type(t, u),
         BinaryOperator::OrElse | BinaryOperator::AndThen => truth_type(t, u),
         BinaryOperator::Less
         | BinaryOperator::LessEqual

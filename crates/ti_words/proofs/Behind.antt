@@ -42,14 +42,15 @@ report_stands name word piece = go (bytes_eq word (dashed name))
     go false = refl
 
 -- the same tests, taken together from the left
-from_left : (a b c d e f : Bool) → (a || (b || (c || (d || (e || (f || false)))))) ≡ (((((a || b) || c) || d) || e) || f)
-from_left true b c d e f = refl
-from_left false true c d e f = refl
-from_left false false true d e f = refl
-from_left false false false true e f = refl
-from_left false false false false true f = refl
-from_left false false false false false true = refl
-from_left false false false false false false = refl
+from_left : (a b c d e f g : Bool) → (a || (b || (c || (d || (e || (f || (g || false))))))) ≡ ((((((a || b) || c) || d) || e) || f) || g)
+from_left true b c d e f g = refl
+from_left false true c d e f g = refl
+from_left false false true d e f g = refl
+from_left false false false true e f g = refl
+from_left false false false false true f g = refl
+from_left false false false false false true g = refl
+from_left false false false false false false true = refl
+from_left false false false false false false false = refl
 
 -- the tests of a word, each with those before it
 abbrev setting_of : Word → Word → Bool
@@ -61,8 +62,11 @@ first_two word = setting_of (codes "mode") word || setting_of (codes "procs") wo
 abbrev pub first_three : Word → Bool
 first_three word = first_two word || setting_of (codes "workers") word
 
+abbrev pub first_four : Word → Bool
+first_four word = first_three word || setting_of (codes "fuel") word
+
 abbrev pub all_settings : Word → Bool
-all_settings word = first_three word || setting_of (codes "fuel") word
+all_settings word = first_four word || setting_of (codes "seed") word
 
 abbrev pub and_trace : Word → Bool
 and_trace word = all_settings word || bytes_eq word (codes "--trace")
@@ -74,10 +78,11 @@ argument_stands word =
     ∙ (ap (λ b. setting_of (codes "mode") word || b) (setting_stands (codes "procs") word _
     ∙ ap (λ b. setting_of (codes "procs") word || b) (setting_stands (codes "workers") word _
     ∙ ap (λ b. setting_of (codes "workers") word || b) (setting_stands (codes "fuel") word _
-    ∙ ap (λ b. setting_of (codes "fuel") word || b) (report_stands (codes "trace") word _
-    ∙ ap (λ b. bytes_eq word (codes "--trace") || b) (report_stands (codes "stats") word wrong)))))
+    ∙ ap (λ b. setting_of (codes "fuel") word || b) (setting_stands (codes "seed") word _
+    ∙ ap (λ b. setting_of (codes "seed") word || b) (report_stands (codes "trace") word _
+    ∙ ap (λ b. bytes_eq word (codes "--trace") || b) (report_stands (codes "stats") word wrong))))))
     ∙ from_left (setting_of (codes "mode") word) (setting_of (codes "procs") word) (setting_of (codes "workers") word)
-    (setting_of (codes "fuel") word) (bytes_eq word (codes "--trace")) (bytes_eq word (codes "--stats")))
+    (setting_of (codes "fuel") word) (setting_of (codes "seed") word) (bytes_eq word (codes "--trace")) (bytes_eq word (codes "--stats")))
 
 -- the first test holds and is the answer, or the second is
 pub or_first : (a b v : Bool) → a ≡ true → v ≡ a → v ≡ (a || b)

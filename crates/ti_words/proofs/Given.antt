@@ -80,6 +80,7 @@ pub record Reads (f : Found) (g : Given) : Type 0 where
   pub procs : option_map (λ s. s.now) g.procs ≡ first_value f (codes "procs")
   pub workers : option_map (λ s. s.now) g.workers ≡ first_value f (codes "workers")
   pub fuel : option_map (λ s. s.now) g.fuel ≡ first_value f (codes "fuel")
+  pub seed : option_map (λ s. s.now) g.seed ≡ first_value f (codes "seed")
   pub trace : g.trace ≡ is_from_words (option_and_then (λ a. a.source) (matched_of f (codes "trace")))
   pub stats : g.stats ≡ is_from_words (option_and_then (λ a. a.source) (matched_of f (codes "stats")))
   pub file : option_map (λ s. s.now) g.file ≡ first_value f (codes "FILE")
@@ -97,6 +98,7 @@ seen f g us rows reads = λ i. record {
   procs = sym (reads.procs ∙ value (codes "procs") refl refl) i;
   workers = sym (reads.workers ∙ value (codes "workers") refl refl) i;
   fuel = sym (reads.fuel ∙ value (codes "fuel") refl refl) i;
+  seed = sym (reads.seed ∙ value (codes "seed") refl refl) i;
   trace = sym (reads.trace ∙ (ap is_from_words (source_rows f (codes "trace") ∙ ap (source_in (codes "trace")) rows) ∙ report_found trace us)) i;
   stats = sym (reads.stats ∙ (ap is_from_words (source_rows f (codes "stats") ∙ ap (source_in (codes "stats")) rows) ∙ report_found stats us)) i;
   file = sym (reads.file ∙ value (codes "FILE") refl refl) i;

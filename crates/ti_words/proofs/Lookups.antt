@@ -1,7 +1,7 @@
 -- What is found in the matches, with the defaults of the reports.
 use Rattle.std.proofs.Common.{◌≡◌, ◌∙◌, ◌||◌, Bool, cond, true, false, true≢false, refl, sym, ap, ap₂, List, [], ◌∷◌, map, Option, Some, None, option_map, codes}
 use Rattle.std.specs.Prelude.{option_and_then, slice_get}
-use Rattle.std.specs.List.{find, fold}
+use Rattle.std.specs.List.{find, fold, list_any}
 use Rattle.std.specs.Option.{option_or}
 use Rattle.std.specs.Str.{bytes_eq}
 use Rattle.std.proofs.lemmas.List.Folds.{find-append}
@@ -37,12 +37,23 @@ report_at name = with_index 1 (filled (report_rule name))
 abbrev file_at : Rule
 file_at = with_index 1 (filled file_rule)
 
-settings_have_none : (rows : List Row) → with_default (with_default (with_default (with_default rows (setting_at (codes "mode"))) (setting_at (codes "procs"))) (setting_at (codes "workers"))) (setting_at (codes "fuel")) ≡ rows
-settings_have_none rows =
-    no_default (with_default (with_default (with_default rows (setting_at (codes "mode"))) (setting_at (codes "procs"))) (setting_at (codes "workers"))) (setting_at (codes "fuel")) refl
-    ∙ (no_default (with_default (with_default rows (setting_at (codes "mode"))) (setting_at (codes "procs"))) (setting_at (codes "workers")) refl
-    ∙ (no_default (with_default rows (setting_at (codes "mode"))) (setting_at (codes "procs")) refl
-    ∙ no_default rows (setting_at (codes "mode")) refl))
+-- the arguments that have a value
+abbrev settings : List Rule
+settings = setting_at (codes "mode") ∷ setting_at (codes "procs") ∷ setting_at (codes "workers") ∷ setting_at (codes "fuel") ∷ setting_at (codes "seed") ∷ []
+
+abbrev has_default : List Text → Bool
+has_default [] = false
+has_default (v ∷ values) = true
+
+-- arguments without defaults add no rows
+none_defaulted : (rs : List Rule) → list_any (λ a. has_default a.defaults) rs ≡ false → (rows : List Row) → fold with_default rows rs ≡ rows
+none_defaulted [] e rows = refl
+none_defaulted (a ∷ rs) e rows = go a.defaults refl e (none_defaulted rs)
+  where
+    go : (values : List Text) → a.defaults ≡ values → (has_default values || list_any (λ b. has_default b.defaults) rs) ≡ false
+        → (list_any (λ b. has_default b.defaults) rs ≡ false → (others : List Row) → fold with_default others rs ≡ others) → fold with_default (with_default rows a) rs ≡ rows
+    go [] none f next = ap (λ (others : List Row). fold with_default others rs) (no_default rows a none) ∙ next f rows
+    go (v ∷ values) none f next = absurd (true≢false f)
 
 -- the rows with the defaults of the two reports
 abbrev with_reports : List Row → List Row
@@ -50,9 +61,7 @@ with_reports rows = with_default (with_default rows (report_at (codes "trace")))
 
 -- the defaults are those of the reports
 finished_rows : (rows : List Row) → fold with_default rows rules ≡ with_reports rows
-finished_rows rows =
-    no_default (with_reports (with_default (with_default (with_default (with_default rows (setting_at (codes "mode"))) (setting_at (codes "procs"))) (setting_at (codes "workers"))) (setting_at (codes "fuel")))) file_at refl
-    ∙ ap with_reports (settings_have_none rows)
+finished_rows rows = no_default (with_reports (fold with_default rows settings)) file_at refl ∙ ap with_reports (none_defaulted settings refl rows)
 
 -- the row of a report that the words don't ask for
 abbrev default_row : Word → Row

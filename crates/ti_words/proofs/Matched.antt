@@ -10,7 +10,7 @@ use Rattle.clap.specs.Walk.{Held, Row, Walk, has_row, idle, nothing_held, option
 use Rattle.clap.proofs.FaultLemmas.{leaf_fault}
 use Rattle.ti_words.specs.Uses.{Piece, Use, Word, awaits, dashed, dashed_piece, gives, is_used, piece_of, plain}
 use Rattle.ti_words.specs.Mirrors.Command.{all_stand, can_stand, titan}
-use Rattle.ti_words.proofs.Views.{IsReport, IsSetting, View, alone, front, fuel, joined, mode, none, other, procs, report, stats, trace, view, workers}
+use Rattle.ti_words.proofs.Views.{IsReport, IsSetting, View, alone, front, fuel, joined, mode, none, other, procs, report, seed, stats, trace, view, workers}
 use Rattle.ti_words.proofs.Turns.{alone_turn, alone_walk, at, file_settled, file_settles, file_turn, file_walk, guard, held_for, held_with, joined_turn, joined_walk, new_row, no, outcome, outcome-end, outcome-more, report_turn, report_walk, rest_fault, row_of_use, rules, settles, shape, stray_turn, used_rows, value_settled, value_settles, value_turn, value_walk, waits_in_vain, whole}
 
 -- the use of FILE
@@ -81,12 +81,14 @@ alone_piece mode = refl
 alone_piece procs = refl
 alone_piece workers = refl
 alone_piece fuel = refl
+alone_piece seed = refl
 
 joined_piece : {name : Word} → IsSetting name → (x : ℕ) (xs : Word) → piece_of (front name ++ x ∷ xs) ≡ gives (record { name = name; value = x ∷ xs })
 joined_piece mode x xs = refl
 joined_piece procs x xs = refl
 joined_piece workers x xs = refl
 joined_piece fuel x xs = refl
+joined_piece seed x xs = refl
 
 report_piece : {name : Word} → IsReport name → piece_of (dashed name) ≡ gives (record { name = name; value = codes "true" })
 report_piece trace = refl
@@ -100,6 +102,7 @@ setting_no_file mode = refl
 setting_no_file procs = refl
 setting_no_file workers = refl
 setting_no_file fuel = refl
+setting_no_file seed = refl
 
 report_no_file : {name : Word} → IsReport name → bytes_eq name (codes "FILE") ≡ false
 report_no_file trace = refl
@@ -156,7 +159,7 @@ idle_gives u word no_file piece turn walk words next us h rows =
 idle_alone : {name : Word} → IsSetting name → (words : List Word) → Waits words → Idle (dashed name ∷ words)
 idle_alone {name} is words waits us h rows =
     outcome-more (at idle h (position_of us)) (dashed name) words
-    ∙ (ap₂ guard (alone_turn is idle h (position_of us)) (ap (λ (w : Walk). outcome w words) (alone_walk is h (position_of us)))
+    ∙ (ap₂ guard (alone_turn is None h (position_of us)) (ap (λ (w : Walk). outcome w words) (alone_walk is h (position_of us)))
     ∙ go (settles h) refl)
   where
     go : (b : Bool) → settles h ≡ b
@@ -215,21 +218,21 @@ waits_vain word piece is_piece vain turn words name is us h rows =
 idle_more : {word : Word} → View word → (words : List Word) → can_stand (piece_of word) ≡ true → Idle words → Waits words → Idle (word ∷ words)
 idle_more (alone is) words stands next waits = idle_alone is words waits
 idle_more (joined {name} is x xs) words stands next waits =
-    idle_gives (record { name = name; value = x ∷ xs }) (front name ++ x ∷ xs) (setting_no_file is) (joined_piece is x xs) (joined_turn is x xs idle) (joined_walk is x xs) words next
+    idle_gives (record { name = name; value = x ∷ xs }) (front name ++ x ∷ xs) (setting_no_file is) (joined_piece is x xs) (joined_turn is x xs None) (joined_walk is x xs) words next
 idle_more (report {name} is) words stands next waits =
-    idle_gives (record { name = name; value = codes "true" }) (dashed name) (report_no_file is) (report_piece is) (report_turn is idle) (report_walk is) words next
+    idle_gives (record { name = name; value = codes "true" }) (dashed name) (report_no_file is) (report_piece is) (report_turn is None) (report_walk is) words next
 idle_more (other x xs e) words stands next waits = idle_plain x xs e words next
 idle_more (none word e) words stands next waits = absurd (true≢false (sym stands ∙ e))
 
 waits_more : {word : Word} → View word → (words : List Word) → can_stand (piece_of word) ≡ true → Idle words → Waits (word ∷ words)
 waits_more (alone {name} is) words stands next =
-    waits_vain (dashed name) (awaits name) (alone_piece is) (λ n us ps. refl) (λ n s h p. alone_turn is (option n) (held_for n h) p ∙ waits_in_vain s h) words
+    waits_vain (dashed name) (awaits name) (alone_piece is) (λ n us ps. refl) (λ n s h p. alone_turn is (Some n) (held_for n h) p ∙ waits_in_vain s h) words
 waits_more (joined {name} is x xs) words stands next =
     waits_vain (front name ++ x ∷ xs) (gives (record { name = name; value = x ∷ xs })) (joined_piece is x xs) (λ n us ps. refl)
-    (λ n s h p. joined_turn is x xs (option n) (held_for n h) p ∙ ap (λ b. b && not (has_row name (settled rules (held_for n h)).rows)) (waits_in_vain s h)) words
+    (λ n s h p. joined_turn is x xs (Some n) (held_for n h) p ∙ ap (λ b. b && not (has_row name (settled rules (held_for n h)).rows)) (waits_in_vain s h)) words
 waits_more (report {name} is) words stands next =
     waits_vain (dashed name) (gives (record { name = name; value = codes "true" })) (report_piece is) (λ n us ps. refl)
-    (λ n s h p. report_turn is (option n) (held_for n h) p ∙ ap (λ b. b && not (has_row name (settled rules (held_for n h)).rows)) (waits_in_vain s h)) words
+    (λ n s h p. report_turn is (Some n) (held_for n h) p ∙ ap (λ b. b && not (has_row name (settled rules (held_for n h)).rows)) (waits_in_vain s h)) words
 waits_more (other x xs e) words stands next = waits_plain x xs e words next
 waits_more (none word e) words stands next = absurd (true≢false (sym stands ∙ e))
 

@@ -23,9 +23,9 @@ some_digits : (word : List ℕ) → is_number word ≡ true → 0 < length word
 some_digits word is = elim (leb_tells 1 (length word)) [ inl low ↦ low.1 | inr low ↦ absurd (let e = low.0 in let h = rw low.0 at is in cc) ]
 
 -- a word that is a number but isn't parsed is too large
-pub number_in-not_parsed : {E : Type 0} (most : ℕ) (word : List ℕ) (e : E) → most < 2 ^ 32 → is_number word ≡ true → ParsesUnsigned 32 10 word (Err e) → number_in most word ≡ None
-number_in-not_parsed most word e bound is parsed =
+pub number_in-not_parsed : {E : Type 0} (least most : ℕ) (word : List ℕ) (e : E) → most < 2 ^ 32 → is_number word ≡ true → ParsesUnsigned 32 10 word (Err e) → number_in least most word ≡ None
+number_in-not_parsed least most word e bound is parsed =
     elim (leb_tells (number_of word) most) [
       | inl small ↦ absurd (parse_digits digits 32 word (Err e) parsed (let h = is in search rules) (some_digits word is, omega arith))
-      | inr large ↦ elim (leb_tells 1 (number_of word)) [ inl low ↦ rw (is, low.0, large.0) refl | inr low ↦ absurd (omega arith) ]
+      | inr large ↦ elim (leb_tells least (number_of word)) [ inl low ↦ rw (is, low.0, large.0) refl | inr low ↦ rw (is, low.0) refl ]
     ]

@@ -14,7 +14,7 @@ use Rattle.clap.specs.declared.error.kind.ErrorKind.TheVariants as kind
 use Rattle.clap.specs.declared.parser.matches.ValueSource.TheVariants.{CommandLine}
 use Rattle.ti_words.specs.Uses.{Use, Word, dashed}
 use Rattle.ti_words.specs.Mirrors.Command.{file_rule, titan}
-use Rattle.ti_words.proofs.Views.{IsReport, IsSetting, front, fuel, mode, procs, stats, trace, workers}
+use Rattle.ti_words.proofs.Views.{IsReport, IsSetting, front, fuel, mode, procs, seed, stats, trace, workers}
 
 -- the command as it is built
 abbrev pub shape : Shape
@@ -49,6 +49,11 @@ outcome w words = guard (no (rest_fault w words)) (Some (settled rules (fold (wa
 -- whether what is pending passes
 abbrev pub settles : Held → Bool
 settles h = no (settle_fault rules false h)
+
+-- what is waited for: the value of this setting, or nothing
+abbrev pub waiting_for : Option Word → Waiting
+waiting_for None = idle
+waiting_for (Some name) = option name
 
 -- between two words
 abbrev pub at : Waiting → Held → ℕ → Walk
@@ -114,20 +119,18 @@ then_none : (k : Kinds) → no (or_else k []) ≡ no k
 then_none [] = refl
 then_none (x ∷ k) = refl
 
-pub alone_turn : {name : Word} → IsSetting name → (waiting : Waiting) (h : Held) (p : ℕ)
-    → no (turn_fault shape [] (at waiting h p) (dashed name)) ≡ settles h
-alone_turn mode idle h p = then_none (settle_fault rules false h)
-alone_turn mode (option id) h p = then_none (settle_fault rules false h)
-alone_turn mode positional h p = then_none (settle_fault rules false h)
-alone_turn procs idle h p = then_none (settle_fault rules false h)
-alone_turn procs (option id) h p = then_none (settle_fault rules false h)
-alone_turn procs positional h p = then_none (settle_fault rules false h)
-alone_turn workers idle h p = then_none (settle_fault rules false h)
-alone_turn workers (option id) h p = then_none (settle_fault rules false h)
-alone_turn workers positional h p = then_none (settle_fault rules false h)
-alone_turn fuel idle h p = then_none (settle_fault rules false h)
-alone_turn fuel (option id) h p = then_none (settle_fault rules false h)
-alone_turn fuel positional h p = then_none (settle_fault rules false h)
+pub alone_turn : {name : Word} → IsSetting name → (waits : Option Word) (h : Held) (p : ℕ)
+    → no (turn_fault shape [] (at (waiting_for waits) h p) (dashed name)) ≡ settles h
+alone_turn mode None h p = then_none (settle_fault rules false h)
+alone_turn mode (Some setting) h p = then_none (settle_fault rules false h)
+alone_turn procs None h p = then_none (settle_fault rules false h)
+alone_turn procs (Some setting) h p = then_none (settle_fault rules false h)
+alone_turn workers None h p = then_none (settle_fault rules false h)
+alone_turn workers (Some setting) h p = then_none (settle_fault rules false h)
+alone_turn fuel None h p = then_none (settle_fault rules false h)
+alone_turn fuel (Some setting) h p = then_none (settle_fault rules false h)
+alone_turn seed None h p = then_none (settle_fault rules false h)
+alone_turn seed (Some setting) h p = then_none (settle_fault rules false h)
 
 pub alone_walk : {name : Word} → IsSetting name → (h : Held) (p : ℕ)
     → walked rules [] (at idle h p) (dashed name) ≡ at (option name) (held_for name h) p
@@ -136,6 +139,7 @@ alone_walk mode h p = refl
 alone_walk procs h p = refl
 alone_walk workers h p = refl
 alone_walk fuel h p = refl
+alone_walk seed h p = refl
 
 -- ---- `--NAME=VALUE`, and `--NAME` of a report
 
@@ -164,20 +168,18 @@ whole name value h = record {
   skip = h.skip;
 }
 
-pub joined_turn : {name : Word} → IsSetting name → (x : ℕ) (xs : Word) (waiting : Waiting) (h : Held) (p : ℕ)
-    → no (turn_fault shape [] (at waiting h p) (front name ++ x ∷ xs)) ≡ (settles h && not (has_row name (settled rules h).rows))
-joined_turn mode x xs idle h p = no_set (settle_fault rules false h) (has_row (codes "mode") (settled rules h).rows)
-joined_turn mode x xs (option id) h p = no_set (settle_fault rules false h) (has_row (codes "mode") (settled rules h).rows)
-joined_turn mode x xs positional h p = no_set (settle_fault rules false h) (has_row (codes "mode") (settled rules h).rows)
-joined_turn procs x xs idle h p = no_set (settle_fault rules false h) (has_row (codes "procs") (settled rules h).rows)
-joined_turn procs x xs (option id) h p = no_set (settle_fault rules false h) (has_row (codes "procs") (settled rules h).rows)
-joined_turn procs x xs positional h p = no_set (settle_fault rules false h) (has_row (codes "procs") (settled rules h).rows)
-joined_turn workers x xs idle h p = no_set (settle_fault rules false h) (has_row (codes "workers") (settled rules h).rows)
-joined_turn workers x xs (option id) h p = no_set (settle_fault rules false h) (has_row (codes "workers") (settled rules h).rows)
-joined_turn workers x xs positional h p = no_set (settle_fault rules false h) (has_row (codes "workers") (settled rules h).rows)
-joined_turn fuel x xs idle h p = no_set (settle_fault rules false h) (has_row (codes "fuel") (settled rules h).rows)
-joined_turn fuel x xs (option id) h p = no_set (settle_fault rules false h) (has_row (codes "fuel") (settled rules h).rows)
-joined_turn fuel x xs positional h p = no_set (settle_fault rules false h) (has_row (codes "fuel") (settled rules h).rows)
+pub joined_turn : {name : Word} → IsSetting name → (x : ℕ) (xs : Word) (waits : Option Word) (h : Held) (p : ℕ)
+    → no (turn_fault shape [] (at (waiting_for waits) h p) (front name ++ x ∷ xs)) ≡ (settles h && not (has_row name (settled rules h).rows))
+joined_turn mode x xs None h p = no_set (settle_fault rules false h) (has_row (codes "mode") (settled rules h).rows)
+joined_turn mode x xs (Some setting) h p = no_set (settle_fault rules false h) (has_row (codes "mode") (settled rules h).rows)
+joined_turn procs x xs None h p = no_set (settle_fault rules false h) (has_row (codes "procs") (settled rules h).rows)
+joined_turn procs x xs (Some setting) h p = no_set (settle_fault rules false h) (has_row (codes "procs") (settled rules h).rows)
+joined_turn workers x xs None h p = no_set (settle_fault rules false h) (has_row (codes "workers") (settled rules h).rows)
+joined_turn workers x xs (Some setting) h p = no_set (settle_fault rules false h) (has_row (codes "workers") (settled rules h).rows)
+joined_turn fuel x xs None h p = no_set (settle_fault rules false h) (has_row (codes "fuel") (settled rules h).rows)
+joined_turn fuel x xs (Some setting) h p = no_set (settle_fault rules false h) (has_row (codes "fuel") (settled rules h).rows)
+joined_turn seed x xs None h p = no_set (settle_fault rules false h) (has_row (codes "seed") (settled rules h).rows)
+joined_turn seed x xs (Some setting) h p = no_set (settle_fault rules false h) (has_row (codes "seed") (settled rules h).rows)
 
 pub joined_walk : {name : Word} → IsSetting name → (x : ℕ) (xs : Word) (h : Held) (p : ℕ)
     → walked rules [] (at idle h p) (front name ++ x ∷ xs) ≡ at idle (whole name (x ∷ xs) h) p
@@ -186,15 +188,14 @@ joined_walk mode x xs h p = refl
 joined_walk procs x xs h p = refl
 joined_walk workers x xs h p = refl
 joined_walk fuel x xs h p = refl
+joined_walk seed x xs h p = refl
 
-pub report_turn : {name : Word} → IsReport name → (waiting : Waiting) (h : Held) (p : ℕ)
-    → no (turn_fault shape [] (at waiting h p) (dashed name)) ≡ (settles h && not (has_row name (settled rules h).rows))
-report_turn trace idle h p = no_set (settle_fault rules false h) (has_row (codes "trace") (settled rules h).rows)
-report_turn trace (option id) h p = no_set (settle_fault rules false h) (has_row (codes "trace") (settled rules h).rows)
-report_turn trace positional h p = no_set (settle_fault rules false h) (has_row (codes "trace") (settled rules h).rows)
-report_turn stats idle h p = no_set (settle_fault rules false h) (has_row (codes "stats") (settled rules h).rows)
-report_turn stats (option id) h p = no_set (settle_fault rules false h) (has_row (codes "stats") (settled rules h).rows)
-report_turn stats positional h p = no_set (settle_fault rules false h) (has_row (codes "stats") (settled rules h).rows)
+pub report_turn : {name : Word} → IsReport name → (waits : Option Word) (h : Held) (p : ℕ)
+    → no (turn_fault shape [] (at (waiting_for waits) h p) (dashed name)) ≡ (settles h && not (has_row name (settled rules h).rows))
+report_turn trace None h p = no_set (settle_fault rules false h) (has_row (codes "trace") (settled rules h).rows)
+report_turn trace (Some setting) h p = no_set (settle_fault rules false h) (has_row (codes "trace") (settled rules h).rows)
+report_turn stats None h p = no_set (settle_fault rules false h) (has_row (codes "stats") (settled rules h).rows)
+report_turn stats (Some setting) h p = no_set (settle_fault rules false h) (has_row (codes "stats") (settled rules h).rows)
 
 pub report_walk : {name : Word} → IsReport name → (h : Held) (p : ℕ)
     → walked rules [] (at idle h p) (dashed name) ≡ at idle (whole name (codes "true") h) p
@@ -258,6 +259,7 @@ value_turn mode x xs e h p = ap no (plain_turn (option (codes "mode")) x xs e (h
 value_turn procs x xs e h p = ap no (plain_turn (option (codes "procs")) x xs e (held_for (codes "procs") h) p)
 value_turn workers x xs e h p = ap no (plain_turn (option (codes "workers")) x xs e (held_for (codes "workers") h) p)
 value_turn fuel x xs e h p = ap no (plain_turn (option (codes "fuel")) x xs e (held_for (codes "fuel") h) p)
+value_turn seed x xs e h p = ap no (plain_turn (option (codes "seed")) x xs e (held_for (codes "seed") h) p)
 
 pub value_walk : {name : Word} → IsSetting name → (x : ℕ) (xs : Word) → (x == 45) ≡ false → (h : Held) (p : ℕ)
     → walked rules [] (at (option name) (held_for name h) p) (x ∷ xs) ≡ at idle (held_with name (x ∷ xs) h) p
@@ -265,6 +267,7 @@ value_walk mode x xs e h p = plain_walk (option (codes "mode")) x xs e (held_for
 value_walk procs x xs e h p = plain_walk (option (codes "procs")) x xs e (held_for (codes "procs") h) p
 value_walk workers x xs e h p = plain_walk (option (codes "workers")) x xs e (held_for (codes "workers") h) p
 value_walk fuel x xs e h p = plain_walk (option (codes "fuel")) x xs e (held_for (codes "fuel") h) p
+value_walk seed x xs e h p = plain_walk (option (codes "seed")) x xs e (held_for (codes "seed") h) p
 
 -- an option that waits for its value doesn't pass without one
 pub waits_in_vain : {name : Word} → IsSetting name → (h : Held) → settles (held_for name h) ≡ false
@@ -272,6 +275,7 @@ waits_in_vain mode h = refl
 waits_in_vain procs h = refl
 waits_in_vain workers h = refl
 waits_in_vain fuel h = refl
+waits_in_vain seed h = refl
 
 file_kinds : (b : Bool) (k : Kinds) → no (cond (b && false) [] k) ≡ no k
 file_kinds true k = refl
@@ -309,6 +313,7 @@ value_settles mode value h = no_pending (has_row (codes "mode") (settled rules h
 value_settles procs value h = no_pending (has_row (codes "procs") (settled rules h).rows)
 value_settles workers value h = no_pending (has_row (codes "workers") (settled rules h).rows)
 value_settles fuel value h = no_pending (has_row (codes "fuel") (settled rules h).rows)
+value_settles seed value h = no_pending (has_row (codes "seed") (settled rules h).rows)
 
 pub value_settled : {name : Word} → IsSetting name → (value : Word) (h : Held)
     → (settled rules (held_with name value h)).rows ≡ used_rows (record { name = name; value = value }) (settled rules h).rows
@@ -316,6 +321,7 @@ value_settled mode value h = refl
 value_settled procs value h = refl
 value_settled workers value h = refl
 value_settled fuel value h = refl
+value_settled seed value h = refl
 
 pub file_settles : (value : Word) (h : Held) → settles (held_with (codes "FILE") value h) ≡ not (has_row (codes "FILE") (settled rules h).rows)
 file_settles value h = no_pending (has_row (codes "FILE") (settled rules h).rows)

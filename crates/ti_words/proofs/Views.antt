@@ -12,6 +12,7 @@ pub data IsSetting : Word → Type 0 where
   procs : IsSetting (codes "procs")
   workers : IsSetting (codes "workers")
   fuel : IsSetting (codes "fuel")
+  seed : IsSetting (codes "seed")
 
 -- the names of the reports
 pub data IsReport : Word → Type 0 where
@@ -66,7 +67,7 @@ report_view {name} is word piece rest = go (bytes_eq word (dashed name)) refl
 dashed_view : (word : Word) → can_stand (piece_of word) ≡ can_stand (dashed_piece word) → View word
 dashed_view word start =
     setting_view mode word _ (λ p. setting_view procs word _ (λ q. setting_view workers word _ (λ r. setting_view fuel word _ (λ s.
-    report_view trace word _ (λ t. report_view stats word wrong (λ u. none word (start ∙ (p ∙ (q ∙ (r ∙ (s ∙ (t ∙ u))))))))))))
+    setting_view seed word _ (λ t. report_view trace word _ (λ u. report_view stats word wrong (λ v. none word (start ∙ (p ∙ (q ∙ (r ∙ (s ∙ (t ∙ (u ∙ v))))))))))))))
 
 -- the form of a word
 pub view : (word : Word) → View word

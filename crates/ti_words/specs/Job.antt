@@ -1,6 +1,6 @@
 -- What the words of the command line ask for.
 use Rattle.std.specs.Prelude.{ℕ, Bool, ◌&&◌, ◌*◌, nat_lt, nat_le, if◌then◌else◌}
-use Rattle.std.specs.Prelude.{List, map, length, codes, Option, Some, None, option_map, option_and_then}
+use Rattle.std.specs.Prelude.{List, [], map, length, codes, Option, Some, None, option_map, option_and_then}
 use Rattle.std.specs.Char.{is_ascii_digit}
 use Rattle.std.specs.List.{list_all}
 use Rattle.std.specs.Str.{bytes_eq}
@@ -8,7 +8,7 @@ use Rattle.std.specs.Str.Parse.{digits_value}
 use Rattle.ti_words.specs.Uses.{Word, Use, is_each_once, is_used, piece_of, uses_of, value_of}
 use Rattle.ti_words.specs.declared.job.Job.{Job}
 use Rattle.ti_words.specs.declared.job.Mode.{Mode}
-use Rattle.ti_words.specs.declared.job.Mode.TheVariants.{Run, Check}
+use Rattle.ti_words.specs.declared.job.Mode.TheVariants.{Run, Check, Gen}
 
 -- what the words give each argument
 pub record Values : Type 0 where
@@ -16,6 +16,7 @@ pub record Values : Type 0 where
   pub procs : Option Word
   pub workers : Option Word
   pub fuel : Option Word
+  pub seed : Option Word
   pub trace : Bool
   pub stats : Bool
   pub file : Option Word
@@ -27,6 +28,7 @@ values_of uses = record {
   procs = value_of (codes "procs") uses;
   workers = value_of (codes "workers") uses;
   fuel = value_of (codes "fuel") uses;
+  seed = value_of (codes "seed") uses;
   trace = is_used (codes "trace") uses;
   stats = is_used (codes "stats") uses;
   file = value_of (codes "FILE") uses;
@@ -44,7 +46,10 @@ values_in words = option_and_then values_once (uses_of (map piece_of words))
 abbrev pub mode_of : Option Word → Option Mode
 mode_of None = Some Run
 mode_of (Some word) =
-    if bytes_eq word (codes "run") then Some Run else if bytes_eq word (codes "check") then Some Check else None
+    if bytes_eq word (codes "run") then Some Run
+    else if bytes_eq word (codes "check") then Some Check
+    else if bytes_eq word (codes "gen") then Some Gen
+    else None
 
 -- a word that is a number has 1 to 10 decimal digits and nothing else
 abbrev pub is_number : Word → Bool
@@ -54,15 +59,20 @@ is_number word = nat_lt 0 (length word) && nat_le (length word) 10 && list_all i
 abbrev pub number_of : Word → ℕ
 number_of word = digits_value 10 word
 
--- the number that a word writes, where it is from 1 to `most`
-abbrev pub number_in : ℕ → Word → Option ℕ
-number_in most word =
-    if is_number word && nat_le 1 (number_of word) && nat_le (number_of word) most then Some (number_of word) else None
+-- the number that a word writes, where it is from `least` to `most`
+abbrev pub number_in : ℕ → ℕ → Word → Option ℕ
+number_in least most word =
+    if is_number word && nat_le least (number_of word) && nat_le (number_of word) most then Some (number_of word) else None
 
--- the number of a word, and without a word the default
-abbrev pub number_up_to : ℕ → ℕ → Option Word → Option ℕ
-number_up_to most default None = Some default
-number_up_to most default (Some word) = number_in most word
+-- the number of a word, from `least` to `most`, and without a word the default
+abbrev pub number_within : ℕ → ℕ → ℕ → Option Word → Option ℕ
+number_within least most default None = Some default
+number_within least most default (Some word) = number_in least most word
+
+-- the default, where there is no word
+abbrev pub unsaid : {X : Type 0} → X → Option Word → Option X
+unsaid default None = Some default
+unsaid default (Some word) = None
 
 -- at most so many processes run
 abbrev pub most_procs : ℕ
@@ -72,31 +82,48 @@ most_procs = 32
 abbrev pub most_fuel : ℕ
 most_fuel = 4000000
 
+-- the greatest seed
+abbrev pub most_seed : ℕ
+most_seed = 4294967295
+
 -- how many processes run
 abbrev pub procs_of : Values → Option ℕ
-procs_of values = number_up_to most_procs 1 values.procs
+procs_of values = number_within 1 most_procs 1 values.procs
 
 -- on how many threads so many processes run: no more than processes, and unless it is said as many
 abbrev pub workers_of : ℕ → Values → Option ℕ
-workers_of procs values = number_up_to procs procs values.workers
+workers_of procs values = number_within 1 procs procs values.workers
 
 -- how many ticks each of so many processes has
 abbrev pub fuel_of : ℕ → Values → Option ℕ
 fuel_of procs values = option_and_then (λ fuel. if nat_le (procs * fuel) most_fuel then Some fuel else None)
-    (number_up_to most_fuel 100000 values.fuel)
+    (number_within 1 most_fuel 100000 values.fuel)
 
--- the job of these values, of which each has to be one that its argument may have, and FILE has to be there
+-- the number that a text is generated from, which is written in mode gen alone
+abbrev pub seed_of : Mode → Option Word → Option ℕ
+seed_of Gen word = number_within 0 most_seed 1 word
+seed_of Run word = unsaid 1 word
+seed_of Check word = unsaid 1 word
+
+-- the name of the file, which is there in every mode but gen, and empty in that
+abbrev pub file_of : Mode → Option Word → Option Word
+file_of Gen word = unsaid [] word
+file_of Run word = word
+file_of Check word = word
+
+-- the job of these values, of which each has to be one that its argument may have
 abbrev pub job_by : Values → Option Job
 job_by values =
-    option_and_then (λ file. option_and_then (λ mode. option_and_then (λ procs. option_and_then (λ workers. option_map (λ fuel. record {
+    option_and_then (λ mode. option_and_then (λ file. option_and_then (λ seed. option_and_then (λ procs. option_and_then (λ workers. option_map (λ fuel. record {
       mode = mode;
       procs = procs;
       workers = workers;
       fuel = fuel;
+      seed = seed;
       trace = values.trace;
       stats = values.stats;
       file = file;
-    }) (fuel_of procs values)) (workers_of procs values)) (procs_of values)) (mode_of values.mode)) values.file
+    }) (fuel_of procs values)) (workers_of procs values)) (procs_of values)) (seed_of mode values.seed)) (file_of mode values.file)) (mode_of values.mode)
 
 -- the job that the words ask for, or nothing where they are no command
 abbrev pub job_of : List Word → Option Job

@@ -2,7 +2,7 @@
 ghost use Rattle.std.specs.Prelude.{◌≡◌, false, None, Some, IfErr, IfOk, codes, map, option_and_then, option_map, string_bytes};
 ghost use Rattle.clap.specs.Words.{app_of, first_value, found_of, matched_of, rule_of};
 ghost use Rattle.ti_words.specs.Job.{values_in};
-ghost use Rattle.ti_words.specs.Mirrors.Command.{is_from_words, report_rule, setting_rule, titan};
+ghost use Rattle.ti_words.specs.Mirrors.Command.{bare, file_rule, flag_rule, is_from_words, titan, with_flags};
 ghost use Rattle.ti_words.specs.Mirrors.Seen.{values_seen};
 ghost use Rattle.ti_words.specs.declared.error.WordsErr.TheVariants.{Usage};
 
@@ -20,41 +20,65 @@ pub struct Given<'a> {
     pub procs: Option<&'a str>,
     pub workers: Option<&'a str>,
     pub fuel: Option<&'a str>,
+    pub seed: Option<&'a str>,
     pub trace: bool,
     pub stats: bool,
     pub file: Option<&'a str>,
 }
 
-// An argument that has a value, `--NAME VALUE` or `--NAME=VALUE`.
-fn setting<'a>(alloc: Global, name: &'a str) -> Arg<'a>
-    ensures rule { rule_of result ≡ setting_rule name.now }
+// A flag: with a value, as `--NAME VALUE` and `--NAME=VALUE`, or with none, as `--NAME`.
+fn flag<'a>(alloc: Global, has_value: bool, name: &'a str) -> Arg<'a>
+    ensures rule { rule_of result ≡ flag_rule has_value name.now }
     ensures local { result.global ≡ false }
 {
-    Arg::new(alloc, name).long(name).action(ArgAction::Set)
+    let action = if has_value {
+        ArgAction::Set
+    } else {
+        ArgAction::SetTrue
+    };
+    Arg::new(alloc, name).long(name).action(action)
 }
 
-// An argument that has none, `--NAME`.
-fn report<'a>(alloc: Global, name: &'a str) -> Arg<'a>
-    ensures rule { rule_of result ≡ report_rule name.now }
+// A command with these flags.
+fn with_flags<'a>(
+    alloc: Global,
+    command: Command<'a>,
+    has_value: bool,
+    names: &[&'a str],
+) -> Result<Command<'a>, AllocError>
+    ensures { IfOk result (λ c. app_of c ≡ with_flags has_value (app_of command.entry) (map (λ s. s.now) names.entry.now)) }
+{
+    let mut command = command;
+    for name in names {
+        command = command.arg(flag(alloc, has_value, name))?;
+    }
+    Ok(command)
+}
+
+// The argument that is no flag.
+fn file<'a>(alloc: Global) -> Arg<'a>
+    ensures rule { rule_of result ≡ file_rule }
     ensures local { result.global ≡ false }
 {
-    Arg::new(alloc, name).long(name).action(ArgAction::SetTrue)
+    Arg::new(alloc, "FILE").action(ArgAction::Set)
 }
 
-// The command's arguments.
-fn command<'a>(alloc: Global) -> Result<Command<'a>, AllocError>
-    ensures { IfOk result (λ c. app_of c ≡ titan) }
+// The command without arguments.
+fn bare<'a>(alloc: Global) -> Command<'a>
+    ensures { app_of result ≡ bare }
 {
     Command::new(alloc, "titan")
         .no_binary_name(true)
         .disable_help_flag(true)
-        .arg(setting(alloc, "mode"))?
-        .arg(setting(alloc, "procs"))?
-        .arg(setting(alloc, "workers"))?
-        .arg(setting(alloc, "fuel"))?
-        .arg(report(alloc, "trace"))?
-        .arg(report(alloc, "stats"))?
-        .arg(Arg::new(alloc, "FILE").action(ArgAction::Set))
+}
+
+// The command and its arguments.
+fn command<'a>(alloc: Global) -> Result<Command<'a>, AllocError>
+    ensures { IfOk result (λ c. app_of c ≡ titan) }
+{
+    let settings = ["mode", "procs", "workers", "fuel", "seed"];
+    let command = with_flags(alloc, bare(alloc), true, &settings)?;
+    with_flags(alloc, command, false, &["trace", "stats"])?.arg(file(alloc))
 }
 
 // Whether the words ask for a report.
@@ -74,6 +98,7 @@ fn given_in<'a>(matches: &ArgMatches<'a>) -> Given<'a>
     ensures procs { option_map (λ s. s.now) result.procs ≡ first_value (found_of matches.now) (codes "procs") }
     ensures workers { option_map (λ s. s.now) result.workers ≡ first_value (found_of matches.now) (codes "workers") }
     ensures fuel { option_map (λ s. s.now) result.fuel ≡ first_value (found_of matches.now) (codes "fuel") }
+    ensures seed { option_map (λ s. s.now) result.seed ≡ first_value (found_of matches.now) (codes "seed") }
     ensures trace { result.trace ≡ is_from_words (option_and_then (λ a. a.source) (matched_of (found_of matches.now) (codes "trace"))) }
     ensures stats { result.stats ≡ is_from_words (option_and_then (λ a. a.source) (matched_of (found_of matches.now) (codes "stats"))) }
     ensures file { option_map (λ s. s.now) result.file ≡ first_value (found_of matches.now) (codes "FILE") }
@@ -83,6 +108,7 @@ fn given_in<'a>(matches: &ArgMatches<'a>) -> Given<'a>
         procs: matches.get_str("procs"),
         workers: matches.get_str("workers"),
         fuel: matches.get_str("fuel"),
+        seed: matches.get_str("seed"),
         trace: is_from_words(matches, "trace"),
         stats: is_from_words(matches, "stats"),
         file: matches.get_str("FILE"),

@@ -4,13 +4,15 @@ ghost use Rattle.std.specs.Prelude.{◌≡◌, IfOk, string_bytes};
 use std::alloc::{AllocError, Global};
 use std::marker::Model;
 
-/// What is to be done with the file.
+/// What is to be done.
 #[derive(Clone, Copy, Debug, PartialEq, Eq)]
 pub enum Mode {
-    /// Its program is run.
+    /// The program of the file is run.
     Run,
-    /// Its text is checked.
+    /// The text of the file is checked.
     Check,
+    /// A program is generated and run.
+    Gen,
 }
 
 /// The name of a file. Contracts see it as the list of its bytes.
@@ -55,9 +57,12 @@ pub struct Job {
     pub workers: u32,
     /// How many ticks each process has.
     pub fuel: u32,
+    /// What the program is generated from, in that mode.
+    pub seed: u32,
     /// Whether the history is to be reported.
     pub trace: bool,
     /// Whether the counts of the run are to be reported.
     pub stats: bool,
+    /// The file that is named, and in mode `Gen` the empty name.
     pub file: FileName,
 }

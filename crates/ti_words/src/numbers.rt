@@ -2,7 +2,7 @@
 ghost use Rattle.std.specs.Prelude.{◌≡◌, ◌≤◌, IfSome, option_map};
 ghost use Rattle.std.specs.Char.{is_ascii_digit};
 ghost use Rattle.std.specs.List.{list_all};
-ghost use Rattle.ti_words.specs.Job.{is_number, number_in, number_up_to};
+ghost use Rattle.ti_words.specs.Job.{is_number, number_in, number_within};
 
 // A number has at most so many digits.
 const MOST_DIGITS: usize = 10;
@@ -24,9 +24,9 @@ fn is_number(word: &str) -> bool
     has_digits_alone(word)
 }
 
-// The number that a word writes, from 1 to `most`.
-fn number_in(most: u32, word: &str) -> Option<u32>
-    ensures { result ≡ number_in most word.now }
+// The number that a word writes, from `least` to `most`.
+fn number_in(least: u32, most: u32, word: &str) -> Option<u32>
+    ensures { result ≡ number_in least most word.now }
 {
     if !is_number(word) {
         return None;
@@ -34,21 +34,21 @@ fn number_in(most: u32, word: &str) -> Option<u32>
     let Ok(number) = word.parse::<u32>() else {
         return None;
     };
-    if number >= 1 && number <= most {
+    if number >= least && number <= most {
         Some(number)
     } else {
         None
     }
 }
 
-/// The number that a word writes, from 1 to `most`; without a word the default.
-pub fn number_up_to(most: u32, default: u32, word: Option<&str>) -> Option<u32>
+/// The number that a word writes, from `least` to `most`; without a word the default.
+pub fn number_within(least: u32, most: u32, default: u32, word: Option<&str>) -> Option<u32>
     requires { default ≤ most }
-    ensures value { result ≡ number_up_to most default (option_map (λ s. s.now) word.entry) }
+    ensures value { result ≡ number_within least most default (option_map (λ s. s.now) word.entry) }
     ensures most { IfSome result (λ number. number ≤ most) }
 {
     match word {
         None => Some(default),
-        Some(word) => number_in(most, word),
+        Some(word) => number_in(least, most, word),
     }
 }

@@ -31,6 +31,7 @@ fn is_argument(word: &str) -> bool
         || is_setting(word, "--procs", "--procs=")
         || is_setting(word, "--workers", "--workers=")
         || is_setting(word, "--fuel", "--fuel=")
+        || is_setting(word, "--seed", "--seed=")
         || word == "--trace"
         || word == "--stats"
 }

@@ -1,13 +1,13 @@
 // The words of the command line, read.
 ghost use Rattle.std.specs.Prelude.{◌≡◌, map, option_map, string_bytes, None, Some, IfErr, IfOk, MatchOption};
-ghost use Rattle.ti_words.specs.Job.{job_by, job_of, mode_of};
+ghost use Rattle.ti_words.specs.Job.{file_of, job_by, job_of, mode_of, seed_of};
 ghost use Rattle.ti_words.specs.Mirrors.Seen.{job_asked, values_seen};
 ghost use Rattle.ti_words.specs.declared.error.WordsErr.TheVariants.{Usage};
 
 use crate::arguments::{Given, find_arguments};
 use crate::error::WordsErr;
 use crate::job::{FileName, Job, Mode};
-use crate::numbers::number_up_to;
+use crate::numbers::number_within;
 use std::alloc::Global;
 
 // A run has at most so many processes.
@@ -19,13 +19,17 @@ const MOST_FUEL: u32 = 4_000_000;
 // So many ticks a process has where the words don't say it.
 const DEFAULT_FUEL: u32 = 100_000;
 
-/// A job whose file is named by a word.
+// A program is generated from this number where the words don't say it.
+const DEFAULT_SEED: u32 = 1;
+
+/// A job whose file is named by a text.
 #[derive(Clone, Copy)]
 pub struct Asked<'a> {
     mode: Mode,
     procs: u32,
     workers: u32,
     fuel: u32,
+    seed: u32,
     trace: bool,
     stats: bool,
     file: &'a str,
@@ -39,7 +43,30 @@ fn mode_of(word: Option<&str>) -> Option<Mode>
         None => Some(Mode::Run),
         Some("run") => Some(Mode::Run),
         Some("check") => Some(Mode::Check),
+        Some("gen") => Some(Mode::Gen),
         Some(_) => None,
+    }
+}
+
+// The seed in this mode: it is written where a program is generated and nowhere else.
+fn seed_of(mode: Mode, word: Option<&str>) -> Option<u32>
+    ensures { result ≡ seed_of mode (option_map (λ s. s.now) word.entry) }
+{
+    match (mode, word) {
+        (Mode::Gen, _) => number_within(0, u32::MAX, DEFAULT_SEED, word),
+        (_, None) => Some(DEFAULT_SEED),
+        (_, Some(_)) => None,
+    }
+}
+
+// The name of the file in this mode: it is empty where a program is generated, and is written everywhere else.
+fn file_of<'a>(mode: Mode, word: Option<&'a str>) -> Option<&'a str>
+    ensures { option_map (λ s. s.now) result ≡ file_of mode (option_map (λ s. s.now) word.entry) }
+{
+    match (mode, word) {
+        (Mode::Gen, None) => Some(""),
+        (Mode::Gen, Some(_)) => None,
+        (_, word) => word,
     }
 }
 
@@ -47,11 +74,12 @@ fn mode_of(word: Option<&str>) -> Option<Mode>
 fn job_by<'a>(given: Given<'a>) -> Option<Asked<'a>>
     ensures { MatchOption result (job_by (values_seen given.entry) ≡ None) (λ a. job_by (values_seen given.entry) ≡ Some (job_asked a)) }
 {
-    let file = given.file?;
     let mode = mode_of(given.mode)?;
-    let procs = number_up_to(MOST_PROCS, 1, given.procs)?;
-    let workers = number_up_to(procs, procs, given.workers)?;
-    let fuel = number_up_to(MOST_FUEL, DEFAULT_FUEL, given.fuel)?;
+    let file = file_of(mode, given.file)?;
+    let seed = seed_of(mode, given.seed)?;
+    let procs = number_within(1, MOST_PROCS, 1, given.procs)?;
+    let workers = number_within(1, procs, procs, given.workers)?;
+    let fuel = number_within(1, MOST_FUEL, DEFAULT_FUEL, given.fuel)?;
     if procs * fuel > MOST_FUEL {
         return None;
     }
@@ -60,6 +88,7 @@ fn job_by<'a>(given: Given<'a>) -> Option<Asked<'a>>
         procs,
         workers,
         fuel,
+        seed,
         trace: given.trace,
         stats: given.stats,
         file,
@@ -81,6 +110,7 @@ pub fn read_words(alloc: Global, words: &[String]) -> Result<Job, WordsErr>
         procs: asked.procs,
         workers: asked.workers,
         fuel: asked.fuel,
+        seed: asked.seed,
         trace: asked.trace,
         stats: asked.stats,
         file,

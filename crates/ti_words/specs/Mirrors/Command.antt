@@ -1,6 +1,6 @@
 -- The command as `clap` is told of it, and the words that it is given.
 use Rattle.std.specs.Prelude.{Bool, true, false, ◌||◌, List, [], ◌∷◌, Option, Some, None, codes}
-use Rattle.std.specs.List.{list_all}
+use Rattle.std.specs.List.{fold, list_all}
 use Rattle.std.specs.Str.{bytes_eq}
 use Rattle.clap.specs.Simple.{App, new_app, new_rule, with_rule}
 use Rattle.clap.specs.Walk.{Rule}
@@ -44,6 +44,11 @@ setting_rule name = record (new_rule name) { long = Some name; action = Some Set
 abbrev pub report_rule : Word → Rule
 report_rule name = record (new_rule name) { long = Some name; action = Some SetTrue }
 
+-- a flag that has a value, or none
+abbrev pub flag_rule : Bool → Word → Rule
+flag_rule true name = setting_rule name
+flag_rule false name = report_rule name
+
 -- the argument that is no flag
 abbrev pub file_rule : Rule
 file_rule = record (new_rule (codes "FILE")) { action = Some Set }
@@ -52,9 +57,12 @@ file_rule = record (new_rule (codes "FILE")) { action = Some Set }
 abbrev pub bare : App
 bare = record (new_app (codes "titan")) { top = record (new_app (codes "titan")).top { no_binary_name = true; disable_help_flag = true } }
 
+-- a command with these flags
+abbrev pub with_flags : Bool → App → List Word → App
+with_flags has_value = fold (λ app name. with_rule app (flag_rule has_value name))
+
 -- the command and its arguments
 abbrev pub titan : App
 titan =
-    with_rule (with_rule (with_rule (with_rule (with_rule (with_rule (with_rule bare
-    (setting_rule (codes "mode"))) (setting_rule (codes "procs"))) (setting_rule (codes "workers"))) (setting_rule (codes "fuel")))
-    (report_rule (codes "trace"))) (report_rule (codes "stats"))) file_rule
+    let settings = with_flags true bare (codes "mode" ∷ codes "procs" ∷ codes "workers" ∷ codes "fuel" ∷ codes "seed" ∷ []) in
+    with_rule (with_flags false settings (codes "trace" ∷ codes "stats" ∷ [])) file_rule

@@ -20,6 +20,6 @@ returns c =
     let nowhere : ScopeContents = record { this_class = None; variables = [] } in
     let is_variables : variables ≡ parameters m.params = ap (λ (s : ScopeContents). s.variables) (c.in_ok-scope.ensures.contents ∙ ap (λ (o : Option NumberedMethod). option_map_or method_scope o nowhere) c.requires.is_method) in
     method_found p m c.head.result c.end.result c.effects.result c.single_result.result own c.in_ok-body.body c.and.result c.head.ensures c.end.ensures c.sooner.ensures c.effects.ensures c.single_result.ensures c.sooner-2.ensures
-    (same_found p (inside_all p (around variables) (numbered_stms (map statement_of c.deref.result.now))) (standing_in_method p m) c.in_ok-body.body
-    (ap (λ l. inside_all p (around variables) (numbered_stms (map statement_of l))) c.deref.ensures.value ∙ ap (λ v. inside_all p (around v) (numbered_stms m.body)) is_variables) c.in_ok-body.ensures)
+    (same_found p (inside_all p (around variables) (numbered_stms (map statement_of c.listed_statements.result.now))) (standing_in_method p m) c.in_ok-body.body
+    (ap (λ l. inside_all p (around variables) (numbered_stms (map statement_of l))) c.listed_statements.ensures ∙ ap (λ v. inside_all p (around v) (numbered_stms m.body)) is_variables) c.in_ok-body.ensures)
     c.and.ensures.types c.and.ensures.single

@@ -29,8 +29,8 @@ statement-returns-in_ok-inner-in-Block t c =
     let around = around_of c.args.site in
     let x = statement_of c.args.x.now in
     whole_found p around x c.own-own.result c.in_ok-inner-in-Block.inner c.and.result c.own-own.ensures
-    (same_found p (inside_all p around (numbered_stms (map statement_of c.deref.result.now))) (below p around x) c.in_ok-inner-in-Block.inner
-    (ap (λ l. inside_all p around (numbered_stms (map statement_of l))) c.deref.ensures.value ∙ sym (ap (below p around) (seen_numbered_block c.args.x.now c.in-Block.body c.in-Block.is)))
+    (same_found p (inside_all p around (numbered_stms (map statement_of c.listed_statements.result.now))) (below p around x) c.in_ok-inner-in-Block.inner
+    (ap (λ l. inside_all p around (numbered_stms (map statement_of l))) c.listed_statements.ensures ∙ sym (ap (below p around) (seen_numbered_block c.args.x.now c.in-Block.body c.in-Block.is)))
     c.in_ok-inner-in-Block.ensures)
     c.and.ensures.types c.and.ensures.single
 
@@ -49,8 +49,8 @@ statement-returns-in_ok-inner-in-Foreach t c =
     let is_around : around_of c.with_scope.result ≡ in_foreach p around c.in-Foreach.variable domain body =
     c.with_scope.ensures.around ∙ ap with_these c.in_loop-inside.ensures.around ∙ ap (λ v. within v x) c.in_ok-scope-in-Foreach.ensures.variables
     ∙ ap (λ z. within (variables_inside p (scope_of around) c.in-Foreach.variable domain) (statement_of z)) c.in-Foreach.is in
-    let found = moved p (program_at c.with_scope.result) (around_of c.with_scope.result) (in_foreach p around c.in-Foreach.variable domain body) (statement_of c.deref-in-Foreach.result.now) body c.in_ok-inner-in-Foreach.inner
-    (c.with_scope.ensures.program ∙ c.in_loop-inside.ensures.program) is_around (ap statement_of c.deref-in-Foreach.ensures) c.in_ok-inner-in-Foreach.ensures in
+    let found = moved p (program_at c.with_scope.result) (around_of c.with_scope.result) (in_foreach p around c.in-Foreach.variable domain body) (statement_of c.boxed_statement-in-Foreach.result.now) body c.in_ok-inner-in-Foreach.inner
+    (c.with_scope.ensures.program ∙ c.in_loop-inside.ensures.program) is_around (ap statement_of c.boxed_statement-in-Foreach.ensures) c.in_ok-inner-in-Foreach.ensures in
     whole_found p around x c.own-own.result c.in_ok-inner-in-Foreach.inner c.and-in-Foreach.result c.own-own.ensures
     (same_found p (below p around form) (below p around x) c.in_ok-inner-in-Foreach.inner (sym (ap (λ z. below p around (statement_of z)) c.in-Foreach.is)) found)
     c.and-in-Foreach.ensures.types c.and-in-Foreach.ensures.single

@@ -9,5 +9,5 @@ pub returns : goal.returns
 returns c =
     let p = program_of c.args.p.now.parts in
     c.doings_of_statements.ensures
-    ∙ ap (λ this. doings_of_all p this (numbered_stms (map statement_of c.deref.result.now))) c.this_of.ensures
-    ∙ ap (λ l. doings_of_all p (this_of (numbered_method_of c.args.m.now)) (numbered_stms (map statement_of l))) c.deref.ensures.value
+    ∙ ap (λ this. doings_of_all p this (numbered_stms (map statement_of c.listed_statements.result.now))) c.this_of.ensures
+    ∙ ap (λ l. doings_of_all p (this_of (numbered_method_of c.args.m.now)) (numbered_stms (map statement_of l))) c.listed_statements.ensures

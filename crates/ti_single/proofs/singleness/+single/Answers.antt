@@ -1,4 +1,4 @@
-use Rattle.std.proofs.Common.{map, ap, sym, ◌∙◌, rules}
+use Rattle.std.proofs.Common.{map, ap, sym, ◌∙◌}
 use Rattle.ti_lang.specs.Program.Expressions.{numbered_exps}
 use Rattle.ti_lang.specs.Program.Scope.{contents_of}
 use Rattle.ti_lang.specs.Program.Views.{program_of, expression_of}
@@ -16,15 +16,15 @@ pub is_single_part-returns-in-Point : goal.is_single_part-returns-in-Point
 is_single_part-returns-in-Point t c =
     let p = program_of c.args.p.now.parts in
     let singles = singles_in (contents_of c.args.scope.now) in
-    same_arguments p c.args.scope.now.this singles c.deref.result.now c.in-Point.xs.items c.are_single.result c.deref.ensures.value c.are_single.ensures
+    same_arguments p c.args.scope.now.this singles c.listed_expressions.result.now c.in-Point.xs.items c.are_single.result c.listed_expressions.ensures c.are_single.ensures
     ∙ sym (ap (is_single_part p c.args.scope.now.this singles) (seen_numbered_point c.args.e.now c.in-Point.field-0 c.in-Point.xs c.in-Point.is))
 
 pub is_single_part-returns-in-Rect : goal.is_single_part-returns-in-Rect
 is_single_part-returns-in-Rect t c =
     let p = program_of c.args.p.now.parts in
     let singles = singles_in (contents_of c.args.scope.now) in
-    same_ranges p c.args.scope.now.this singles c.deref-in-Rect.result.now c.in-Rect.ranges.items c.are_single_ranges.result c.deref-in-Rect.ensures.value c.are_single_ranges.ensures
-    ∙ sym (ap (is_single_part p c.args.scope.now.this singles) (seen_numbered_rect c.args.e.now c.in-Rect.field-0 c.in-Rect.ranges c.in-Rect.is))
+    same_ranges p c.args.scope.now.this singles c.listed_ranges.result.now c.in-Rect.found.items c.are_single_ranges.result c.listed_ranges.ensures c.are_single_ranges.ensures
+    ∙ sym (ap (is_single_part p c.args.scope.now.this singles) (seen_numbered_rect c.args.e.now c.in-Rect.field-0 c.in-Rect.found c.in-Rect.is))
 
 pub is_single_part-returns-in-Index : goal.is_single_part-returns-in-Index
 is_single_part-returns-in-Index t c =
@@ -33,9 +33,9 @@ is_single_part-returns-in-Index t c =
     let singles = singles_in (contents_of c.args.scope.now) in
     index_single p this singles c.in-Index.place (expression_of c.in-Index.receiver.value) (numbered_exps (map expression_of c.in-Index.indices.items)) c.is_point-of_point.result c.is_single_part-part.result c.are_single-in-Index.result
     c.all_hold.result c.all_hold.ensures
-    (c.is_point-of_point.ensures ∙ ap is_point (c.type_in_text.ensures ∙ ap (λ z. type_in_text p this (expression_of z)) c.deref-in-Index.ensures))
-    (c.is_single_part-part.ensures ∙ ap (λ z. is_single_part p this singles (expression_of z)) c.deref-in-Index-2.ensures)
-    (same_arguments p this singles c.deref-in-Index-3.result.now c.in-Index.indices.items c.are_single-in-Index.result c.deref-in-Index-3.ensures.value c.are_single-in-Index.ensures)
+    (c.is_point-of_point.ensures ∙ ap is_point (c.type_in_text.ensures ∙ ap (λ z. type_in_text p this (expression_of z)) c.boxed_expression-receiver.ensures))
+    (c.is_single_part-part.ensures ∙ ap (λ z. is_single_part p this singles (expression_of z)) c.boxed_expression-receiver.ensures)
+    (same_arguments p this singles c.listed_expressions-in-Index.result.now c.in-Index.indices.items c.are_single-in-Index.result c.listed_expressions-in-Index.ensures c.are_single-in-Index.ensures)
     ∙ sym (ap (is_single_part p this singles) (seen_numbered_index c.args.e.now c.in-Index.place c.in-Index.receiver c.in-Index.indices c.in-Index.is))
 
 pub is_single_part-returns-in-Member : goal.is_single_part-returns-in-Member
@@ -45,7 +45,7 @@ is_single_part-returns-in-Member t c =
     let singles = singles_in (contents_of c.args.scope.now) in
     member_single p this singles c.in-Member.place (expression_of c.in-Member.receiver.value) c.in-Member.name (numbered_exps (map expression_of c.in-Member.args.items)) c.tells_of_domain-tells.result
     c.is_single_part-part-in-Member.result c.are_single-in-Member.result c.all_hold-in-Member.result c.all_hold-in-Member.ensures
-    (c.tells_of_domain-tells.ensures ∙ ap tells_of_domain (c.member_called.ensures ∙ ap (λ z. member_called p this (expression_of z) c.in-Member.name) c.deref-in-Member.ensures))
-    (c.is_single_part-part-in-Member.ensures ∙ ap (λ z. is_single_part p this singles (expression_of z)) c.deref-in-Member-2.ensures)
-    (same_arguments p this singles c.deref-in-Member-3.result.now c.in-Member.args.items c.are_single-in-Member.result c.deref-in-Member-3.ensures.value c.are_single-in-Member.ensures)
+    (c.tells_of_domain-tells.ensures ∙ ap tells_of_domain (c.member_called.ensures ∙ ap (λ z. member_called p this (expression_of z) c.in-Member.name) c.boxed_expression-receiver-in-Member.ensures))
+    (c.is_single_part-part-in-Member.ensures ∙ ap (λ z. is_single_part p this singles (expression_of z)) c.boxed_expression-receiver-in-Member.ensures)
+    (same_arguments p this singles c.listed_expressions-in-Member.result.now c.in-Member.args.items c.are_single-in-Member.result c.listed_expressions-in-Member.ensures c.are_single-in-Member.ensures)
     ∙ sym (ap (is_single_part p this singles) (seen_numbered_member c.args.e.now c.in-Member.place c.in-Member.receiver c.in-Member.name c.in-Member.args c.in-Member.is))

@@ -29,6 +29,7 @@ returns-in-Ok-clause-given c =
       procs = c.given_in.ensures.procs;
       workers = c.given_in.ensures.workers;
       fuel = c.given_in.ensures.fuel;
+      seed = c.given_in.ensures.seed;
       trace = c.given_in.ensures.trace;
       stats = c.given_in.ensures.stats;
       file = c.given_in.ensures.file;

@@ -1,6 +1,6 @@
 use Rattle.std.proofs.Common.{◌≡◌, ◌∙◌, sym}
-use Rattle.ti_words.proofs.Behind.{all_settings, and_trace, argument_stands, first_three, first_two, or_first, or_second}
-use Rattle.ti_words.proofs.piece.is_argument.Goals.{then-is_setting, else-is_setting, then-is_setting-2, else-is_setting-2, then-is_setting-3, else-is_setting-3, then-is_setting-4, else-is_setting-4}
+use Rattle.ti_words.proofs.Behind.{all_settings, and_trace, argument_stands, first_four, first_three, first_two, or_first, or_second}
+use Rattle.ti_words.proofs.piece.is_argument.Goals.{then-is_setting, else-is_setting, then-is_setting-2, else-is_setting-2, then-is_setting-3, else-is_setting-3, then-is_setting-4, else-is_setting-4, then-is_setting-5, else-is_setting-5}
 use Rattle.ti_words.proofs.piece.is_argument.Goals as goal
 
 pub returns-then-eq : goal.returns-then-eq
@@ -14,15 +14,19 @@ returns-then-eq c =
       | then-is_setting-2 w ↦ or_first _ _ _ (sym two ∙ w.if-is_setting-2.true) (w.value-is ∙ two)
       | else-is_setting-2 w ↦ or_second _ _ _ (sym two ∙ w.if-is_setting-2.false) (w.value-is ∙ w.is_setting-else-is_setting-2.ensures)
     ] in
-    let four : c.if-is_setting-3.value ≡ all_settings word = elim c.if-is_setting-3.branch [
+    let four : c.if-is_setting-3.value ≡ first_four word = elim c.if-is_setting-3.branch [
       | then-is_setting-3 w ↦ or_first _ _ _ (sym three ∙ w.if-is_setting-3.true) (w.value-is ∙ three)
       | else-is_setting-3 w ↦ or_second _ _ _ (sym three ∙ w.if-is_setting-3.false) (w.value-is ∙ w.is_setting-else-is_setting-3.ensures)
     ] in
-    let five : c.if-is_setting-4.value ≡ and_trace word = elim c.if-is_setting-4.branch [
+    let five : c.if-is_setting-4.value ≡ all_settings word = elim c.if-is_setting-4.branch [
       | then-is_setting-4 w ↦ or_first _ _ _ (sym four ∙ w.if-is_setting-4.true) (w.value-is ∙ four)
-      | else-is_setting-4 w ↦ or_second _ _ _ (sym four ∙ w.if-is_setting-4.false) (w.value-is ∙ w.eq.ensures)
+      | else-is_setting-4 w ↦ or_second _ _ _ (sym four ∙ w.if-is_setting-4.false) (w.value-is ∙ w.is_setting-else-is_setting-4.ensures)
     ] in
-    or_first _ _ _ (sym five ∙ c.if-eq.true) five ∙ sym (argument_stands word)
+    let six : c.if-is_setting-5.value ≡ and_trace word = elim c.if-is_setting-5.branch [
+      | then-is_setting-5 w ↦ or_first _ _ _ (sym five ∙ w.if-is_setting-5.true) (w.value-is ∙ five)
+      | else-is_setting-5 w ↦ or_second _ _ _ (sym five ∙ w.if-is_setting-5.false) (w.value-is ∙ w.eq.ensures)
+    ] in
+    or_first _ _ _ (sym six ∙ c.if-eq.true) six ∙ sym (argument_stands word)
 
 pub returns-else-eq : goal.returns-else-eq
 returns-else-eq c =
@@ -35,12 +39,16 @@ returns-else-eq c =
       | then-is_setting-2 w ↦ or_first _ _ _ (sym two ∙ w.if-is_setting-2.true) (w.value-is ∙ two)
       | else-is_setting-2 w ↦ or_second _ _ _ (sym two ∙ w.if-is_setting-2.false) (w.value-is ∙ w.is_setting-else-is_setting-2.ensures)
     ] in
-    let four : c.if-is_setting-3.value ≡ all_settings word = elim c.if-is_setting-3.branch [
+    let four : c.if-is_setting-3.value ≡ first_four word = elim c.if-is_setting-3.branch [
       | then-is_setting-3 w ↦ or_first _ _ _ (sym three ∙ w.if-is_setting-3.true) (w.value-is ∙ three)
       | else-is_setting-3 w ↦ or_second _ _ _ (sym three ∙ w.if-is_setting-3.false) (w.value-is ∙ w.is_setting-else-is_setting-3.ensures)
     ] in
-    let five : c.if-is_setting-4.value ≡ and_trace word = elim c.if-is_setting-4.branch [
+    let five : c.if-is_setting-4.value ≡ all_settings word = elim c.if-is_setting-4.branch [
       | then-is_setting-4 w ↦ or_first _ _ _ (sym four ∙ w.if-is_setting-4.true) (w.value-is ∙ four)
-      | else-is_setting-4 w ↦ or_second _ _ _ (sym four ∙ w.if-is_setting-4.false) (w.value-is ∙ w.eq.ensures)
+      | else-is_setting-4 w ↦ or_second _ _ _ (sym four ∙ w.if-is_setting-4.false) (w.value-is ∙ w.is_setting-else-is_setting-4.ensures)
     ] in
-    or_second _ _ _ (sym five ∙ c.if-eq.false) c.eq-else-eq.ensures ∙ sym (argument_stands word)
+    let six : c.if-is_setting-5.value ≡ and_trace word = elim c.if-is_setting-5.branch [
+      | then-is_setting-5 w ↦ or_first _ _ _ (sym five ∙ w.if-is_setting-5.true) (w.value-is ∙ five)
+      | else-is_setting-5 w ↦ or_second _ _ _ (sym five ∙ w.if-is_setting-5.false) (w.value-is ∙ w.eq.ensures)
+    ] in
+    or_second _ _ _ (sym six ∙ c.if-eq.false) c.eq-else-eq.ensures ∙ sym (argument_stands word)

@@ -3,9 +3,9 @@ use Rattle.ti_lang.specs.Program.Expressions.{numbered_exps}
 use Rattle.ti_lang.specs.Program.Views.{expression_of, numbered_param_of}
 use Rattle.ti_rules.specs.First.{sooner, first_of}
 use Rattle.ti_rules.specs.SingleRules.{argument_refusals}
-use Rattle.ti_check.specs.Mirrors.Sites.{program_at, around_of}
-use Rattle.ti_check.proofs.Arguments.{arguments_from}
-use Rattle.ti_check.proofs.site.Site.arguments.Given as goal
+use Rattle.ti_single.specs.Sites.{program_at, around_of}
+use Rattle.ti_single.proofs.Arguments.{arguments_from}
+use Rattle.ti_single.proofs.site.SingleSite.arguments.Given as goal
 
 abbrev pub invariant-loop-i : goal.invariant-loop-i
 invariant-loop-i l =

@@ -1,8 +1,8 @@
 -- What is in scope where a statement stands.
 use Rattle.std.proofs.Common.{◌≡◌}
 use Rattle.ti_lang.specs.Program.Scope.{contents_of}
-use Rattle.ti_check.specs.declared.site.Site.{Site}
-use Rattle.ti_check.specs.Mirrors.Sites.{scope_at}
+use Rattle.ti_single.specs.declared.site.SingleSite.{SingleSite}
+use Rattle.ti_single.specs.Sites.{scope_at}
 
-pub scope_is : (s : Site) → contents_of s.scope.now ≡ scope_at s
+pub scope_is : (s : SingleSite) → contents_of s.scope.now ≡ scope_at s
 scope_is s = λ j. record { this_class = s.of_method j; variables = (contents_of s.scope.now).variables }

@@ -2,8 +2,8 @@ use Rattle.std.proofs.Common.{false, ap, ◌∙◌, unwrap_or}
 use Rattle.ti_lang.specs.Program.Views.{statement_of, numbered_method_of}
 use Rattle.ti_lang.specs.Typing.Effects.{doings, return_acts, has_global_effects}
 use Rattle.ti_single.specs.Doings.{doings_of}
-use Rattle.ti_check.specs.Mirrors.Sites.{program_at}
-use Rattle.ti_check.proofs.site.Site.has_effects.Goals as goal
+use Rattle.ti_single.specs.Sites.{program_at}
+use Rattle.ti_single.proofs.site.SingleSite.has_effects.Goals as goal
 
 pub returns : goal.returns
 returns c =

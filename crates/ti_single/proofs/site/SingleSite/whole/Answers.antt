@@ -8,8 +8,8 @@ use Rattle.ti_rules.specs.First.{sooner, first_of}
 use Rattle.ti_rules.specs.SingleRules.{call_refusals, delete_refusals, whole_refusals}
 use Rattle.ti_rules.proofs.First.{first_append}
 use Rattle.ti_lang.proofs.ProgramBridges.{seen_numbered_member}
-use Rattle.ti_check.specs.Mirrors.Sites.{program_at, around_of}
-use Rattle.ti_check.proofs.site.Site.whole.Goals as goal
+use Rattle.ti_single.specs.Sites.{program_at, around_of}
+use Rattle.ti_single.proofs.site.SingleSite.whole.Goals as goal
 
 pub returns-in-Member : goal.returns-in-Member
 returns-in-Member c =
@@ -25,8 +25,8 @@ returns-in-Member c =
     c.sooner.ensures
     ∙ ap (λ a. sooner a c.delete.result)
     (c.call-call.ensures
-    ∙ ap (λ m. first_of (call_refusals p around m (numbered_exps (map expression_of c.deref-in-Member.result.now)))) method
-    ∙ ap (λ l. first_of (call_refusals p around (called_method p this form) (numbered_exps (map expression_of l)))) c.deref-in-Member.ensures.value)
-    ∙ ap (sooner (first_of call)) (c.delete.ensures ∙ ap (λ z. first_of (delete_refusals p around c.in-Member.place (expression_of z) c.in-Member.name)) c.deref-in-Member-2.ensures)
+    ∙ ap (λ m. first_of (call_refusals p around m (numbered_exps (map expression_of c.listed_expressions-in-Member.result.now)))) method
+    ∙ ap (λ l. first_of (call_refusals p around (called_method p this form) (numbered_exps (map expression_of l)))) c.listed_expressions-in-Member.ensures)
+    ∙ ap (sooner (first_of call)) (c.delete.ensures ∙ ap (λ z. first_of (delete_refusals p around c.in-Member.place (expression_of z) c.in-Member.name)) c.boxed_expression.ensures)
     ∙ sym (first_append call own)
     ∙ sym (ap (λ z. first_of (whole_refusals p around z)) seen)

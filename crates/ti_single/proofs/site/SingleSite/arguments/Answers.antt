@@ -1,9 +1,9 @@
 use Rattle.std.proofs.Common.{ap, ◌∙◌, arith}
 use Rattle.ti_rules.specs.First.{sooner}
-use Rattle.ti_check.specs.Mirrors.Sites.{program_at, around_of}
-use Rattle.ti_types.proofs.Loops.{none_sooner}
-use Rattle.ti_check.proofs.Arguments.{argument_step, params_end, args_end}
-use Rattle.ti_check.proofs.site.Site.arguments.Goals as goal
+use Rattle.ti_single.specs.Sites.{program_at, around_of}
+use Rattle.ti_single.proofs.Arguments.{none_sooner}
+use Rattle.ti_single.proofs.Arguments.{argument_step, params_end, args_end}
+use Rattle.ti_single.proofs.site.SingleSite.arguments.Goals as goal
 
 pub loop-i-init : goal.loop-i-init
 loop-i-init c = none_sooner _

@@ -1,5 +1,5 @@
 -- Arguments and the parameters that they are for, one after the other.
-use Rattle.std.proofs.Common.{◌≡◌, ℕ, ◌+◌, ◌<◌, ◌≤◌, ◌&&◌, List, [], ◌∷◌, ◌++◌, map, drop, length, get_or, Option, refl, ap, sym, ◌∙◌}
+use Rattle.std.proofs.Common.{◌≡◌, ℕ, ◌+◌, ◌<◌, ◌≤◌, ◌&&◌, List, [], ◌∷◌, ◌++◌, map, drop, length, get_or, Option, None, refl, ap, sym, ◌∙◌}
 use Rattle.std.proofs.lemmas.List.{drop_all}
 use Rattle.ti_lang.specs.declared.program.exprs.Expr.{Expr}
 use Rattle.ti_lang.specs.declared.program.classes.Param.{Param}
@@ -12,7 +12,11 @@ use Rattle.ti_rules.specs.First.{sooner, first_of, refused_if}
 use Rattle.ti_rules.specs.Standing.{Around}
 use Rattle.ti_rules.specs.SingleRules.{is_plain_part, argument_refusals}
 use Rattle.ti_rules.proofs.First.{first_append, sooner_assoc, sooner_none}
-use Rattle.ti_types.proofs.Loops.{drop_next}
+use Rattle.ti_single.proofs.Together.{drop_next}
+
+pub none_sooner : (a : Option Refusal) → a ≡ sooner None a
+unfolding sooner
+none_sooner a = refl
 
 -- what is wrong with the arguments from a number on
 abbrev pub arguments_from : NumberedProgram → Around → List Param → List Expr → ℕ → List Refusal

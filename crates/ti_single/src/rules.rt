@@ -1,6 +1,6 @@
-// Statements by the rules of single values, apart from the statements in them.
-ghost use Rattle.std.specs.Prelude.{◌≡◌, ◌++◌, ◌&&◌, map};
-ghost use Rattle.std.specs.Option.{option_map, option_map_or};
+// The rules of single values, by which statements are judged apart from the statements in them.
+ghost use Rattle.std.specs.Prelude.{◌≡◌, ◌++◌, ◌&&◌, map, not, false};
+ghost use Rattle.std.specs.Option.{option_map, option_map_or, unwrap_or};
 ghost use Rattle.ti_syntax.specs.Trees.Views.{maybe_of};
 ghost use Rattle.ti_lang.specs.Program.Expressions.{numbered_exps, place_of_numbered};
 ghost use Rattle.ti_lang.specs.Program.Scope.{this_of};
@@ -8,20 +8,37 @@ ghost use Rattle.ti_lang.specs.Program.Views.{expression_of, type_use_of, initia
 ghost use Rattle.ti_lang.specs.Typing.Called.{member_called};
 ghost use Rattle.ti_lang.specs.Typing.Effects.{is_single_target, doings_of_maybe, jump_acts, return_acts};
 ghost use Rattle.ti_lang.specs.Typing.Seen.{built_in_of};
+ghost use Rattle.ti_lang.specs.Typing.Singleness.{is_single_part};
+ghost use Rattle.ti_rules.specs.Standing.{singles_in};
 ghost use Rattle.ti_rules.specs.declared.rule.Rule.TheVariants.{S1, S2, S4, S5};
 ghost use Rattle.ti_rules.specs.First.{first_of, refused_if as refused_at};
 ghost use Rattle.ti_rules.specs.SingleRules.{is_plain_part, is_plain, is_plain_initial, is_plain_condition, has_effects, argument_refusals, call_refusals, is_delete, delete_refusals, whole_refusals, initial_refusals, return_refusals, single_refusals_at};
 ghost use Rattle.ti_single.specs.EffectsAt.{doings_in_loop};
-ghost use Rattle.ti_check.specs.Mirrors.Sites.{program_at, around_of, maybe_in};
+ghost use Rattle.ti_single.specs.Sites.{program_at, around_of, scope_at};
+ghost use Rattle.ti_single.specs.Mirrors.Maybe.{maybe_in};
 
-use crate::site::Site;
+use crate::boxes::{boxed_expression, boxed_initial, boxed_statement, listed_expressions};
+use crate::doings::{
+    doings_of_statement, has_global_effects, has_single_result, jump_acts, this_of,
+};
+use crate::loops::doings_in_loop;
+use crate::singleness::{is_single, is_single_initial, is_single_part, is_single_target};
+use crate::site::SingleSite;
 use ti_base::Place;
 use ti_lang::program::{Expr, Init, Method, Param, Params, Stmt, TypeUse};
 use ti_lang::typing::{BuiltIn, called_method, member_called};
 use ti_rules::{Refusal, Rule, refused_if, sooner};
-use ti_single::{doings_of_statement, has_single_result, is_single_target};
 
 // ---- calls
+
+fn or_false(b: Option<bool>) -> bool
+    ensures { result ≡ unwrap_or b false }
+{
+    match b {
+        Some(b) => b,
+        None => false,
+    }
+}
 
 fn is_delete(b: Option<BuiltIn>) -> bool
     ensures { result ≡ is_delete (option_map built_in_of b) }
@@ -29,7 +46,60 @@ fn is_delete(b: Option<BuiltIn>) -> bool
     matches!(b, Some(BuiltIn::Delete))
 }
 
-impl<'a> Site<'a> {
+impl<'a> SingleSite<'a> {
+    /// Whether an expression inside another one, or a condition, is single.
+    pub fn is_single_inside(self, e: &Expr) -> bool
+        ensures { result ≡ is_single_part (program_at self.entry) (this_of (around_of self.entry).method) (singles_in (scope_at self.entry)) (expression_of e.now) }
+    {
+        is_single_part(self.program, self.scope, e)
+    }
+
+    // Whether it is plain.
+    fn is_plain_part(self, e: &Expr) -> bool
+        ensures { result ≡ is_plain_part (program_at self.entry) (around_of self.entry) (expression_of e.now) }
+    {
+        !self.is_single_inside(e)
+    }
+
+    // Whether an expression that is a whole right side is plain.
+    fn is_plain(self, e: &Expr) -> bool
+        ensures { result ≡ is_plain (program_at self.entry) (around_of self.entry) (expression_of e.now) }
+    {
+        !is_single(self.program, self.scope, e)
+    }
+
+    // Whether a right side is plain.
+    fn is_plain_initial(self, value: &Init) -> bool
+        ensures { result ≡ is_plain_initial (program_at self.entry) (around_of self.entry) (initial_of value.now) }
+    {
+        !is_single_initial(self.program, self.scope, value)
+    }
+
+    // The class of `this`, where there is one.
+    fn this(self) -> Option<u32>
+        ensures { result ≡ this_of (around_of self.entry).method }
+    {
+        this_of(self.method)
+    }
+
+    // Whether a statement has global effects.
+    fn has_effects(self, x: &Stmt) -> bool
+        ensures { result ≡ has_effects (program_at self.entry) (around_of self.entry) (statement_of x.now) }
+    {
+        let jump_has = or_false(self.jump_has);
+        let this = self.this();
+        let doings = doings_of_statement(self.program, this, x);
+        has_global_effects(self.return_has, jump_has, doings)
+    }
+
+    /// Whether a loop has global effects, and a jump out of it one.
+    pub fn loop_acts(self, x: &Stmt) -> bool
+        ensures { result ≡ jump_acts (return_acts (program_at self.entry) (around_of self.entry).method) (doings_in_loop (program_at self.entry) (around_of self.entry).method (statement_of x.now)) }
+    {
+        let doings = doings_in_loop(self.program, self.method, x);
+        jump_acts(self.return_has, doings)
+    }
+
     // A plain argument for a single parameter.
     fn argument(self, param: &Param, e: &Expr) -> Option<Refusal>
         ensures { result ≡ first_of (refused_at ((numbered_param_of param.now).ty.is_single && is_plain_part (program_at self.entry) (around_of self.entry) (expression_of e.now)) S5 (place_of_numbered (expression_of e.now))) }
@@ -94,11 +164,11 @@ impl<'a> Site<'a> {
         match e {
             Expr::Call { args, .. } => {
                 let m = called_method(&self.program.parts, self.this(), e);
-                self.call(m, args)
+                self.call(m, listed_expressions(args))
             }
             Expr::OwnCall { args, .. } => {
                 let m = called_method(&self.program.parts, self.this(), e);
-                self.call(m, args)
+                self.call(m, listed_expressions(args))
             }
             Expr::Member {
                 place,
@@ -107,8 +177,8 @@ impl<'a> Site<'a> {
                 args,
             } => {
                 let m = called_method(&self.program.parts, self.this(), e);
-                let call = self.call(m, args);
-                sooner(call, self.delete(*place, receiver, *name))
+                let call = self.call(m, listed_expressions(args));
+                sooner(call, self.delete(*place, boxed_expression(receiver), *name))
             }
             _ => None,
         }
@@ -193,7 +263,7 @@ impl<'a> Site<'a> {
         ensures { result ≡ (doings_of_maybe (program_at self.entry) (this_of (around_of self.entry).method) (maybe_in update.now)).jumps }
     {
         match update {
-            Some(x) => doings_of_statement(self.program, self.this(), x).jumps,
+            Some(x) => doings_of_statement(self.program, self.this(), boxed_statement(x)).jumps,
             None => false,
         }
     }
@@ -232,7 +302,7 @@ impl<'a> Site<'a> {
 
     /// What counts of the rules of single values that a statement breaks, apart from those that the statements in it break.
     #[tactic(auto, unfolding(ti_rules::specs::First::first_of), using(ti_lang::proofs::ProgramBridges::program_bridges))]
-    pub fn single(self, x: &Stmt) -> Option<Refusal>
+    pub fn refusal(self, x: &Stmt) -> Option<Refusal>
         ensures { result ≡ first_of (single_refusals_at (program_at self.entry) (around_of self.entry) (statement_of x.now)) }
     {
         match x {
@@ -241,12 +311,12 @@ impl<'a> Site<'a> {
                 ty,
                 value,
                 ..
-            } => self.declare_single(*place, ty, value),
+            } => self.declare_single(*place, ty, boxed_initial(value)),
             Stmt::Assign {
                 place,
                 target,
                 value,
-            } => self.assign_single(*place, target, value),
+            } => self.assign_single(*place, target, boxed_initial(value)),
             Stmt::Update {
                 place,
                 target,
