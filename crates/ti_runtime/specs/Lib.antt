@@ -1,1 +1,3 @@
+pub mod MirrorsTeam
+pub mod MirrorsWaiting
 pub mod Ran

@@ -98,7 +98,7 @@ more_spent a b c d n h k l = omega arith
 none_spent : (a b : ℕ) → a + 0 ≡ a
 none_spent a b = omega arith
 
-after_costs : (p q : Process) (rs : List Answer) → After p rs q → p.spent + length rs ≤ q.spent
+pub after_costs : (p q : Process) (rs : List Answer) → After p rs q → p.spent + length rs ≤ q.spent
 after_costs p q [] none = subst (λ n. n ≤ p.spent) (sym (none_spent p.spent 0)) (same_least p.spent)
 after_costs p q (r ∷ rs) (more {q = x} {go = go} a b c) =
     more_spent p.spent x.spent (go r).spent q.spent (length rs) (reach_costs p x a) (subst (Costs x.spent) b (step_costs x) r) (after_costs (go r) q rs c)

@@ -1,31 +1,27 @@
-use Rattle.std.proofs.Common.{◌≡◌, ◌≤◌, true, false, [], arith, sym, subst, Global}
-use Rattle.std.specs.declared.vec.Vec.{Vec}
-use Rattle.ti_base.specs.declared.entry.Entry.{Entry}
-use Rattle.ti_lang.specs.Meaning.Processes.{Setting}
-use Rattle.ti_lang.specs.Meaning.Histories.{has_fault}
-use Rattle.ti_lang.specs.Meaning.Runs.{IsRun, IsSolo, AllEnded}
-use Rattle.ti_lang.specs.Meaning.Runs as r
+use Rattle.std.proofs.Common.{◌∙◌, [], refl, ap}
 use Rattle.ti_lang.specs.Program.Views.{program_of}
-use Rattle.ti_runtime.specs.Ran.{Ran}
-use Rattle.ti_runtime.specs.declared.runner.How.TheVariants.{Memory}
+use Rattle.ti_lang.specs.Meaning.Processes.{Setting}
+use Rattle.ti_store.specs.Stores.{StoreState, setting_of}
+use Rattle.ti_runtime.specs.declared.runner.How.TheVariants as how
+use Rattle.ti_runtime.specs.MirrorsTeam.{CameTo}
+use Rattle.ti_runtime.proofs.Endings.{unbegun, ran, came_so}
+use Rattle.ti_runtime.proofs.runner.run.Goals.{in-Ok-begin, in-Err}
 use Rattle.ti_runtime.proofs.runner.run.Goals as goal
 
-abbrev none_yet : Setting → Vec Entry Global → Type 0
-none_yet s v = Ran s (record { how = Memory; history = v })
-
-no_entry : (s : Setting) (v : Vec Entry Global) → 1 ≤ s.procs → v.items ≡ [] → none_yet s v
-no_entry s v some none = record {
-  run = subst (IsRun s) (sym none) r.none;
-  solo = subst (IsSolo s) (sym none) r.none;
-  ended = (λ e. absurd (let x = e in cc), λ all. absurd (unended (subst (AllEnded s) none all)));
-  faulted = (λ e. absurd (let x = e in cc), λ fault. absurd (no_fault (subst (λ es. has_fault es ≡ true) none fault)));
-}
-  where
-    no_fault : false ≡ true → ⊥
-    no_fault h = cc
-
-    unended : AllEnded s [] → ⊥
-    unended all = no_fault (all 0 (omega arith))
+pub returns-in_default : goal.returns-in_default
+returns-in_default c =
+    let s : Setting = record { program = program_of c.args.c.now.program.parts; procs = c.args.procs; fuel = c.args.fuel } in
+    ran s _ [] c.new-in_default.ensures.items (unbegun s c.requires.within.some)
 
 pub returns : goal.returns
-returns c = no_entry (record { program = program_of c.args.c.now.program.parts; procs = c.args.procs; fuel = c.args.fuel }) c.new.result c.requires.within.some c.new.ensures.items
+returns c =
+    let s : Setting = record { program = program_of c.args.c.now.program.parts; procs = c.args.procs; fuel = c.args.fuel } in
+    let end = c.match-begin in
+    let came : CameTo s end.store.entries end.how = elim end.branch [
+      | in-Ok-begin w ↦
+          came_so s (setting_of c.in-Ok.store) w.play-how.new.store.entries end.store.entries w.play-how.result end.how c.in-Ok.ensures.setting (ap (λ (t : StoreState). t.entries) w.store-is) w.how-is
+          w.play-how.ensures
+      | in-Err w ↦
+          came_so s s [] end.store.entries how.Memory end.how refl (ap (λ (t : StoreState). t.entries) w.store-is ∙ c.in-Ok.ensures.entries) w.how-is (unbegun s c.requires.within.some)
+    ] in
+    ran s _ end.store.entries c.into_history-history.ensures.entries came

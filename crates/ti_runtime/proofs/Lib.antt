@@ -1,0 +1,5 @@
+mod Entries
+mod Waiting
+mod Seats
+mod Turns
+mod Endings

@@ -1,0 +1,272 @@
+-- What the turn of a process makes of its team.
+use Rattle.std.proofs.Common.{◌≡◌, ℕ, zero, suc, ◌+◌, ◌-◌, ◌*◌, ◌<◌, ◌≤◌, max, nat_lt, ◌==◌, Bool, true, false, ◌||◌, map, filter, inl, inr, Ok, List, [], ◌∷◌, length, get_or, slice_set, refl, sym, ap, ◌∙◌, subst, arith, eqb-true, ltb-true, length-set, get_or-set_same, get_or-set_other}
+use Rattle.std.specs.List.{list_any}
+use Rattle.std.proofs.lemmas.Bool.{eqb-false, ltb-false}
+use Rattle.std.proofs.lemmas.List.Sums.{sum_by-set}
+use Rattle.ti_base.specs.declared.action.Action.{Action}
+use Rattle.ti_base.specs.declared.action.Action.TheVariants as act
+use Rattle.ti_base.specs.declared.entry.Entry.{Entry}
+use Rattle.ti_lang.specs.Meaning.Processes.{Setting}
+use Rattle.ti_lang.specs.Meaning.Histories.{is_end, is_fault, is_arrival, is_answered, entries_of, has_end, has_fault}
+use Rattle.ti_lang.specs.Meaning.Runs.{IsSolo, more}
+use Rattle.ti_lang.proofs.MeaningLaws.Running.{taker, solo_run}
+use Rattle.ti_align.specs.Alignment.{OfEveryRun}
+use Rattle.ti_align.specs.Stopping.{RoundsBalance}
+use Rattle.ti_store.specs.Conditions.{IsWithin}
+use Rattle.ti_runtime.specs.declared.cursor.Cursor.{Cursor}
+use Rattle.ti_runtime.specs.declared.cursor.Turn.{Turn}
+use Rattle.ti_runtime.specs.declared.cursor.Turn.TheVariants as turn
+use Rattle.ti_runtime.specs.declared.seat.Seat.{Seat}
+use Rattle.ti_runtime.specs.declared.seat.Stop.{Stop}
+use Rattle.ti_runtime.specs.declared.seat.Stop.TheVariants as stop
+use Rattle.ti_runtime.specs.MirrorsWaiting.{Waits, Rests}
+use Rattle.ti_runtime.specs.MirrorsTeam.{Seated, Takes, steps_left, all_steps_left, GoesOn, StopsAt, TurnLeaves, cursor_after, Points, Stands, StandsOn, Stopped}
+use Rattle.ti_runtime.proofs.Entries.{end_more, other_more, fault_more}
+use Rattle.ti_runtime.proofs.Waiting.{rest_takes_none, rests_still, wait_together}
+
+true_false : true ≡ false → ⊥
+true_false e = cc
+
+-- what holds of every run of a program holds of a solo run
+pub law_of : (fact : Setting → List Entry → Type 0) (s : Setting) (es : List Entry) → OfEveryRun fact s.program → IsWithin s.procs s.fuel → IsSolo s es → fact s es
+law_of fact s es all w solo = all s.procs s.fuel es w.some w.few w.fueled w.limited (solo_run s es solo)
+
+-- ---- a run with one entry more
+
+or_false : (a b : Bool) → a ≡ false → b ≡ false → (a || b) ≡ false
+or_false a b x y = rw (x, y) refl
+
+or_right : (a b : Bool) → b ≡ true → (a || b) ≡ true
+or_right true b x = refl
+or_right false b x = x
+
+module _ (s : Setting) (es all : List Entry) (i : ℕ) (t : Takes s es i all) where
+  -- it is the solo run still
+  pub solo_on : IsSolo s es → ((j : ℕ) → j < i → Rests s es j) → IsSolo s all
+  solo_on solo rest = more solo t.can (λ j d l. rest_takes_none s es j d (rest j l)) t.after
+
+  pub no_fault_on : is_fault t.entry.act ≡ false → has_fault all ≡ false
+  no_fault_on f = ap has_fault t.after ∙ fault_more es t.entry ∙ or_false (has_fault es) (is_fault t.entry.act) t.can.goes_on f
+
+  pub fault_on : is_fault t.entry.act ≡ true → has_fault all ≡ true
+  fault_on f = ap has_fault t.after ∙ fault_more es t.entry ∙ or_right (has_fault es) (is_fault t.entry.act) f
+
+  -- its process has no end but by an end
+  pub unended_on : is_end t.entry.act ≡ false → has_end i all ≡ false
+  unended_on e = ap (has_end i) t.after ∙ end_more i es t.entry (taker s es i t.entry t.can) ∙ or_false (has_end i es) (is_end t.entry.act) t.can.unended e
+
+  -- nothing changes for another
+  pub other_on : (j : ℕ) → (i == j) ≡ false → entries_of j all ≡ entries_of j es
+  other_on j h = ap (entries_of j) t.after ∙ other_more j es t.entry (ap (λ k. k == j) (taker s es i t.entry t.can) ∙ h)
+
+  -- who rests does so still, unless it was an arrival
+  pub rests_on : (j : ℕ) → (i == j) ≡ false → is_arrival t.entry.act ≡ false → Rests s es j → Rests s all j
+  rests_on j h a r = rests_still s es all j t.entry t.after (ap (λ k. k == j) (taker s es i t.entry t.can) ∙ h) a r
+
+-- ---- seats
+
+-- the seat of a process tells where it stands still, where the run went on elsewhere
+seated_still : (s : Setting) (es all : List Entry) (i : ℕ) (seat : Seat) → entries_of i all ≡ entries_of i es → Seated s es i seat → Seated s all i seat
+seated_still s es all i seat same y = record {
+  setting = y.setting;
+  number = y.number;
+  told = y.told ∙ sym (ap (λ own. map (λ (e : Entry). e.answer) (filter is_answered own)) same);
+  asks = y.asks;
+  next = y.next;
+  ended = ap (list_any (λ (e : Entry). is_end e.act)) same ∙ y.ended;
+}
+
+module _ (s : Setting) (es all : List Entry) (seats : List Seat) (i : ℕ) (old new : Seat) (arrives : Bool) (g : GoesOn s es i old all new arrives) (inside : i < length seats) (is : old ≡ get_or seats i old) where
+  pub seated_on : ((d : Seat) (j : ℕ) → j < length seats → Seated s es j (get_or seats j d)) → (d : Seat) (j : ℕ) → j < length (slice_set seats i new) → Seated s all j (get_or (slice_set seats i new) j d)
+  seated_on seated d j l = by (i == j) refl
+    where
+      by : (b : Bool) → (i == j) ≡ b → Seated s all j (get_or (slice_set seats i new) j d)
+      by true h =
+          let same : i ≡ j = eqb-true i j h in
+          subst (λ k. Seated s all k (get_or (slice_set seats i new) k d)) same (subst (Seated s all i) (sym (get_or-set_same seats i new d inside)) g.seated)
+      by false h =
+          subst (Seated s all j) (sym (get_or-set_other seats i j new d (λ e. eqb-false i j h (sym e))))
+          (seated_still s es all j (get_or seats j d) (other_on s es all i g.takes j h) (seated d j (subst (λ n. j < n) (length-set seats i new) l)))
+
+  pub lighter_on : all_steps_left s (slice_set seats i new) < all_steps_left s seats
+  lighter_on =
+      let sums = sum_by-set (steps_left s) seats i new old inside in
+      let same : steps_left s (get_or seats i old) ≡ steps_left s old = ap (steps_left s) (sym is) in
+      fewer (all_steps_left s (slice_set seats i new)) (steps_left s (get_or seats i old)) (all_steps_left s seats) (steps_left s new) (steps_left s old) sums same g.lighter
+    where
+      fewer : (a b c d e : ℕ) → a + b ≡ c + d → b ≡ e → d < e → a < c
+      fewer a b c d e h k l = omega arith
+
+-- ---- the cursor
+
+below : (i j : ℕ) → j < i → (i == j) ≡ false
+below i j l = by (i == j) refl
+  where
+    by : (b : Bool) → (i == j) ≡ b → (i == j) ≡ false
+    by true h = absurd (omega (arith, eqb-true i j h))
+    by false h = h
+
+none_below : (P : ℕ → Type 0) (i : ℕ) → i < 0 → P i
+none_below P i l = absurd (omega arith)
+
+at_or_before : (P : ℕ → Type 0) (n : ℕ) → ((i : ℕ) → i < n → P i) → P n → (i : ℕ) → i < n + 1 → P i
+at_or_before P n before here i l = by (nat_lt i n) refl
+  where
+    by : (b : Bool) → nat_lt i n ≡ b → P i
+    by true h = before i (ltb-true i n h)
+    by false h = subst P (same i n l (ltb-false i n h)) here
+      where
+        same : (i n : ℕ) → i < n + 1 → n ≤ i → n ≡ i
+        same i n l h = omega arith
+
+either_before : (P : ℕ → Type 0) (m n : ℕ) → ((i : ℕ) → i < m → P i) → ((i : ℕ) → i < n → P i) → (i : ℕ) → i < max m n → P i
+either_before P m n f g i l = by (nat_lt i m) refl
+  where
+    by : (b : Bool) → nat_lt i m ≡ b → P i
+    by true h = f i (ltb-true i m h)
+    by false h = g i (other i m n l (ltb-false i m h))
+      where
+        other : (i m n : ℕ) → i < max m n → m ≤ i → i < n
+        other i m n l h = omega arith
+
+no_more : (n : ℕ) → 0 ≤ n
+no_more n = omega arith
+
+at_most : (m n p : ℕ) → m < p → n ≤ p → max (m + 1) n ≤ p
+at_most m n p h k = omega arith
+
+up_to : (m p : ℕ) → m < p → m + 1 ≤ p
+up_to m p h = omega arith
+
+less : (m p : ℕ) → m < p → m ≤ p
+less m p h = omega arith
+
+module _ (s : Setting) (es : List Entry) (c : Cursor) (p : Points s es c) (inside : c.at < s.procs) where
+  -- behind one that had its end
+  pub points_ended : has_end c.at es ≡ true → Points s es (cursor_after c turn.Ended)
+  points_ended e = record {
+    most = up_to c.at s.procs inside;
+    few = p.few;
+    before = at_or_before (Rests s es) c.at p.before (inl e);
+    together = p.together;
+  }
+
+  -- behind one that waits
+  pub points_waits : Waits s es c.at → Points s es (cursor_after c turn.Waits)
+  points_waits w = record {
+    most = at_most c.at c.waiting s.procs inside p.few;
+    few = p.few;
+    before = by (nat_lt c.at c.waiting) refl;
+    together = p.together;
+  }
+    where
+      passed : (i : ℕ) → i < c.at + 1 → Rests s es i
+      passed = at_or_before (Rests s es) c.at p.before (inr w)
+
+      by : (b : Bool) → nat_lt c.at c.waiting ≡ b → (i : ℕ) → i < max (c.at + 1) c.waiting → Rests s es i
+      by true h = either_before (Rests s es) (c.at + 1) c.waiting passed (p.together c.at (ltb-true c.at c.waiting h) w)
+      by false h = λ i l. passed i (first i c.at c.waiting l (ltb-false c.at c.waiting h))
+        where
+          first : (i m n : ℕ) → i < max (m + 1) n → n ≤ m → i < m + 1
+          first i m n l h = omega arith
+
+  -- behind one that went on
+  pub points_went : (all : List Entry) → (t : Takes s es c.at all) → is_arrival t.entry.act ≡ false → Points s all (cursor_after c turn.Went)
+  points_went all t a = record {
+    most = p.most;
+    few = no_more s.procs;
+    before = λ i l. rests_on s es all c.at t i (below c.at i l) a (p.before i l);
+    together = λ i l. none_below (λ i. Waits s all i → (j : ℕ) → j < 0 → Rests s all j) i l;
+  }
+
+  -- behind one that arrived
+  pub points_arrived : IsSolo s es → RoundsBalance s es → (all : List Entry) → (t : Takes s es c.at all) → is_arrival t.entry.act ≡ true → Points s all (cursor_after c turn.Arrived)
+  points_arrived solo balance all t a = record {
+    most = no_more s.procs;
+    few = less c.at s.procs inside;
+    before = λ i l. none_below (Rests s all) i l;
+    together = λ i l w j k. wait_together s es all c.at t.entry (solo_run s es solo) balance t.can t.after a p.before i l w j k;
+  }
+
+-- ---- turns
+
+-- the fewer steps count for more than the turns that take no entry
+falls : (a b p x y : ℕ) → a < b → a * (p + 1) + (p - x) < b * (p + 1) + (p - y)
+falls a b p x y l =
+    let rest : ℕ = b - (a + 1) in
+    let whole : b ≡ (a + 1) + rest = omega arith in
+    rw whole (onward a rest p x y)
+  where
+    onward : (a r p x y : ℕ) → a * (p + 1) + (p - x) < ((a + 1) + r) * (p + 1) + (p - y)
+    onward a r p x y = omega arith
+
+falls_same : (a p x y : ℕ) → y < x → y < p → a + (p - x) < a + (p - y)
+falls_same a p x y h k = omega arith
+
+further : (m n : ℕ) → m < max (m + 1) n
+further m n = omega arith
+
+one_further : (m : ℕ) → m < m + 1
+one_further m = omega arith
+
+set_same : (xs : List Seat) (k : ℕ) (d : Seat) → slice_set xs k (get_or xs k d) ≡ xs
+set_same [] k d = refl
+set_same (y ∷ ys) zero d = refl
+set_same (y ∷ ys) (suc k) d = ap (λ zs. y ∷ zs) (set_same ys k d)
+
+module _ (s : Setting) (es : List Entry) (seats : List Seat) (c : Cursor) (x : Stands s es seats c) (inside : c.at < s.procs) (old : Seat) (is : old ≡ get_or seats c.at old) where
+  within : c.at < length seats
+  within = subst (λ n. c.at < n) (sym x.count) inside
+
+  -- by an entry
+  onward : (all : List Entry) (new : Seat) (arrives : Bool) (d : Cursor) → GoesOn s es c.at old all new arrives → Points s all d → StandsOn s seats c all (slice_set seats c.at new) d
+  onward all new arrives d g p = record {
+    stands = record {
+      solo = solo_on s es all c.at g.takes x.solo x.points.before;
+      goes_on = no_fault_on s es all c.at g.takes g.no_fault;
+      count = length-set seats c.at new ∙ x.count;
+      seated = seated_on s es all seats c.at old new arrives g within is x.seated;
+      points = p;
+    };
+    lighter = falls (all_steps_left s (slice_set seats c.at new)) (all_steps_left s seats) s.procs d.at c.at (lighter_on s es all seats c.at old new arrives g within is);
+  }
+
+  -- by none
+  still : (d : Cursor) → Points s es d → c.at < d.at → StandsOn s seats c es seats d
+  still d p l = record {
+    stands = record { solo = x.solo; goes_on = x.goes_on; count = x.count; seated = x.seated; points = p };
+    lighter = falls_same (all_steps_left s seats * (s.procs + 1)) s.procs d.at c.at l inside;
+  }
+
+  rested : (all : List Entry) (new : Seat) (d : Cursor) → all ≡ es → new ≡ old → Points s es d → c.at < d.at → StandsOn s seats c all (slice_set seats c.at new) d
+  rested all new d e same p l =
+      subst (λ xs. StandsOn s seats c xs (slice_set seats c.at new) d) (sym e)
+      (subst (λ xs. StandsOn s seats c es xs d) (sym (ap (slice_set seats c.at) (same ∙ is) ∙ set_same seats c.at old)) (still d p l))
+
+  pub turned : RoundsBalance s es → (all : List Entry) (new : Seat) (t : Turn) → TurnLeaves s es c.at old all new (Ok t) → StandsOn s seats c all (slice_set seats c.at new) (cursor_after c t)
+  turned balance all new turn.Arrived g = onward all new true (cursor_after c turn.Arrived) g (points_arrived s es c x.points inside x.solo balance all g.takes g.arrives_is)
+  turned balance all new turn.Went g = onward all new false (cursor_after c turn.Went) g (points_went s es c x.points inside all g.takes g.arrives_is)
+  turned balance all new turn.Ended g = rested all new (cursor_after c turn.Ended) g.0 g.1 (points_ended s es c x.points inside g.2) (one_further c.at)
+  turned balance all new turn.Waits g = rested all new (cursor_after c turn.Waits) g.0 g.1 (points_waits s es c x.points inside g.2) (further c.at c.waiting)
+
+  -- a run that stops at this turn
+  pub stopped : (all : List Entry) (why : Stop) → StopsAt s es c.at all why → Stopped s all why
+  stopped all stop.Faulted t = record {
+    solo = solo_on s es all c.at t.0 x.solo x.points.before;
+    fault = (λ e. fault_on s es all c.at t.0 t.1, λ h. refl);
+    unended = λ ended. true_false (sym (ended c.at inside) ∙ unended_on s es all c.at t.0 (fault_no_end t.0.entry.act t.1));
+  }
+    where
+      fault_no_end : (a : Action) → is_fault a ≡ true → is_end a ≡ false
+      fault_no_end (act.Fault kind) f = refl
+      fault_no_end _ f = absurd (true_false (sym f))
+  stopped all stop.Memory (inl t) = record {
+    solo = subst (IsSolo s) (sym t.0) x.solo;
+    fault = (λ e. cc, λ h. absurd (true_false (sym h ∙ ap has_fault t.0 ∙ x.goes_on)));
+    unended = λ ended. true_false (sym (ended c.at inside) ∙ ap (has_end c.at) t.0 ∙ t.1);
+  }
+  stopped all stop.Memory (inr t) = record {
+    solo = solo_on s es all c.at t.0 x.solo x.points.before;
+    fault = (λ e. cc, λ h. absurd (true_false (sym h ∙ no_fault_on s es all c.at t.0 t.1)));
+    unended = λ ended. true_false (sym (ended c.at inside) ∙ unended_on s es all c.at t.0 t.2);
+  }
