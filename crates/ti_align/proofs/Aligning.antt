@@ -123,7 +123,7 @@ end_shown (Faults kind place) at h = absurd (not_end kind place at h)
 -- one that stands at its end makes no more entries
 pub still_ends : (s : Setting) (es all : List Entry) (i : ℕ) → EndsAt s es i → Grows s es all i → EndsAt s all i
 still_ends s es all i o (still u) = record { process = o.process; world = subst (λ rs. After (begin s i) rs o.process) (sym u.0) o.world; settled = o.settled; reaches = o.reaches; place = o.place; stands = o.stands }
-still_ends s es all i o (acted p q at a w go r x y e k l m n) =
+still_ends s es all i o (acted p q at a w go r x y e k l m n u v) =
     let same : o.process ≡ p = after_same _ _ _ _ o.world x in
     let z : Settles p o.settled (next.End o.place) = record { reaches = subst (λ u. Reaches u o.settled) same o.reaches; stands = ap shown o.stands } in
     let t : Settles p q (next.Act at a) = record { reaches = y; stands = ap shown e } in
@@ -181,7 +181,7 @@ ends_next s fine es i e p q (next.Act at a) w x y z h k = by (heap_answer s.prog
     by Impossible h = absurd (none_entry e h)
 
 -- a process that has its end stands at it
-ends_at : (s : Setting) → FineMethods s.program s.program.methods → (es : List Entry) (i : ℕ) → IsRun s es → has_end i es ≡ true → EndsAt s es i
+pub ends_at : (s : Setting) → FineMethods s.program s.program.methods → (es : List Entry) (i : ℕ) → IsRun s es → has_end i es ≡ true → EndsAt s es i
 ends_at s fine es i run.none h = absurd (true_false (sym h))
 ends_at s fine all i (run.more {es = es} {i = j} {e = e} w t z) h =
     go (end_cases i es e (subst (λ x. has_end i x ≡ true) z h)) (λ k. ends_at s fine es i w k)

@@ -19,7 +19,7 @@ is_own i e = (e.proc == i) && is_arrival e.act
 
 -- ---- how many
 
-one_own : (i : ℕ) (e : Entry) → is_own i e ≡ true → arrivals i (e ∷ []) ≡ 1
+pub one_own : (i : ℕ) (e : Entry) → is_own i e ≡ true → arrivals i (e ∷ []) ≡ 1
 one_own i e k = ap (count_by (λ (e : Entry). is_arrival e.act)) (own i e (and_left _ _ k)) ∙ counted (and_right (e.proc == i) _ k)
   where
     counted : is_arrival e.act ≡ true → count_by (λ (e : Entry). is_arrival e.act) (e ∷ []) ≡ 1
@@ -58,11 +58,11 @@ back i (e ∷ es) =
 
 -- ---- which
 
-at_other : (i n : ℕ) (e : Entry) (h : History) → is_own i e ≡ false → arrival_at i n (e ∷ h) ≡ arrival_at i n h
+pub at_other : (i n : ℕ) (e : Entry) (h : History) → is_own i e ≡ false → arrival_at i n (e ∷ h) ≡ arrival_at i n h
 at_other i n e h k = if_false _ _ _ (ap (λ b. b && (arrivals i (e ∷ h) == n)) k)
 
 -- the newest one
-at_last : (i n : ℕ) (e : Entry) (h : History) → is_own i e ≡ true → (arrivals i (e ∷ h) == n) ≡ true → arrival_at i n (e ∷ h) ≡ arrival_in e.act
+pub at_last : (i n : ℕ) (e : Entry) (h : History) → is_own i e ≡ true → (arrivals i (e ∷ h) == n) ≡ true → arrival_at i n (e ∷ h) ≡ arrival_in e.act
 at_last i n e h k l = if_true _ _ _ (ap₂ (λ a b. a && b) k l)
 
 -- an older one
@@ -155,8 +155,15 @@ abbrev pub kind_after : Action → Option CollKind → Option CollKind
 kind_after (act.Arrive kind arg given) last = Some kind
 kind_after a last = last
 
+-- what was said at the last arrival
+pub arrival_other : (i : ℕ) (e : Entry) (h : History) → is_own i e ≡ false → last_arrival i (e ∷ h) ≡ last_arrival i h
+arrival_other i e h k = at_other i (arrivals i (e ∷ h)) e h k ∙ ap (λ n. arrival_at i n h) (more_other i e h k)
+
+pub arrival_own : (i : ℕ) (e : Entry) (h : History) → is_own i e ≡ true → last_arrival i (e ∷ h) ≡ arrival_in e.act
+arrival_own i e h k = at_last i (arrivals i (e ∷ h)) e h k (eq-eqb _ _ refl)
+
 pub last_other : (i : ℕ) (e : Entry) (h : History) → is_own i e ≡ false → last_kind i (e ∷ h) ≡ last_kind i h
-last_other i e h k = ap (option_map (λ (a : Arrival). a.kind)) (at_other i (arrivals i (e ∷ h)) e h k ∙ ap (λ n. arrival_at i n h) (more_other i e h k))
+last_other i e h k = ap (option_map (λ (a : Arrival). a.kind)) (arrival_other i e h k)
 
 kept_kind : (a : Action) (b : Option CollKind) → is_arrival a ≡ false → b ≡ kind_after a b
 kept_kind (act.Arrive kind arg given) b h = absurd (true_false h)
@@ -172,7 +179,7 @@ last_own i e h k = go (is_arrival e.act) refl
     go : (b : Bool) → is_arrival e.act ≡ b → last_kind i (e ∷ h) ≡ kind_after e.act (last_kind i h)
     go false l = last_other i e h (ap₂ (λ a b. a && b) k l) ∙ kept_kind e.act (last_kind i h) l
     go true l =
-        ap (option_map (λ (a : Arrival). a.kind)) (at_last i (arrivals i (e ∷ h)) e h (ap₂ (λ a b. a && b) k l) (eq-eqb _ _ refl)) ∙ new_kind e.act (last_kind i h) l
+        ap (option_map (λ (a : Arrival). a.kind)) (arrival_own i e h (ap₂ (λ a b. a && b) k l)) ∙ new_kind e.act (last_kind i h) l
 
 -- ---- regions made in rounds
 

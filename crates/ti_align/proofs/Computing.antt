@@ -1,33 +1,46 @@
 -- How sound computations are put together.
-use Rattle.std.proofs.Common.{◌≡◌, ℕ, Bool, true, false, inl, inr, Option, Some, None, List, [], ◌∷◌, refl, ap, sym, ◌∙◌}
+use Rattle.std.proofs.Common.{◌≡◌, ℕ, Bool, true, false, inl, inr, Option, Some, None, List, [], ◌∷◌, refl, ap, sym, ◌∙◌, subst, eqb-true}
 use Rattle.ti_base.specs.declared.place.Place.{Place}
 use Rattle.ti_base.specs.declared.value.Id.{Id}
 use Rattle.ti_base.specs.declared.fault.FaultKind.{FaultKind}
 use Rattle.ti_base.specs.declared.fault.FaultKind.TheVariants.{NullRef}
+use Rattle.ti_base.specs.declared.action.Action.{Action}
 use Rattle.ti_base.specs.declared.entry.Answer.{Answer}
 use Rattle.ti_lang.specs.Program.Types.{ValueType}
 use Rattle.ti_lang.specs.Program.Types as t
 use Rattle.ti_lang.specs.Program.Classes.{NumberedProgram}
+use Rattle.ti_lang.specs.Typing.Kinds.{is_local}
 use Rattle.ti_lang.specs.Meaning.Held.{Held, thing_of}
-use Rattle.ti_lang.specs.Meaning.Asking.{Request, Reference, needed, Asking, ◌>>=◌, followed, gives, guarded, found_or, asked, told}
-use Rattle.ti_align.specs.Things.{Things, Grows, IsGridOf, IsPlaced, IsOf}
-use Rattle.ti_align.specs.Sound.{IsThere, FitsAsked, Sound, value, fault, asks}
+use Rattle.ti_lang.specs.Meaning.Asking.{Wanted, Request, request, Reference, needed, Asking, ◌>>=◌, followed, gives, guarded, found_or, asked, told}
+use Rattle.ti_lang.specs.Meaning.Evaluation.{is_own}
+use Rattle.ti_align.specs.Owners.{IsOwnAction}
+use Rattle.ti_align.specs.Things.{Things, seen_by, Grows, IsGridOf, IsPlaced, IsOwn, IsOf}
+use Rattle.ti_align.proofs.Vars.{true_false}
+use Rattle.ti_align.specs.Sound.{IsThere, IsOwnReference, FitsAsked, Sound, value, fault, asks}
 
 -- ---- what is there grows
 
 pub grows_not : (w : Things) → Grows w w
-grows_not w = record { classes = λ id c h. h; grids = λ id g h. h; elements = λ id t h. h; regions = λ r h. h }
+grows_not w = record { owner = refl; classes = λ id c h. h; grids = λ id g h. h; elements = λ id t h. h; regions = λ r h. h }
 
 pub grows_then : (u w x : Things) → Grows u w → Grows w x → Grows u x
 grows_then u w x a b = record {
+  owner = a.owner ∙ b.owner;
   classes = λ id c h. b.classes id c (a.classes id c h);
   grids = λ id g h. b.grids id g (a.grids id g h);
   elements = λ id t h. b.elements id t (a.elements id t h);
   regions = λ r h. b.regions r (a.regions r h);
 }
 
+-- for another process too
+pub grows_for : (i : ℕ) (u w : Things) → Grows u w → Grows (seen_by i u) (seen_by i w)
+grows_for i u w g = record { owner = refl; classes = g.classes; grids = g.grids; elements = g.elements; regions = g.regions }
+
+pub own_stays : (u w : Things) (l : Bool) (o : Option Id) → Grows u w → IsOwn u l o → IsOwn w l o
+own_stays u w l o g k z = subst (λ n. is_own n o ≡ true) g.owner (k z)
+
 pub grid_stays : (u w : Things) (e : ValueType) (n : ℕ) (id : Id) → Grows u w → IsGridOf u e n id → IsGridOf w e n id
-grid_stays u w e n id g k = (k.0, g.grids id k.0 k.1, k.2, g.elements k.0.block e k.3, k.4)
+grid_stays u w e n id g k = (k.0, g.grids id k.0 k.1, k.2, g.elements k.0.block e k.3, k.4, k.5)
 
 pub place_stays : (u w : Things) (r : ℕ) → Grows u w → IsPlaced u r → IsPlaced w r
 place_stays u w r g (inl h) = inl h
@@ -42,10 +55,35 @@ of_stays u w (t.Pt n) h g k = k
 of_stays u w (t.Rc n) h g k = k
 of_stays u w (t.Dm n) h g k = k
 of_stays u w t.Region h g k = (k.0, k.1, place_stays u w k.0 g k.2)
-of_stays u w (t.Class c l) h g k = (k.0, k.1, λ id z. g.classes id c (k.2 id z))
-of_stays u w (t.Grid e n l) h g k = (k.0, k.1, λ id z. grid_stays u w e n id g (k.2 id z))
+of_stays u w (t.Class c l) h g k = (k.0, k.1, (λ id z. g.classes id c (k.2 id z)), own_stays u w l k.0 g k.3)
+of_stays u w (t.Grid e n l) h g k = (k.0, k.1, (λ id z. grid_stays u w e n id g (k.2 id z)), own_stays u w l k.0 g k.3)
 of_stays u w t.Null h g k = k
 of_stays u w t.Void h g k = k
+
+-- ---- owners
+
+pub same_owner : (i j : ℕ) (o : Option Id) → i ≡ j → is_own i o ≡ true → is_own j o ≡ true
+same_owner i j o e k = subst (λ n. is_own n o ≡ true) e k
+
+-- what one process has another one has too, if it's the same process wherever the type is local
+pub seen_from : (w : Things) (i : ℕ) (a : ValueType) (h : Held) → (is_local a ≡ true → w.owner ≡ i) → IsOf w a h → IsOf (seen_by i w) a h
+seen_from w i t.Int h f k = k
+seen_from w i t.Long h f k = k
+seen_from w i t.Boolean h f k = k
+seen_from w i (t.Pt n) h f k = k
+seen_from w i (t.Rc n) h f k = k
+seen_from w i (t.Dm n) h f k = k
+seen_from w i t.Region h f k = k
+seen_from w i (t.Class c l) h f k = (k.0, k.1, k.2, λ z. same_owner w.owner i k.0 (f z) (k.3 z))
+seen_from w i (t.Grid e n l) h f k = (k.0, k.1, k.2, λ z. same_owner w.owner i k.0 (f z) (k.3 z))
+seen_from w i t.Null h f k = k
+seen_from w i t.Void h f k = k
+
+-- what a value of a local type names
+pub own_of : (w : Things) (a : ValueType) (h : Held) → IsOf w a h → IsOwn w (is_local a) (thing_of h)
+own_of w (t.Class c l) h k z = subst (λ o. is_own w.owner o ≡ true) (sym (ap thing_of k.1)) (k.3 z)
+own_of w (t.Grid e n l) h k z = subst (λ o. is_own w.owner o ≡ true) (sym (ap thing_of k.1)) (k.3 z)
+own_of w _ h k z = absurd (true_false (sym z))
 
 -- ---- computations
 
@@ -83,10 +121,25 @@ module _ (p : NumberedProgram) where
   sound_found P w kind at None h = fault kind at (λ rest. refl)
   sound_found P w kind at (Some a) h = value a (h a refl) (λ rest. refl)
 
-  pub sound_asked : (P : Things → Held → Type 0) (w : Things) (q : Request) → IsThere p w q.action q.wanted → ((u : Things) → Grows w u → (r : Answer) → FitsAsked p u q.action q.wanted r → P u (told r)) → Sound p P w (asked q)
+  -- an action that goes through no reference
+  pub sound_request : (P : Things → Held → Type 0) (w : Things) (at : Place) (a : Action) (wanted : Wanted) → IsThere p w a wanted → ((u : Things) → Grows w u → (r : Answer) → FitsAsked p u a wanted r → P u (told r)) → Sound p P w (asked (request at a wanted))
+  sound_request P w at a wanted i f = asks (request at a wanted) refl (i, λ z. absurd (true_false (sym z))) (λ u g r t. value (told r) (f u g r t) (λ rest. refl))
+
+  pub sound_asked : (P : Things → Held → Type 0) (w : Things) (q : Request) → IsThere p w q.action q.wanted × IsOwnAction w.owner q.through q.action → ((u : Things) → Grows w u → (r : Answer) → FitsAsked p u q.action q.wanted r → P u (told r)) → Sound p P w (asked q)
   sound_asked P w q i f = asks q refl i (λ u g r t. value (told r) (f u g r t) (λ rest. refl))
 
--- what is needed, with its type
-pub needed_as : (p : NumberedProgram) (w : Things) (at : Place) (through : ValueType) (h : Held) (P : Things → Id → Type 0) → ((id : Id) → thing_of h ≡ Some id → P w id) → Sound p (λ u (r : Reference). (r.type ≡ through) × P u r.thing) w (needed at through h)
-needed_as p w at through h P k =
-    sound_then p (λ u id. P u id) (λ u r. (r.type ≡ through) × P u r.thing) w (found_or NullRef at (thing_of h)) _ (sound_found p _ w NullRef at (thing_of h) k) (λ u g id z. sound_value p _ u _ (refl, z))
+-- a reference that is needed: it has this type in the text, and what it names is the own one of the process where that is local
+pub record Names (P : Things → Id → Type 0) (through : ValueType) (w : Things) (r : Reference) : Type 0 where
+  pub type : r.type ≡ through
+  pub thing : P w r.thing
+  pub own : IsOwnReference w r
+
+-- the process, where that is local
+pub names_own : (P : Things → Id → Type 0) (through : ValueType) (u w : Things) (r : Reference) → Grows u w → Names P through u r → is_local through ≡ true → r.thing.owner ≡ w.owner
+names_own P through u w r g n z = eqb-true r.thing.owner u.owner (n.own (ap is_local n.type ∙ z)) ∙ g.owner
+
+pub needed_as : (p : NumberedProgram) (w : Things) (at : Place) (through : ValueType) (h : Held) (P : Things → Id → Type 0) → ((id : Id) → thing_of h ≡ Some id → P w id) → IsOwn w (is_local through) (thing_of h)
+    → Sound p (λ u (r : Reference). Names P through u r) w (needed at through h)
+needed_as p w at through h P k own =
+    sound_then p (λ u id. P u id × IsOwn u (is_local through) (Some id)) (λ u r. Names P through u r) w (found_or NullRef at (thing_of h)) _
+    (sound_found p _ w NullRef at (thing_of h) (λ id z. (k id z, λ l. subst (λ o. is_own w.owner o ≡ true) z (own l)))) (λ u g id z. sound_value p _ u _ (record { type = refl; thing = z.0; own = z.1 }))

@@ -51,20 +51,20 @@ made_held w h (r, z, f) (n, y, k) = (r, z, by (subst (IsPlaced w) (same n r (sym
     by (inl e) = absurd (f e)
     by (inr e) = e
 
-variables_made : (elements : Elements) (h : History) (xs : List Variable) → AllGood xs → VariablesFit (things_of elements h) xs → HoldMade h xs
-variables_made elements h [] g k = tt
-variables_made elements h (x ∷ xs) g k =
-    (λ z. made_held (things_of elements h) x.held (g.0 (ap is_region z)) (subst (λ a. IsOf (things_of elements h) a x.held) z k.0), variables_made elements h xs g.1 k.1)
+variables_made : (i : ℕ) (elements : Elements) (h : History) (xs : List Variable) → AllGood xs → VariablesFit (things_of i elements h) xs → HoldMade h xs
+variables_made i elements h [] g k = tt
+variables_made i elements h (x ∷ xs) g k =
+    (λ z. made_held (things_of i elements h) x.held (g.0 (ap is_region z)) (subst (λ a. IsOf (things_of i elements h) a x.held) z k.0), variables_made i elements h xs g.1 k.1)
 
-frames_made : (p q : NumberedProgram) (elements : Elements) (h : History) (fs : List Frame) → AllSuch p fs → FramesFit q (things_of elements h) fs → AllHoldMade h fs
-frames_made p q elements h [] g k = tt
-frames_made p q elements h (f ∷ fs) g k = (variables_made elements h f.variables g.0.0 k.0.0, frames_made p q elements h fs g.1 k.2)
+frames_made : (p q : NumberedProgram) (i : ℕ) (elements : Elements) (h : History) (fs : List Frame) → AllSuch p fs → FramesFit q (things_of i elements h) fs → AllHoldMade h fs
+frames_made p q i elements h [] g k = tt
+frames_made p q i elements h (f ∷ fs) g k = (variables_made i elements h f.variables g.0.0 k.0.0, frames_made p q i elements h fs g.1 k.2)
 
 pub regions_made : (p : NumberedProgram) → IsChecked p → LiteralsFit p → OfEveryRun RegionsMade p
 regions_made p c l procs fuel es a b d e w =
     let s : Setting = record { program = p; procs = procs; fuel = fuel } in
     let fit = (every.run_typed p c l procs fuel es a b d e w).fits in record {
-      held = λ i q within x. frames_made p q.setting.program fit.elements (history_of es) q.frames (run_hands s (checked_stands p c l) (checked_such p c l) es w i q x).1 (fit.processes i q within x).0;
+      held = λ i q within x. frames_made p q.setting.program i fit.elements (history_of es) q.frames (run_hands s (checked_stands p c l) (checked_such p c l) es w i q x).1 (fit.processes i q within x).0;
       deleted = presence.deletes_made s (known_of s (checked_fits p c l) (checked_fine p c) b) (checked_stands p c l) (checked_such p c l) es w fit;
     }
 

@@ -1,5 +1,5 @@
 -- What a typed expression comes to is a value of its type, and all that it asks for is there.
-use Rattle.std.proofs.Common.{w32, ◌≡◌, ℕ, ℤ, pos, suc, pred, ◌+◌, ◌-◌, ◌^◌, ◌<◌, ◌≤◌, nat_lt, ◌==◌, int_le, ◌⊎◌, inl, inr, Bool, true, false, not, ◌&&◌, cond, if◌then◌else◌, length, find, position, slice_get, slice_index_or, unwrap_or, option_map, option_and_then, Option, Some, None, List, [], ◌∷◌, ◌++◌, refl, ap, ap₂, sym, ◌∙◌, subst, arith, eqb-true}
+use Rattle.std.proofs.Common.{w32, ◌≡◌, ℕ, ℤ, pos, suc, pred, ◌+◌, ◌-◌, ◌^◌, ◌<◌, ◌≤◌, nat_lt, ◌==◌, int_le, ◌⊎◌, inl, inr, Bool, true, false, not, ◌&&◌, ◌||◌, cond, if◌then◌else◌, length, find, position, slice_get, slice_index_or, unwrap_or, option_map, option_and_then, Option, Some, None, List, [], ◌∷◌, ◌++◌, refl, ap, ap₂, sym, ◌∙◌, subst, arith, eqb-true}
 use Rattle.std.specs.List.{list_all, position_or_len}
 use Rattle.std.specs.Option.{option_map_or}
 use Rattle.std.proofs.lemmas.Bool.{lt-ltb, ltb-true, leb-true}
@@ -31,7 +31,7 @@ use Rattle.ti_lang.specs.Program.Expressions.{NumberedExp, NumberedExps, Numbere
 use Rattle.ti_lang.specs.Program.Expressions as e
 use Rattle.ti_lang.specs.Program.Classes.{NumberedField, NumberedProgram}
 use Rattle.ti_lang.specs.Program.Scope.{ScopeContents, this_of}
-use Rattle.ti_lang.specs.Typing.Kinds.{domain_dim, same_type, is_whole, is_void, is_point, is_object, as_global, read_through, dim_of_type, class_of_type, where_true}
+use Rattle.ti_lang.specs.Typing.Kinds.{domain_dim, same_type, is_whole, is_void, is_point, is_object, is_local, as_global, read_through, dim_of_type, class_of_type, where_true}
 use Rattle.ti_lang.specs.Typing.Fits.{casts}
 use Rattle.ti_lang.specs.Typing.Operators.{wider, whole_type, truth_type, point_type, rect_type, same_dim, domain_type, unary_type, binary_type}
 use Rattle.ti_lang.specs.Typing.BuiltIn.{BuiltIn, Size, Min, Max, Contains, Domain, Restrict, Translate, Slice, Copy, Exchange, Delete, built_in, member_type}
@@ -41,21 +41,21 @@ use Rattle.ti_lang.specs.Typing.Expressions as typing
 use Rattle.ti_lang.specs.Typing.TextTypes.{operator_type, used_type, how_many, field_seen, element_seen, sliced, built_in_type, member_seen}
 use Rattle.ti_lang.specs.Typing.Called.{member_called}
 use Rattle.ti_lang.specs.Meaning.Held.{Held, Plain, zero_of, nothing, thing_of, point_of, rect_of, int_of, where_dim}
-use Rattle.ti_lang.specs.Meaning.Asking.{ValueOf, NewThing, Reference, request_through, Asking, found_or, needed}
+use Rattle.ti_lang.specs.Meaning.Asking.{ValueOf, NewThing, Reference, request_through, found_or, needed}
 use Rattle.ti_lang.specs.Meaning.Literals.{coordinates_of, numbers_in, point_of_numbers}
 use Rattle.ti_lang.specs.Meaning.Conversions.{most_points, converted}
 use Rattle.ti_lang.specs.Meaning.Parts.{Field, Element, fetched, domain_asked, domain_of, viewed, indexed}
 use Rattle.ti_lang.specs.Meaning.MemberForms.{greatest_size, sized, extreme, member}
 use Rattle.ti_lang.specs.Meaning.Answers.{IsPointOf, IsRectOf}
 use Rattle.ti_lang.specs.Meaning.Scoping.{Env, type_of, field_selected}
-use Rattle.ti_lang.specs.Meaning.Evaluation.{eval, eval_all, eval_numbers, eval_range, eval_ranges}
-use Rattle.ti_align.specs.Things.{Things, Grows, IsGridOf, IsOf, DimsFine}
-use Rattle.ti_align.specs.Sound.{Sound, SuitsView, dims_viewed}
+use Rattle.ti_lang.specs.Meaning.Evaluation.{is_own, eval, eval_all, eval_numbers, eval_range, eval_ranges}
+use Rattle.ti_align.specs.Things.{Things, seen_by, Grows, IsGridOf, IsOwn, IsOf, DimsFine}
+use Rattle.ti_align.specs.Sound.{IsOwnReference, Sound, SuitsView, dims_viewed}
 use Rattle.ti_align.specs.Fitting.{EnvFits, FieldsFit, IsWritten, AreWritten, IsRangeWritten, AreRangesWritten}
 use Rattle.ti_align.proofs.Vars.{true_false, and_left, and_right}
-use Rattle.ti_align.proofs.Computing.{grid_stays, of_stays, sound_then, weaker, sound_value, sound_guarded, sound_tested, sound_found, sound_asked}
+use Rattle.ti_align.proofs.Computing.{grid_stays, of_stays, same_owner, seen_from, own_of, sound_then, weaker, sound_value, sound_guarded, sound_tested, sound_found, sound_asked, Names, names_own, needed_as}
 use Rattle.ti_align.proofs.Forms.{zero_fits, long_zero, natural_fits, AllFit, both_fit, get_fits, coordinates_fit, dim_is, numbers_point, origin_point, empty_form, AreOf, bounds_form}
-use Rattle.ti_align.proofs.Operating.{none_some, some_same, where_some, Seen, seen_same, type_same, operated_fine, right_fine, alone_fine, cast_fine}
+use Rattle.ti_align.proofs.Operating.{none_some, some_same, where_some, Seen, seen_same, type_same, to_global, to_local, global_type, operated_fine, right_fine, alone_fine, cast_fine}
 
 -- ---- what there is
 
@@ -113,19 +113,15 @@ named_field p class name type h =
 
 -- ---- reads
 
-pub read_of : (w : Things) (l : Bool) (type : ValueType) (h : Held) → IsOf w type h → IsOf w (read_through l type) h
-read_of w true type h k = k
-read_of w false (t.Class c l) h k = k
-read_of w false (t.Grid e n l) h k = k
-read_of w false t.Int h k = k
-read_of w false t.Long h k = k
-read_of w false t.Boolean h k = k
-read_of w false (t.Pt n) h k = k
-read_of w false (t.Rc n) h k = k
-read_of w false (t.Dm n) h k = k
-read_of w false t.Region h k = k
-read_of w false t.Null h k = k
-read_of w false t.Void h k = k
+-- what is read from the memory of a process, which is the own one where it's read through a local reference
+pub read_of : (w : Things) (i : ℕ) (l : Bool) (type : ValueType) (h : Held) → (l ≡ true → i ≡ w.owner) → IsOf (seen_by i w) type h → IsOf w (read_through l type) h
+read_of w i true type h e k = seen_from (seen_by i w) w.owner type h (λ z. e refl) k
+read_of w i false type h e k = seen_from (seen_by i w) w.owner (as_global type) h (λ z. absurd (true_false (sym z ∙ global_type type))) (to_global (seen_by i w) type h k)
+
+-- a view lies in the memory in which the grid does that is viewed
+view_of : (w : Things) (i : ℕ) (l : Bool) (element : ValueType) (n : ℕ) (h : Held) → (l ≡ true → i ≡ w.owner) → IsOf (seen_by i w) (t.Grid element n true) h → IsOf w (t.Grid element n l) h
+view_of w i true element n h e k = read_of w i true (t.Grid element n true) h e k
+view_of w i false element n h e k = read_of w i false (t.Grid element n true) h e k
 
 read_dims : (l : Bool) (type : ValueType) → DimsFine type → DimsFine (read_through l type)
 read_dims true type k = k
@@ -142,37 +138,35 @@ read_dims false t.Null k = k
 read_dims false t.Void k = k
 
 module _ (p : NumberedProgram) where
-  pub needed_fine : (w : Things) (at : Place) (through : ValueType) (h : Held) (P : Things → Id → Type 0) → ((id : Id) → thing_of h ≡ Some id → P w id) → Sound p (λ u r. P u r.thing) w (needed at through h)
-  needed_fine w at through h P k =
-      sound_then p (λ u id. (thing_of h ≡ Some id) × P u id) (λ u r. P u r.thing) w (found_or NullRef at (thing_of h)) _
-      (sound_found p _ w NullRef at (thing_of h) (λ id z. (z, k id z))) (λ u g id z. sound_value p _ u _ z.1)
-
   -- a field of an object of this class
-  pub field_fine : (w : Things) (at : Place) (type through : ValueType) (h : Held) (field class : ℕ) (of : ValueType) → ((id : Id) → thing_of h ≡ Some id → w.class_at id ≡ Some class) → field_type p class field ≡ Some of
-      → Sound p (λ u k. IsOf u of k) w (fetched at type (Field h through field))
-  field_fine w at type through h field class of k f =
-      sound_then p (λ u (r : Reference). u.class_at r.thing ≡ Some class) (λ u k. IsOf u of k) w (needed at through h) _
-      (needed_fine w at through h (λ u id. u.class_at id ≡ Some class) k)
-      (λ u g r z. sound_asked p _ u (request_through r at (act.GetField r.thing field) (ValueOf type)) (of, (class, z, f)) (λ x i answer q. q of (class, i.classes r.thing class z, f)))
+  pub field_fine : (w : Things) (at : Place) (type through : ValueType) (h : Held) (field class : ℕ) (of : ValueType) → ((id : Id) → thing_of h ≡ Some id → w.class_at id ≡ Some class) → IsOwn w (is_local through) (thing_of h)
+      → field_type p class field ≡ Some of → Sound p (λ u k. IsOf u (read_through (is_local through) of) k) w (fetched at type (Field h through field))
+  field_fine w at type through h field class of k own f =
+      sound_then p (λ u r. Names (λ u id. u.class_at id ≡ Some class) through u r) _ w (needed at through h) _
+      (needed_as p w at through h (λ u id. u.class_at id ≡ Some class) k own)
+      (λ u g r z. sound_asked p _ u (request_through r at (act.GetField r.thing field) (ValueOf type)) ((of, (class, z.thing, f)), z.own)
+      (λ x i answer q. read_of x r.thing.owner (is_local through) of _ (names_own _ through u x r i z) (q of (class, i.classes r.thing class z.thing, f))))
 
   -- an element of a grid of such elements
-  pub element_fine : (w : Things) (at : Place) (type through : ValueType) (h : Held) (index : Point) (element : ValueType) (n : ℕ) → ((id : Id) → thing_of h ≡ Some id → IsGridOf w element n id) → IsPointOf n index
-      → Sound p (λ u k. IsOf u element k) w (fetched at type (Element h through index))
-  element_fine w at type through h index element n k d =
-      sound_then p (λ u (r : Reference). IsGridOf u element n r.thing) (λ u k. IsOf u element k) w (needed at through h) _
-      (needed_fine w at through h (λ u id. IsGridOf u element n id) k)
-      (λ u g r z. sound_asked p _ u (request_through r at (act.GetElem r.thing index) (ValueOf type)) (element, n, z, d) (λ x i answer q. q element n (grid_stays u x element n r.thing i z)))
+  pub element_fine : (w : Things) (at : Place) (type through : ValueType) (h : Held) (index : Point) (element : ValueType) (n : ℕ) → ((id : Id) → thing_of h ≡ Some id → IsGridOf w element n id) → IsOwn w (is_local through) (thing_of h)
+      → IsPointOf n index → Sound p (λ u k. IsOf u (read_through (is_local through) element) k) w (fetched at type (Element h through index))
+  element_fine w at type through h index element n k own d =
+      sound_then p (λ u r. Names (λ u id. IsGridOf u element n id) through u r) _ w (needed at through h) _
+      (needed_as p w at through h (λ u id. IsGridOf u element n id) k own)
+      (λ u g r z. sound_asked p _ u (request_through r at (act.GetElem r.thing index) (ValueOf type)) ((element, n, z.thing, d), z.own)
+      (λ x i answer q. read_of x r.thing.owner (is_local through) element _ (names_own _ through u x r i z) (q element n (grid_stays u x element n r.thing i z.thing))))
 
-  pub domain_fine : (w : Things) (at : Place) (r : Reference) (element : ValueType) (n : ℕ) → IsGridOf w element n r.thing → Sound p (λ u k. IsOf u (t.Rc n) k) w (domain_asked at r)
-  domain_fine w at r element n z =
-      sound_asked p _ w (request_through r at (act.DomainOf r.thing) (ValueOf (t.Rc (dim_of_type r.type)))) (element, n, z) (λ x i answer q. q element n (grid_stays w x element n r.thing i z))
+  pub domain_fine : (w : Things) (at : Place) (r : Reference) (element : ValueType) (n : ℕ) → IsGridOf w element n r.thing → IsOwnReference w r → Sound p (λ u k. IsOf u (t.Rc n) k) w (domain_asked at r)
+  domain_fine w at r element n z own =
+      sound_asked p _ w (request_through r at (act.DomainOf r.thing) (ValueOf (t.Rc (dim_of_type r.type)))) ((element, n, z), own) (λ x i answer q. q element n (grid_stays w x element n r.thing i z))
 
-  pub viewed_fine : (w : Things) (at : Place) (type : ValueType) (view : ViewHow) (through : ValueType) (h : Held) (element : ValueType) (n : ℕ) → ((id : Id) → thing_of h ≡ Some id → IsGridOf w element n id) → SuitsView view n
-      → Sound p (λ u k. IsOf u (t.Grid element (dims_viewed view n) true) k) w (viewed at type view through h)
-  viewed_fine w at type view through h element n k s =
-      sound_then p (λ u (r : Reference). IsGridOf u element n r.thing) _ w (needed at through h) _
-      (needed_fine w at through h (λ u id. IsGridOf u element n id) k)
-      (λ u g r z. sound_asked p _ u (request_through r at (act.MakeView r.thing view) (NewThing type)) (element, n, z, s) (λ x i answer q. q element n (grid_stays u x element n r.thing i z)))
+  pub viewed_fine : (w : Things) (at : Place) (type : ValueType) (view : ViewHow) (through : ValueType) (h : Held) (element : ValueType) (n : ℕ) → ((id : Id) → thing_of h ≡ Some id → IsGridOf w element n id) → IsOwn w (is_local through) (thing_of h)
+      → SuitsView view n → Sound p (λ u k. IsOf u (t.Grid element (dims_viewed view n) (is_local through)) k) w (viewed at type view through h)
+  viewed_fine w at type view through h element n k own s =
+      sound_then p (λ u r. Names (λ u id. IsGridOf u element n id) through u r) _ w (needed at through h) _
+      (needed_as p w at through h (λ u id. IsGridOf u element n id) k own)
+      (λ u g r z. sound_asked p _ u (request_through r at (act.MakeView r.thing view) (NewThing type)) ((element, n, z.thing, s), z.own)
+      (λ x i answer q. view_of x r.thing.owner (is_local through) element (dims_viewed view n) _ (names_own _ through u x r i z) (q element n (grid_stays u x element n r.thing i z.thing))))
 
 -- what a reference names
 pub object_of : (w : Things) (c : ℕ) (l : Bool) (h : Held) → IsOf w (t.Class c l) h → (id : Id) → thing_of h ≡ Some id → w.class_at id ≡ Some c
@@ -405,44 +399,50 @@ module _ (p : NumberedProgram) (w : Things) where
   int_args (x ∷ y ∷ []) a = (int_is x a.0, int_is y a.1.0)
   int_args (x ∷ y ∷ z ∷ hs) a = absurd a.1.1
 
-  as_local : (element : ValueType) (n : ℕ) (l : Bool) (m : Asking Held) → Sound p (λ u k. IsOf u (t.Grid element n true) k) w m → Sound p (λ u k. IsOf u (t.Grid element n l) k) w m
-  as_local element n l m k = weaker p _ _ w m k (λ u g h q. q)
+  -- a view through a reference whose type the text tells
+  view_seen : (at : Place) (wanted : ValueType) (view : ViewHow) (through : ValueType) (h : Held) (x : ValueType) (n : ℕ) (l : Bool) → through ≡ t.Grid x n l → IsOf w (t.Grid x n l) h → SuitsView view n
+      → Sound p (λ u k. IsOf u (t.Grid x (dims_viewed view n) l) k) w (viewed at wanted view through h)
+  view_seen at wanted view through h x n l y k s =
+      subst (λ q. Sound p (λ u k. IsOf u (t.Grid x (dims_viewed view n) l) k) w (viewed at wanted view q h)) (sym y)
+      (viewed_fine p w at wanted view (t.Grid x n l) h x n (grid_in w x n l h k) (own_of w (t.Grid x n l) h k) s)
 
-  pub member_fine : (at : Place) (wanted through : ValueType) (b : BuiltIn) (type r : ValueType) (ts : List ValueType) (h : Held) (hs : List Held) → member_type b type ts ≡ Some r → is_void r ≡ false → IsOf w type h → AllOfTypes w ts hs
+  pub member_fine : (at : Place) (wanted through : ValueType) (b : BuiltIn) (type r : ValueType) (ts : List ValueType) (h : Held) (hs : List Held) → member_type b type ts ≡ Some r → is_void r ≡ false → Seen type through → IsOf w type h → AllOfTypes w ts hs
       → Sound p (λ u k. IsOf u r k) w (member at wanted (Some b) through h hs)
-  member_fine at wanted through Size (t.Rc n) r [] h hs e z k a = subst (λ q. Sound p (λ u k. IsOf u q k) w (sized at h)) (some_same t.Int r e) (sized_fine at h n (inl k))
-  member_fine at wanted through Size (t.Dm n) r [] h hs e z k a = subst (λ q. Sound p (λ u k. IsOf u q k) w (sized at h)) (some_same t.Int r e) (sized_fine at h n (inr k))
-  member_fine at wanted through Min (t.Rc n) r [] h hs e z k a =
+  member_fine at wanted through Size (t.Rc n) r [] h hs e z y k a = subst (λ q. Sound p (λ u k. IsOf u q k) w (sized at h)) (some_same t.Int r e) (sized_fine at h n (inl k))
+  member_fine at wanted through Size (t.Dm n) r [] h hs e z y k a = subst (λ q. Sound p (λ u k. IsOf u q k) w (sized at h)) (some_same t.Int r e) (sized_fine at h n (inr k))
+  member_fine at wanted through Min (t.Rc n) r [] h hs e z y k a =
       subst (λ q. Sound p (λ u k. IsOf u q k) w (extreme at h (rect_of h).lo)) (some_same (t.Pt n) r e) (sound_guarded p _ w _ _ at _ ((rect_of h).lo, refl, (rect_is n h k).low))
-  member_fine at wanted through Max (t.Rc n) r [] h hs e z k a =
+  member_fine at wanted through Max (t.Rc n) r [] h hs e z y k a =
       subst (λ q. Sound p (λ u k. IsOf u q k) w (extreme at h (rect_of h).hi)) (some_same (t.Pt n) r e) (sound_guarded p _ w _ _ at _ ((rect_of h).hi, refl, (rect_is n h k).high))
-  member_fine at wanted through Contains (t.Rc n) r (t.Pt m ∷ []) h hs e z k a =
+  member_fine at wanted through Contains (t.Rc n) r (t.Pt m ∷ []) h hs e z y k a =
       subst (λ q. Sound p (λ u k. IsOf u q k) w (member at wanted (Some Contains) through h hs)) (where_some (n == m) t.Boolean r e).1 (sound_value p _ w _ (_, refl))
-  member_fine at wanted through Contains (t.Dm n) r (t.Pt m ∷ []) h hs e z k a =
+  member_fine at wanted through Contains (t.Dm n) r (t.Pt m ∷ []) h hs e z y k a =
       subst (λ q. Sound p (λ u k. IsOf u q k) w (member at wanted (Some Contains) through h hs)) (where_some (n == m) t.Boolean r e).1 (sound_value p _ w _ (_, refl))
-  member_fine at wanted through Domain (t.Grid x n l) r [] h hs e z k a =
+  member_fine at wanted through Domain (t.Grid x n l) r [] h hs e z y k a =
       subst (λ q. Sound p (λ u k. IsOf u q k) w (domain_of at through h)) (some_same (t.Rc n) r e)
-      (sound_then p (λ u (y : Reference). IsGridOf u x n y.thing) _ w (needed at through h) _ (needed_fine p w at through h (λ u id. IsGridOf u x n id) (grid_in w x n l h k)) (λ u g y i. domain_fine p u at y x n i))
-  member_fine at wanted through Restrict (t.Grid x n l) r (t.Rc m ∷ []) h (c ∷ []) e z k a =
+      (subst (λ q. Sound p (λ u k. IsOf u (t.Rc n) k) w (domain_of at q h)) (sym y)
+      (sound_then p (λ u r. Names (λ u id. IsGridOf u x n id) (t.Grid x n l) u r) _ w (needed at (t.Grid x n l) h) _ (needed_as p w at (t.Grid x n l) h (λ u id. IsGridOf u x n id) (grid_in w x n l h k) (own_of w (t.Grid x n l) h k))
+      (λ u g y i. domain_fine p u at y x n i.thing i.own)))
+  member_fine at wanted through Restrict (t.Grid x n l) r (t.Rc m ∷ []) h (c ∷ []) e z y k a =
       let q = where_some (n == m) (t.Grid x n l) r e in
       subst (λ o. Sound p (λ u k. IsOf u o k) w (viewed at wanted (how.Restrict (rect_of c)) through h)) q.1
-      (as_local x n l _ (viewed_fine p w at wanted (how.Restrict (rect_of c)) through h x n (grid_in w x n l h k) (subst (λ d. IsRectOf d (rect_of c)) (sym (eqb-true n m q.0)) (rect_is m c a.0))))
-  member_fine at wanted through Translate (t.Grid x n l) r (t.Pt m ∷ []) h (c ∷ []) e z k a =
+      (view_seen at wanted (how.Restrict (rect_of c)) through h x n l y k (subst (λ d. IsRectOf d (rect_of c)) (sym (eqb-true n m q.0)) (rect_is m c a.0)))
+  member_fine at wanted through Translate (t.Grid x n l) r (t.Pt m ∷ []) h (c ∷ []) e z y k a =
       let q = where_some (n == m) (t.Grid x n l) r e in
       subst (λ o. Sound p (λ u k. IsOf u o k) w (viewed at wanted (how.Translate (point_of c)) through h)) q.1
-      (as_local x n l _ (viewed_fine p w at wanted (how.Translate (point_of c)) through h x n (grid_in w x n l h k) (subst (λ d. IsPointOf d (point_of c)) (sym (eqb-true n m q.0)) (point_is m c a.0))))
-  member_fine at wanted through Slice (t.Grid x n l) r (t.Int ∷ t.Int ∷ []) h hs e z k a =
+      (view_seen at wanted (how.Translate (point_of c)) through h x n l y k (subst (λ d. IsPointOf d (point_of c)) (sym (eqb-true n m q.0)) (point_is m c a.0)))
+  member_fine at wanted through Slice (t.Grid x n l) r (t.Int ∷ t.Int ∷ []) h hs e z y k a =
       let q = where_some (nat_lt 1 n) (t.Grid x (n - 1) l) r e in
       subst (λ o. Sound p (λ u k. IsOf u o k) w (member at wanted (Some Slice) through h hs)) q.1
-      (as_local x (n - 1) l _ (viewed_fine p w at wanted (how.Slice (int_of (slice_index_or hs 0 nothing)) (int_of (slice_index_or hs 1 nothing))) through h x n (grid_in w x n l h k) (let two = int_args hs a in (ltb-true 1 n q.0, two.0, two.1))))
-  member_fine at wanted through Restrict (t.Grid x n l) r (t.Rc m ∷ []) h [] e z k a = absurd a
-  member_fine at wanted through Restrict (t.Grid x n l) r (t.Rc m ∷ []) h (c ∷ d ∷ hs) e z k a = absurd a.1
-  member_fine at wanted through Translate (t.Grid x n l) r (t.Pt m ∷ []) h [] e z k a = absurd a
-  member_fine at wanted through Translate (t.Grid x n l) r (t.Pt m ∷ []) h (c ∷ d ∷ hs) e z k a = absurd a.1
-  member_fine at wanted through Copy type r (y ∷ []) h hs e z k a = absurd (true_false (ap is_void (where_some _ t.Void r e).1 ∙ z))
-  member_fine at wanted through Exchange type r (y ∷ []) h hs e z k a = absurd (true_false (ap is_void (where_some _ t.Void r e).1 ∙ z))
-  member_fine at wanted through Delete t.Region r [] h hs e z k a = absurd (true_false (ap is_void (some_same t.Void r e) ∙ z))
-  member_fine at wanted through _ type r ts h hs e z k a = absurd (none_some r e)
+      (view_seen at wanted (how.Slice (int_of (slice_index_or hs 0 nothing)) (int_of (slice_index_or hs 1 nothing))) through h x n l y k (let two = int_args hs a in (ltb-true 1 n q.0, two.0, two.1)))
+  member_fine at wanted through Restrict (t.Grid x n l) r (t.Rc m ∷ []) h [] e z y k a = absurd a
+  member_fine at wanted through Restrict (t.Grid x n l) r (t.Rc m ∷ []) h (c ∷ d ∷ hs) e z y k a = absurd a.1
+  member_fine at wanted through Translate (t.Grid x n l) r (t.Pt m ∷ []) h [] e z y k a = absurd a
+  member_fine at wanted through Translate (t.Grid x n l) r (t.Pt m ∷ []) h (c ∷ d ∷ hs) e z y k a = absurd a.1
+  member_fine at wanted through Copy type r (c ∷ []) h hs e z y k a = absurd (true_false (ap is_void (where_some _ t.Void r e).1 ∙ z))
+  member_fine at wanted through Exchange type r (c ∷ []) h hs e z y k a = absurd (true_false (ap is_void (where_some _ t.Void r e).1 ∙ z))
+  member_fine at wanted through Delete t.Region r [] h hs e z y k a = absurd (true_false (ap is_void (some_same t.Void r e) ∙ z))
+  member_fine at wanted through _ type r ts h hs e z y k a = absurd (none_some r e)
 
 -- ---- expressions
 
@@ -454,6 +454,7 @@ pub record Evaluates (w : Things) (env : Env) (x : NumberedExp) (type : ValueTyp
 
 pub env_stays : (uses : VariableUse → Bool) (s : ScopeContents) (u w : Things) (env : Env) → Grows u w → EnvFits uses s u env → EnvFits uses s w env
 env_stays uses s u w env g f = record {
+  owner = sym g.owner ∙ f.owner;
   number = f.number;
   procs = f.procs;
   this_class = f.this_class;
@@ -497,11 +498,21 @@ indexed_fine p w at wanted u (t.Grid element n l) r ts h zs e i d k c = by (dims
     by q =
         subst (λ z. Sound p (λ x k. IsOf x z k) w (indexed (is_point u) at wanted u h zs) × DimsFine z × Seen z (element_seen u)) q.1 (
           subst (λ b. Sound p (λ x k. IsOf x (read_through l element) k) w (indexed b at wanted u h zs)) (sym (ap is_point i))
-              (weaker p _ _ w _ (element_fine p w at wanted u h (point_of_numbers zs) element n (grid_in w element n l h k) (numbers_point zs n (c.0 ∙ q.0) d.0 c.1)) (λ x g y o. read_of x l element y o)),
+              (subst (λ o. Sound p (λ x k. IsOf x (read_through l element) k) w (indexed false at wanted o h zs)) (sym i)
+              (element_fine p w at wanted (t.Grid element n l) h (point_of_numbers zs) element n (grid_in w element n l h k) (own_of w (t.Grid element n l) h k) (numbers_point zs n (c.0 ∙ q.0) d.0 c.1))),
           read_dims l element d.1,
           subst (λ z. Seen (read_through l element) (element_seen z)) (sym i) (seen_same (read_through l element)),
         )
 indexed_fine p w at wanted u _ r ts h zs e i d k c = absurd (none_some r e)
+
+-- `this` has a global type
+pub this_global : (o : Option ℕ) → is_local (option_map_or (λ class. t.Class class false) o t.Void) ≡ false
+this_global None = refl
+this_global (Some class) = refl
+
+-- what the test of a cast tells
+cast_own : (w : Things) (i : ℕ) (type : ValueType) (h : Held) → w.owner ≡ i → (not (is_local type) || is_own i (thing_of h)) ≡ true → IsOwn w (is_local type) (thing_of h)
+cast_own w i type h e k l = same_owner i w.owner (thing_of h) (sym e) (sym (ap (λ b. not b || is_own i (thing_of h)) l) ∙ k)
 
 to_type : (w : Things) (env : Env) (x : NumberedExp) (a b : ValueType) → a ≡ b → Evaluates w env x a → Evaluates w env x b
 to_type w env x a b z k = subst (λ (c : ValueType). Evaluates w env x c) z k
@@ -544,8 +555,8 @@ zero_fine w (t.Pt n) d = (_, zero_there n _ d, origin_point n d)
 zero_fine w (t.Rc n) d = (_, zero_there n _ d, empty_form n d)
 zero_fine w (t.Dm n) d = ([], zero_there n _ d, record { points = tt; rises = tt; few = omega arith })
 zero_fine w t.Region d = (0, refl, inl refl)
-zero_fine w (t.Class c l) d = (None, refl, λ id z. absurd (none_some id z))
-zero_fine w (t.Grid x n l) d = (None, refl, λ id z. absurd (none_some id z))
+zero_fine w (t.Class c l) d = (None, refl, (λ id z. absurd (none_some id z)), λ z. refl)
+zero_fine w (t.Grid x n l) d = (None, refl, (λ id z. absurd (none_some id z)), λ z. refl)
 zero_fine w t.Null d = refl
 zero_fine w t.Void d = tt
 
@@ -749,7 +760,8 @@ selected w env g at a name (t.Class c l) r h k =
     to_type w env (e.Select at a name) (read_through l q.0) r q.2 (record {
       sound = sound_then p (λ u h. IsOf u (t.Class c l) h) _ w (eval env a) _ k.sound (λ u i h y.
           subst (λ m. Sound p (λ u h. IsOf u (read_through l q.0) h) u (fetched at (type_of env (e.Select at a name)) (Field h (type_of env a) m))) (sym number)
-          (weaker p _ _ u _ (field_fine p u at _ (type_of env a) h f.0 c q.0 (object_of u c l h y) f.2) (λ x j z o. read_of x l q.0 z o)));
+          (subst (λ o. Sound p (λ u h. IsOf u (read_through l q.0) h) u (fetched at (type_of env (e.Select at a name)) (Field h o f.0))) (sym k.seen)
+          (field_fine p u at _ (t.Class c l) h f.0 c q.0 (object_of u c l h y) (own_of u (t.Class c l) h y) f.2)));
       dims = read_dims l q.0 (g c f.0 q.0 f.2);
       seen = subst (λ y. Seen (read_through l q.0) y) (sym (ap (field_seen p name) k.seen ∙ ap (λ o. option_map_or (read_through l) o t.Void) q.1)) (seen_same (read_through l q.0));
     })
@@ -781,7 +793,7 @@ module _ (uses : VariableUse → Bool) (s : ScopeContents) where
     eval_fine w env f g (e.This at) k type z =
         let q = mapped (λ c. t.Class c false) s.this_class type (no_call (plain (option_map (λ c. t.Class c false) s.this_class)) type z).1 in
         to_type w env (e.This at) (t.Class q.0 false) type q.2
-        (record { sound = sound_value env.program _ w _ (env.this, refl, f.this q.0 q.1); dims = tt; seen = ap (λ o. option_map_or (λ class. t.Class class false) o t.Void) (sym f.this_class ∙ q.1) })
+        (record { sound = sound_value env.program _ w _ (env.this, refl, f.this q.0 q.1, λ z. absurd (true_false (sym z))); dims = tt; seen = ap (λ o. option_map_or (λ class. t.Class class false) o t.Void) (sym f.this_class ∙ q.1) })
     eval_fine w env f g (e.Variable at x) k type z =
         let q = (no_call (plain (variable_type s x)) type z).1 in
         record { sound = sound_value env.program _ w _ (f.variables x type k q); dims = f.dims x type k q; seen = used_seen x.declared s x.number type q (λ d. f.points x type k d q) }
@@ -790,7 +802,9 @@ module _ (uses : VariableUse → Bool) (s : ScopeContents) where
         let q = mapped as_global (option_and_then (λ c. field_type p c field) s.this_class) type (no_call (plain (option_map as_global (option_and_then (λ c. field_type p c field) s.this_class))) type z).1 in
         let c = and_then (λ c. field_type p c field) s.this_class q.0 q.1 in
         to_type w env (e.OwnField at field) (as_global q.0) type q.2 (record {
-          sound = weaker p _ _ w _ (field_fine p w at _ _ (Plain (v.Obj env.this)) field c.0 q.0 (λ id y. f.this c.0 c.1 id y) c.2) (λ x i h j. read_of x false q.0 h j);
+          sound =
+              subst (λ b. Sound p (λ u h. IsOf u (read_through b q.0) h) w (eval env (e.OwnField at field))) (this_global (this_of env.method))
+              (field_fine p w at _ (type_of env (e.This at)) (Plain (v.Obj env.this)) field c.0 q.0 (λ id y. f.this c.0 c.1 id y) (λ z. absurd (true_false (sym z ∙ this_global (this_of env.method)))) c.2);
           dims = read_dims false q.0 (g c.0 field q.0 c.2);
           seen = subst (λ y. Seen (as_global q.0) y) (sym (ap (λ o. unwrap_or (option_map as_global (option_and_then (λ class. field_type p class field) o)) t.Void) (sym f.this_class ∙ c.1) ∙ ap (λ o. unwrap_or (option_map as_global o) t.Void) c.2)) (seen_same (as_global q.0));
         })
@@ -845,7 +859,8 @@ module _ (uses : VariableUse → Bool) (s : ScopeContents) where
         let c = where_some (casts to.type q.0) to.type type q.2 in
         to_type w env (e.Cast at to a) to.type type c.1 (record {
           sound = sound_then p (λ u h. IsOf u q.0 h) _ w (eval env a) _ (eval_fine w env f g a k.1 q.0 q.1).sound (λ u i h y.
-              sound_then p (λ u h. IsOf u to.type h) _ u (converted at to.type h) _ (cast_fine p u at to.type q.0 h c.0 y) (λ x j m o. sound_guarded p _ x _ _ at m o));
+              sound_then p (λ u h. IsOf u (as_global to.type) h) _ u (converted at to.type h) _ (cast_fine p u at to.type q.0 h c.0 y) (λ x j m o.
+              sound_tested p _ x _ _ at m (λ own. to_local x to.type m o (cast_own x env.number to.type m (sym j.owner ∙ sym i.owner ∙ f.owner) own))));
           dims = k.0;
           seen = seen_same to.type;
         })
@@ -863,7 +878,7 @@ module _ (uses : VariableUse → Bool) (s : ScopeContents) where
           sound = sound_then p (λ u h. IsOf u q.0 h) _ w (eval env a) _ r.sound (λ u i h y.
               sound_then p (λ u hs. AllOfTypes u q.1 hs) _ u (eval_all env args) _ (all_fine u env (env_stays uses s w u env i f) g args k.1 q.1 q.3) (λ x j hs o.
               subst (λ b. Sound p (λ u h. IsOf u type h) x (member at (type_of env (e.Member at a name args)) b (type_of env a) h hs)) (sym is)
-              (member_fine p x at (type_of env (e.Member at a name args)) (type_of env a) q.4 q.0 type q.1 h hs q.6 q.8 (of_stays u x q.0 h j y) o)));
+              (member_fine p x at (type_of env (e.Member at a name args)) (type_of env a) q.4 q.0 type q.1 h hs q.6 q.8 r.seen (of_stays u x q.0 h j y) o)));
           dims = (member_static q.4 q.0 (type_of env a) type q.1 q.6 q.8 r.dims r.seen).0;
           seen = subst (λ y. Seen type y) (sym (built_in_seen p name (type_of env a) (not_object q.0 (type_of env a) q.7 r.seen) ∙ ap (λ b. built_in_type b (type_of env a)) q.5)) (member_static q.4 q.0 (type_of env a) type q.1 q.6 q.8 r.dims r.seen).1;
         }

@@ -18,12 +18,19 @@ use Rattle.ti_align.proofs.Possible.{never}
 use Rattle.ti_align.specs.Literals.{LiteralsFit}
 use Rattle.ti_align.specs.Typed.{RunTyped}
 use Rattle.ti_align.specs.Formed.{ActionsFormed}
+use Rattle.ti_align.specs.Slice.{SliceTells}
+use Rattle.ti_align.specs.Departing.{DeparturesFit}
+use Rattle.ti_align.specs.Names.{RunNamesFit}
+use Rattle.ti_align.proofs.Telling as telling
+use Rattle.ti_align.proofs.Ranged as ranged
 use Rattle.ti_align.proofs.Formed as formed
 use Rattle.ti_align.proofs.Aligning as aligning
 use Rattle.ti_align.proofs.Rounds.{same_departures}
 use Rattle.ti_align.proofs.Programs.{checked_fits}
 use Rattle.ti_align.proofs.Holding as holding
 use Rattle.ti_align.proofs.Stopping as stopping
+use Rattle.ti_align.proofs.Departed.{departure_fits}
+use Rattle.ti_align.proofs.Departed as departed
 use Rattle.ti_align.proofs.Checked.{checked_fine}
 
 pub arrivals_agree : (p : NumberedProgram) → IsChecked p → OfEveryRun ArrivalsAgree p
@@ -61,3 +68,17 @@ none_impossible p c l procs fuel es a b d e w i q at x within v n r k o =
 pub actions_formed : (p : NumberedProgram) → IsChecked p → LiteralsFit p → OfEveryRun ActionsFormed p
 actions_formed p c l procs fuel es a b d e w =
     formed.actions_formed (record { program = p; procs = procs; fuel = fuel }) es (checked_fits p c l).storable (run_typed p c l procs fuel es a b d e w)
+
+pub slice_tells : (p : NumberedProgram) → IsChecked p → LiteralsFit p → OfEveryRun SliceTells p
+slice_tells p c l procs fuel es a b d e w =
+    let s : Setting = record { program = p; procs = procs; fuel = fuel } in
+    let agree : (ds : List Entry) → IsRun s ds → ArrivalsAgree s ds = λ ds r. arrivals_agree p c procs fuel ds a b d e r in
+    telling.tells s (checked_fine p c) (λ i ds r k. departure_fits s (checked_fits p c l) (checked_fine p c) b e agree ds r i k) es w
+
+pub names_fit : (p : NumberedProgram) → IsChecked p → LiteralsFit p → OfEveryRun RunNamesFit p
+names_fit p c l procs fuel es a b d e w =
+    ranged.names_fit (record { program = p; procs = procs; fuel = fuel }) es w b e (λ ds r. run_typed p c l procs fuel ds a b d e r)
+
+pub departures_fit : (p : NumberedProgram) → IsChecked p → LiteralsFit p → OfEveryRun DeparturesFit p
+departures_fit p c l procs fuel es a b d e w =
+    departed.departures_fit (record { program = p; procs = procs; fuel = fuel }) (checked_fits p c l) (checked_fine p c) b e (λ ds r. arrivals_agree p c procs fuel ds a b d e r) es w

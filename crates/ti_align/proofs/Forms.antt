@@ -442,7 +442,7 @@ suits_is (Restrict s) n r k d = eq-eqb s.dim r.dim (k.dim_is ∙ sym d.0)
 suits_is (Translate by) n r k d = eq-eqb by.dim r.dim (k.dim_is ∙ sym d.0)
 suits_is (Slice c j) n r k d = lt-ltb 1 r.dim (subst (λ m. 1 < m) (sym d.0) k.0)
 
-is_view : (how : ViewHow) (n : ℕ) → SuitsView how n → IsView how
+pub is_view : (how : ViewHow) (n : ℕ) → SuitsView how n → IsView how
 is_view (Restrict s) n k = k.form
 is_view (Translate by) n k = k.form
 is_view (Slice c j) n k = tt

@@ -22,23 +22,13 @@ use Rattle.ti_align.specs.Heap.{FieldsStorable}
 use Rattle.ti_lang.specs.Meaning.Performing.{performed}
 use Rattle.ti_lang.specs.Meaning.Scoping as scoping
 use Rattle.ti_align.proofs.Heaping.{dims_are}
+use Rattle.ti_align.proofs.Dimmed.{this_over, text_type}
 use Rattle.ti_align.proofs.Stated.{work_fine}
 use Rattle.ti_align.specs.Work.{VariablesFit, has_dims, may_use, uses_of, scope_over, MethodsFit, ThisFits, HasNumber, given_type, taken_type, WorksFit, MoveFits}
 use Rattle.ti_align.proofs.Vars.{true_false, and_left, and_right}
 use Rattle.ti_align.proofs.Operating.{none_some, some_same}
 use Rattle.ti_align.proofs.Evaluating.{mapped}
 use Rattle.ti_align.proofs.Storing.{found_fits}
-
-this_over : (p : NumberedProgram) (s : ScopeContents) (left : List Work) → (scope_over p s left).this_class ≡ s.this_class
-this_over p s [] = refl
-this_over p s (Behind (While at c u b) ∷ left) = this_over p s left
-this_over p s (Behind (Foreach at n d ps b) ∷ left) = this_over p s left
-this_over p s (Do x ∷ left) = this_over p s left
-this_over p s (End x ∷ left) = this_over p s left
-this_over p s (Before l ∷ left) = this_over p s left
-this_over p s (Receive r h ∷ left) = this_over p s left
-this_over p s (CopyAll at x y ps ∷ left) = this_over p s left
-this_over p s (TakeAll at g is ∷ left) = this_over p s left
 
 -- ---- dimensions
 
@@ -111,9 +101,10 @@ module _ (p : NumberedProgram) (m : NumberedMethod) (base : ScopeContents) (w : 
       by (inr z) k = (n, ap (λ (v : ScopeVariable). v.type) (sym z.1), f.0.0.0.1.2, subst (IsOf w (t.Pt n)) (sym (ap (λ b. if b then Plain (val.Pt q) else point_at number (turns_at left)) z.0)) (q, refl, f.0.0.0.2.0))
 
 -- where the first piece of work of a frame is performed
-frame_env : (pr : Process) (f : Frame) (left : List Work) (w : Things) → HasNumber pr → VariablesFit w f.variables → ThisFits w f.method f.this → WorksFit pr.setting.program f.method (method_scope f.method) w left
+frame_env : (pr : Process) (f : Frame) (left : List Work) (w : Things) → w.owner ≡ pr.number → HasNumber pr → VariablesFit w f.variables → ThisFits w f.method f.this → WorksFit pr.setting.program f.method (method_scope f.method) w left
     → EnvFits (uses_of f.method) (scope_over pr.setting.program (method_scope f.method) left) w (env_of pr f left)
-frame_env pr f left w n vs this k = record {
+frame_env pr f left w own n vs this k = record {
+  owner = own;
   number = n.0;
   procs = n.1;
   this_class = this_over p (method_scope m) left;
@@ -154,8 +145,8 @@ frame_env pr f left w n vs this k = record {
     point_fits t.Foreach number type u d z = let k = stands number type u z in (k.0, k.1)
 
 -- the first piece of work of a frame comes to a move that fits
-pub frame_fine : (pr : Process) (f : Frame) (left : List Work) (w : Things) (x : Work) → HasNumber pr → VariablesFit w f.variables → ThisFits w f.method f.this → FieldsFit pr.setting.program → FieldsStorable pr.setting.program → MethodsFit pr.setting.program pr.setting.program.methods
+pub frame_fine : (pr : Process) (f : Frame) (left : List Work) (w : Things) (x : Work) → w.owner ≡ pr.number → HasNumber pr → VariablesFit w f.variables → ThisFits w f.method f.this → FieldsFit pr.setting.program → FieldsStorable pr.setting.program → MethodsFit pr.setting.program pr.setting.program.methods
     → WorksFit pr.setting.program f.method (method_scope f.method) w (x ∷ left)
     → Sound pr.setting.program (λ u move. MoveFits pr.setting.program f.method (given_type pr.setting.program (scope_over pr.setting.program (method_scope f.method) left) x) (taken_type x) (scope_over pr.setting.program (method_scope f.method) left) u move) w (performed (env_of pr f left) x)
-frame_fine pr f left w x n vs this g d ms k =
-    work_fine (scope_over pr.setting.program (method_scope f.method) left) (env_of pr f left) w (record { fits = frame_env pr f left w n vs this k.1; variables = vs; fields = g; store = d; methods = ms }) x k.0
+frame_fine pr f left w x own n vs this g d ms k =
+    work_fine (scope_over pr.setting.program (method_scope f.method) left) (env_of pr f left) w (record { fits = frame_env pr f left w own n vs this k.1; variables = vs; fields = g; store = d; methods = ms; types = λ y type l z. text_type pr.setting.program f.method w left k.1 y type l z }) x k.0

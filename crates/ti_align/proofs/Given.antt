@@ -33,7 +33,7 @@ use Rattle.ti_lang.specs.Meaning.Moves.{Move, Goes, Turns, Breaks, Continues, Ca
 use Rattle.ti_lang.specs.Meaning.Statements.{made_first, valued_or_called, initialized, member_alone, alone, printed, one_more, declared_as, maybe_do, returns, statement}
 use Rattle.ti_lang.specs.Meaning.Performing.{condition, performed}
 use Rattle.ti_lang.specs.Meaning.Jumps.{has_mark, from_mark, past_mark}
-use Rattle.ti_lang.specs.Meaning.Steps.{Step, To, At, Ends, Faults, ticks, valued, handed, most_frames, value_asked, moves, works, runs, steps, step}
+use Rattle.ti_lang.specs.Meaning.Steps.{Step, To, At, Ends, Faults, ticks, valued, handed, most_frames, named_in, value_asked, moves, works, runs, steps, step}
 use Rattle.ti_lang.specs.Meaning.RoundsOf.{value_in}
 use Rattle.ti_lang.specs.Meaning.Histories.{is_arrival}
 use Rattle.ti_lang.proofs.MeaningLaws.Falling.{Giving, then_giving, guarded_giving}
@@ -57,34 +57,37 @@ ArrivalFine procs i coll.Exchange arg given = HasValue given
 ArrivalFine procs i coll.DeleteRegion arg given = (region : ℕ) × (arg ≡ Some region)
 ArrivalFine procs i kind arg given = Unit {0}
 
--- ---- work without takes
+-- ---- work that holds nothing
 
-abbrev pub NoTakes : List Work → Type 0
-NoTakes [] = Unit {0}
-NoTakes (TakeAll at grid procs ∷ ws) = ⊥
-NoTakes (w ∷ ws) = NoTakes ws
+-- no work holds a value on its way, or names a grid
+abbrev pub HoldsNothing : List Work → Type 0
+HoldsNothing [] = Unit {0}
+HoldsNothing (Receive receiver h ∷ ws) = ⊥
+HoldsNothing (CopyAll at to from points ∷ ws) = ⊥
+HoldsNothing (TakeAll at grid procs ∷ ws) = ⊥
+HoldsNothing (w ∷ ws) = HoldsNothing ws
 
 abbrev pub Below : ℕ → List ℕ → Type 0
 Below n [] = Unit {0}
 Below n (i ∷ is) = (i < n) × Below n is
 
--- takes stand first alone, where the last arrival was at an exchange
+-- what holds something stands first alone, and takes do where the last arrival was at an exchange
 abbrev pub LeftFine : ℕ → Option CollKind → List Work → Type 0
 LeftFine procs last [] = Unit {0}
-LeftFine procs last (TakeAll at grid is ∷ ws) = (last ≡ Some coll.Exchange) × Below procs is × NoTakes ws
-LeftFine procs last (w ∷ ws) = NoTakes ws
+LeftFine procs last (TakeAll at grid is ∷ ws) = (last ≡ Some coll.Exchange) × Below procs is × HoldsNothing ws
+LeftFine procs last (w ∷ ws) = HoldsNothing ws
 
-free_fine : (procs : ℕ) (last : Option CollKind) (ws : List Work) → NoTakes ws → LeftFine procs last ws
+free_fine : (procs : ℕ) (last : Option CollKind) (ws : List Work) → HoldsNothing ws → LeftFine procs last ws
 free_fine procs last [] n = tt
 free_fine procs last (TakeAll at grid is ∷ ws) n = absurd n
 free_fine procs last (Do x ∷ ws) n = n
 free_fine procs last (End x ∷ ws) n = n
 free_fine procs last (Before loop ∷ ws) n = n
 free_fine procs last (Behind loop ∷ ws) n = n
-free_fine procs last (Receive r h ∷ ws) n = n
-free_fine procs last (CopyAll at to from points ∷ ws) n = n
+free_fine procs last (Receive r h ∷ ws) n = absurd n
+free_fine procs last (CopyAll at to from points ∷ ws) n = absurd n
 
-pub tail_free : (procs : ℕ) (last : Option CollKind) (w : Work) (ws : List Work) → LeftFine procs last (w ∷ ws) → NoTakes ws
+pub tail_free : (procs : ℕ) (last : Option CollKind) (w : Work) (ws : List Work) → LeftFine procs last (w ∷ ws) → HoldsNothing ws
 tail_free procs last (TakeAll at grid is) ws n = n.2
 tail_free procs last (Do x) ws n = n
 tail_free procs last (End x) ws n = n
@@ -93,17 +96,17 @@ tail_free procs last (Behind loop) ws n = n
 tail_free procs last (Receive r h) ws n = n
 tail_free procs last (CopyAll at to from points) ws n = n
 
-pub free_both : (xs ys : List Work) → NoTakes xs → NoTakes ys → NoTakes (xs ++ ys)
+pub free_both : (xs ys : List Work) → HoldsNothing xs → HoldsNothing ys → HoldsNothing (xs ++ ys)
 free_both [] ys n m = m
 free_both (TakeAll at grid is ∷ ws) ys n m = absurd n
 free_both (Do x ∷ ws) ys n m = free_both ws ys n m
 free_both (End x ∷ ws) ys n m = free_both ws ys n m
 free_both (Before loop ∷ ws) ys n m = free_both ws ys n m
 free_both (Behind loop ∷ ws) ys n m = free_both ws ys n m
-free_both (Receive r h ∷ ws) ys n m = free_both ws ys n m
-free_both (CopyAll at to from points ∷ ws) ys n m = free_both ws ys n m
+free_both (Receive r h ∷ ws) ys n m = absurd n
+free_both (CopyAll at to from points ∷ ws) ys n m = absurd n
 
-fine_both : (procs : ℕ) (last : Option CollKind) (xs ys : List Work) → LeftFine procs last xs → NoTakes ys → LeftFine procs last (xs ++ ys)
+fine_both : (procs : ℕ) (last : Option CollKind) (xs ys : List Work) → LeftFine procs last xs → HoldsNothing ys → LeftFine procs last (xs ++ ys)
 fine_both procs last [] ys n m = free_fine procs last ys m
 fine_both procs last (TakeAll at grid is ∷ ws) ys n m = (n.0, n.1, free_both ws ys n.2 m)
 fine_both procs last (Do x ∷ ws) ys n m = free_both ws ys n m
@@ -113,38 +116,42 @@ fine_both procs last (Behind loop ∷ ws) ys n m = free_both ws ys n m
 fine_both procs last (Receive r h ∷ ws) ys n m = free_both ws ys n m
 fine_both procs last (CopyAll at to from points ∷ ws) ys n m = free_both ws ys n m
 
-free_before : (xs : NumberedStms) (ws : List Work) → NoTakes ws → NoTakes (all_before xs ws)
+free_before : (xs : NumberedStms) (ws : List Work) → HoldsNothing ws → HoldsNothing (all_before xs ws)
 free_before Nil ws n = n
 free_before (Cons x xs) ws n = free_before xs ws n
 
-pub free_mark : (ws : List Work) → NoTakes ws → NoTakes (from_mark ws)
+pub free_mark : (ws : List Work) → HoldsNothing ws → HoldsNothing (from_mark ws)
 free_mark [] n = tt
 free_mark (TakeAll at grid is ∷ ws) n = absurd n
 free_mark (Do x ∷ ws) n = free_mark ws n
 free_mark (End x ∷ ws) n = free_mark ws n
 free_mark (Before loop ∷ ws) n = free_mark ws n
 free_mark (Behind loop ∷ ws) n = n
-free_mark (Receive r h ∷ ws) n = free_mark ws n
-free_mark (CopyAll at to from points ∷ ws) n = free_mark ws n
+free_mark (Receive r h ∷ ws) n = absurd n
+free_mark (CopyAll at to from points ∷ ws) n = absurd n
 
-pub free_past : (ws : List Work) → NoTakes ws → NoTakes (past_mark ws)
+pub free_past : (ws : List Work) → HoldsNothing ws → HoldsNothing (past_mark ws)
 free_past [] n = tt
 free_past (TakeAll at grid is ∷ ws) n = absurd n
 free_past (Do x ∷ ws) n = free_past ws n
 free_past (End x ∷ ws) n = free_past ws n
 free_past (Before loop ∷ ws) n = free_past ws n
 free_past (Behind loop ∷ ws) n = n
-free_past (Receive r h ∷ ws) n = free_past ws n
-free_past (CopyAll at to from points ∷ ws) n = free_past ws n
+free_past (Receive r h ∷ ws) n = absurd n
+free_past (CopyAll at to from points ∷ ws) n = absurd n
 
 -- ---- moves
+
+-- an exchange, whose departure gives nothing
+abbrev pub IsExchange : Wait → Type 0
+IsExchange wait = (wait.wanted ≡ ToBeDone) × (wait.kind ≡ coll.Exchange)
 
 -- what a move of process i among so many says, whose last arrival was of this kind
 abbrev pub MoveFine : ℕ → ℕ → Option CollKind → Move → Type 0
 MoveFine procs i last (Goes vs ws) = LeftFine procs last ws
 MoveFine procs i last (Turns at vs ws) = LeftFine procs last ws
 MoveFine procs i last (Meets wait given behind) =
-    ArrivalFine procs i wait.kind wait.arg given × LeftFine procs (Some wait.kind) behind × (NoTakes behind ⊎ (wait.wanted ≡ ToBeDone))
+    ArrivalFine procs i wait.kind wait.arg given × LeftFine procs (Some wait.kind) behind × (HoldsNothing behind ⊎ IsExchange wait) × (wait.kind ≡ coll.DeleteRegion → ⊥)
 MoveFine procs i last m = Unit {0}
 
 all_below : (i k n : ℕ) → i + k ≡ n → Below n (counted i k)
@@ -194,11 +201,11 @@ module _ (env : Env) (last : Option CollKind) where
       then_giving (MoveFine env.procs env.number last) (eval env p rest) _ (λ h u.
       giving_followed (λ root. root < env.procs) (MoveFine env.procs env.number last) (root_among env.procs at h u) _ (root_in env.procs at h u) (λ root w l.
       giving_followed (λ d. env.number ≡ root → HasValue d) (MoveFine env.procs env.number last) (root_deposit env root x w) _ (root_gives env root x w) (λ given z k.
-      ((root, refl, l, k), tt, inl tt))))
+      ((root, refl, l, k), tt, inl tt, λ e. cc))))
 
   exchange_meets : (at : Place) (value : Value) (grid : Reference)
       → MoveFine env.procs env.number last (Meets (record { place = at; kind = coll.Exchange; arg = None; wanted = ToBeDone; receiver = Nowhere }) (deposit.One value) (TakeAll at grid (counted 0 env.procs) ∷ []))
-  exchange_meets at value grid = ((value, refl), (refl, all_below 0 env.procs env.procs (none env.procs), tt), inr refl)
+  exchange_meets at value grid = ((value, refl), (refl, all_below 0 env.procs env.procs (none env.procs), tt), inr (refl, refl), λ e. cc)
     where
       none : (n : ℕ) → 0 + n ≡ n
       none n = omega arith
@@ -208,7 +215,7 @@ module _ (env : Env) (last : Option CollKind) where
 
   initialized_fine : (r : Receiver) (value : NumberedInit) (rest : List Answer) → Giving (MoveFine env.procs env.number last) (initialized env r value rest)
   initialized_fine r (s.Value x) rest = value_fine r x (called env x) rest
-  initialized_fine r (s.NewRegion at) rest = (tt, tt, inl tt)
+  initialized_fine r (s.NewRegion at) rest = (tt, tt, inl tt, λ e. cc)
   initialized_fine r (s.NewObject at region class) rest = made_fine r (new_object env at region class) rest
   initialized_fine r (s.NewGrid at region element dims_at dims) rest = made_fine r (new_grid env at region element.type dims_at dims) rest
   initialized_fine r (s.Broadcast at x root) rest = broadcasts_fine r at x root rest
@@ -243,7 +250,7 @@ module _ (env : Env) (last : Option CollKind) where
   chosen true x = tt
   chosen false x = tt
 
-  maybe_free : (x : MaybeNumbered) (ws : List Work) → NoTakes ws → LeftFine env.procs last (maybe_do x ++ ws)
+  maybe_free : (x : MaybeNumbered) (ws : List Work) → HoldsNothing ws → LeftFine env.procs last (maybe_do x ++ ws)
   maybe_free NoStm ws n = free_fine env.procs last ws n
   maybe_free (SomeStm x) ws n = n
 
@@ -255,7 +262,7 @@ module _ (env : Env) (last : Option CollKind) where
   statement_fine (s.Step at op target) rest = initialized_fine (Updated at (one_more op) target) (s.Value (e.Int at (pos 1))) rest
   statement_fine (s.Call x) rest = alone_fine x (called env x) rest
   statement_fine (s.Print at what) rest = prints_fine at what rest
-  statement_fine (s.Barrier at) rest = (tt, tt, inl tt)
+  statement_fine (s.Barrier at) rest = (tt, tt, inl tt, λ e. cc)
   statement_fine (s.Block body) rest = free_fine env.procs last (all_before body (End (s.Block body) ∷ [])) (free_before body (End (s.Block body) ∷ []) tt)
   statement_fine (s.If at c x) rest = then_giving (MoveFine env.procs env.number last) (eval env c rest) _ (λ h u. chosen (truth_of h) x)
   statement_fine (s.IfElse at c x y) rest = then_giving (MoveFine env.procs env.number last) (eval env c rest) _ (λ h u. tt)
@@ -333,7 +340,7 @@ first_taken procs last (CopyAll at to from points) ws n = tt
 
 abbrev pub AllFree : List Frame → Type 0
 AllFree [] = Unit {0}
-AllFree (f ∷ fs) = NoTakes f.left × AllFree fs
+AllFree (f ∷ fs) = HoldsNothing f.left × AllFree fs
 
 abbrev pub TopFine : ℕ → Option CollKind → List Frame → Type 0
 TopFine procs last [] = Unit {0}
@@ -341,15 +348,19 @@ TopFine procs last (f ∷ fs) = LeftFine procs last f.left × AllFree fs
 
 abbrev pub WaitFine : ℕ → Option CollKind → Option Wait → List Frame → Type 0
 WaitFine procs last None fs = TopFine procs last fs
-WaitFine procs last (Some w) fs = TopFine procs last fs × (AllFree fs ⊎ (w.wanted ≡ ToBeDone))
+WaitFine procs last (Some w) fs = TopFine procs last fs × (AllFree fs ⊎ IsExchange w)
 
 -- a process of this setting and number, whose last arrival was of this kind
 abbrev pub Stands : Setting → ℕ → Option CollKind → Process → Type 0
 Stands s i last q = (q.setting ≡ s) × (q.number ≡ i) × WaitFine s.procs last q.wait q.frames
 
+-- at a delete these frames are counted
+abbrev pub Counts : CollKind → Option ℕ → Deposit → List Frame → Type 0
+Counts kind arg given fs = kind ≡ coll.DeleteRegion → (region : ℕ) × (arg ≡ Some region) × (given ≡ deposit.Count (named_in region fs))
+
 -- what an action says
 abbrev pub ActsFine : Setting → ℕ → Option CollKind → Action → (Answer → Process) → Type 0
-ActsFine s i last (act.Arrive kind arg given) go = ArrivalFine s.procs i kind arg given × ((r : Answer) → Stands s i (Some kind) (go r))
+ActsFine s i last (act.Arrive kind arg given) go = ArrivalFine s.procs i kind arg given × ((r : Answer) → Stands s i (Some kind) (go r)) × ((r : Answer) → Counts kind arg given (go r).frames)
 ActsFine s i last (act.Take who) go = Takable s.procs last who × ((r : Answer) → Stands s i last (go r))
 ActsFine s i last a go = (r : Answer) → Stands s i last (go r)
 
@@ -379,12 +390,12 @@ free_top : (procs : ℕ) (last : Option CollKind) (fs : List Frame) → AllFree 
 free_top procs last [] a = tt
 free_top procs last (f ∷ fs) a = (free_fine procs last f.left a.0, a.1)
 
-handed_free : (r : Receiver) (v : Option Held) (fs : List Frame) → AllFree fs → AllFree (handed r v fs)
-handed_free r None fs a = a
-handed_free r (Some h) [] a = tt
-handed_free r (Some h) (f ∷ fs) a = (a.0, a.1)
+handed_top : (procs : ℕ) (last : Option CollKind) (r : Receiver) (v : Option Held) (fs : List Frame) → AllFree fs → TopFine procs last (handed r v fs)
+handed_top procs last r None fs a = free_top procs last fs a
+handed_top procs last r (Some h) [] a = tt
+handed_top procs last r (Some h) (f ∷ fs) a = (a.0, a.1)
 
-moves_fine : (q : Process) (last : Option CollKind) (f : Frame) (fs : List Frame) (left : List Work) (mv : Move) → NoTakes left → AllFree fs → MoveFine q.setting.procs q.number last mv → StepFine q.setting q.number last (moves q f fs left mv)
+moves_fine : (q : Process) (last : Option CollKind) (f : Frame) (fs : List Frame) (left : List Work) (mv : Move) → HoldsNothing left → AllFree fs → MoveFine q.setting.procs q.number last mv → StepFine q.setting q.number last (moves q f fs left mv)
 moves_fine q last f fs left (Goes vs ws) n a m = (refl, refl, (fine_both q.setting.procs last ws left m n, a))
 moves_fine q last f fs left (Turns at vs ws) n a m = ticks_fine q.setting q.number last q at _ (refl, refl, (fine_both q.setting.procs last ws left m n, a))
 moves_fine q last f fs left Breaks n a m =
@@ -394,15 +405,15 @@ moves_fine q last f fs left Continues n a m =
 moves_fine q last f fs left (Calls at c this ps r) n a m =
     ticks_fine q.setting q.number last q at _ (if_fine q.setting q.number last (nat_lt (length (f ∷ fs)) most_frames) _ (Faults Depth at)
     (refl, refl, (free_fine q.setting.procs last (all_before (numbered_stms c.body) []) (free_before (numbered_stms c.body) [] tt), (n, a))) tt)
-moves_fine q last f fs left (Returns v) n a m = (refl, refl, free_top q.setting.procs last (handed f.receiver v fs) (handed_free f.receiver v fs a))
+moves_fine q last f fs left (Returns v) n a m = (refl, refl, handed_top q.setting.procs last f.receiver v fs a)
 moves_fine q last f fs left (Meets wait given behind) n a m =
-    ticks_fine q.setting q.number last q wait.place _ (m.0, λ r. (refl, refl, ((fine_both q.setting.procs (Some wait.kind) behind left m.1 n, a), by m.2)))
+    ticks_fine q.setting q.number last q wait.place _ (m.0, (λ r. (refl, refl, ((fine_both q.setting.procs (Some wait.kind) behind left m.1 n, a), by m.2))), λ r z. absurd (m.3 z))
   where
-    by : NoTakes behind ⊎ (wait.wanted ≡ ToBeDone) → AllFree (record f { left = behind ++ left } ∷ fs) ⊎ (wait.wanted ≡ ToBeDone)
+    by : HoldsNothing behind ⊎ IsExchange wait → AllFree (record f { left = behind ++ left } ∷ fs) ⊎ IsExchange wait
     by (inl x) = inl (free_both behind left x n, a)
     by (inr x) = inr x
 moves_fine q last f fs left (Deletes at region) n a m =
-    ticks_fine q.setting q.number last q at _ ((region, refl), λ r. (refl, refl, ((free_fine q.setting.procs (Some coll.DeleteRegion) left n, a), inr refl)))
+    ticks_fine q.setting q.number last q at _ ((region, refl), (λ r. (refl, refl, ((free_fine q.setting.procs (Some coll.DeleteRegion) left n, a), inl (n, a)))), λ r z. (region, refl, refl))
 
 valued_fine : (q : Process) (last : Option CollKind) (g : Got Move) (go : Move → Step) → WaitFine q.setting.procs last q.wait q.frames → Of (λ (r : Request). OwnFine q.setting.procs last r.action) g
     → Giving (MoveFine q.setting.procs q.number last) g → ((mv : Move) → MoveFine q.setting.procs q.number last mv → StepFine q.setting q.number last (go mv)) → StepFine q.setting q.number last (valued q g go)
@@ -422,9 +433,9 @@ runs_fine : (q : Process) (last : Option CollKind) (fs : List Frame) → WaitFin
 runs_fine q last [] w t = tt
 runs_fine q last (f ∷ fs) w t = works_fine q last f fs f.left w t.0 t.1
 
-departs_top : (procs : ℕ) (last : Option CollKind) (w : Wait) (r : Answer) (fs : List Frame) → TopFine procs last fs → AllFree fs ⊎ (w.wanted ≡ ToBeDone) → TopFine procs last (handed w.receiver (value_asked w.wanted r) fs)
-departs_top procs last w r fs t (inl a) = free_top procs last (handed w.receiver (value_asked w.wanted r) fs) (handed_free w.receiver (value_asked w.wanted r) fs a)
-departs_top procs last w r fs t (inr k) = subst (λ x. TopFine procs last (handed w.receiver (value_asked x r) fs)) (sym k) t
+departs_top : (procs : ℕ) (last : Option CollKind) (w : Wait) (r : Answer) (fs : List Frame) → TopFine procs last fs → AllFree fs ⊎ IsExchange w → TopFine procs last (handed w.receiver (value_asked w.wanted r) fs)
+departs_top procs last w r fs t (inl a) = handed_top procs last w.receiver (value_asked w.wanted r) fs a
+departs_top procs last w r fs t (inr k) = subst (λ x. TopFine procs last (handed w.receiver (value_asked x r) fs)) (sym k.0) t
 
 steps_fine : (q : Process) (last : Option CollKind) (wait : Option Wait) → q.wait ≡ wait → WaitFine q.setting.procs last wait q.frames → StepFine q.setting q.number last (steps q wait)
 steps_fine q last None z w = runs_fine q last q.frames (subst (λ x. WaitFine q.setting.procs last x q.frames) (sym z) w) w

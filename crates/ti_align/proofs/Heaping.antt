@@ -19,7 +19,8 @@ use Rattle.ti_base.specs.declared.entry.Answer.{Answer}
 use Rattle.ti_base.specs.declared.entry.Answer.TheVariants.{Done, Val}
 use Rattle.ti_base.specs.declared.entry.Entry.{Entry}
 use Rattle.ti_base.specs.Points.{IsDim}
-use Rattle.ti_base.specs.Cells.{Cell, Field, Element, Grid, same_id, same_cell, zero_value, cell_of, whole_grid, view, view_fault}
+use Rattle.ti_base.specs.Cells.{Cell, Field, Element, thing_of, Grid, same_id, same_cell, zero_value, cell_of, whole_grid, view, view_fault}
+use Rattle.ti_base.proofs.DomainLaws.{same_from}
 use Rattle.ti_lang.specs.Program.Types.{ValueType}
 use Rattle.ti_lang.specs.Program.Types as t
 use Rattle.ti_lang.specs.Program.Classes.{NumberedField, NumberedClass, NumberedProgram}
@@ -60,11 +61,11 @@ same_self a =
     (ap₂ (λ x y. x && y) (ap₂ (λ x y. x && y) (eq-eqb a.maker a.maker refl) (eq-eqb a.serial a.serial refl)) (eq-eqb a.owner a.owner refl))
     (eq-eqb a.region a.region refl)
 
-object_is : (id : Id) (r : Answer) → is_object id r ≡ true → r ≡ Val (v.Obj (Some id))
+pub object_is : (id : Id) (r : Answer) → is_object id r ≡ true → r ≡ Val (v.Obj (Some id))
 object_is id (Val (v.Obj (Some made))) h = ap (λ x. Val (v.Obj (Some x))) (sym (id_same id made h))
 object_is id _ h = absurd (true_false (sym h))
 
-grid_is : (id : Id) (r : Answer) → is_grid id r ≡ true → r ≡ Val (v.Grid (Some id))
+pub grid_is : (id : Id) (r : Answer) → is_grid id r ≡ true → r ≡ Val (v.Grid (Some id))
 grid_is id (Val (v.Grid (Some made))) h = ap (λ x. Val (v.Grid (Some x))) (sym (id_same id made h))
 grid_is id _ h = absurd (true_false (sym h))
 
@@ -113,8 +114,8 @@ zero_of_storable w t.Long s = (_, refl, long_zero)
 zero_of_storable w t.Boolean s = (_, refl)
 zero_of_storable w (t.Pt n) s = (_, refl, origin_point n s)
 zero_of_storable w (t.Rc n) s = (_, refl, empty_form n s)
-zero_of_storable w (t.Class c l) s = (None, refl, λ id z. absurd (none_some id z))
-zero_of_storable w (t.Grid x n l) s = (None, refl, λ id z. absurd (none_some id z))
+zero_of_storable w (t.Class c l) s = (None, refl, (λ id z. absurd (none_some id z)), λ z. refl)
+zero_of_storable w (t.Grid x n l) s = (None, refl, (λ id z. absurd (none_some id z)), λ z. refl)
 zero_of_storable w (t.Dm n) s = absurd s
 zero_of_storable w t.Region s = absurd s
 zero_of_storable w t.Null s = absurd s
@@ -143,7 +144,7 @@ field_zero p c field type h = by (slice_get p.classes c) refl h
 -- ---- cells
 
 -- what a cell holds that has a zero
-abbrev held_in : Option Value → Value → Value
+abbrev pub held_in : Option Value → Value → Value
 held_in o first = option_map_or (λ value. value) o first
 
 field_same : (p : NumberedProgram) (w : Things) (obj : Id) (field : ℕ) (s t : ValueType) → IsFieldOf p w obj field s → IsFieldOf p w obj field t → s ≡ t
@@ -158,8 +159,12 @@ grid_same w id s t m n a b =
     let g = some_same a.0 b.0 (sym a.1 ∙ b.1) in
     (some_same s t (sym a.3 ∙ ap (λ (x : Grid). w.element_at x.block) g ∙ b.3), sym a.2.dim_is ∙ ap (λ (x : Grid). x.domain.dim) g ∙ b.2.dim_is)
 
+-- the cell may hold the value in the memory in which it lies
+abbrev HoldsIn : NumberedProgram → Elements → History → Cell → Value → Type 0
+HoldsIn p elements h cell value = MayHold p (things_of (thing_of cell).owner elements h) cell value
+
 module _ (p : NumberedProgram) (elements : Elements) (h : History) (fits : HeapFits p elements h) (store : FieldsStorable p) where
-  pub field_value : (obj : Id) (field : ℕ) (type : ValueType) → IsFieldOf p (things_of elements h) obj field type → (x : Value) × (cell_value p (Field obj field) h ≡ Some x) × IsOf (things_of elements h) type (Plain x)
+  pub field_value : (obj : Id) (field : ℕ) (type : ValueType) → IsFieldOf p (things_of obj.owner elements h) obj field type → (x : Value) × (cell_value p (Field obj field) h ≡ Some x) × IsOf (things_of obj.owner elements h) type (Plain x)
   field_value obj field type k =
       let z = field_zero p k.0 field type k.2 in
       let at : zero_of p (Field obj field) h ≡ Some (zero_value (zero_of_type type)) =
@@ -167,26 +172,32 @@ module _ (p : NumberedProgram) (elements : Elements) (h : History) (fits : HeapF
       ∙ ap (option_and_then (λ zeros. option_map zero_value (slice_get zeros field))) z.1 ∙ ap (option_map zero_value) z.2 in
       (held_in (last_written (Field obj field) h) (zero_value (zero_of_type type)), ap (option_map (held_in (last_written (Field obj field) h))) at, by (last_written (Field obj field) h) refl)
     where
-      by : (o : Option Value) → last_written (Field obj field) h ≡ o → IsOf (things_of elements h) type (Plain (held_in o (zero_value (zero_of_type type))))
+      by : (o : Option Value) → last_written (Field obj field) h ≡ o → IsOf (things_of obj.owner elements h) type (Plain (held_in o (zero_value (zero_of_type type))))
       by None q = zero_of_storable _ type (store k.0 field type k.2)
       by (Some x) q =
           let m = fits.cells (Field obj field) x q in
-          subst (λ t. IsOf (things_of elements h) t (Plain x)) (field_same p (things_of elements h) obj field m.0 type m.1 k) m.2
+          subst (λ t. IsOf (things_of obj.owner elements h) t (Plain x)) (field_same p (things_of obj.owner elements h) obj field m.0 type m.1 k) m.2
 
-  pub element_value : (element : ValueType) (n : ℕ) (id : Id) (at : Point) → (k : IsGridOf (things_of elements h) element n id) → (x : Value) × (cell_value p (cell_of k.0 at) h ≡ Some x) × IsOf (things_of elements h) element (Plain x)
-  element_value element n id at k =
-      let b = fits.blocks k.0.block element k.3 in
-      let zero : zero_of p (cell_of k.0 at) h ≡ Some (zero_value (zero_of_type element)) = ap (option_map (λ (g : Grid). zero_value g.zero)) b.1 ∙ ap (λ z. Some (zero_value z)) b.2 in
-      (held_in (last_written (cell_of k.0 at) h) (zero_value (zero_of_type element)), ap (option_map (held_in (last_written (cell_of k.0 at) h))) zero, by (last_written (cell_of k.0 at) h) refl)
+  -- an element of a block
+  pub block_value : (block : Id) (element : ValueType) (at : Point) → elements block ≡ Some element → (x : Value) × (cell_value p (Element block at) h ≡ Some x) × IsOf (things_of block.owner elements h) element (Plain x)
+  block_value block element at k =
+      let zero : zero_of p (Element block at) h ≡ Some (zero_value (zero_of_type element)) = ap (option_map (λ (g : Grid). zero_value g.zero)) is.1 ∙ ap (λ z. Some (zero_value z)) is.2 in
+      (held_in (last_written (Element block at) h) (zero_value (zero_of_type element)), ap (option_map (held_in (last_written (Element block at) h))) zero, by (last_written (Element block at) h) refl)
     where
-      by : (o : Option Value) → last_written (cell_of k.0 at) h ≡ o → IsOf (things_of elements h) element (Plain (held_in o (zero_value (zero_of_type element))))
-      by None q = zero_of_storable _ element b.3
-        where
-          b : IsBlock h k.0.block element
-          b = fits.blocks k.0.block element k.3
+      is : IsBlock h block element
+      is = fits.blocks block element k
+
+      by : (o : Option Value) → last_written (Element block at) h ≡ o → IsOf (things_of block.owner elements h) element (Plain (held_in o (zero_value (zero_of_type element))))
+      by None q = zero_of_storable _ element is.3
       by (Some x) q =
-          let m = fits.cells (cell_of k.0 at) x q in
-          subst (λ t. IsOf (things_of elements h) t (Plain x)) (some_same m.0 element (sym m.1 ∙ k.3)) m.2
+          let m = fits.cells (Element block at) x q in
+          subst (λ t. IsOf (things_of block.owner elements h) t (Plain x)) (some_same m.0 element (sym m.1 ∙ k)) m.2
+
+  -- of a grid, in the memory in which it lies
+  pub element_value : (element : ValueType) (n : ℕ) (id : Id) (at : Point) → (k : IsGridOf (things_of id.owner elements h) element n id) → (x : Value) × (cell_value p (cell_of k.0 at) h ≡ Some x) × IsOf (things_of id.owner elements h) element (Plain x)
+  element_value element n id at k =
+      let v = block_value k.0.block element (k.0.place at) k.3 in
+      (v.0, v.1, subst (λ n. IsOf (things_of n elements h) element (Plain v.0)) k.5 v.2)
 
 -- ---- what is possible
 
@@ -207,9 +218,9 @@ views_not (Some kind) o n z = cc
 some_not : {A : Type 0} → (o : Option A) (a : A) (go : A → Outcome) → o ≡ Some a → (go a ≡ Impossible → ⊥) → where_some o go ≡ Impossible → ⊥
 some_not o a go s n z = n (sym (ap (λ x. where_some x go) s) ∙ z)
 
-place_is : (elements : Elements) (h : History) (r : ℕ) → IsPlaced (things_of elements h) r → is_place r h ≡ true
-place_is elements h r (inl z) = ap (λ b. b || is_made r h) (eq-eqb r 0 z)
-place_is elements h r (inr z) = by (r == 0)
+place_is : (i : ℕ) (elements : Elements) (h : History) (r : ℕ) → IsPlaced (things_of i elements h) r → is_place r h ≡ true
+place_is i elements h r (inl z) = ap (λ b. b || is_made r h) (eq-eqb r 0 z)
+place_is i elements h r (inr z) = by (r == 0)
   where
     by : (b : Bool) → (b || is_made r h) ≡ true
     by true = refl
@@ -229,13 +240,13 @@ module _ (p : NumberedProgram) (elements : Elements) (h : History) (fits : HeapF
   makes_not : (a : Action) (made : Value) → makes p h i a made ≡ Impossible → ⊥
   makes_not a made z = faults_not _ fault.HeapFull _ (answer_not _) z
 
-  places_not : (r : ℕ) (o : Outcome) → IsPlaced (things_of elements h) r → (o ≡ Impossible → ⊥) → places r h o ≡ Impossible → ⊥
-  places_not r o k n z = possible_not _ _ (place_is elements h r k) (faults_not _ fault.RegionGone _ n) z
+  places_not : (r : ℕ) (o : Outcome) → IsPlaced (things_of i elements h) r → (o ≡ Impossible → ⊥) → places r h o ≡ Impossible → ⊥
+  places_not r o k n z = possible_not _ _ (place_is i elements h r k) (faults_not _ fault.RegionGone _ n) z
 
-  point_not : (element : ValueType) (n : ℕ) (id : Id) (at : Point) (o : Outcome) → (k : IsGridOf (things_of elements h) element n id) → IsPointOf n at → (o ≡ Impossible → ⊥) → at_point k.0 at o ≡ Impossible → ⊥
+  point_not : (element : ValueType) (n : ℕ) (id : Id) (at : Point) (o : Outcome) → (k : IsGridOf (things_of i elements h) element n id) → IsPointOf n at → (o ≡ Impossible → ⊥) → at_point k.0 at o ≡ Impossible → ⊥
   point_not element n id at o k d x z = possible_not _ _ (eq-eqb at.dim k.0.domain.dim (d.dim_is ∙ sym k.2.dim_is)) (faults_not _ fault.Bounds _ x) z
 
-  pub is_possible : (a : Action) (wanted : Wanted) → is_of_heap a ≡ true → IsThere p (things_of elements h) a wanted → heap_answer p h i a ≡ Impossible → ⊥
+  pub is_possible : (a : Action) (wanted : Wanted) → is_of_heap a ≡ true → IsThere p (things_of i elements h) a wanted → heap_answer p h i a ≡ Impossible → ⊥
   is_possible (act.GetField obj field) wanted t k z =
       let v = field_value p elements h fits store obj field k.0 k.1 in
       some_not (cell_value p (Field obj field) h) v.0 (λ x. Answers (Val x)) v.1 (answer_not _) z
@@ -263,49 +274,47 @@ module _ (p : NumberedProgram) (elements : Elements) (h : History) (fits : HeapF
 
 -- ---- what is kept
 
-id_cells : (p : NumberedProgram) (w : Things) (c o : Cell) (value : Value) → same_cell c o ≡ true → MayHold p w o value → MayHold p w c value
-id_cells p w (Field a f) (Field b g) value s k =
-    let x = id_same a b (and_left (same_id a b) (f == g) s) in
-    let y = eqb-true f g (and_right (same_id a b) (f == g) s) in
-    subst (λ i. MayHold p w (Field i f) value) (sym x) (subst (λ i. MayHold p w (Field b i) value) (sym y) k)
-id_cells p w (Element a q) (Element b r) value s k = subst (λ i. MayHold p w (Element i q) value) (sym (id_same a b (and_left (same_id a b) _ s))) k
-id_cells p w (Field a f) (Element b q) value s k = absurd (true_false (sym s))
-id_cells p w (Element a q) (Field b f) value s k = absurd (true_false (sym s))
+pub same_cells : (c o : Cell) → same_cell c o ≡ true → c ≡ o
+same_cells (Field a f) (Field b g) s = ap (λ i. Field i f) (id_same a b (and_left (same_id a b) (f == g) s)) ∙ ap (Field b) (eqb-true f g (and_right (same_id a b) (f == g) s))
+same_cells (Element a q) (Element b r) s = ap (λ i. Element i q) (id_same a b (and_left (same_id a b) _ s)) ∙ ap (Element b) (same_from q r (and_right (same_id a b) _ s))
+same_cells (Field a f) (Element b q) s = absurd (true_false (sym s))
+same_cells (Element a q) (Field b f) s = absurd (true_false (sym s))
 
 cell_stays : (p : NumberedProgram) (u w : Things) (c : Cell) (value : Value) → Grows u w → MayHold p u c value → MayHold p w c value
 cell_stays p u w (Field a f) value g k = (k.0, field_stays p u w a f k.0 g k.1, of_stays u w k.0 _ g k.2)
 cell_stays p u w (Element a q) value g k = (k.0, g.elements a k.0 k.1, of_stays u w k.0 _ g k.2)
 
-pair_first : (c d : Cell) (v x : Value) → ◌≡◌ {A = Option (Cell × Value)} (Some (c, v)) (Some (d, x)) → c ≡ d
+pub pair_first : (c d : Cell) (v x : Value) → ◌≡◌ {A = Option (Cell × Value)} (Some (c, v)) (Some (d, x)) → c ≡ d
 pair_first c d v x z = ap (λ (k : Cell × Value). k.0) (some_same (c, v) (d, x) z)
 
-pair_second : (c d : Cell) (v x : Value) → ◌≡◌ {A = Option (Cell × Value)} (Some (c, v)) (Some (d, x)) → v ≡ x
+pub pair_second : (c d : Cell) (v x : Value) → ◌≡◌ {A = Option (Cell × Value)} (Some (c, v)) (Some (d, x)) → v ≡ x
 pair_second c d v x z = ap (λ (k : Cell × Value). k.1) (some_same (c, v) (d, x) z)
 
 -- what an action that names what is there writes, the cell may hold
-may_write : (p : NumberedProgram) (elements : Elements) (h : History) (a : Action) (wanted : Wanted) → IsThere p (things_of elements h) a wanted → (c : Cell) (x : Value) → written_by a h ≡ Some (c, x) → MayHold p (things_of elements h) c x
-may_write p elements h (act.PutField obj field value) wanted k c x z =
-    subst (λ d. MayHold p (things_of elements h) d x) (pair_first _ _ _ _ z) (subst (λ y. MayHold p (things_of elements h) (Field obj field) y) (pair_second _ _ _ _ z) (k.0, k.1, k.2))
-may_write p elements h (act.PutElem grid at value) wanted k c x z =
+may_write : (p : NumberedProgram) (elements : Elements) (h : History) (i : ℕ) (a : Action) (wanted : Wanted) → IsThere p (things_of i elements h) a wanted → (c : Cell) (x : Value) → written_by a h ≡ Some (c, x) → HoldsIn p elements h c x
+may_write p elements h i (act.PutField obj field value) wanted k c x z =
+    subst (λ d. HoldsIn p elements h d x) (pair_first _ _ _ _ z) (subst (λ y. HoldsIn p elements h (Field obj field) y) (pair_second _ _ _ _ z) (k.0, k.1, k.2))
+may_write p elements h i (act.PutElem grid at value) wanted k c x z =
     let y = sym (ap (option_map (λ (g : Grid). (cell_of g at, value))) k.2.1) ∙ z in
-    subst (λ d. MayHold p (things_of elements h) d x) (pair_first _ _ _ _ y) (subst (λ y. MayHold p (things_of elements h) (cell_of k.2.0 at) y) (pair_second _ _ _ _ y) (k.0, k.2.3, k.4))
-may_write p elements h (act.GetField obj field) wanted k c x z = absurd (none_some (c, x) z)
-may_write p elements h (act.NewObj class region) wanted k c x z = absurd (none_some (c, x) z)
-may_write p elements h (act.NewGrid first domain region) wanted k c x z = absurd (none_some (c, x) z)
-may_write p elements h (act.GetElem grid at) wanted k c x z = absurd (none_some (c, x) z)
-may_write p elements h (act.MakeView grid how) wanted k c x z = absurd (none_some (c, x) z)
-may_write p elements h (act.DomainOf grid) wanted k c x z = absurd (none_some (c, x) z)
-may_write p elements h (act.Print literal value) wanted k c x z = absurd (none_some (c, x) z)
-may_write p elements h (act.Arrive kind arg given) wanted k c x z = absurd (none_some (c, x) z)
-may_write p elements h act.Depart wanted k c x z = absurd (none_some (c, x) z)
-may_write p elements h (act.Take who) wanted k c x z = absurd (none_some (c, x) z)
-may_write p elements h act.End wanted k c x z = absurd (none_some (c, x) z)
-may_write p elements h (act.Fault kind) wanted k c x z = absurd (none_some (c, x) z)
+    subst (λ d. HoldsIn p elements h d x) (pair_first _ _ _ _ y) (subst (λ y. HoldsIn p elements h (cell_of k.2.0 at) y) (pair_second _ _ _ _ y) (k.0, k.2.3, subst (λ n. IsOf (things_of n elements h) k.0 (Plain value)) (sym k.2.5) k.4))
+may_write p elements h i (act.GetField obj field) wanted k c x z = absurd (none_some (c, x) z)
+may_write p elements h i (act.NewObj class region) wanted k c x z = absurd (none_some (c, x) z)
+may_write p elements h i (act.NewGrid first domain region) wanted k c x z = absurd (none_some (c, x) z)
+may_write p elements h i (act.GetElem grid at) wanted k c x z = absurd (none_some (c, x) z)
+may_write p elements h i (act.MakeView grid how) wanted k c x z = absurd (none_some (c, x) z)
+may_write p elements h i (act.DomainOf grid) wanted k c x z = absurd (none_some (c, x) z)
+may_write p elements h i (act.Print literal value) wanted k c x z = absurd (none_some (c, x) z)
+may_write p elements h i (act.Arrive kind arg given) wanted k c x z = absurd (none_some (c, x) z)
+may_write p elements h i act.Depart wanted k c x z = absurd (none_some (c, x) z)
+may_write p elements h i (act.Take who) wanted k c x z = absurd (none_some (c, x) z)
+may_write p elements h i act.End wanted k c x z = absurd (none_some (c, x) z)
+may_write p elements h i (act.Fault kind) wanted k c x z = absurd (none_some (c, x) z)
 
 -- behind an entry that got its answer, where the blocks that are new have grids
 module _ (p : NumberedProgram) (h : History) (e : Entry) (a : IsAnswered p (e ∷ h)) (elements after : Elements) (more : (id : Id) (type : ValueType) → elements id ≡ Some type → after id ≡ Some type) where
-  grown_behind : Grows (things_of elements h) (things_of after (e ∷ h))
-  grown_behind = record {
+  grown_behind : (i : ℕ) → Grows (things_of i elements h) (things_of i after (e ∷ h))
+  grown_behind i = record {
+    owner = refl;
     classes = λ id c z. class_stays p h e id c a z;
     grids = λ id g z. grid_of_stays p h e id g a z;
     elements = more;
@@ -316,18 +325,18 @@ module _ (p : NumberedProgram) (h : History) (e : Entry) (a : IsAnswered p (e �
       by true y z = refl
       by false y z = z
 
-  kept_behind : HeapFits p elements h → ((c : Cell) (x : Value) → written_by e.act h ≡ Some (c, x) → MayHold p (things_of elements h) c x)
+  kept_behind : HeapFits p elements h → ((c : Cell) (x : Value) → written_by e.act h ≡ Some (c, x) → HoldsIn p elements h c x)
       → ((id : Id) (type : ValueType) → after id ≡ Some type → (elements id ≡ Some type) ⊎ IsBlock (e ∷ h) id type) → HeapFits p after (e ∷ h)
   kept_behind f w b = record {
-    cells = λ c x z. cell_stays p (things_of elements h) (things_of after (e ∷ h)) c x grown_behind (old c x (written_by e.act h) refl z);
+    cells = λ c x z. cell_stays p (things_of (thing_of c).owner elements h) (things_of (thing_of c).owner after (e ∷ h)) c x (grown_behind (thing_of c).owner) (old c x (written_by e.act h) refl z);
     blocks = λ id type z. block id type (b id type z);
   }
     where
-      hit : (c o : Cell) (x value : Value) (b : Bool) → same_cell c o ≡ b → MayHold p (things_of elements h) o value → or_else (if b then Some value else None) (last_written c h) ≡ Some x → MayHold p (things_of elements h) c x
-      hit c o x value true s k z = subst (MayHold p (things_of elements h) c) (some_same value x z) (id_cells p (things_of elements h) c o value s k)
+      hit : (c o : Cell) (x value : Value) (b : Bool) → same_cell c o ≡ b → HoldsIn p elements h o value → or_else (if b then Some value else None) (last_written c h) ≡ Some x → HoldsIn p elements h c x
+      hit c o x value true s k z = subst (HoldsIn p elements h c) (some_same value x z) (subst (λ x. HoldsIn p elements h x value) (sym (same_cells c o s)) k)
       hit c o x value false s k z = f.cells c x z
 
-      old : (c : Cell) (x : Value) (o : Option (Cell × Value)) → written_by e.act h ≡ o → or_else (written_to c o) (last_written c h) ≡ Some x → MayHold p (things_of elements h) c x
+      old : (c : Cell) (x : Value) (o : Option (Cell × Value)) → written_by e.act h ≡ o → or_else (written_to c o) (last_written c h) ≡ Some x → HoldsIn p elements h c x
       old c x None s z = f.cells c x z
       old c x (Some (o, value)) s z = hit c o x value (same_cell c o) refl (w o value s) z
 
@@ -343,32 +352,32 @@ abbrev answer_in : Outcome → Answer
 answer_in (Answers r) = r
 answer_in o = Done
 
-answer_same : (r s : Answer) → Answers r ≡ Answers s → r ≡ s
+pub answer_same : (r s : Answer) → Answers r ≡ Answers s → r ≡ s
 answer_same r s z = ap answer_in z
 
-faults_answer : (b : Bool) (kind : FaultKind) (o : Outcome) (r : Answer) → faults_if b kind o ≡ Answers r → o ≡ Answers r
+pub faults_answer : (b : Bool) (kind : FaultKind) (o : Outcome) (r : Answer) → faults_if b kind o ≡ Answers r → o ≡ Answers r
 faults_answer true kind o r z = cc
 faults_answer false kind o r z = z
 
-possible_answer : (b : Bool) (o : Outcome) (r : Answer) → possible_if b o ≡ Answers r → o ≡ Answers r
+pub possible_answer : (b : Bool) (o : Outcome) (r : Answer) → possible_if b o ≡ Answers r → o ≡ Answers r
 possible_answer true o r z = z
 possible_answer false o r z = cc
 
-views_answer : (v : Option FaultKind) (o : Outcome) (r : Answer) → views v o ≡ Answers r → o ≡ Answers r
+pub views_answer : (v : Option FaultKind) (o : Outcome) (r : Answer) → views v o ≡ Answers r → o ≡ Answers r
 views_answer None o r z = z
 views_answer (Some kind) o r z = cc
 
-no_fault : (v : Option FaultKind) (o : Outcome) (r : Answer) → views v o ≡ Answers r → v ≡ None
+pub no_fault : (v : Option FaultKind) (o : Outcome) (r : Answer) → views v o ≡ Answers r → v ≡ None
 no_fault None o r z = refl
 no_fault (Some kind) o r z = cc
 
-some_answer : {A : Type 0} → (o : Option A) (a : A) (go : A → Outcome) (r : Answer) → o ≡ Some a → where_some o go ≡ Answers r → go a ≡ Answers r
+pub some_answer : {A : Type 0} → (o : Option A) (a : A) (go : A → Outcome) (r : Answer) → o ≡ Some a → where_some o go ≡ Answers r → go a ≡ Answers r
 some_answer o a go r s z = sym (ap (λ x. where_some x go) s) ∙ z
 
-makes_answer : (p : NumberedProgram) (h : History) (i : ℕ) (a : Action) (made : Value) (r : Answer) → makes p h i a made ≡ Answers r → r ≡ Val made
+pub makes_answer : (p : NumberedProgram) (h : History) (i : ℕ) (a : Action) (made : Value) (r : Answer) → makes p h i a made ≡ Answers r → r ≡ Val made
 makes_answer p h i a made r z = answer_same _ _ (sym (faults_answer _ fault.HeapFull _ _ z))
 
-places_answer : (region : ℕ) (h : History) (o : Outcome) (r : Answer) → places region h o ≡ Answers r → o ≡ Answers r
+pub places_answer : (region : ℕ) (h : History) (o : Outcome) (r : Answer) → places region h o ≡ Answers r → o ≡ Answers r
 places_answer region h o r z = faults_answer _ fault.RegionGone _ _ (possible_answer _ _ _ z)
 
 abbrev element_wanted : Wanted → ValueType
@@ -388,35 +397,46 @@ module _ (p : NumberedProgram) (elements : Elements) (h : History) (answered : I
   abbrev Behind : Action → Wanted → Answer → Type 0
   Behind a wanted r =
       HeapFits p (elements_behind elements a wanted r) (entry a r ∷ h)
-      × Grows (things_of elements h) (things_of (elements_behind elements a wanted r) (entry a r ∷ h))
-      × (is_of_heap a ≡ true → FitsAsked p (things_of (elements_behind elements a wanted r) (entry a r ∷ h)) a wanted r)
+      × Grows (things_of i elements h) (things_of i (elements_behind elements a wanted r) (entry a r ∷ h))
+      × (is_of_heap a ≡ true → FitsAsked p (things_of i (elements_behind elements a wanted r) (entry a r ∷ h)) a wanted r)
 
-  grown_same : (a : Action) (r : Answer) → heap_answer p h i a ≡ Answers r → Grows (things_of elements h) (things_of elements (entry a r ∷ h))
-  grown_same a r said = grown_behind p h (entry a r) (more answered said) elements elements (λ id type z. z)
+  grown_same : (a : Action) (r : Answer) → heap_answer p h i a ≡ Answers r → Grows (things_of i elements h) (things_of i elements (entry a r ∷ h))
+  grown_same a r said = grown_behind p h (entry a r) (more answered said) elements elements (λ id type z. z) i
 
-  kept_same : (a : Action) (wanted : Wanted) (r : Answer) → IsThere p (things_of elements h) a wanted → heap_answer p h i a ≡ Answers r → HeapFits p elements (entry a r ∷ h)
-  kept_same a wanted r k said = kept_behind p h (entry a r) (more answered said) elements elements (λ id type z. z) fits (may_write p elements h a wanted k) (λ id type z. inl z)
+  -- and in any memory
+  grown_in : (j : ℕ) (a : Action) (r : Answer) → heap_answer p h i a ≡ Answers r → Grows (things_of j elements h) (things_of j elements (entry a r ∷ h))
+  grown_in j a r said = grown_behind p h (entry a r) (more answered said) elements elements (λ id type z. z) j
 
-  object_fits : (class region : ℕ) (new : Id) → IsOf (things_of elements (entry (act.NewObj class region) (Val (v.Obj (Some new))) ∷ h)) (t.Class class true) (Plain (v.Obj (Some new)))
-  object_fits class region new = (Some new, refl, λ id z. if_true (same_id id new) _ _ (subst (λ x. same_id id x ≡ true) (sym (some_same new id z)) (same_self id)))
+  kept_same : (a : Action) (wanted : Wanted) (r : Answer) → IsThere p (things_of i elements h) a wanted → heap_answer p h i a ≡ Answers r → HeapFits p elements (entry a r ∷ h)
+  kept_same a wanted r k said = kept_behind p h (entry a r) (more answered said) elements elements (λ id type z. z) fits (may_write p elements h i a wanted k) (λ id type z. inl z)
 
-  view_fits : (grid : Id) (how : ViewHow) (new : Id) (element : ValueType) (n : ℕ) → (k : IsGridOf (things_of elements h) element n grid) → SuitsView how n → view_fault how k.0.domain ≡ None
-      → IsOf (things_of elements (entry (act.MakeView grid how) (Val (v.Grid (Some new))) ∷ h)) (t.Grid element (dims_viewed how n) true) (Plain (v.Grid (Some new)))
-  view_fits grid how new element n k s f = (
+  object_fits : (class region : ℕ) (new : Id) → new.owner ≡ i → IsOf (things_of i elements (entry (act.NewObj class region) (Val (v.Obj (Some new))) ∷ h)) (t.Class class true) (Plain (v.Obj (Some new)))
+  object_fits class region new own = (Some new, refl, (λ id z. if_true (same_id id new) _ _ (subst (λ x. same_id id x ≡ true) (sym (some_same new id z)) (same_self id))), λ z. eq-eqb new.owner i own)
+
+  view_fits : (grid : Id) (how : ViewHow) (new : Id) (element : ValueType) (n : ℕ) → new.owner ≡ grid.owner → (k : IsGridOf (things_of i elements h) element n grid) → SuitsView how n → view_fault how k.0.domain ≡ None
+      → IsOf (things_of grid.owner elements (entry (act.MakeView grid how) (Val (v.Grid (Some new))) ∷ h)) (t.Grid element (dims_viewed how n) true) (Plain (v.Grid (Some new)))
+  view_fits grid how new element n own k s f = (
     Some new,
     refl,
-    λ id z.
-        (view how k.0, if_true (same_id id new) _ _ (subst (λ x. same_id id x ≡ true) (sym (some_same new id z)) (same_self id)) ∙ ap (option_map (view how)) k.1, view_form how n k.0.domain k.2 s f, k.3, k.4),
+    (λ id z. (
+      view how k.0,
+      if_true (same_id id new) _ _ (subst (λ x. same_id id x ≡ true) (sym (some_same new id z)) (same_self id)) ∙ ap (option_map (view how)) k.1,
+      view_form how n k.0.domain k.2 s f,
+      k.3,
+      k.4,
+      k.5 ∙ sym own ∙ ap (λ (x : Id). x.owner) (some_same new id z),
+    )),
+    λ z. eq-eqb new.owner grid.owner own,
   )
 
-  grid_behind : (element : ValueType) (n : ℕ) (first : Zero) (domain : Rect) (region : ℕ) (new : Id) → first ≡ zero_of_type element → IsRectOf n domain → IsStorable element
+  grid_behind : (element : ValueType) (n : ℕ) (first : Zero) (domain : Rect) (region : ℕ) (new : Id) → new.owner ≡ i → first ≡ zero_of_type element → IsRectOf n domain → IsStorable element
       → heap_answer p h i (act.NewGrid first domain region) ≡ Answers (Val (v.Grid (Some new)))
       → Behind (act.NewGrid first domain region) (NewThing (t.Grid element n true)) (Val (v.Grid (Some new)))
-  grid_behind element n first domain region new z d s said = (
+  grid_behind element n first domain region new own z d s said = (
     kept_behind p h e a elements after grows fits (may_write_none) fresh,
-    grown_behind p h e a elements after grows,
-    λ q x m w. subst (λ x. IsOf (things_of after (e ∷ h)) (t.Grid x m true) (Plain (v.Grid (Some new)))) (ap element_wanted w)
-        (subst (λ m. IsOf (things_of after (e ∷ h)) (t.Grid element m true) (Plain (v.Grid (Some new)))) (ap dims_wanted w) is_grid),
+    grown_behind p h e a elements after grows i,
+    λ q x m w. subst (λ x. IsOf (things_of i after (e ∷ h)) (t.Grid x m true) (Plain (v.Grid (Some new)))) (ap element_wanted w)
+        (subst (λ m. IsOf (things_of i after (e ∷ h)) (t.Grid element m true) (Plain (v.Grid (Some new)))) (ap dims_wanted w) is_grid),
   )
     where
       e : Entry
@@ -437,7 +457,7 @@ module _ (p : NumberedProgram) (elements : Elements) (h : History) (answered : I
               absurd (made_once p h e id a (ap Some (sym (id_same id new q))) (grid_was_made id h o.0 o.1))
           by false q = k
 
-      may_write_none : (c : Cell) (x : Value) → written_by e.act h ≡ Some (c, x) → MayHold p (things_of elements h) c x
+      may_write_none : (c : Cell) (x : Value) → written_by e.act h ≡ Some (c, x) → HoldsIn p elements h c x
       may_write_none c x q = absurd (none_some (c, x) q)
 
       fresh : (id : Id) (type : ValueType) → after id ≡ Some type → (elements id ≡ Some type) ⊎ IsBlock (e ∷ h) id type
@@ -448,40 +468,41 @@ module _ (p : NumberedProgram) (elements : Elements) (h : History) (answered : I
               inr (whole_grid id first domain, if_true (same_id id new) _ _ q, z ∙ ap zero_of_type (some_same element type k), subst IsStorable (some_same element type k) s)
           by false q k = inl k
 
-      is_grid : IsOf (things_of after (e ∷ h)) (t.Grid element n true) (Plain (v.Grid (Some new)))
+      is_grid : IsOf (things_of i after (e ∷ h)) (t.Grid element n true) (Plain (v.Grid (Some new)))
       is_grid = (
         Some new,
         refl,
-        λ id q.
+        (λ id q.
             let x : same_id id new ≡ true = subst (λ x. same_id id x ≡ true) (sym (some_same new id q)) (same_self id) in
-            (whole_grid id first domain, if_true (same_id id new) _ _ x, d, if_true (same_id id new) _ _ x, s),
+            (whole_grid id first domain, if_true (same_id id new) _ _ x, d, if_true (same_id id new) _ _ x, s, refl)),
+        λ z. eq-eqb new.owner i own,
       )
 
-  pub behind : (a : Action) (wanted : Wanted) (r : Answer) → IsThere p (things_of elements h) a wanted → heap_answer p h i a ≡ Answers r → Behind a wanted r
+  pub behind : (a : Action) (wanted : Wanted) (r : Answer) → IsThere p (things_of i elements h) a wanted → heap_answer p h i a ≡ Answers r → Behind a wanted r
   behind (act.GetField obj field) wanted r k said = (
     kept_same (act.GetField obj field) wanted r k said,
     grown_same (act.GetField obj field) r said,
     λ q type x.
         let v = field_value p elements h fits store obj field type x in
         let is : r ≡ Val v.0 = answer_same _ _ (sym (some_answer (cell_value p (Field obj field) h) v.0 _ _ v.1 said)) in
-        of_stays _ _ type _ (grown_same (act.GetField obj field) r said) (subst (λ r. IsOf (things_of elements h) type (told r)) (sym is) v.2),
+        of_stays _ _ type _ (grown_in obj.owner (act.GetField obj field) r said) (subst (λ r. IsOf (things_of obj.owner elements h) type (told r)) (sym is) v.2),
   )
   behind (act.PutField obj field value) wanted r k said = (kept_same (act.PutField obj field value) wanted r k said, grown_same (act.PutField obj field value) r said, λ q. _)
   behind (act.NewObj class region) wanted r k said =
       let is : r ≡ Val (v.Obj (Some (new_id i region h))) = makes_answer p h i (act.NewObj class region) (v.Obj (Some (new_id i region h))) r (places_answer region h _ r (some_answer (zeros_of_class p class) k.0 _ r k.1 said)) in
-      (kept_same (act.NewObj class region) wanted r k said, grown_same (act.NewObj class region) r said, λ q. subst (λ r. IsOf (things_of elements (entry (act.NewObj class region) r ∷ h)) (t.Class class true) (told r)) (sym is) (object_fits class region (new_id i region h)))
+      (kept_same (act.NewObj class region) wanted r k said, grown_same (act.NewObj class region) r said, λ q. subst (λ r. IsOf (things_of i elements (entry (act.NewObj class region) r ∷ h)) (t.Class class true) (told r)) (sym is) (object_fits class region (new_id i region h) refl))
   behind (act.NewGrid first domain region) wanted r k said =
       let is : r ≡ Val (v.Grid (Some (new_id i region h))) = makes_answer p h i (act.NewGrid first domain region) (v.Grid (Some (new_id i region h))) r (places_answer region h _ r (possible_answer _ _ r said)) in
       subst (λ wanted. Behind (act.NewGrid first domain region) wanted r) (sym k.2)
       (subst (λ r. Behind (act.NewGrid first domain region) (NewThing (t.Grid k.0 k.1 true)) r) (sym is)
-      (grid_behind k.0 k.1 first domain region (new_id i region h) k.3 k.4 k.7 (said ∙ ap Answers is)))
+      (grid_behind k.0 k.1 first domain region (new_id i region h) refl k.3 k.4 k.7 (said ∙ ap Answers is)))
   behind (act.GetElem grid at) wanted r k said = (
     kept_same (act.GetElem grid at) wanted r k said,
     grown_same (act.GetElem grid at) r said,
     λ q element n x.
         let v = element_value p elements h fits store element n grid at x in
         let is : r ≡ Val v.0 = answer_same _ _ (sym (some_answer (cell_value p (cell_of x.0 at) h) v.0 _ _ v.1 (faults_answer _ fault.Bounds _ _ (possible_answer _ _ r (some_answer (grid_of grid h) x.0 _ r x.1 said))))) in
-        of_stays _ _ element _ (grown_same (act.GetElem grid at) r said) (subst (λ r. IsOf (things_of elements h) element (told r)) (sym is) v.2),
+        of_stays _ _ element _ (grown_in grid.owner (act.GetElem grid at) r said) (subst (λ r. IsOf (things_of grid.owner elements h) element (told r)) (sym is) v.2),
   )
   behind (act.PutElem grid at value) wanted r k said = (kept_same (act.PutElem grid at value) wanted r k said, grown_same (act.PutElem grid at value) r said, λ q. _)
   behind (act.MakeView grid how) wanted r k said =
@@ -489,10 +510,10 @@ module _ (p : NumberedProgram) (elements : Elements) (h : History) (answered : I
         kept_same (act.MakeView grid how) wanted r k said,
         grown_same (act.MakeView grid how) r said,
         λ q element n x.
-            let g = grid_same (things_of elements (entry (act.MakeView grid how) r ∷ h)) grid k.0 element k.1 n (grid_stays (things_of elements h) (things_of elements (entry (act.MakeView grid how) r ∷ h)) k.0 k.1 grid (grown_same (act.MakeView grid how) r said) k.2) x in
-            subst (λ e. IsOf (things_of elements (entry (act.MakeView grid how) r ∷ h)) (t.Grid e (dims_viewed how n) true) (told r)) g.0
-            (subst (λ m. IsOf (things_of elements (entry (act.MakeView grid how) r ∷ h)) (t.Grid k.0 (dims_viewed how m) true) (told r)) g.1
-            (subst (λ r. IsOf (things_of elements (entry (act.MakeView grid how) r ∷ h)) (t.Grid k.0 (dims_viewed how k.1) true) (told r)) (sym is) (view_fits grid how (view_id i grid h) k.0 k.1 k.2 k.3 (no_fault (view_fault how k.2.0.domain) _ r (possible_answer _ _ r (some_answer (grid_of grid h) k.2.0 _ r k.2.1 said)))))),
+            let g = grid_same (things_of i elements (entry (act.MakeView grid how) r ∷ h)) grid k.0 element k.1 n (grid_stays (things_of i elements h) (things_of i elements (entry (act.MakeView grid how) r ∷ h)) k.0 k.1 grid (grown_same (act.MakeView grid how) r said) k.2) x in
+            subst (λ e. IsOf (things_of grid.owner elements (entry (act.MakeView grid how) r ∷ h)) (t.Grid e (dims_viewed how n) true) (told r)) g.0
+            (subst (λ m. IsOf (things_of grid.owner elements (entry (act.MakeView grid how) r ∷ h)) (t.Grid k.0 (dims_viewed how m) true) (told r)) g.1
+            (subst (λ r. IsOf (things_of grid.owner elements (entry (act.MakeView grid how) r ∷ h)) (t.Grid k.0 (dims_viewed how k.1) true) (told r)) (sym is) (view_fits grid how (view_id i grid h) k.0 k.1 refl k.2 k.3 (no_fault (view_fault how k.2.0.domain) _ r (possible_answer _ _ r (some_answer (grid_of grid h) k.2.0 _ r k.2.1 said)))))),
       )
   behind (act.DomainOf grid) wanted r k said = (
     kept_same (act.DomainOf grid) wanted r k said,
@@ -509,7 +530,7 @@ module _ (p : NumberedProgram) (elements : Elements) (h : History) (answered : I
   behind (act.Fault kind) wanted r k said = (kept_same (act.Fault kind) wanted r k said, grown_same (act.Fault kind) r said, λ q. absurd (true_false (sym q)))
 
 -- the heap keeps to the types
-pub keeps_types : (p : NumberedProgram) (elements : Elements) (h : History) (i : ℕ) (a : Action) (wanted : Wanted) → FieldsStorable p → IsAnswered p h → HeapFits p elements h → IsThere p (things_of elements h) a wanted
+pub keeps_types : (p : NumberedProgram) (elements : Elements) (h : History) (i : ℕ) (a : Action) (wanted : Wanted) → FieldsStorable p → IsAnswered p h → HeapFits p elements h → IsThere p (things_of i elements h) a wanted
     → KeepsTypes p elements h i a wanted
 keeps_types p elements h i a wanted s q f k = record {
   possible = λ t z. is_possible p elements h f s i a wanted t k z;

@@ -31,10 +31,11 @@ use Rattle.ti_align.specs.Sound as sound
 use Rattle.ti_align.specs.Work.{VariablesFit, scope_over, ReceiverFits, MethodFits, MethodsFit, ThisFits, HasNumber, DepositFits, given_type, taken_type, TakesOf, taken_behind, IsOfRound, WantsOf, WorksFit, IsAwaited, MoveFits}
 use Rattle.ti_align.specs.Typed.{ProgramFits, HandsOn, FramesFit, given_first, given_in, given_by, WorkSound, TakesFirst, WaitFits, NextFits, ProcessFits}
 use Rattle.ti_align.proofs.Steps.{ActionFits, StepFits}
+use Rattle.ti_align.proofs.Vars.{true_false}
 use Rattle.ti_align.proofs.Computing.{same_sound}
 use Rattle.ti_align.proofs.Operating.{none_some, some_same}
 use Rattle.ti_align.proofs.Asks.{Of}
-use Rattle.ti_align.proofs.Given.{NoTakes, LeftFine, AllFree, TopFine, WaitFine, Stands, tail_free, free_mark, free_past, step_fine}
+use Rattle.ti_align.proofs.Given.{HoldsNothing, LeftFine, AllFree, TopFine, WaitFine, Stands, tail_free, free_mark, free_past, step_fine}
 use Rattle.ti_align.proofs.Staying.{frames_stay}
 use Rattle.ti_align.proofs.Pending.{scope_both, mark_fits, works_both, body_fits, past_fits, from_fits, takes_free, takes_both, taken_first, none_first, body_first, taken_is, behind_is, FirstOf, free_first, handed_first, TakenAs, TakesAs, takes_as}
 
@@ -50,7 +51,7 @@ Known pr = ProgramFits pr.setting.program × HasNumber pr
 -- all work is performed so that it fits, in frames that do
 abbrev pub Performs : Type 0
 Performs =
-    (pr : Process) (f : Frame) (left : List Work) (w : Things) (x : Work) → Known pr → VariablesFit w f.variables → ThisFits w f.method f.this
+    (pr : Process) (f : Frame) (left : List Work) (w : Things) (x : Work) → w.owner ≡ pr.number → Known pr → VariablesFit w f.variables → ThisFits w f.method f.this
     → WorksFit pr.setting.program f.method (method_scope f.method) w (x ∷ left) → Sound pr.setting.program (λ u move. FitsFrame pr.setting.program f left x u move) w (performed (env_of pr f left) x)
 
 -- ---- frames
@@ -83,20 +84,20 @@ handed_fits p w r type (Some h) (g ∷ fs) k i o =
 
 module _ (performs : Performs) where
   -- a piece of work without an answer yet
-  work_begun : (w : Things) (pr : Process) (f : Frame) (xs : List Work) → Known pr → pr.answers ≡ [] → VariablesFit w f.variables → ThisFits w f.method f.this
+  work_begun : (w : Things) (pr : Process) (f : Frame) (xs : List Work) → w.owner ≡ pr.number → Known pr → pr.answers ≡ [] → VariablesFit w f.variables → ThisFits w f.method f.this
       → WorksFit pr.setting.program f.method (method_scope f.method) w xs → WorkSound w pr f xs
-  work_begun w pr f [] fine z v this k = tt
-  work_begun w pr f (x ∷ left) fine z v this k =
-      subst (λ got. Sound pr.setting.program (λ u move. FitsFrame pr.setting.program f left x u move) w (λ rest. performed (env_of pr f left) x (got ++ rest))) (sym z) (performs pr f left w x fine v this k)
+  work_begun w pr f [] own fine z v this k = tt
+  work_begun w pr f (x ∷ left) own fine z v this k =
+      subst (λ got. Sound pr.setting.program (λ u move. FitsFrame pr.setting.program f left x u move) w (λ rest. performed (env_of pr f left) x (got ++ rest))) (sym z) (performs pr f left w x own fine v this k)
 
-  next_begun : (w : Things) (G : ValueType → Type 0) (pr : Process) (fs : List Frame) → Known pr → pr.answers ≡ [] → FramesFit pr.setting.program w fs → FirstOf G fs → NextFits w G pr None fs
-  next_begun w G pr [] fine z k i = tt
-  next_begun w G pr (f ∷ fs) fine z k i = (work_begun w pr f f.left fine z k.0.0 k.0.1 k.0.2, i)
+  next_begun : (w : Things) (G : ValueType → Type 0) (pr : Process) (fs : List Frame) → w.owner ≡ pr.number → Known pr → pr.answers ≡ [] → FramesFit pr.setting.program w fs → FirstOf G fs → NextFits w G pr None fs
+  next_begun w G pr [] own fine z k i = tt
+  next_begun w G pr (f ∷ fs) own fine z k i = (work_begun w pr f f.left own fine z k.0.0 k.0.1 k.0.2, i)
 
   -- a process that has spent so many ticks, and goes on in these frames
-  between : (w : Things) (G : ValueType → Type 0) (pr : Process) (n : ℕ) (fs : List Frame) → Known pr → FramesFit pr.setting.program w fs → FirstOf G fs
+  between : (w : Things) (G : ValueType → Type 0) (pr : Process) (n : ℕ) (fs : List Frame) → w.owner ≡ pr.number → Known pr → FramesFit pr.setting.program w fs → FirstOf G fs
       → ProcessFits w G (record pr { spent = n; frames = fs; wait = None; answers = [] })
-  between w G pr n fs fine k i = (k, next_begun w G (record pr { spent = n; frames = fs; wait = None; answers = [] }) fs fine refl k i)
+  between w G pr n fs own fine k i = (k, next_begun w G (record pr { spent = n; frames = fs; wait = None; answers = [] }) fs own fine refl k i)
 
   -- ---- the first process
 
@@ -105,13 +106,13 @@ module _ (performs : Performs) where
   method_at p (x ∷ xs) zero m f z = subst (MethodFits p) (some_same x m z) f.0
   method_at p (x ∷ xs) (suc k) m f z = method_at p xs k m f.1 z
 
-  pub begin_fits : (w : Things) (G : ValueType → Type 0) (s : Setting) (i : ℕ) → Known (begin s i) → ProcessFits w G (begin s i)
-  begin_fits w G s i fine = by (slice_get s.program.methods s.program.main) (λ m z. method_at s.program s.program.methods s.program.main m fine.0.methods z)
+  pub begin_fits : (w : Things) (G : ValueType → Type 0) (s : Setting) (i : ℕ) → w.owner ≡ i → Known (begin s i) → ProcessFits w G (begin s i)
+  begin_fits w G s i own fine = by (slice_get s.program.methods s.program.main) (λ m z. method_at s.program s.program.methods s.program.main m fine.0.methods z)
     where
       by : (o : Option NumberedMethod) → ((m : NumberedMethod) → o ≡ Some m → MethodFits s.program m)
           → ProcessFits w G (record { setting = s; number = i; spent = 0; frames = option_map_or (λ (main : NumberedMethod). frame_of main None [] Nowhere ∷ []) o []; wait = None; answers = [] })
       by None k = (tt, tt)
-      by (Some m) k = between w G (begin s i) 0 (frame_of m None [] Nowhere ∷ []) fine
+      by (Some m) k = between w G (begin s i) 0 (frame_of m None [] Nowhere ∷ []) own fine
           ((tt, (λ class c id z. absurd (none_some id z)), body_fits s.program m w (method_scope m) (numbered_stms m.body) (k m refl)), tt, tt) (body_first G (numbered_stms m.body))
 
   -- ---- moves
@@ -124,7 +125,7 @@ module _ (performs : Performs) where
     works : WorksFit pr.setting.program f.method (method_scope f.method) w left
     hands : HandsOn pr.setting.program f fs
     below : FramesFit pr.setting.program w fs
-    free : NoTakes left
+    free : HoldsNothing left
     others : AllFree fs
 
   if_fits : (w : Things) (G H : ValueType → Type 0) (pr : Process) (b : Bool) (x y : Step) → StepFits w G H pr x → StepFits w G H pr y → StepFits w G H pr (if b then x else y)
@@ -138,7 +139,7 @@ module _ (performs : Performs) where
   jump_fits w G H pr true x y j k = j
   jump_fits w G H pr false x y j k = k
 
-  module _ (w : Things) (G H : ValueType → Type 0) (pr : Process) (f : Frame) (fs : List Frame) where
+  module _ (w : Things) (G H : ValueType → Type 0) (pr : Process) (f : Frame) (fs : List Frame) (own : w.owner ≡ pr.number) where
     abbrev p : NumberedProgram
     p = pr.setting.program
 
@@ -154,7 +155,7 @@ module _ (performs : Performs) where
 
     goes_fits : (left : List Work) → Top w pr f fs left → (n : ℕ) (vs : List Variable) (xs : List Work) → VariablesFit w vs → WorksFit p f.method (method_scope f.method) w xs → TakesFirst G xs
         → ProcessFits w G (record pr { spent = n; frames = frame_with vs xs ∷ fs; wait = None; answers = [] })
-    goes_fits left top n vs xs v k i = between w G pr n (frame_with vs xs ∷ fs) top.program (frames_with left top vs xs v k) i
+    goes_fits left top n vs xs v k i = between w G pr n (frame_with vs xs ∷ fs) own top.program (frames_with left top vs xs v k) i
 
     -- the work of a move before what is left
     both_fit : (x : Work) (left : List Work) → Top w pr f fs left → TakesFirst G (x ∷ left) → (n : ℕ) (vs : List Variable) (xs : List Work) → VariablesFit w vs → WorksFit p f.method (s left) w xs → TakesOf (taken_type x) xs
@@ -165,13 +166,13 @@ module _ (performs : Performs) where
 
     returns_fit : (left : List Work) → Top w pr f fs left → (v : Option Held) → MaybeOf w (result_type f.method) v → ProcessFits w G (record pr { frames = handed f.receiver v fs; wait = None; answers = [] })
     returns_fit left top v o =
-        between w G pr pr.spent (handed f.receiver v fs) top.program (handed_fits p w f.receiver (result_type f.method) v fs top.below (hands_out p f fs top.hands) o) (handed_first G f.receiver v fs (free_first G fs top.others))
+        between w G pr pr.spent (handed f.receiver v fs) own top.program (handed_fits p w f.receiver (result_type f.method) v fs top.below (hands_out p f fs top.hands) o) (handed_first G f.receiver v fs (free_first G fs top.others))
 
     -- an arrival, behind which this work is left
     arrives_fit : (left xs : List Work) → Top w pr f fs left → (wait : Wait) (given : Deposit) (type : ValueType) → WorksFit p f.method (method_scope f.method) w xs → DepositFits w type given → IsOfRound (λ u. given_by pr ≡ Some u) wait.kind type
-        → IsAwaited p f.method (s xs) wait.wanted wait.receiver type → WantsOf wait.kind wait.wanted → TakesOf (taken_behind wait.kind type) xs → StepFits w G H pr (arrives pr (record f { left = xs } ∷ fs) wait given)
+        → IsAwaited p f.method (s xs) wait.wanted wait.receiver type → WantsOf wait.kind wait.wanted type → TakesOf (taken_behind wait.kind type) xs → StepFits w G H pr (arrives pr (record f { left = xs } ∷ fs) wait given)
     arrives_fit left xs top wait given type k d r a o i =
-        ticks_fit w G H pr wait.place _ (tt, (type, d, r, λ z u g answer. (frames_stay p w u (record f { left = xs } ∷ fs) g (frames_with left top f.variables xs top.variables k), ((type, a, z, o, i), refl))))
+        ticks_fit w G H pr wait.place _ (tt, (λ z. absurd (true_false (sym z))), (type, d, r, λ z u g answer. (frames_stay p w u (record f { left = xs } ∷ fs) g (frames_with left top f.variables xs top.variables k), ((type, a, z, o, i), refl))))
 
     moves_fit : (x : Work) (left : List Work) → Top w pr f fs left → TakesFirst G (x ∷ left) → given_by pr ≡ given_type p (s left) x → (move : Move) → FitsFrame p f left x w move → StepFits w G H pr (moves pr f fs left move)
     moves_fit x left top i e (Goes vs xs) k = both_fit x left top i pr.spent vs xs k.0 k.1 k.2
@@ -186,7 +187,7 @@ module _ (performs : Performs) where
         (goes_fits left top pr.spent f.variables left top.variables top.works (none_first G left top.free))
     moves_fit x left top i e (Calls at method this parameters receiver) k =
         ticks_fit w G H pr at _ (if_fits w G H pr (nat_lt (length (f ∷ fs)) most_frames) _ (Faults Depth at)
-        (between w G pr (pr.spent + 1) (frame_of method this parameters receiver ∷ record f { left = left } ∷ fs) top.program
+        (between w G pr (pr.spent + 1) (frame_of method this parameters receiver ∷ record f { left = left } ∷ fs) own top.program
         ((k.2, k.1, body_fits p method w (method_scope method) (numbered_stms method.body) k.0), k.3, frames_with left top f.variables left top.variables top.works)
         (body_first G (numbered_stms method.body))) tt)
     moves_fit x left top i e (Returns None) k = returns_fit left top None tt
@@ -232,7 +233,8 @@ module _ (performs : Performs) where
         by m (sound.fault kind at k) j = fits_when (Fails kind at) (now m j ∙ k []) tt
         by m (sound.asks q k there h) j =
             fits_when (Asks q) (now m j ∙ k) (ticks_fit w G H pr q.place _ (
-              there,
+              there.0,
+              there.1,
               acts_fit q q.action _ (subst (Of (TakesAs G)) (now m j ∙ k) (takes_as G (env_of pr f left) x left pr.answers i))
                   (λ u g r o. (
                     frames_stay p w u pr.frames g all,
@@ -243,13 +245,13 @@ module _ (performs : Performs) where
 
   -- ---- steps
 
-  module _ (w : Things) (G H : ValueType → Type 0) (pr : Process) (last : Option CollKind) (n : ℕ) (fine : Known pr) where
+  module _ (w : Things) (G H : ValueType → Type 0) (pr : Process) (last : Option CollKind) (n : ℕ) (own : w.owner ≡ pr.number) (fine : Known pr) where
     works_fit : (f : Frame) (fs : List Frame) (xs : List Work) → pr.wait ≡ None → pr.frames ≡ f ∷ fs → f.left ≡ xs → LeftFine n last xs → AllFree fs → FramesFit pr.setting.program w pr.frames
         → FramesFit pr.setting.program w (f ∷ fs) → WorksFit pr.setting.program f.method (method_scope f.method) w xs → WorkSound w pr f xs → TakesFirst G xs → StepFits w G H pr (works pr f fs xs)
     works_fit f fs [] z y e free others all k l sure i =
-        returns_fit w G H pr f fs [] (record { program = fine; variables = k.0.0; this = k.0.1; works = tt; hands = k.1; below = k.2; free = tt; others = others }) None tt
+        returns_fit w G H pr f fs own [] (record { program = fine; variables = k.0.0; this = k.0.1; works = tt; hands = k.1; below = k.2; free = tt; others = others }) None tt
     works_fit f fs (x ∷ left) z y e free others all k l sure i =
-        first_fits w G H pr f fs x left z y e (record { program = fine; variables = k.0.0; this = k.0.1; works = l.1; hands = k.1; below = k.2; free = tail_free n last x left free; others = others }) all sure i
+        first_fits w G H pr f fs own x left z y e (record { program = fine; variables = k.0.0; this = k.0.1; works = l.1; hands = k.1; below = k.2; free = tail_free n last x left free; others = others }) all sure i
 
     runs_fit : (fs : List Frame) → pr.wait ≡ None → pr.frames ≡ fs → TopFine n last fs → FramesFit pr.setting.program w fs → NextFits w G pr None fs → StepFits w G H pr (runs pr fs)
     runs_fit [] z y free k i = tt
@@ -275,6 +277,7 @@ module _ (performs : Performs) where
     departs_fit wait (f ∷ fs) z y k i =
         ticks_fit w G H pr wait.place _ (
           tt,
+          λ q. absurd (true_false (sym q)),
           (
             wait,
             i.0,
@@ -283,7 +286,7 @@ module _ (performs : Performs) where
             i.3,
             λ u g r o.
                 subst (λ gs. ProcessFits u G (record pr { spent = pr.spent + 1; frames = handed wait.receiver (value_asked wait.wanted r) gs; wait = None; answers = [] })) (sym y)
-                (between u G pr (pr.spent + 1) (handed wait.receiver (value_asked wait.wanted r) (f ∷ fs)) fine (told_fits u f fs wait.receiver wait.wanted i.0 r i.1 o (frames_stay pr.setting.program w u (f ∷ fs) g k))
+                (between u G pr (pr.spent + 1) (handed wait.receiver (value_asked wait.wanted r) (f ∷ fs)) (sym g.owner ∙ own) fine (told_fits u f fs wait.receiver wait.wanted i.0 r i.1 o (frames_stay pr.setting.program w u (f ∷ fs) g k))
                 (handed_first G wait.receiver (value_asked wait.wanted r) (f ∷ fs) (taken_first G (taken_behind wait.kind i.0) f.left (λ type q. behind_is G wait.kind i.0 type i.2 q) i.4))),
           ),
         )
@@ -293,9 +296,9 @@ module _ (performs : Performs) where
     steps_fit (Some wait) z free k i = departs_fit wait pr.frames z refl k i.0
 
   -- a process that fits has a step that does, wherever takes stand first alone
-  pub step_fits : (w : Things) (G H : ValueType → Type 0) (s : Setting) (i : ℕ) (last : Option CollKind) (pr : Process) → Known pr → Stands s i last pr
+  pub step_fits : (w : Things) (G H : ValueType → Type 0) (s : Setting) (i : ℕ) (last : Option CollKind) (pr : Process) → w.owner ≡ i → Known pr → Stands s i last pr
       → ProcessFits w G pr → StepFits w G H pr (step pr)
-  step_fits w G H s i last pr fine stands k = steps_fit w G H pr last s.procs fine pr.wait refl stands.2 k.0 k.1
+  step_fits w G H s i last pr own fine stands k = steps_fit w G H pr last s.procs (own ∙ sym stands.1) fine pr.wait refl stands.2 k.0 k.1
 
   -- what is known of all processes of this number is known of one
   pub known_here : (s : Setting) (i : ℕ) (last : Option CollKind) (pr : Process) → Known (begin s i) → Stands s i last pr → Known pr
@@ -305,9 +308,9 @@ module _ (performs : Performs) where
   )
 
   -- silent steps lead from it to others that fit
-  pub reaches_fits : (w : Things) (G : ValueType → Type 0) (s : Setting) (i : ℕ) (last : Option CollKind) (pr q : Process) → Known (begin s i) → Stands s i last pr → Reaches pr q
+  pub reaches_fits : (w : Things) (G : ValueType → Type 0) (s : Setting) (i : ℕ) (last : Option CollKind) (pr q : Process) → w.owner ≡ i → Known (begin s i) → Stands s i last pr → Reaches pr q
       → ProcessFits w G pr → ProcessFits w G q × Stands s i last q
-  reaches_fits w G s i last pr q fine stands here k = (k, stands)
-  reaches_fits w G s i last pr r fine stands (later {q = q} e rest) k =
-      let after = subst (StepFits w G G pr) e (step_fits w G G s i last pr (known_here s i last pr fine stands) stands k) in
-      reaches_fits w G s i last q r fine (step_fine s i last pr (To q) stands e) rest after
+  reaches_fits w G s i last pr q own fine stands here k = (k, stands)
+  reaches_fits w G s i last pr r own fine stands (later {q = q} e rest) k =
+      let after = subst (StepFits w G G pr) e (step_fits w G G s i last pr own (known_here s i last pr fine stands) stands k) in
+      reaches_fits w G s i last q r own fine (step_fine s i last pr (To q) stands e) rest after

@@ -45,20 +45,20 @@ use Rattle.ti_align.proofs.Jumping.{acting_true}
 use Rattle.ti_align.proofs.Liking.{rel_skip, Like, receives_single, receives_dropped, called_as, result_single, calling_single}
 
 -- the method that is called is one of the program
-method_fine : (p : NumberedProgram) (t : Option ℕ) (x : NumberedExp) → FineMethods p p.methods → OneFine p (called_method p t x)
+pub method_fine : (p : NumberedProgram) (t : Option ℕ) (x : NumberedExp) → FineMethods p p.methods → OneFine p (called_method p t x)
 method_fine p t (e.Call at method args) f = at_fine p p.methods method f
 method_fine p t (e.OwnCall at method args) f = at_fine p p.methods method f
 method_fine p t (e.Member at a name args) f = behind_fine p (type_in_text p t a) name f
 method_fine p t _ f = tt
 
-fine_some : (p : NumberedProgram) (o : Option NumberedMethod) (m : NumberedMethod) → o ≡ Some m → OneFine p o → FineMethod p m
+pub fine_some : (p : NumberedProgram) (o : Option NumberedMethod) (m : NumberedMethod) → o ≡ Some m → OneFine p o → FineMethod p m
 fine_some p o m h f = subst (OneFine p) h f
 
-or_true : (a b : Bool) → (a || b) ≡ true → b ≡ false → a ≡ true
+pub or_true : (a b : Bool) → (a || b) ≡ true → b ≡ false → a ≡ true
 or_true true b h k = refl
 or_true false b h k = absurd (true_false (sym h ∙ k))
 
-either : (a b : Bool) → (a || b) ≡ true → (a ≡ true → ⊥) → b ≡ true
+pub either : (a b : Bool) → (a || b) ≡ true → (a ≡ true → ⊥) → b ≡ true
 either true b h k = absurd (k refl)
 either false b h k = h
 
@@ -198,11 +198,11 @@ module _ (q : Process) (f : Frame) (left : List Work) (fine : FineMethods q.sett
 
 -- ---- statements
 
-or_plain_true : (b : Bool) → (b || false) ≡ true → b ≡ true
+pub or_plain_true : (b : Bool) → (b || false) ≡ true → b ≡ true
 or_plain_true true h = refl
 or_plain_true false h = h
 
-step_true : (t : Bool) → ((t || false) || false) ≡ true → (t || false) ≡ true
+pub step_true : (t : Bool) → ((t || false) || false) ≡ true → (t || false) ≡ true
 step_true true h = refl
 step_true false h = h
 
@@ -281,7 +281,7 @@ statement_single q f left (s.Break at) rest g i h = (_, refl, (refl, jump_true (
 statement_single q f left (s.Continue at) rest g i h = (_, refl, (refl, jump_true (jump_at q.setting.program f.method left) h))
 statement_single q f left (s.Return at value) rest g i h = return_single q f left at value rest (rules_of q.setting.program (around_at q.setting.program f.method left) (s.Return at value) [] i).0
 
-not_not : (b : Bool) → not b ≡ false → b ≡ true
+pub not_not : (b : Bool) → not b ≡ false → b ≡ true
 not_not true h = refl
 not_not false h = absurd (true_false h)
 

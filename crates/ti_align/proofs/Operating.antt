@@ -21,17 +21,17 @@ use Rattle.ti_syntax.specs.declared.tree.exprs.BinaryOperator.TheVariants as op
 use Rattle.ti_lang.specs.Program.Types.{ValueType}
 use Rattle.ti_lang.specs.Program.Types as t
 use Rattle.ti_lang.specs.Program.Classes.{NumberedProgram}
-use Rattle.ti_lang.specs.Typing.Kinds.{where_true, same_truth, same_type, is_whole, is_null, is_reference, as_global}
+use Rattle.ti_lang.specs.Typing.Kinds.{where_true, same_truth, same_type, is_whole, is_null, is_reference, is_local, as_global}
 use Rattle.ti_lang.specs.Typing.Fits.{fits, casts}
 use Rattle.ti_lang.specs.Typing.Operators.{whole_type, truth_type, point_type, rect_type, domain_type, Sum, row_type, binary_type, unary_type}
 use Rattle.ti_lang.specs.Typing.TextTypes.{joined_type, product_type, operator_type}
-use Rattle.ti_lang.specs.Meaning.Held.{Held, Plain, Dm, truth, truth_of, points_in, dim_of, as_type}
+use Rattle.ti_lang.specs.Meaning.Held.{Held, Plain, Dm, truth, truth_of, thing_of, points_in, dim_of, as_type}
 use Rattle.ti_lang.specs.Meaning.Asking.{Asking, ◌>>=◌, gives}
 use Rattle.ti_lang.specs.Meaning.Answers.{IsPointOf, IsRectOf}
 use Rattle.ti_lang.specs.Meaning.Conversions.{most_points, to_domain, converted, domain_within, of_domains}
 use Rattle.ti_lang.specs.Meaning.Operands.{Operands, Wholes, Truths, Points, Rects, Domains, Things, Regions, Others, operands, number, same_points}
 use Rattle.ti_lang.specs.Meaning.Operators.{added, subtracted, multiplied, divided, combined, shifted, compared, equal, operated, settled, operated_alone}
-use Rattle.ti_lang.specs.Meaning.Evaluation.{unless_settled, with_right}
+use Rattle.ti_lang.specs.Meaning.Evaluation.{is_own, unless_settled, with_right}
 use Rattle.ti_align.specs.Things.{IsDomainOf, IsOf}
 use Rattle.ti_align.specs.Things as there
 use Rattle.ti_align.specs.Sound.{Sound}
@@ -66,7 +66,7 @@ or_either false b h = inr h
 false_true : {A : Type 0} → false ≡ true → A
 false_true h = absurd (true_false (sym h))
 
-truth_same : (a b : Bool) → same_truth a b ≡ true → a ≡ b
+pub truth_same : (a b : Bool) → same_truth a b ≡ true → a ≡ b
 truth_same true true h = refl
 truth_same true false h = false_true h
 truth_same false true h = false_true h
@@ -112,6 +112,49 @@ seen_same (t.Class c l) = refl
 seen_same (t.Grid e n l) = refl
 seen_same t.Null = refl
 seen_same t.Void = refl
+
+-- ---- global and local references
+
+pub to_global : (w : there.Things) (a : ValueType) (h : Held) → IsOf w a h → IsOf w (as_global a) h
+to_global w (t.Class c l) h k = (k.0, k.1, k.2, λ z. false_true z)
+to_global w (t.Grid e n l) h k = (k.0, k.1, k.2, λ z. false_true z)
+to_global w t.Int h k = k
+to_global w t.Long h k = k
+to_global w t.Boolean h k = k
+to_global w (t.Pt n) h k = k
+to_global w (t.Rc n) h k = k
+to_global w (t.Dm n) h k = k
+to_global w t.Region h k = k
+to_global w t.Null h k = k
+to_global w t.Void h k = k
+
+-- what names a thing of the process, if the type is local
+pub to_local : (w : there.Things) (a : ValueType) (h : Held) → IsOf w (as_global a) h → there.IsOwn w (is_local a) (thing_of h) → IsOf w a h
+to_local w (t.Class c l) h k own = (k.0, k.1, k.2, λ z. subst (λ o. is_own w.owner o ≡ true) (ap thing_of k.1) (own z))
+to_local w (t.Grid e n l) h k own = (k.0, k.1, k.2, λ z. subst (λ o. is_own w.owner o ≡ true) (ap thing_of k.1) (own z))
+to_local w t.Int h k own = k
+to_local w t.Long h k own = k
+to_local w t.Boolean h k own = k
+to_local w (t.Pt n) h k own = k
+to_local w (t.Rc n) h k own = k
+to_local w (t.Dm n) h k own = k
+to_local w t.Region h k own = k
+to_local w t.Null h k own = k
+to_local w t.Void h k own = k
+
+-- no global type is local
+pub global_type : (a : ValueType) → is_local (as_global a) ≡ false
+global_type (t.Class c l) = refl
+global_type (t.Grid e n l) = refl
+global_type t.Int = refl
+global_type t.Long = refl
+global_type t.Boolean = refl
+global_type (t.Pt n) = refl
+global_type (t.Rc n) = refl
+global_type (t.Dm n) = refl
+global_type t.Region = refl
+global_type t.Null = refl
+global_type t.Void = refl
 
 -- ---- domains
 
@@ -173,34 +216,34 @@ module _ (p : NumberedProgram) (w : there.Things) where
       subst (λ y. Sound p (λ x k. IsOf x (t.Dm n) k) w (converted at y h)) (sym z.1) (to_fine at n h (inr (subst (λ i. IsOf w (t.Dm i) h) e k)))
   converted_fine at t.Null (t.Class c l) u h f z k =
       subst (λ y. Sound p (λ x k. IsOf x (t.Class c l) k) w (converted at y h)) (sym z)
-      (subst (λ y. Sound p (λ x k. IsOf x (t.Class c l) k) w (gives (as_type (t.Class c l) y))) (sym k) (plainly (t.Class c l) _ (None, refl, λ id e. absurd (none_some id e))))
+      (subst (λ y. Sound p (λ x k. IsOf x (t.Class c l) k) w (gives (as_type (t.Class c l) y))) (sym k) (plainly (t.Class c l) _ (None, refl, (λ id e. absurd (none_some id e)), λ z. refl)))
   converted_fine at (t.Class d i) (t.Class c l) u h f z k =
       subst (λ y. Sound p (λ x k. IsOf x (t.Class c l) k) w (converted at y h)) (sym z)
-      (subst (λ y. Sound p (λ x k. IsOf x (t.Class c l) k) w (gives (as_type (t.Class c l) y))) (sym k.1) (plainly (t.Class c l) _ (k.0, refl, λ id e. k.2 id e ∙ ap Some class)))
+      (subst (λ y. Sound p (λ x k. IsOf x (t.Class c l) k) w (gives (as_type (t.Class c l) y))) (sym k.1) (plainly (t.Class c l) _ (k.0, refl, (λ id e. k.2 id e ∙ ap Some same.0), λ z. k.3 (same.1 z))))
     where
-      class : d ≡ c
-      class = by (or_either _ _ (or_one _ f))
+      same : (d ≡ c) × (l ≡ true → i ≡ true)
+      same = by (or_either _ _ (or_one _ f))
         where
-          by : (((d == c) && same_truth i l) || false) ≡ true ⊎ ((d == c) && same_truth false l) ≡ true → d ≡ c
-          by (inl x) = eqb-true d c (and_left _ _ (or_one _ x))
-          by (inr x) = eqb-true d c (and_left _ _ x)
+          by : (((d == c) && same_truth i l) || false) ≡ true ⊎ ((d == c) && same_truth false l) ≡ true → (d ≡ c) × (l ≡ true → i ≡ true)
+          by (inl x) = (eqb-true d c (and_left _ _ (or_one _ x)), λ z. truth_same i l (and_right (d == c) _ (or_one _ x)) ∙ z)
+          by (inr x) = (eqb-true d c (and_left _ _ x), λ z. false_true (truth_same false l (and_right (d == c) _ x) ∙ z))
   converted_fine at t.Null (t.Grid e n l) u h f z k =
       subst (λ y. Sound p (λ x k. IsOf x (t.Grid e n l) k) w (converted at y h)) (sym z)
-      (subst (λ y. Sound p (λ x k. IsOf x (t.Grid e n l) k) w (gives (as_type (t.Grid e n l) y))) (sym k) (plainly (t.Grid e n l) _ (None, refl, λ id e. absurd (none_some id e))))
+      (subst (λ y. Sound p (λ x k. IsOf x (t.Grid e n l) k) w (gives (as_type (t.Grid e n l) y))) (sym k) (plainly (t.Grid e n l) _ (None, refl, (λ id e. absurd (none_some id e)), λ z. refl)))
   converted_fine at (t.Grid d m i) (t.Grid e n l) u h f z k =
       subst (λ y. Sound p (λ x k. IsOf x (t.Grid e n l) k) w (converted at y h)) (sym z)
       (subst (λ y. Sound p (λ x k. IsOf x (t.Grid e n l) k) w (gives (as_type (t.Grid e n l) y))) (sym k.1)
-      (plainly (t.Grid e n l) _ (k.0, refl, λ id q. subst (λ (x : ValueType). there.IsGridOf w x n id) same.0 (subst (λ x. there.IsGridOf w d x id) same.1 (k.2 id q)))))
+      (plainly (t.Grid e n l) _ (k.0, refl, (λ id q. subst (λ (x : ValueType). there.IsGridOf w x n id) same.0 (subst (λ x. there.IsGridOf w d x id) same.1 (k.2 id q))), λ z. k.3 (same.2 z))))
     where
-      same : (d ≡ e) × (m ≡ n)
+      same : (d ≡ e) × (m ≡ n) × (l ≡ true → i ≡ true)
       same = by (or_either _ _ (or_one _ f))
         where
-          of : (same_type d e && (m == n)) ≡ true → (d ≡ e) × (m ≡ n)
-          of x = (type_same d e (and_left _ _ x), eqb-true m n (and_right (same_type d e) _ x))
+          of : (same_type d e && (m == n)) ≡ true → (l ≡ true → i ≡ true) → (d ≡ e) × (m ≡ n) × (l ≡ true → i ≡ true)
+          of x own = (type_same d e (and_left _ _ x), eqb-true m n (and_right (same_type d e) _ x), own)
 
-          by : (((same_type d e && (m == n)) && same_truth i l) || false) ≡ true ⊎ ((same_type d e && (m == n)) && same_truth false l) ≡ true → (d ≡ e) × (m ≡ n)
-          by (inl x) = of (and_left _ _ (or_one _ x))
-          by (inr x) = of (and_left _ _ x)
+          by : (((same_type d e && (m == n)) && same_truth i l) || false) ≡ true ⊎ ((same_type d e && (m == n)) && same_truth false l) ≡ true → (d ≡ e) × (m ≡ n) × (l ≡ true → i ≡ true)
+          by (inl x) = of (and_left _ _ (or_one _ x)) (λ z. truth_same i l (and_right (same_type d e && (m == n)) _ (or_one _ x)) ∙ z)
+          by (inr x) = of (and_left _ _ x) (λ z. false_true (truth_same false l (and_right (same_type d e && (m == n)) _ x) ∙ z))
   converted_fine at s t.Void u h f z k = subst (λ y. Sound p (λ x k. IsOf x t.Void k) w (converted at y h)) (sym z) (plainly t.Void h tt)
   converted_fine at _ _ u h f z k = false_true f
 
@@ -642,13 +685,11 @@ module _ (p : NumberedProgram) (w : there.Things) where
 
   -- ---- casts
 
-  of_class : (c : ℕ) (l m : Bool) (h : Held) → IsOf w (t.Class c l) h → IsOf w (t.Class c m) h
-  of_class c l m h k = k
-
-  pub cast_fine : (at : Place) (to a : ValueType) (h : Held) → casts to a ≡ true → IsOf w a h → Sound p (λ x k. IsOf x to k) w (converted at to h)
+  -- what is left of a cast is that a local reference is one
+  pub cast_fine : (at : Place) (to a : ValueType) (h : Held) → casts to a ≡ true → IsOf w a h → Sound p (λ x k. IsOf x (as_global to) k) w (converted at to h)
   cast_fine at to a h f k = by (or_either _ _ f)
     where
-      whole : (to a : ValueType) → (is_whole to && is_whole a) ≡ true → IsOf w a h → Sound p (λ x k. IsOf x to k) w (converted at to h)
+      whole : (to a : ValueType) → (is_whole to && is_whole a) ≡ true → IsOf w a h → Sound p (λ x k. IsOf x (as_global to) k) w (converted at to h)
       whole t.Int t.Int f k = sound_value p _ w _ (k.0, ap (as_type t.Int) k.1, k.2)
       whole t.Int t.Long f k = sound_value p _ w _ (_, ap (as_type t.Int) k.1, wraps_fit w32 _)
       whole t.Long t.Int f k = sound_value p _ w _ (_, ap (as_type t.Long) k.1, widens k.0 k.2)
@@ -657,31 +698,18 @@ module _ (p : NumberedProgram) (w : there.Things) where
       whole t.Long _ f k = false_true f
       whole _ _ f k = false_true f
 
-      null : (to a : ValueType) → (is_reference to && is_null a) ≡ true → IsOf w a h → Sound p (λ x k. IsOf x to k) w (converted at to h)
-      null (t.Class c l) t.Null f k = converted_fine at t.Null (t.Class c l) (t.Class c l) h refl refl k
-      null (t.Grid e n l) t.Null f k = converted_fine at t.Null (t.Grid e n l) (t.Grid e n l) h refl refl k
+      null : (to a : ValueType) → (is_reference to && is_null a) ≡ true → IsOf w a h → Sound p (λ x k. IsOf x (as_global to) k) w (converted at to h)
+      null (t.Class c l) t.Null f k = weaker p _ _ w _ (converted_fine at t.Null (t.Class c l) (t.Class c l) h refl refl k) (λ x g i o. to_global x (t.Class c l) i o)
+      null (t.Grid e n l) t.Null f k = weaker p _ _ w _ (converted_fine at t.Null (t.Grid e n l) (t.Grid e n l) h refl refl k) (λ x g i o. to_global x (t.Grid e n l) i o)
       null (t.Class c l) _ f k = false_true f
       null (t.Grid e n l) _ f k = false_true f
       null _ _ f k = false_true f
 
       -- equal but for the local of the reference itself
       global : (to a : ValueType) → as_global to ≡ as_global a → IsOf w a h → IsOf w (as_global to) h
-      global to a q k = subst (λ z. IsOf w z h) (sym q) (outer a k)
-        where
-          outer : (a : ValueType) → IsOf w a h → IsOf w (as_global a) h
-          outer (t.Class c l) k = k
-          outer (t.Grid e n l) k = k
-          outer t.Int k = k
-          outer t.Long k = k
-          outer t.Boolean k = k
-          outer (t.Pt n) k = k
-          outer (t.Rc n) k = k
-          outer (t.Dm n) k = k
-          outer t.Region k = k
-          outer t.Null k = k
-          outer t.Void k = k
+      global to a q k = subst (λ z. IsOf w z h) (sym q) (to_global w a h k)
 
-      same : (to : ValueType) → IsOf w (as_global to) h → Sound p (λ x k. IsOf x to k) w (converted at to h)
+      same : (to : ValueType) → IsOf w (as_global to) h → Sound p (λ x k. IsOf x (as_global to) k) w (converted at to h)
       same t.Int k = sound_value p _ w _ (k.0, ap (as_type t.Int) k.1, k.2)
       same t.Long k = sound_value p _ w _ (k.0, ap (as_type t.Long) k.1, k.2)
       same t.Boolean k = sound_value p _ w h k
@@ -689,15 +717,15 @@ module _ (p : NumberedProgram) (w : there.Things) where
       same (t.Rc n) k = sound_value p _ w h k
       same (t.Dm n) k = to_fine at n h (inr k)
       same t.Region k = sound_value p _ w h k
-      same (t.Class c l) k = subst (λ y. Sound p (λ x k. IsOf x (t.Class c l) k) w (gives (as_type (t.Class c l) y))) (sym k.1) (sound_value p _ w _ (k.0, refl, k.2))
-      same (t.Grid e n l) k = subst (λ y. Sound p (λ x k. IsOf x (t.Grid e n l) k) w (gives (as_type (t.Grid e n l) y))) (sym k.1) (sound_value p _ w _ (k.0, refl, k.2))
+      same (t.Class c l) k = subst (λ y. Sound p (λ x k. IsOf x (t.Class c false) k) w (gives (as_type (t.Class c l) y))) (sym k.1) (sound_value p _ w _ (k.0, refl, k.2, k.3))
+      same (t.Grid e n l) k = subst (λ y. Sound p (λ x k. IsOf x (t.Grid e n false) k) w (gives (as_type (t.Grid e n l) y))) (sym k.1) (sound_value p _ w _ (k.0, refl, k.2, k.3))
       same t.Null k = sound_value p _ w h k
       same t.Void k = sound_value p _ w h tt
 
-      by : ((same_type (as_global to) (as_global a) || (is_reference to && is_null a)) ≡ true) ⊎ ((is_whole to && is_whole a) ≡ true) → Sound p (λ x k. IsOf x to k) w (converted at to h)
+      by : ((same_type (as_global to) (as_global a) || (is_reference to && is_null a)) ≡ true) ⊎ ((is_whole to && is_whole a) ≡ true) → Sound p (λ x k. IsOf x (as_global to) k) w (converted at to h)
       by (inr q) = whole to a q k
       by (inl q) = other (or_either _ _ q)
         where
-          other : (same_type (as_global to) (as_global a) ≡ true) ⊎ ((is_reference to && is_null a) ≡ true) → Sound p (λ x k. IsOf x to k) w (converted at to h)
+          other : (same_type (as_global to) (as_global a) ≡ true) ⊎ ((is_reference to && is_null a) ≡ true) → Sound p (λ x k. IsOf x (as_global to) k) w (converted at to h)
           other (inl q) = same to (global to a (type_same (as_global to) (as_global a) q) k)
           other (inr q) = null to a q k

@@ -1,5 +1,5 @@
 -- Two processes go through the same states of the slice.
-use Rattle.std.proofs.Common.{◌≡◌, ℕ, suc, ◌+◌, ◌≤◌, false, ◌⊎◌, inl, inr, ⊎_elim, map, Option, List, [], ◌∷◌, refl, ap, ap₂, sym, ◌∙◌, subst, arith}
+use Rattle.std.proofs.Common.{◌≡◌, ℕ, suc, ◌+◌, ◌≤◌, Bool, false, ◌⊎◌, inl, inr, ⊎_elim, map, Option, List, [], ◌∷◌, refl, ap, ap₂, sym, ◌∙◌, subst, arith}
 use Rattle.ti_base.specs.declared.place.Place.{Place}
 use Rattle.ti_base.specs.declared.action.Action.{Action}
 use Rattle.ti_base.specs.declared.action.Action.TheVariants as act
@@ -20,27 +20,28 @@ use Rattle.ti_align.proofs.Vars.{true_false, if_true}
 use Rattle.ti_align.proofs.Fine.{kept_agrees}
 use Rattle.ti_align.proofs.Fitting.{FineMethods}
 use Rattle.ti_align.proofs.Stepping.{Leads, Acts, OkFrames, Ok, Kinds, KindsAt, kinds, begin_ok}
+use Rattle.ti_align.proofs.Stepping as stepping
 use Rattle.ti_align.proofs.Asks.{work_alone}
 
 -- a way through the slice
 pub data Passes (n : Setting) : State → List Meeting → State → Type 0 where
   stop : {s : State} → Passes n s [] s
-  silent : {s t u : State} {ms : List Meeting} → move_of n s ≡ Silent t → Passes n t ms u → Passes n s ms u
+  silent : {timed : Bool} {s t u : State} {ms : List Meeting} → move_of n s ≡ Silent timed t → Passes n t ms u → Passes n s ms u
   came : {s t u : State} {w : Wait} {at : Place} {kind : CollKind} {arg : Option ℕ} {ms : List Meeting} → move_of n s ≡ Arrival w t → w.place ≡ at → w.kind ≡ kind → w.arg ≡ arg → Passes n t ms u → Passes n s (Came at kind arg ∷ ms) u
   left : {s u : State} {w : Wait} {go : Answer → State} {r : Answer} {ms : List Meeting} → move_of n s ≡ Departure w go → Passes n (go r) ms u → Passes n s (Left r ∷ ms) u
 
-kind_of : (n : Setting) (q : Process) (st : Step) → Ok n q → step q ≡ st → Kinds n (move_of n (slice q)) (slice q) q.frames st
-kind_of n q st o e = subst (Kinds n (move_of n (slice q)) (slice q) q.frames) e (kinds work_alone n q o)
+pub kind_of : (n : Setting) (q : Process) (st : Step) → Ok n q → step q ≡ st → Kinds n q.spent (move_of n (slice q)) (slice q) q.frames st
+kind_of n q st o e = subst (Kinds n q.spent (move_of n (slice q)) (slice q) q.frames) e (kinds work_alone n q o)
 
-by_alone : (n : Setting) (m : Move) (s : State) (fs : List Frame) (at : Place) (a : Action) (go : Answer → Process) (r : Answer) → is_arrival a ≡ false → is_departure a ≡ false → KindsAt n m s fs at a go → (slice (go r) ≡ s) × Ok n (go r)
-by_alone n m s fs at (act.Arrive kind arg given) go r x y k = absurd (true_false x)
-by_alone n m s fs at act.Depart go r x y k = absurd (true_false y)
-by_alone n m s fs at act.End go r x y k = absurd k
-by_alone n m s fs at _ go r x y k = k r
+pub by_alone : (n : Setting) (b : ℕ) (m : Move) (s : State) (fs : List Frame) (at : Place) (a : Action) (go : Answer → Process) (r : Answer) → is_arrival a ≡ false → is_departure a ≡ false → KindsAt n b m s fs at a go → (slice (go r) ≡ s) × Ok n (go r) × (b ≤ (go r).spent)
+by_alone n b m s fs at (act.Arrive kind arg given) go r x y k = absurd (true_false x)
+by_alone n b m s fs at act.Depart go r x y k = absurd (true_false y)
+by_alone n b m s fs at act.End go r x y k = absurd k
+by_alone n b m s fs at _ go r x y k = k r
 
-silent_way : (n : Setting) (s t u : State) (ms : List Meeting) → (t ≡ s) ⊎ (move_of n s ≡ Silent t) → Passes n t ms u → Passes n s ms u
-silent_way n s t u ms (inl z) h = subst (λ y. Passes n y ms u) z h
-silent_way n s t u ms (inr z) h = silent z h
+silent_way : (n : Setting) (s u : State) (ms : List Meeting) (b : ℕ) (q : Process) → ((slice q ≡ s) × (b ≤ q.spent)) ⊎ stepping.GoesOn b (move_of n s) q → Passes n (slice q) ms u → Passes n s ms u
+silent_way n s u ms b q (inl z) h = subst (λ y. Passes n y ms u) z.0 h
+silent_way n s u ms b q (inr z) h = silent z.1 h
 
 same_way : (n : Setting) (s t u : State) (ms : List Meeting) → t ≡ s → Passes n t ms u → Passes n s ms u
 same_way n s t u ms z h = subst (λ y. Passes n y ms u) z h
@@ -54,19 +55,19 @@ left_way n s t u w go r ms m z h = left {r = r} m (subst (λ y. Passes n y ms u)
 Passed : Setting → Process → List Meeting → Process → Type 0
 Passed n p ms q = Ok n q × Passes n (slice p) ms (slice q)
 
-by_silent : (n : Setting) (p q r : Process) (ms : List Meeting) → Kinds n (move_of n (slice p)) (slice p) p.frames (To q) → (Ok n q → Passed n q ms r) → Passed n p ms r
+by_silent : (n : Setting) (p q r : Process) (ms : List Meeting) → Kinds n p.spent (move_of n (slice p)) (slice p) p.frames (To q) → (Ok n q → Passed n q ms r) → Passed n p ms r
 unfolding Passed
-by_silent n p q r ms k go = let h = go k.1 in (h.0, silent_way n (slice p) (slice q) (slice r) ms k.0 h.1)
+by_silent n p q r ms k go = let h = go k.1 in (h.0, silent_way n (slice p) (slice r) ms p.spent q k.0 h.1)
 
-by_stay : (n : Setting) (p q r : Process) (ms : List Meeting) → (slice q ≡ slice p) × Ok n q → (Ok n q → Passed n q ms r) → Passed n p ms r
+by_stay : (n : Setting) (p q r : Process) (ms : List Meeting) → (slice q ≡ slice p) × Ok n q × (p.spent ≤ q.spent) → (Ok n q → Passed n q ms r) → Passed n p ms r
 unfolding Passed
 by_stay n p q r ms k go = let h = go k.1 in (h.0, same_way n (slice p) (slice q) (slice r) ms k.0 h.1)
 
-by_came : (n : Setting) (p : Process) (at : Place) (kind : CollKind) (arg : Option ℕ) (d : Deposit) (step_to : Answer → Process) (t : Answer) (r : Process) (ms : List Meeting) → KindsAt n (move_of n (slice p)) (slice p) p.frames at (act.Arrive kind arg d) step_to → (Ok n (step_to t) → Passed n (step_to t) ms r) → Passed n p (Came at kind arg ∷ ms) r
+by_came : (n : Setting) (p : Process) (at : Place) (kind : CollKind) (arg : Option ℕ) (d : Deposit) (step_to : Answer → Process) (t : Answer) (r : Process) (ms : List Meeting) → KindsAt n p.spent (move_of n (slice p)) (slice p) p.frames at (act.Arrive kind arg d) step_to → (Ok n (step_to t) → Passed n (step_to t) ms r) → Passed n p (Came at kind arg ∷ ms) r
 unfolding Passed
 by_came n p at kind arg d g t r ms k go = let h = go (k.4 t).1 in (h.0, came_way n (slice p) (slice (g t)) (slice r) k.0 at kind arg ms (k.4 t).0 k.1 k.2 k.3 h.1)
 
-by_left : (n : Setting) (p : Process) (at : Place) (step_to : Answer → Process) (t : Answer) (r : Process) (ms : List Meeting) → KindsAt n (move_of n (slice p)) (slice p) p.frames at act.Depart step_to → (Ok n (step_to t) → Passed n (step_to t) ms r) → Passed n p (Left t ∷ ms) r
+by_left : (n : Setting) (p : Process) (at : Place) (step_to : Answer → Process) (t : Answer) (r : Process) (ms : List Meeting) → KindsAt n p.spent (move_of n (slice p)) (slice p) p.frames at act.Depart step_to → (Ok n (step_to t) → Passed n (step_to t) ms r) → Passed n p (Left t ∷ ms) r
 unfolding Passed
 by_left n p at g t r ms k go = let h = go (k.3 t).1 in (h.0, left_way n (slice p) (slice (g t)) (slice r) k.0 k.1 t ms k.2 (k.3 t).0 h.1)
 
@@ -75,7 +76,7 @@ unfolding Passed
 ways n p q ms o way.stop = (o, stop)
 ways n p r ms o (way.silent {q = q} e w) = by_silent n p q r ms (kind_of n p (To q) o e) (λ u. ways n q r ms u w)
 ways n p r ms o (way.alone {at = at} {a = a} {wanted = v} {go = go} {answer = t} e x y w) =
-    by_stay n p (go t) r ms (by_alone n (move_of n (slice p)) (slice p) p.frames at a go t x y (kind_of n p (At (asking at a v) go) o e)) (λ u. ways n (go t) r ms u w)
+    by_stay n p (go t) r ms (by_alone n p.spent (move_of n (slice p)) (slice p) p.frames at a go t x y (kind_of n p (At (asking at a v) go) o e)) (λ u. ways n (go t) r ms u w)
 ways n p r ms o (way.came {ms = ns} {at = at} {kind = kind} {arg = arg} {given = d} {wanted = v} {go = go} {answer = t} e w) =
     by_came n p at kind arg d go t r ns (kind_of n p (At (asking at (act.Arrive kind arg d) v) go) o e) (λ u. ways n (go t) r ns u w)
 ways n p r ms o (way.left {ms = ns} {at = at} {wanted = v} {go = go} {answer = t} e w) =
@@ -87,31 +88,31 @@ passes n p q ms o w = ways n p q ms o w
 
 -- ---- moves are one
 
-silent_same : (m : Move) (s t : State) → m ≡ Silent s → m ≡ Silent t → s ≡ t
-silent_same m s t a b = cc
+pub silent_same : (m : Move) (c d : Bool) (s t : State) → m ≡ Silent c s → m ≡ Silent d t → (s ≡ t) × (c ≡ d)
+silent_same m c d s t a b = (cc, cc)
 
-arrival_same : (m : Move) (c d : Wait) (s t : State) → m ≡ Arrival c s → m ≡ Arrival d t → (s ≡ t) × (c ≡ d)
+pub arrival_same : (m : Move) (c d : Wait) (s t : State) → m ≡ Arrival c s → m ≡ Arrival d t → (s ≡ t) × (c ≡ d)
 arrival_same m c d s t a b = (cc, cc)
 
-departure_same : (m : Move) (c d : Wait) (g h : Answer → State) → m ≡ Departure c g → m ≡ Departure d h → g ≡ h
+pub departure_same : (m : Move) (c d : Wait) (g h : Answer → State) → m ≡ Departure c g → m ≡ Departure d h → g ≡ h
 departure_same m c d g h a b = cc
 
-silent_arrival : (m : Move) (s t : State) (c : Wait) → m ≡ Silent s → m ≡ Arrival c t → ⊥
-silent_arrival m s t c a b = cc
+pub silent_arrival : (m : Move) (d : Bool) (s t : State) (c : Wait) → m ≡ Silent d s → m ≡ Arrival c t → ⊥
+silent_arrival m d s t c a b = cc
 
-silent_departure : (m : Move) (s : State) (c : Wait) (g : Answer → State) → m ≡ Silent s → m ≡ Departure c g → ⊥
-silent_departure m s c g a b = cc
+pub silent_departure : (m : Move) (d : Bool) (s : State) (c : Wait) (g : Answer → State) → m ≡ Silent d s → m ≡ Departure c g → ⊥
+silent_departure m d s c g a b = cc
 
-arrival_departure : (m : Move) (s : State) (c d : Wait) (g : Answer → State) → m ≡ Arrival c s → m ≡ Departure d g → ⊥
+pub arrival_departure : (m : Move) (s : State) (c d : Wait) (g : Answer → State) → m ≡ Arrival c s → m ≡ Departure d g → ⊥
 arrival_departure m s c d g a b = cc
 
-over_silent : (m : Move) (s : State) → m ≡ Over → m ≡ Silent s → ⊥
-over_silent m s a b = cc
+pub over_silent : (m : Move) (d : Bool) (s : State) → m ≡ Over → m ≡ Silent d s → ⊥
+over_silent m d s a b = cc
 
-over_arrival : (m : Move) (s : State) (c : Wait) → m ≡ Over → m ≡ Arrival c s → ⊥
+pub over_arrival : (m : Move) (s : State) (c : Wait) → m ≡ Over → m ≡ Arrival c s → ⊥
 over_arrival m s c a b = cc
 
-over_departure : (m : Move) (c : Wait) (g : Answer → State) → m ≡ Over → m ≡ Departure c g → ⊥
+pub over_departure : (m : Move) (c : Wait) (g : Answer → State) → m ≡ Over → m ≡ Departure c g → ⊥
 over_departure m c g a b = cc
 
 -- ---- of two ways from one state, one goes on from the other
@@ -131,16 +132,16 @@ both_came n u v a b c d e f ls ms x = ⊎_elim (λ y. inl (y.0, y.1, more_comes 
 pub compare : (n : Setting) (s u v : State) (ls ms : List Meeting) → Passes n s ls u → Passes n s ms v → SameAnswers ls ms → Compared n u ls v ms
 compare n s u v [] ms stop y a = inl (ms, y, omega arith)
 compare n s u v ls ms (silent m x) stop a = inr (ls, silent m x, omega arith)
-compare n s u v ls ms (silent {t = t} m x) (silent {t = t'} m' y) a = compare n t u v ls ms x (subst (λ z. Passes n z ms v) (silent_same _ _ _ m' m) y) a
-compare n s u v ls (d ∷ ms) (silent m x) (came m' e f g y) a = absurd (silent_arrival _ _ _ _ m m')
-compare n s u v ls (d ∷ ms) (silent m x) (left m' y) a = absurd (silent_departure _ _ _ _ m m')
+compare n s u v ls ms (silent {t = t} m x) (silent {t = t'} m' y) a = compare n t u v ls ms x (subst (λ z. Passes n z ms v) (silent_same _ _ _ _ _ m' m).0 y) a
+compare n s u v ls (d ∷ ms) (silent m x) (came m' e f g y) a = absurd (silent_arrival _ _ _ _ _ m m')
+compare n s u v ls (d ∷ ms) (silent m x) (left m' y) a = absurd (silent_departure _ _ _ _ _ m m')
 compare n s u v (c ∷ ls) ms (came m e f g x) stop a = inr (c ∷ ls, came m e f g x, omega arith)
-compare n s u v (c ∷ ls) ms (came m e f g x) (silent m' y) a = absurd (silent_arrival _ _ _ _ m' m)
+compare n s u v (c ∷ ls) ms (came m e f g x) (silent m' y) a = absurd (silent_arrival _ _ _ _ _ m' m)
 compare n s u v (c ∷ ls) (d ∷ ms) (came {t = t} {at = at} {kind = k} {arg = i} m e f g x) (came {at = at'} {kind = k'} {arg = i'} m' e' f' g' y) a =
     both_came n u v at at' k k' i i' ls ms (compare n t u v ls ms x (subst (λ z. Passes n z ms v) (arrival_same _ _ _ _ _ m' m).0 y) a)
 compare n s u v (c ∷ ls) (d ∷ ms) (came m e f g x) (left m' y) a = absurd (arrival_departure _ _ _ _ _ m m')
 compare n s u v (c ∷ ls) ms (left m x) stop a = inr (c ∷ ls, left m x, omega arith)
-compare n s u v (c ∷ ls) ms (left m x) (silent m' y) a = absurd (silent_departure _ _ _ _ m' m)
+compare n s u v (c ∷ ls) ms (left m x) (silent m' y) a = absurd (silent_departure _ _ _ _ _ m' m)
 compare n s u v (c ∷ ls) (d ∷ ms) (left m x) (came m' e f g y) a = absurd (arrival_departure _ _ _ _ _ m' m)
 compare n s u v (c ∷ ls) (d ∷ ms) (left {go = go} {r = r} m x) (left {go = go'} {r = r'} m' y) a =
     let e = departure_same _ _ _ _ _ m' m in
@@ -155,13 +156,13 @@ suc_zero n e = absurd (omega arith)
 -- from an arrival nothing goes on without making it
 stays : (n : Setting) (u v t : State) (w : Wait) (ls : List Meeting) → move_of n u ≡ Arrival w t → Passes n u ls v → comings ls ≡ 0 → u ≡ v
 stays n u v t w [] m stop e = refl
-stays n u v t w ls m (silent k x) e = absurd (silent_arrival _ _ _ _ k m)
+stays n u v t w ls m (silent k x) e = absurd (silent_arrival _ _ _ _ _ k m)
 stays n u v t w (l ∷ ls) m (came k a b c x) e = absurd (suc_zero _ e)
 stays n u v t w (l ∷ ls) m (left k x) e = absurd (arrival_departure _ _ _ _ _ m k)
 
 none_left : (n : Setting) (u v : State) (ls : List Meeting) → move_of n u ≡ Over → Passes n u ls v → comings ls ≡ 0
 none_left n u v [] m stop = refl
-none_left n u v ls m (silent k x) = absurd (over_silent _ _ m k)
+none_left n u v ls m (silent k x) = absurd (over_silent _ _ _ m k)
 none_left n u v (l ∷ ls) m (came k a b c x) = absurd (over_arrival _ _ _ m k)
 none_left n u v (l ∷ ls) m (left k x) = absurd (over_departure _ _ _ m k)
 

@@ -25,7 +25,7 @@ use Rattle.ti_align.specs.Typed.{TakesFirst}
 use Rattle.ti_align.proofs.Operating.{none_some, some_same}
 use Rattle.ti_align.proofs.Storing.{without_fits}
 use Rattle.ti_align.proofs.Asks.{Each, Of, performed_asks}
-use Rattle.ti_align.proofs.Given.{NoTakes, AllFree}
+use Rattle.ti_align.proofs.Given.{HoldsNothing, AllFree}
 
 -- ---- work
 
@@ -85,17 +85,17 @@ module _ (p : NumberedProgram) (m : NumberedMethod) (w : Things) where
 
 -- ---- values that are left to be taken
 
-pub takes_free : (o : Option ValueType) (xs : List Work) → NoTakes xs → TakesOf o xs
+pub takes_free : (o : Option ValueType) (xs : List Work) → HoldsNothing xs → TakesOf o xs
 takes_free o [] n = tt
 takes_free o (TakeAll at grid procs ∷ xs) n = absurd n
 takes_free o (Do x ∷ xs) n = takes_free o xs n
 takes_free o (End x ∷ xs) n = takes_free o xs n
 takes_free o (Before loop ∷ xs) n = takes_free o xs n
 takes_free o (Behind loop ∷ xs) n = takes_free o xs n
-takes_free o (Receive receiver h ∷ xs) n = takes_free o xs n
-takes_free o (CopyAll at to from points ∷ xs) n = takes_free o xs n
+takes_free o (Receive receiver h ∷ xs) n = absurd n
+takes_free o (CopyAll at to from points ∷ xs) n = absurd n
 
-pub takes_both : (o : Option ValueType) (xs left : List Work) → TakesOf o xs → NoTakes left → TakesOf o (xs ++ left)
+pub takes_both : (o : Option ValueType) (xs left : List Work) → TakesOf o xs → HoldsNothing left → TakesOf o (xs ++ left)
 takes_both o [] left k n = takes_free o left n
 takes_both o (TakeAll at grid procs ∷ xs) left k n = (k.0, takes_both o xs left k.1 n)
 takes_both o (Do x ∷ xs) left k n = takes_both o xs left k n
@@ -111,7 +111,7 @@ module _ (G : ValueType → Type 0) where
   taken_first o (TakeAll at grid procs ∷ xs) f k = f (element_of grid.type) k.0
   taken_first o _ f k = tt
 
-  pub none_first : (xs : List Work) → NoTakes xs → TakesFirst G xs
+  pub none_first : (xs : List Work) → HoldsNothing xs → TakesFirst G xs
   none_first xs n = taken_first None xs (λ type z. absurd (none_some type z)) (takes_free None xs n)
 
   pub body_first : (xs : NumberedStms) → TakesFirst G (all_before xs [])

@@ -19,10 +19,10 @@ use Rattle.ti_lang.specs.Typing.Expressions.{all_fit, takes, called, member_give
 use Rattle.ti_lang.specs.Typing.Expressions as typing
 use Rattle.ti_lang.specs.Typing.Called.{method_behind}
 use Rattle.ti_lang.specs.Meaning.Held.{Held, Plain, thing_of}
-use Rattle.ti_lang.specs.Meaning.Asking.{Reference, Asking, needed}
+use Rattle.ti_lang.specs.Meaning.Asking.{Asking, needed}
 use Rattle.ti_lang.specs.Meaning.Conversions.{converted}
 use Rattle.ti_lang.specs.Meaning.Processes.{Variable, Receiver}
-use Rattle.ti_lang.specs.Meaning.Scoping.{Env, type_of}
+use Rattle.ti_lang.specs.Meaning.Scoping.{Env, type_of, type_here}
 use Rattle.ti_lang.specs.Meaning.Evaluation.{eval}
 use Rattle.ti_lang.specs.Meaning.Targets.{into}
 use Rattle.ti_lang.specs.Meaning.Moves.{Move, receives}
@@ -35,9 +35,9 @@ use Rattle.ti_align.specs.Fitting.{EnvFits, FieldsFit, IsWritten, AreWritten}
 use Rattle.ti_align.specs.Heap.{FieldsStorable}
 use Rattle.ti_align.specs.Work.{VariablesFit, uses_of, WholeFits, ReceiverFits, MethodFits, MethodsFit, ThisFits, MoveFits}
 use Rattle.ti_align.proofs.Vars.{true_false, and_left, and_right}
-use Rattle.ti_align.proofs.Computing.{grows_then, sound_then, sound_value}
+use Rattle.ti_align.proofs.Computing.{grows_then, sound_then, sound_value, Names, needed_as}
 use Rattle.ti_align.proofs.Operating.{none_some, some_same, where_some, seen_same, converted_fine}
-use Rattle.ti_align.proofs.Evaluating.{joined_there, one_there, needed_fine, object_of, not_object, env_stays, eval_fine}
+use Rattle.ti_align.proofs.Evaluating.{joined_there, one_there, object_of, not_object, env_stays, eval_fine}
 use Rattle.ti_align.proofs.Storing.{variables_stay, into_fine}
 
 -- ---- methods
@@ -90,6 +90,8 @@ pub record Ready (s : ScopeContents) (w : Things) (env : Env) : Type 0 where
   pub fields : FieldsFit env.program
   pub store : FieldsStorable env.program
   pub methods : MethodsFit env.program env.program.methods
+  -- an expression inside another has its type in the text
+  pub types : (x : NumberedExp) (type : ValueType) → IsWritten (uses_of env.method) x → operand_type env.program s x ≡ Some type → type_here env x ≡ type
 
 pub ready_stays : (s : ScopeContents) (u w : Things) (env : Env) → Grows u w → Ready s u env → Ready s w env
 ready_stays s u w env g r = record {
@@ -98,6 +100,7 @@ ready_stays s u w env g r = record {
   fields = r.fields;
   store = r.store;
   methods = r.methods;
+  types = r.types;
 }
 
 module _ (s : ScopeContents) (env : Env) where
@@ -250,8 +253,8 @@ module _ (s : ScopeContents) (env : Env) where
   needed_this : (w : Things) (at : Place) (m : NumberedMethod) (o : Option Held) → ObjectFits w m o → Sound p (λ u this. ThisFits u m this) w (maybe_needed at o)
   needed_this w at m None f = sound_value p _ w _ (λ class c id z. absurd (none_some id z))
   needed_this w at m (Some h) f =
-      sound_then p (λ u (r : Reference). (class : ℕ) → this_of m ≡ Some class → u.class_at r.thing ≡ Some class) _ w (needed at t.Void h) _ (needed_fine p w at t.Void h (λ u id. (class : ℕ) → this_of m ≡ Some class → u.class_at id ≡ Some class) (λ id z class c. f h refl class c id z)) (λ u g r k.
-      sound_value p _ u _ (λ class c id z. subst (λ i. u.class_at i ≡ Some class) (some_same r.thing id z) (k class c)))
+      sound_then p (λ u r. Names (λ u id. (class : ℕ) → this_of m ≡ Some class → u.class_at id ≡ Some class) t.Void u r) _ w (needed at t.Void h) _ (needed_as p w at t.Void h (λ u id. (class : ℕ) → this_of m ≡ Some class → u.class_at id ≡ Some class) (λ id z class c. f h refl class c id z) (λ z. absurd (true_false (sym z)))) (λ u g r k.
+      sound_value p _ u _ (λ class c id z. subst (λ i. u.class_at i ≡ Some class) (some_same r.thing id z) (k.thing class c)))
 
   object_stays : (u w : Things) (m : NumberedMethod) (o : Option Held) → Grows u w → ObjectFits u m o → ObjectFits w m o
   object_stays u w m o g f = λ h z class c id q. g.classes id class (f h z class c id q)

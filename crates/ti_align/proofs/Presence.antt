@@ -47,8 +47,8 @@ use Rattle.ti_align.proofs.Keeping.{ProgramStands, WaitStands, Keeps}
 use Rattle.ti_align.proofs.Using.{FirstUses, frames_use}
 use Rattle.ti_align.proofs.Regional.{AllGood, WorksAreSuch, MethodsAreSuch}
 use Rattle.ti_align.proofs.Handing.{MoveIsSuch, performed_good}
-use Rattle.ti_align.proofs.Deleting.{AllSuch, Hands, step_such, reaches_hands}
-use Rattle.ti_align.proofs.Deleted.{run_hands, world_keeps}
+use Rattle.ti_align.proofs.Deleting.{AllSuch, Hands, reaches_hands}
+use Rattle.ti_align.proofs.Deleted.{run_hands, world_keeps, deletes_some}
 
 -- ---- what is deleted is placed
 
@@ -140,15 +140,15 @@ module _ (s : Setting) (known : (j : ℕ) → j < s.procs → Known (begin s j))
       → (n : ℕ) × (arg ≡ Some n) × (is_made n (history_of es) ≡ true)
   deletes_made es ran fit i p at arg given l x n =
       let q = n.0 in
-      let w = things_of fit.elements (history_of es) in
+      let w = things_of i fit.elements (history_of es) in
       let last = last_kind i (history_of es) in
       let k = way_next s es i p p ran x here in
       let keeps : Keeps s p = world_keeps s stands such es ran i p p x here in
       let q_keeps : Keeps s q = world_keeps s stands such es ran i p q x n.1.reaches in
       let q_hands : Hands s last q = reaches_hands s last p q stands such keeps (run_hands s stands such es ran i p x) n.1.reaches in
       let acts = at_action (step q) at (act.Arrive coll.DeleteRegion arg given) n.1.stands in
-      let some = (step_such s last q (At (asking at (act.Arrive coll.DeleteRegion arg given) acts.0) acts.1) such q_keeps q_hands acts.2).0 refl in
-      let q_fits = (reaches_fits performs w (GivesLast s es i) s i _ p q (known i l) (given_facts.stands s i p k.0 k.1) n.1.reaches (fit.processes i p l x)).0 in
+      let some = deletes_some s stands such es ran i p at coll.DeleteRegion arg given x n refl in
+      let q_fits = (reaches_fits performs w (GivesLast s es i) s i _ p q refl (known i l) (given_facts.stands s i p k.0 k.1) n.1.reaches (fit.processes i p l x)).0 in
       let own = λ (t : Setting). MethodsAreSuch t.program t.program.methods in
       let placed : StepPlaced w (step q) =
       steps_placed w q (subst own (sym q_hands.0) such) (GivesLast s es i) q.wait q.frames refl q_fits.1 (subst (λ (t : Setting). WaitStands t.program q.wait q.frames) (sym q_keeps.0) q_keeps.1)

@@ -134,7 +134,7 @@ acts_as s es i (next.Act at a) e h k = by (heap_answer s.program (history_of es)
 acts_as s es i (next.End at) e h k = absurd (unanswered _ e (some_entry _ e h) refl k)
 acts_as s es i (next.Fault kind at) e h k = absurd (unanswered _ e (some_entry _ e h) refl k)
 
-depart_answered : (e : Entry) → is_departure e.act ≡ true → is_answered e ≡ true
+pub depart_answered : (e : Entry) → is_departure e.act ≡ true → is_answered e ≡ true
 depart_answered e k = by e.act k
   where
     by : (a : Action) → is_departure a ≡ true → not (is_end a || is_fault a) ≡ true
@@ -148,7 +148,7 @@ arrive_answered e k = by e.act k
     by (act.Arrive kind arg given) k = refl
     by _ k = absurd (true_false (sym k))
 
-depart_is : (a : Action) → is_departure a ≡ true → a ≡ act.Depart
+pub depart_is : (a : Action) → is_departure a ≡ true → a ≡ act.Depart
 depart_is act.Depart k = refl
 depart_is _ k = absurd (true_false (sym k))
 
@@ -164,7 +164,7 @@ left_one i p wanted go c l at z k = let w = step_waits p (At (asking at act.Depa
     waits_one n x y = omega arith
 
 -- a process that leaves has arrived once more often than it has left
-has_come : (s : Setting) (es : List Entry) (i : ℕ) (e : Entry) → IsRun s es → CanTake s es i e → is_departure e.act ≡ true → arrivals i es ≡ suc (length (answers_at_departures i es))
+pub has_come : (s : Setting) (es : List Entry) (i : ℕ) (e : Entry) → IsRun s es → CanTake s es i e → is_departure e.act ≡ true → arrivals i es ≡ suc (length (answers_at_departures i es))
 has_come s es i e w t k =
     let n : t.next ≡ next.Act e.place act.Depart = acts_as s es i t.next e t.entry (depart_answered e k) ∙ ap (next.Act e.place) (depart_is e.act k) in
     let a = at_action (step t.is_next.0) e.place act.Depart (t.is_next.1.stands ∙ ap Some n) in
@@ -201,17 +201,17 @@ last_or (y ∷ ys) x (suc k) r e = by (last_or ys x k r e)
     by (inl z) = inl z
     by (inr z) = inr (ap suc z.0, z.1)
 
-abbrev leaves : ℕ → Entry → Bool
+abbrev pub leaves : ℕ → Entry → Bool
 leaves i e = (e.proc == i) && is_departure e.act
 
-left_now : (i : ℕ) (e : Entry) → leaves i e ≡ true → answers_at_departures i (e ∷ []) ≡ e.answer ∷ []
+pub left_now : (i : ℕ) (e : Entry) → leaves i e ≡ true → answers_at_departures i (e ∷ []) ≡ e.answer ∷ []
 left_now i e k =
     ap (λ xs. map (λ (e : Entry). e.answer) (filter (λ (e : Entry). is_departure e.act) xs)) (own i e (and_left _ _ k)) ∙ kept (and_right (e.proc == i) _ k)
   where
     kept : is_departure e.act ≡ true → map (λ (e : Entry). e.answer) (filter (λ (e : Entry). is_departure e.act) (e ∷ [])) ≡ e.answer ∷ []
     kept h = rw h refl
 
-none_left : (i : ℕ) (e : Entry) → leaves i e ≡ false → answers_at_departures i (e ∷ []) ≡ []
+pub none_left : (i : ℕ) (e : Entry) → leaves i e ≡ false → answers_at_departures i (e ∷ []) ≡ []
 none_left i e k = go (e.proc == i) refl
   where
     dropped : is_departure e.act ≡ false → map (λ (e : Entry). e.answer) (filter (λ (e : Entry). is_departure e.act) (e ∷ [])) ≡ []
@@ -296,7 +296,7 @@ arrives_now s es all e i k kind arg given t z is c =
     }
 
 -- an arrival of the history, as one of the run
-abbrev Seen : Setting → List Entry → ℕ → ℕ → Arrival → Type 0
+abbrev pub Seen : Setting → List Entry → ℕ → ℕ → Arrival → Type 0
 Seen s es i k a = (x : aligned.Arrival) × ArrivesAt s es i k x × (x.kind ≡ a.kind) × (x.arg ≡ a.arg)
 
 seen_now : (s : Setting) (es all : List Entry) (e : Entry) (i k : ℕ) (a : Arrival) → CanTake s es i e → all ≡ es ++ e ∷ [] → is_arrival e.act ≡ true → arrival_in e.act ≡ Some a → arrivals i es ≡ k → Seen s all i k a
@@ -306,7 +306,7 @@ seen_now s es all e i k a t z l y c =
 one_less : (a b c : ℕ) → a ≡ suc b → a ≡ suc c → b ≡ c
 one_less a b c h k = omega arith
 
-seen : (s : Setting) (es : List Entry) → IsRun s es → (i k : ℕ) (a : Arrival) → arrival_at i (suc k) (history_of es) ≡ Some a → Seen s es i k a
+pub seen : (s : Setting) (es : List Entry) → IsRun s es → (i k : ℕ) (a : Arrival) → arrival_at i (suc k) (history_of es) ≡ Some a → Seen s es i k a
 seen s es run.none i k a z = absurd (none_arrival a z)
   where
     none_arrival : (b : Arrival) → ◌≡◌ {A = Option Arrival} None (Some b) → ⊥

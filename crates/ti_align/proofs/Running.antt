@@ -47,7 +47,7 @@ comings_both [] ns = omega arith
 comings_both (Came at kind arg ∷ ms) ns = omega (arith, comings_both ms ns)
 comings_both (Left r ∷ ms) ns = comings_both ms ns
 
-left_both : (ms ns : List Meeting) → answers_left (ms ++ ns) ≡ answers_left ms ++ answers_left ns
+pub left_both : (ms ns : List Meeting) → answers_left (ms ++ ns) ≡ answers_left ms ++ answers_left ns
 left_both [] ns = refl
 left_both (Came at kind arg ∷ ms) ns = left_both ms ns
 left_both (Left r ∷ ms) ns = ap (λ x. r ∷ x) (left_both ms ns)
@@ -78,12 +78,12 @@ unseen j es e a b c d = (
 )
 
 -- what an action with its answer is on a way
-abbrev meeting : Place → Action → Answer → List Meeting
+abbrev pub meeting : Place → Action → Answer → List Meeting
 meeting at (act.Arrive kind arg given) r = Came at kind arg ∷ []
 meeting at act.Depart r = Left r ∷ []
 meeting at _ r = []
 
-one_way : (p : Process) (at : Place) (a : Action) (w : Asked) (go : Answer → Process) (r : Answer) → step p ≡ At (asking at a w) go → Way p (meeting at a r) (go r)
+pub one_way : (p : Process) (at : Place) (a : Action) (w : Asked) (go : Answer → Process) (r : Answer) → step p ≡ At (asking at a w) go → Way p (meeting at a r) (go r)
 one_way p at (act.Arrive kind arg given) w go r e = way.came e way.stop
 one_way p at act.Depart w go r e = way.left e way.stop
 one_way p at _ w go r e = way.alone e refl refl way.stop
@@ -93,7 +93,7 @@ count_one at (act.Arrive kind arg given) r = refl
 count_one at act.Depart r = refl
 count_one at _ r = refl
 
-left_one : (at : Place) (a : Action) (r : Answer) → answers_left (meeting at a r) ≡ cond (is_departure a) (r ∷ []) []
+pub left_one : (at : Place) (a : Action) (r : Answer) → answers_left (meeting at a r) ≡ cond (is_departure a) (r ∷ []) []
 left_one at (act.Arrive kind arg given) r = refl
 left_one at act.Depart r = refl
 left_one at _ r = refl
@@ -108,7 +108,7 @@ pub data Grows (s : Setting) (es all : List Entry) (j : ℕ) : Type 0 where
   still : Unseen j es all → Grows s es all j
   acted : (p q : Process) (at : Place) (a : Action) (w : Asked) (go : Answer → Process) (r : Answer) → World s es j p → Reaches p q → step q ≡ At (asking at a w) go → answers_of j all ≡ answers_of j es ++ r ∷ []
       → arrivals j all ≡ arrivals j es + comings (meeting at a r) → answers_at_departures j all ≡ answers_at_departures j es ++ answers_left (meeting at a r)
-      → last_kind j (history_of all) ≡ kind_after a (last_kind j (history_of es)) → Grows s es all j
+      → last_kind j (history_of all) ≡ kind_after a (last_kind j (history_of es)) → heap_answer s.program (history_of es) j a ≡ Answers r → all ≡ es ++ record { proc = j; place = at; act = a; answer = r } ∷ [] → Grows s es all j
 
 -- where the process of a run is, with its way
 pub record OnWay (s : Setting) (es : List Entry) (j : ℕ) : Type 0 where
@@ -130,7 +130,7 @@ step_on s es all j (still u) o = record {
   told = o.told ∙ sym u.2;
   last = o.last ∙ sym u.3;
 }
-step_on s es all j (acted p q at a w go r x y e k l m n) o =
+step_on s es all j (acted p q at a w go r x y e k l m n u v) o =
     let same : o.process ≡ p = after_same _ _ _ _ o.world x in
     let goes : Way (begin s j) o.meetings p = subst (λ z. Way (begin s j) o.meetings z) same o.goes in record {
       process = go r;
@@ -191,9 +191,9 @@ grows_last s es j e h x y z = still (unseen j es e (ap (filter is_answered) (own
     left_out = rw z refl
 
 -- an answer
-grows_act : (s : Setting) (es : List Entry) (j : ℕ) (p q : Process) (at : Place) (a : Action) (w : Asked) (go : Answer → Process) (r : Answer) → World s es j p → Reaches p q → step q ≡ At (asking at a w) go → is_answered (record { proc = j; place = at; act = a; answer = r }) ≡ true
+grows_act : (s : Setting) (es : List Entry) (j : ℕ) (p q : Process) (at : Place) (a : Action) (w : Asked) (go : Answer → Process) (r : Answer) → World s es j p → Reaches p q → step q ≡ At (asking at a w) go → is_answered (record { proc = j; place = at; act = a; answer = r }) ≡ true → heap_answer s.program (history_of es) j a ≡ Answers r
     → Grows s es (es ++ record { proc = j; place = at; act = a; answer = r } ∷ []) j
-grows_act s es j p q at a w go r x y z h =
+grows_act s es j p q at a w go r x y z h c =
     let e : Entry = record { proc = j; place = at; act = a; answer = r } in
     let o = own j e (eq-eqb j j refl) in
     acted p q at a w go r x y z
@@ -201,6 +201,8 @@ grows_act s es j p q at a w go r x y z h =
     (arrivals_both j es (e ∷ []) ∙ ap (λ k. arrivals j es + k) (ap (count_by (λ (e : Entry). is_arrival e.act)) o ∙ one (is_arrival a) refl ∙ sym (count_one at a r)))
     (departures_both j es (e ∷ []) ∙ ap (λ k. answers_at_departures j es ++ k) (ap (λ k. map (λ (e : Entry). e.answer) (filter (λ (e : Entry). is_departure e.act) k)) o ∙ by (is_departure a) refl ∙ sym (left_one at a r)))
     (ap (last_kind j) (history_grows es e) ∙ last_own j e (history_of es) (eq-eqb j j refl))
+    c
+    refl
   where
     kept : filter is_answered (record { proc = j; place = at; act = a; answer = r } ∷ []) ≡ record { proc = j; place = at; act = a; answer = r } ∷ []
     kept = rw h refl
@@ -214,21 +216,21 @@ grows_act s es j p q at a w go r x y z h =
     by false k = rw k refl
 
 grows_own : (s : Setting) (es : List Entry) (j : ℕ) (p q : Process) (n : Next) (e : Entry) → World s es j p → Reaches p q → shown (step q) ≡ Some n → entry_of s es j n ≡ Some e → Grows s es (es ++ e ∷ []) j
-grows_own s es j p q (next.Act at a) e x y z h = by (heap_answer s.program (history_of es) j a) h
+grows_own s es j p q (next.Act at a) e x y z h = by (heap_answer s.program (history_of es) j a) refl h
   where
-    done : (r : Answer) → record { proc = j; place = at; act = a; answer = r } ≡ e → (b : Bool) → is_answered (record { proc = j; place = at; act = a; answer = r }) ≡ b → Grows s es (es ++ record { proc = j; place = at; act = a; answer = r } ∷ []) j
-    done r i true k = let t = at_action (step q) at a z in grows_act s es j p q at a t.0 t.1 r x y t.2 k
-    done r i false k = grows_last s es j _ (eq-eqb j j refl) k (quiet a k).0 (quiet a k).1
+    done : (r : Answer) → heap_answer s.program (history_of es) j a ≡ Answers r → record { proc = j; place = at; act = a; answer = r } ≡ e → (b : Bool) → is_answered (record { proc = j; place = at; act = a; answer = r }) ≡ b → Grows s es (es ++ record { proc = j; place = at; act = a; answer = r } ∷ []) j
+    done r c i true k = let t = at_action (step q) at a z in grows_act s es j p q at a t.0 t.1 r x y t.2 k c
+    done r c i false k = grows_last s es j _ (eq-eqb j j refl) k (quiet a k).0 (quiet a k).1
       where
         quiet : (a : Action) → is_answered (record { proc = j; place = at; act = a; answer = r }) ≡ false → (is_arrival a ≡ false) × (is_departure a ≡ false)
         quiet (act.Arrive kind arg given) k = absurd (true_false k)
         quiet act.Depart k = absurd (true_false k)
         quiet _ k = (refl, refl)
 
-    by : (o : Outcome) → entry_with j at a o ≡ Some e → Grows s es (es ++ e ∷ []) j
-    by (Answers r) h = let i = some_entry _ e h in subst (λ d. Grows s es (es ++ d ∷ []) j) i (done r i (is_answered (record { proc = j; place = at; act = a; answer = r })) refl)
-    by (heap.Faults kind) h = subst (λ d. Grows s es (es ++ d ∷ []) j) (some_entry _ e h) (grows_last s es j _ (eq-eqb j j refl) refl refl refl)
-    by Impossible h = absurd (none_entry e h)
+    by : (o : Outcome) → heap_answer s.program (history_of es) j a ≡ o → entry_with j at a o ≡ Some e → Grows s es (es ++ e ∷ []) j
+    by (Answers r) c h = let i = some_entry _ e h in subst (λ d. Grows s es (es ++ d ∷ []) j) i (done r c i (is_answered (record { proc = j; place = at; act = a; answer = r })) refl)
+    by (heap.Faults kind) c h = subst (λ d. Grows s es (es ++ d ∷ []) j) (some_entry _ e h) (grows_last s es j _ (eq-eqb j j refl) refl refl refl)
+    by Impossible c h = absurd (none_entry e h)
 grows_own s es j p q (next.End at) e x y z h = subst (λ d. Grows s es (es ++ d ∷ []) j) (some_entry _ e h) (grows_last s es j _ (eq-eqb j j refl) refl refl refl)
 grows_own s es j p q (next.Fault kind at) e x y z h = subst (λ d. Grows s es (es ++ d ∷ []) j) (some_entry _ e h) (grows_last s es j _ (eq-eqb j j refl) refl refl refl)
 

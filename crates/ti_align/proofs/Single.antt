@@ -41,19 +41,26 @@ env_part env = record env { number = 0; this = None; variables = singles env.var
 abbrev pub Rel : {A B : Type 0} → (A → B → Type 0) → Asking A → Asking B → List Answer → Type 0
 Rel {B = B} R m m' rest = Giving (λ a. (b : B) × (m' [] ≡ Gives b []) × R a b) (m rest)
 
-abbrev pub Same : {A : Type 0} → Asking A → Asking A → List Answer → Type 0
-Same m m' rest = Giving (λ a. m' [] ≡ Gives a []) (m rest)
+-- Q of what a computation gives, which asks for nothing
+abbrev pub Sure : {A : Type 0} → (A → Type 0) → Got A → Type 0
+Sure Q (Gives a rest) = Q a
+Sure Q (Asks request) = ⊥
+Sure Q (Fails kind at) = Unit {0}
 
-same_followed : {A B : Type 0} (g : Got A) (m' : Asking A) (go go' : A → Asking B) → Giving (λ a. m' [] ≡ Gives a []) g → ((a : A) (r : List Answer) → Same (go a) (go' a) r)
-    → Giving (λ b. followed (m' []) go' ≡ Gives b []) (followed g go)
-same_followed (Gives a r) m' go go' k h = subst (λ z. Giving (λ b. followed z go' ≡ Gives b []) (go a r)) (sym k) (h a r)
-same_followed (Asks request) m' go go' k h = tt
+-- the first computation asks for nothing, and what it gives, the second gives
+abbrev pub Same : {A : Type 0} → Asking A → Asking A → List Answer → Type 0
+Same m m' rest = Sure (λ a. m' [] ≡ Gives a []) (m rest)
+
+same_followed : {A B : Type 0} (g : Got A) (m' : Asking A) (go go' : A → Asking B) → Sure (λ a. m' [] ≡ Gives a []) g → ((a : A) (r : List Answer) → Same (go a) (go' a) r)
+    → Sure (λ b. followed (m' []) go' ≡ Gives b []) (followed g go)
+same_followed (Gives a r) m' go go' k h = subst (λ z. Sure (λ b. followed z go' ≡ Gives b []) (go a r)) (sym k) (h a r)
+same_followed (Asks request) m' go go' k h = k
 same_followed (Fails kind at) m' go go' k h = tt
 
 pub same_then : {A B : Type 0} (m m' : Asking A) (go go' : A → Asking B) (rest : List Answer) → Same m m' rest → ((a : A) (r : List Answer) → Same (go a) (go' a) r) → Same (m >>= go) (m' >>= go') rest
 same_then m m' go go' rest k h = same_followed (m rest) m' go go' k h
 
-rel_followed : {A B C : Type 0} (S : B → C → Type 0) (g : Got A) (m' : Asking A) (go : A → Asking B) (go' : A → Asking C) → Giving (λ a. m' [] ≡ Gives a []) g → ((a : A) (r : List Answer) → Rel S (go a) (go' a) r)
+rel_followed : {A B C : Type 0} (S : B → C → Type 0) (g : Got A) (m' : Asking A) (go : A → Asking B) (go' : A → Asking C) → Sure (λ a. m' [] ≡ Gives a []) g → ((a : A) (r : List Answer) → Rel S (go a) (go' a) r)
     → Giving (λ b. (c : C) × (followed (m' []) go' ≡ Gives c []) × S b c) (followed g go)
 rel_followed {C = C} S (Gives a r) m' go go' k h = subst (λ z. Giving (λ b. (c : C) × (followed z go' ≡ Gives c []) × S b c) (go a r)) (sym k) (h a r)
 rel_followed S (Asks request) m' go go' k h = tt

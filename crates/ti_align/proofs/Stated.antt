@@ -1,5 +1,5 @@
 -- Statements that fit come to moves that fit, and so does all work.
-use Rattle.std.proofs.Common.{◌≡◌, ℕ, zero, suc, ◌+◌, ◌<◌, ◌^◌, arith, ◌==◌, slice_index_or, Bool, true, false, ◌&&◌, inl, inr, if◌then◌else◌, option_map, option_and_then, Option, Some, None, List, [], ◌∷◌, refl, ap, sym, ◌∙◌, subst, eqb-true}
+use Rattle.std.proofs.Common.{◌≡◌, ℕ, zero, suc, ◌+◌, ◌<◌, ◌^◌, arith, ◌==◌, slice_index_or, Bool, true, false, not, ◌&&◌, ◌||◌, inl, inr, if◌then◌else◌, option_map, option_and_then, Option, Some, None, List, [], ◌∷◌, ◌++◌, refl, ap, sym, ◌∙◌, subst, eqb-true}
 use Rattle.ti_base.specs.declared.place.Place.{Place}
 use Rattle.ti_base.specs.declared.fault.FaultKind.TheVariants as faults
 use Rattle.ti_base.specs.declared.point.Point.{Point}
@@ -12,16 +12,16 @@ use Rattle.ti_lang.specs.Program.Statements.{NumberedStm, MaybeNumbered}
 use Rattle.ti_lang.specs.Program.Statements as st
 use Rattle.ti_lang.specs.Program.Classes.{NumberedProgram}
 use Rattle.ti_lang.specs.Program.Scope.{ScopeContents, this_of}
-use Rattle.ti_lang.specs.Typing.Kinds.{is_void, is_object, element_of, same_type}
+use Rattle.ti_lang.specs.Typing.Kinds.{is_local, is_void, is_object, element_of, same_type}
 use Rattle.ti_lang.specs.Typing.Fits.{fits}
-use Rattle.ti_lang.specs.Typing.BuiltIn.{BuiltIn, Size, Min, Max, Contains, Domain, Restrict, Translate, Slice, Copy, Exchange, Delete, built_in, member_type}
+use Rattle.ti_lang.specs.Typing.BuiltIn.{BuiltIn, Size, Min, Max, Contains, Domain, Restrict, Translate, Slice, Copy, Exchange, Delete, built_in, same_grids, has_local_elements, can_copy, can_exchange, member_type}
 use Rattle.ti_lang.specs.Typing.Declared.{instance_method}
-use Rattle.ti_lang.specs.Typing.Expressions.{known, member_given, operands, operand_type}
+use Rattle.ti_lang.specs.Typing.Expressions.{joined, one, known, member_given, operands, operand_type}
 use Rattle.ti_lang.specs.Typing.Expressions as typing
 use Rattle.ti_lang.specs.Typing.Called as called
 use Rattle.ti_lang.specs.Typing.Called.{member_called}
-use Rattle.ti_lang.specs.Meaning.Held.{Held, Plain, nothing, thing_of, rect_of, region_of, plain_of, as_type, truth_of}
-use Rattle.ti_lang.specs.Meaning.Asking.{Reference, Asking, ◌>>=◌, gives, guarded, needed}
+use Rattle.ti_lang.specs.Meaning.Held.{Held, Plain, nothing, rect_of, region_of, plain_of, as_type, truth_of}
+use Rattle.ti_lang.specs.Meaning.Asking.{Asking, ◌>>=◌, gives, guarded, needed}
 use Rattle.ti_lang.specs.Meaning.Asking as ask
 use Rattle.ti_lang.specs.Meaning.Parts.{domain_asked}
 use Rattle.ti_lang.specs.Meaning.Processes.{Nowhere, Declared, Assigned, Updated, Work, Do, End, Before, Behind, Receive, CopyAll, TakeAll}
@@ -36,14 +36,13 @@ use Rattle.ti_lang.specs.Meaning.Performing.{declared_in, performed}
 use Rattle.ti_lang.specs.Meaning.Answers.{IsRectOf}
 use Rattle.ti_align.specs.Things.{Things, Grows, ArePoints, IsStorable, IsGridOf, IsPlaced, IsOf}
 use Rattle.ti_align.specs.Sound.{Sound, value, fault, asks}
-use Rattle.ti_align.specs.Fitting.{IsWritten}
+use Rattle.ti_align.specs.Fitting.{IsWritten, AreWritten}
 use Rattle.ti_align.specs.Work.{uses_of, is_form_of_call, WholeFits, StmFits, given_type, taken_type, AreCounted, WorkFits}
 use Rattle.ti_align.proofs.Vars.{true_false, and_left, and_right}
-use Rattle.ti_align.proofs.Computing
-use Rattle.ti_align.proofs.Computing.{grows_not, grows_then, grid_stays, of_stays, sound_then, sound_value, sound_guarded}
-use Rattle.ti_align.proofs.Operating.{none_some, some_same, where_some, type_same, seen_same, converted_fine}
+use Rattle.ti_align.proofs.Computing.{grows_then, own_stays, grid_stays, of_stays, own_of, sound_then, sound_value, sound_guarded, Names, needed_as}
+use Rattle.ti_align.proofs.Operating.{none_some, some_same, where_some, type_same, Seen, seen_same, converted_fine}
 use Rattle.ti_align.proofs.Forms.{natural_fits, one_fits, natural_from, points_placed, meet_form}
-use Rattle.ti_align.proofs.Evaluating.{and_then, AllOfTypes, needed_fine, domain_fine, grid_in, not_object, eval_fine, all_fine}
+use Rattle.ti_align.proofs.Evaluating.{and_then, joined_there, one_there, AllOfTypes, domain_fine, grid_in, not_object, eval_fine, all_fine}
 use Rattle.ti_align.proofs.Storing.{plain_is, variables_stay, without_fits}
 use Rattle.ti_align.proofs.Performed.{Ready, ready_stays, Fine, CalledOr, inner_fine, receives_fine, calling_fine, called_or}
 use Rattle.ti_align.proofs.Working.{points_fit, init_fine, print_fine, return_fine, before_fine, behind_fine, copied_fine, taken_fine, all_fit, none_taken}
@@ -121,6 +120,15 @@ common_points : (b : Bool) (n : ℕ) (ps : List Point) → ArePoints n ps → Ar
 common_points true n ps k = k
 common_points false n ps k = tt
 
+not_local : (b : Bool) → not b ≡ true → b ≡ false
+not_local true h = absurd (true_false (sym h))
+not_local false h = refl
+
+-- local elements are copied from a local grid to a local one
+copied_local : (b l i : Bool) → (not b || (l && i)) ≡ true → b ≡ true → (l ≡ true) × (i ≡ true)
+copied_local true l i h z = (and_left l i h, and_right l i h)
+copied_local false l i h z = absurd (true_false (sym z))
+
 counted_fit : (i n : ℕ) → i + n < 2 ^ 31 → AreCounted (counted i n)
 counted_fit i zero h = tt
 counted_fit i (suc n) h = (natural_fits i (omega (arith, h)), counted_fit (i + 1) n (omega (arith, h)))
@@ -139,26 +147,61 @@ module _ (s : ScopeContents) (env : Env) where
   one_held w a [] k = absurd k
   one_held w a (h ∷ i ∷ is) k = absurd k.1
 
+  first_seen : (w : Things) → Ready s w env → (args : NumberedExps) (a : ValueType) → AreWritten (uses_of env.method) args → operands p s args ≡ Some (a ∷ []) → Seen a (first_type env args)
+  first_seen w r e.NoExp a k q = absurd (none_first (some_same [] (a ∷ []) q))
+    where
+      none_first : [] ≡ a ∷ [] → ⊥
+      none_first z = cc
+  first_seen w r (e.MoreExp x xs) a k q =
+      let j = joined_there (one (operand_type p s x)) (operands p s xs) (a ∷ []) q in
+      let o = one_there (operand_type p s x) j.0 j.2 in
+      subst (λ b. Seen b (type_of env x)) (same_first o.0 a j.1 (sym (ap (λ y. y ++ j.1) o.2) ∙ j.4)) (eval_fine (uses_of env.method) s w env r.fits r.fields x k.0 o.0 o.1).seen
+    where
+      same_first : (x y : ValueType) (xs : List ValueType) → x ∷ xs ≡ y ∷ [] → x ≡ y
+      same_first x y xs z = cc
+
   copies_fine : (handed untaken : Option ValueType) (w : Things) → Ready s w env → (at : Place) (x : NumberedExp) (args : NumberedExps) (a u : ValueType) (ts : List ValueType) → member_type Copy a ts ≡ Some u → IsWritten (uses_of env.method) (e.Member at x 0 args) → operand_type p s x ≡ Some a → operands p s args ≡ Some ts
       → Fine s env handed untaken w (copies env at x args)
   copies_fine handed untaken w r at x args (t.Grid d n l) u (t.Grid c m i ∷ []) z k j q =
-      let same = and_left (same_type d c && (n == m)) _ (where_some _ t.Void u z).0 in
+      let both_of = where_some (same_grids (t.Grid d n l) (t.Grid c m i) && can_copy (t.Grid d n l) (t.Grid c m i)) t.Void u z in
+      let same = and_left (same_type d c && (n == m)) _ both_of.0 in
+      let here = copied_local (is_local d) l i (and_right (same_type d c && (n == m)) _ both_of.0) in
+      let to_seen : type_of env x ≡ t.Grid d n l = (eval_fine (uses_of env.method) s w env r.fits r.fields x k.0 (t.Grid d n l) j).seen in
+      let from_seen : first_type env args ≡ t.Grid c m i = first_seen w r args (t.Grid c m i) k.1 q in
       let d_is : c ≡ d = sym (type_same d c (and_left (same_type d c) (n == m) same)) in
       let n_is : m ≡ n = sym (eqb-true n m (and_right (same_type d c) (n == m) same)) in
       sound_then p (λ u h. IsOf u (t.Grid d n l) h) _ w (eval env x) _ (inner_fine s env w r x (t.Grid d n l) k.0 j) (λ a g h y.
       let ra = ready_stays s w a env g r in
       sound_then p (λ u hs. AllOfTypes u (t.Grid c m i ∷ []) hs) _ a (eval_all env args) _ (all_fine (uses_of env.method) s a env ra.fits ra.fields args k.1 (t.Grid c m i ∷ []) q) (λ b o hs ys.
-      sound_then p (λ u (g : Reference). IsGridOf u d n g.thing) _ b (needed at (type_of env x) h) _ (needed_fine p b at _ h (λ u id. IsGridOf u d n id) (grid_in b d n l h (of_stays a b (t.Grid d n l) h o y))) (λ f v to z.
-      sound_then p (λ u (g : Reference). IsGridOf u d n g.thing) _ f (needed at (first_type env args) (slice_index_or hs 0 nothing)) _
-      (needed_fine p f at (first_type env args) (slice_index_or hs 0 nothing) (λ u id. IsGridOf u d n id) (λ id id_is. subst (λ n. IsGridOf f d n id) n_is (subst (λ d. IsGridOf f d m id) d_is (grid_in f c m i _ (of_stays b f (t.Grid c m i) _ v (one_held b (t.Grid c m i) hs ys)) id id_is)))) (λ f2 v2 from z2.
-      sound_then p (λ u h. IsOf u (t.Rc n) h) _ f2 (domain_asked at to) _ (domain_fine p f2 at to d n (grid_stays f f2 d n to.thing v2 z)) (λ f3 v3 h3 y3.
-      sound_then p (λ u h. IsOf u (t.Rc n) h) _ f3 (domain_asked at from) _ (domain_fine p f3 at from d n (grid_stays f2 f3 d n from.thing v3 z2)) (λ f4 v4 h4 y4.
+      let to_of = of_stays a b (t.Grid d n l) h o y in
+      sound_then p (λ u g. Names (λ u id. IsGridOf u d n id) (type_of env x) u g) _ b (needed at (type_of env x) h) _
+      (needed_as p b at (type_of env x) h (λ u id. IsGridOf u d n id) (grid_in b d n l h to_of) (λ z. own_of b (t.Grid d n l) h to_of (sym (ap is_local to_seen) ∙ z))) (λ f v to z.
+      let from_of = of_stays b f (t.Grid c m i) _ v (one_held b (t.Grid c m i) hs ys) in
+      sound_then p (λ u g. Names (λ u id. IsGridOf u d n id) (first_type env args) u g) _ f (needed at (first_type env args) (slice_index_or hs 0 nothing)) _
+      (needed_as p f at (first_type env args) (slice_index_or hs 0 nothing) (λ u id. IsGridOf u d n id) (λ id id_is. subst (λ n. IsGridOf f d n id) n_is (subst (λ d. IsGridOf f d m id) d_is (grid_in f c m i _ from_of id id_is)))
+      (λ z. own_of f (t.Grid c m i) _ from_of (sym (ap is_local from_seen) ∙ z))) (λ f2 v2 from z2.
+      sound_then p (λ u h. IsOf u (t.Rc n) h) _ f2 (domain_asked at to) _ (domain_fine p f2 at to d n (grid_stays f f2 d n to.thing v2 z.thing) (own_stays f f2 (is_local to.type) (Some to.thing) v2 z.own)) (λ f3 v3 h3 y3.
+      sound_then p (λ u h. IsOf u (t.Rc n) h) _ f3 (domain_asked at from) _ (domain_fine p f3 at from d n (grid_stays f2 f3 d n from.thing v3 z2.thing) (own_stays f2 f3 (is_local from.type) (Some from.thing) v3 z2.own)) (λ f4 v4 h4 y4.
       let all = grows_then f f3 f4 (grows_then f f2 f3 v2 v3) v4 in
+      let from_there = grows_then f2 f3 f4 v3 v4 in
       let from_w = grows_then w b f4 (grows_then w a b g o) (grows_then b f f4 v all) in
       let both = meet_form n (rect_of h3) (rect_of h4) (subst (IsRectOf n) (sym (ap rect_of y3.1)) y3.2) (subst (IsRectOf n) (sym (ap rect_of y4.1)) y4.2) in
       sound_value p _ f4 _ (
         variables_stay w f4 env.variables from_w r.variables,
-        ((d, n, grid_stays f f4 d n to.thing all z, grid_stays f2 f4 d n from.thing (grows_then f2 f3 f4 v3 v4) z2, common_points ((rect_of h3).dim == (rect_of h4).dim) n _ (points_placed n (meet (rect_of h3) (rect_of h4)) both).0), tt),
+        (
+          (
+            d,
+            n,
+            grid_stays f f4 d n to.thing all z.thing,
+            grid_stays f2 f4 d n from.thing from_there z2.thing,
+            common_points ((rect_of h3).dim == (rect_of h4).dim) n _ (points_placed n (meet (rect_of h3) (rect_of h4)) both).0,
+            own_stays f f4 (is_local to.type) (Some to.thing) all z.own,
+            own_stays f2 f4 (is_local from.type) (Some from.thing) from_there z2.own,
+            λ e. own_stays f f4 (is_local to.type) (Some to.thing) all z.own (ap is_local (z.type ∙ to_seen) ∙ (here e).0),
+            λ e. own_stays f2 f4 (is_local from.type) (Some from.thing) from_there z2.own (ap is_local (z2.type ∙ from_seen) ∙ (here e).1),
+          ),
+          tt,
+        ),
         tt,
       )))))))
   copies_fine handed untaken w r at x args _ u (y ∷ []) z k j q = absurd (true_false (sym (where_some _ t.Void u z).0))
@@ -168,25 +211,26 @@ module _ (s : ScopeContents) (env : Env) where
   exchanges_fine : (untaken : Option ValueType) (w : Things) → Ready s w env → (at : Place) (x : NumberedExp) (args : NumberedExps) (a u : ValueType) (ts : List ValueType) → member_type Exchange a ts ≡ Some u → IsWritten (uses_of env.method) (e.Member at x 0 args) → operand_type p s x ≡ Some a → operands p s args ≡ Some ts
       → Fine s env (exchanged x) untaken w (exchanges env at x args)
   exchanges_fine untaken w r at x args (t.Grid d n l) u (c ∷ []) z k j q =
-      let can = and_left ((n == 1) && fits c d) _ (where_some _ t.Void u z).0 in
+      let may = (where_some (can_exchange (t.Grid d n l) c && not (has_local_elements (t.Grid d n l))) t.Void u z).0 in
+      let can = and_left ((n == 1) && fits c d) _ may in
+      let global = not_local (is_local d) (and_right ((n == 1) && fits c d) _ may) in
       let n_is : n ≡ 1 = eqb-true n 1 (and_left (n == 1) (fits c d) can) in
       let seen : type_of env x ≡ t.Grid d n l = (eval_fine (uses_of env.method) s w env r.fits r.fields x k.0 (t.Grid d n l) j).seen in
       sound_then p (λ u h. IsOf u (t.Grid d n l) h) _ w (eval env x) _ (inner_fine s env w r x (t.Grid d n l) k.0 j) (λ a g h y.
       let ra = ready_stays s w a env g r in
       sound_then p (λ u hs. AllOfTypes u (c ∷ []) hs) _ a (eval_all env args) _ (all_fine (uses_of env.method) s a env ra.fits ra.fields args k.1 (c ∷ []) q) (λ b o hs ys.
-      sound_then p (λ u (g : Reference). (g.type ≡ type_of env x) × IsGridOf u d n g.thing) _ b (needed at (type_of env x) h) _ (needed_typed b at (type_of env x) h d n (grid_in b d n l h (of_stays a b (t.Grid d n l) h o y))) (λ f v to z.
-      sound_then p (λ u h. IsOf u (t.Rc n) h) _ f (domain_asked at to) _ (domain_fine p f at to d n z.1) (λ f2 v2 h2 y2.
-      let grid = grid_stays f f2 d n to.thing v2 z.1 in
+      let grid_of = of_stays a b (t.Grid d n l) h o y in
+      sound_then p (λ u g. Names (λ u id. IsGridOf u d n id) (type_of env x) u g) _ b (needed at (type_of env x) h) _
+      (needed_as p b at (type_of env x) h (λ u id. IsGridOf u d n id) (grid_in b d n l h grid_of) (λ z. own_of b (t.Grid d n l) h grid_of (sym (ap is_local seen) ∙ z))) (λ f v to z.
+      sound_then p (λ u h. IsOf u (t.Rc n) h) _ f (domain_asked at to) _ (domain_fine p f at to d n z.thing z.own) (λ f2 v2 h2 y2.
+      let grid = grid_stays f f2 d n to.thing v2 z.thing in
       let of : element_of (type_of env x) ≡ d = ap element_of seen in
-      let of_to : element_of to.type ≡ element_of (type_of env x) = ap element_of z.0 in
+      let of_to : element_of to.type ≡ element_of (type_of env x) = ap element_of z.type in
       let held = of_stays b f2 c _ (grows_then b f f2 v v2) (one_held b c hs ys) in
       sound_guarded p _ f2 _ faults.ExchangeDomain at _ (
-        (d, tt, (subst (λ b. IsOf f2 d (Plain (plain_of (as_type b (slice_index_or hs 0 nothing))))) (sym of) (plain_is f2 d _ grid.4 (as_fine p f2 c d _ grid.4 (and_right (n == 1) (fits c d) can) held)), stored_value d grid.4), ap (option_map element_of) j, refl, (ap Some (sym (of_to ∙ of)), tt)),
-        ((subst (λ d. IsGridOf f2 d 1 to.thing) (sym (of_to ∙ of)) (subst (λ n. IsGridOf f2 d n to.thing) n_is grid), counted_fit 0 env.procs (omega (arith, natural_from env.procs r.fits.procs))), tt),
+        (d, tt, (subst (λ b. IsOf f2 d (Plain (plain_of (as_type b (slice_index_or hs 0 nothing))))) (sym of) (plain_is f2 d _ grid.4 (as_fine p f2 c d _ grid.4 (and_right (n == 1) (fits c d) can) held)), stored_value d grid.4, global), ap (option_map element_of) j, refl, (ap Some (sym (of_to ∙ of)), tt)),
+        ((subst (λ d. IsGridOf f2 d 1 to.thing) (sym (of_to ∙ of)) (subst (λ n. IsGridOf f2 d n to.thing) n_is grid), counted_fit 0 env.procs (omega (arith, natural_from env.procs r.fits.procs)), own_stays f f2 (is_local to.type) (Some to.thing) v2 z.own, ap is_local (of_to ∙ of) ∙ global), tt),
       )))))
-    where
-      needed_typed : (w : Things) (at : Place) (through : ValueType) (h : Held) (d : ValueType) (n : ℕ) → ((id : _) → thing_of h ≡ Some id → IsGridOf w d n id) → Sound p (λ u (g : Reference). (g.type ≡ through) × IsGridOf u d n g.thing) w (needed at through h)
-      needed_typed w at through h d n k = Computing.needed_as p w at through h (λ u id. IsGridOf u d n id) k
   exchanges_fine untaken w r at x args _ u (y ∷ []) z k j q = absurd (true_false (sym (where_some _ t.Void u z).0))
   exchanges_fine untaken w r at x args _ u [] z k j q = absurd (none_some u z)
   exchanges_fine untaken w r at x args _ u (y ∷ y2 ∷ ys) z k j q = absurd (none_some u z)

@@ -11,18 +11,19 @@ use Rattle.ti_lang.specs.Program.Types.{ValueType}
 use Rattle.ti_lang.specs.Program.Classes.{NumberedMethod, NumberedProgram}
 use Rattle.ti_lang.specs.Program.Scope.{ScopeContents, method_scope}
 use Rattle.ti_lang.specs.Typing.Declared.{result_type}
-use Rattle.ti_lang.specs.Typing.Kinds.{element_of}
+use Rattle.ti_lang.specs.Typing.Kinds.{is_local, element_of}
 use Rattle.ti_lang.specs.Meaning.Held.{Plain}
 use Rattle.ti_lang.specs.Meaning.Asking.{Wanted, Asking}
 use Rattle.ti_lang.specs.Meaning.Processes.{Work, Do, End, Before, Behind, Receive, CopyAll, TakeAll, Frame, Wait, Process}
 use Rattle.ti_lang.specs.Meaning.Scoping.{env_of}
 use Rattle.ti_lang.specs.Meaning.Moves.{Move, Goes, Turns, Breaks, Continues, Calls, Returns, Meets, Deletes}
 use Rattle.ti_lang.specs.Meaning.Performing.{performed}
-use Rattle.ti_align.specs.Things.{Things, Grows}
+use Rattle.ti_align.specs.Dangling.{used_by}
+use Rattle.ti_align.specs.Things.{Things, seen_by, Grows}
 use Rattle.ti_align.specs.Sound.{IsThere, Sound, value, fault, asks}
 use Rattle.ti_align.specs.Work.{scope_over, ThisFits, DepositFits, given_type, taken_type, IsOfRound, WorkFits, WorksFit, MoveFits}
 use Rattle.ti_align.specs.Typed.{FrameFits, FramesFit, WorkSound, TakesFirst, WaitFits, NextFits, ProcessFits}
-use Rattle.ti_align.proofs.Computing.{grows_then, grid_stays, place_stays, of_stays}
+use Rattle.ti_align.proofs.Computing.{grows_then, grows_for, own_stays, grid_stays, place_stays, of_stays, same_owner}
 use Rattle.ti_align.proofs.Storing.{variables_stay}
 
 -- ---- work and moves
@@ -31,7 +32,7 @@ this_stays : (u w : Things) (m : NumberedMethod) (this : Option Id) → Grows u 
 this_stays u w m this g k = λ class c id z. g.classes id class (k class c id z)
 
 pub deposit_stays : (u w : Things) (type : ValueType) (given : Deposit) → Grows u w → DepositFits u type given → DepositFits w type given
-deposit_stays u w type (deposit.One v) g k = (of_stays u w type (Plain v) g k.0, k.1)
+deposit_stays u w type (deposit.One v) g k = (of_stays u w type (Plain v) g k.0, k.1, k.2)
 deposit_stays u w type deposit.Nothing g k = k
 deposit_stays u w type (deposit.Count n) g k = k
 
@@ -42,8 +43,18 @@ module _ (p : NumberedProgram) (m : NumberedMethod) where
   work_stays s u w (Before loop) g k = k
   work_stays s u w (Behind loop) g k = k
   work_stays s u w (Receive receiver h) g k = (k.0, of_stays u w k.0 h g k.1, k.2)
-  work_stays s u w (CopyAll at to from points) g k = (k.0, k.1, grid_stays u w k.0 k.1 to.thing g k.2, grid_stays u w k.0 k.1 from.thing g k.3, k.4)
-  work_stays s u w (TakeAll at grid procs) g k = (grid_stays u w (element_of grid.type) 1 grid.thing g k.0, k.1)
+  work_stays s u w (CopyAll at to from points) g k = (
+    k.0,
+    k.1,
+    grid_stays u w k.0 k.1 to.thing g k.2,
+    grid_stays u w k.0 k.1 from.thing g k.3,
+    k.4,
+    own_stays u w (is_local to.type) (Some to.thing) g k.5,
+    own_stays u w (is_local from.type) (Some from.thing) g k.6,
+    own_stays u w (is_local k.0) (Some to.thing) g k.7,
+    own_stays u w (is_local k.0) (Some from.thing) g k.8,
+  )
+  work_stays s u w (TakeAll at grid procs) g k = (grid_stays u w (element_of grid.type) 1 grid.thing g k.0, k.1, own_stays u w (is_local grid.type) (Some grid.thing) g k.2, k.3)
 
   pub works_stay : (s : ScopeContents) (u w : Things) (xs : List Work) → Grows u w → WorksFit p m s u xs → WorksFit p m s w xs
   works_stay s u w [] g k = tt
@@ -63,13 +74,13 @@ module _ (p : NumberedProgram) (m : NumberedMethod) where
 
 -- ---- computations
 
-there_stays : (p : NumberedProgram) (u w : Things) (a : Action) (wanted : Wanted) → Grows u w → IsThere p u a wanted → IsThere p w a wanted
+pub there_stays : (p : NumberedProgram) (u w : Things) (a : Action) (wanted : Wanted) → Grows u w → IsThere p u a wanted → IsThere p w a wanted
 there_stays p u w (act.GetField obj field) wanted g k = (k.0, (k.1.0, g.classes obj k.1.0 k.1.1, k.1.2))
-there_stays p u w (act.PutField obj field v) wanted g k = (k.0, (k.1.0, g.classes obj k.1.0 k.1.1, k.1.2), of_stays u w k.0 (Plain v) g k.2)
+there_stays p u w (act.PutField obj field v) wanted g k = (k.0, (k.1.0, g.classes obj k.1.0 k.1.1, k.1.2), of_stays (seen_by obj.owner u) (seen_by obj.owner w) k.0 (Plain v) (grows_for obj.owner u w g) k.2)
 there_stays p u w (act.NewObj class region) wanted g k = (k.0, k.1, place_stays u w region g k.2)
 there_stays p u w (act.NewGrid zero domain region) wanted g k = (k.0, k.1, k.2, k.3, k.4, k.5, place_stays u w region g k.6, k.7)
 there_stays p u w (act.GetElem grid at) wanted g k = (k.0, k.1, grid_stays u w k.0 k.1 grid g k.2, k.3)
-there_stays p u w (act.PutElem grid at v) wanted g k = (k.0, k.1, grid_stays u w k.0 k.1 grid g k.2, k.3, of_stays u w k.0 (Plain v) g k.4)
+there_stays p u w (act.PutElem grid at v) wanted g k = (k.0, k.1, grid_stays u w k.0 k.1 grid g k.2, k.3, of_stays (seen_by grid.owner u) (seen_by grid.owner w) k.0 (Plain v) (grows_for grid.owner u w g) k.4)
 there_stays p u w (act.MakeView grid how) wanted g k = (k.0, k.1, grid_stays u w k.0 k.1 grid g k.2, k.3)
 there_stays p u w (act.DomainOf grid) wanted g k = (k.0, k.1, grid_stays u w k.0 k.1 grid g k.2)
 there_stays p u w _ wanted g k = k
@@ -77,7 +88,7 @@ there_stays p u w _ wanted g k = k
 sound_stays : (p : NumberedProgram) {A : Type 0} (P : Things → A → Type 0) (u w : Things) (m : Asking A) → ((a : A) → P u a → P w a) → Grows u w → Sound p P u m → Sound p P w m
 sound_stays p P u w m f g (value a h e) = value a (f a h) e
 sound_stays p P u w m f g (fault kind at e) = fault kind at e
-sound_stays p P u w m f g (asks q z i k) = asks q z (there_stays p u w q.action q.wanted g i) (λ x j r t. k x (grows_then u w x g j) r t)
+sound_stays p P u w m f g (asks q z i k) = asks q z (there_stays p u w q.action q.wanted g i.0, λ l. same_owner u.owner w.owner (used_by q.action) g.owner (i.1 l)) (λ x j r t. k x (grows_then u w x g j) r t)
 
 -- ---- processes
 

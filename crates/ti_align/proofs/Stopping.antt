@@ -1,8 +1,6 @@
 -- Where no process can take an entry, none waits: all have their end, or some action is impossible.
-use Rattle.std.proofs.Common.{◌≡◌, ℕ, zero, suc, ◌+◌, ◌<◌, ◌≤◌, nat_lt, Bool, true, false, if◌then◌else◌, ◌⊎◌, inl, inr, length, filter, Some, List, refl, ap, sym, ◌∙◌, subst, arith, ltb-true}
+use Rattle.std.proofs.Common.{◌≡◌, ℕ, zero, suc, ◌+◌, ◌<◌, ◌≤◌, nat_lt, Bool, true, false, if◌then◌else◌, ◌⊎◌, inl, inr, length, Some, List, refl, ap, sym, ◌∙◌, subst, arith, ltb-true}
 use Rattle.std.proofs.lemmas.Bool.{ltb-false}
-use Rattle.std.proofs.lemmas.List.{length-map}
-use Rattle.std.proofs.lemmas.List.Sums.{length-filter}
 use Rattle.ti_base.specs.declared.place.Place.{Place}
 use Rattle.ti_base.specs.declared.action.Action.{Action}
 use Rattle.ti_base.specs.declared.action.Action.TheVariants as act
@@ -13,13 +11,14 @@ use Rattle.ti_lang.specs.Meaning.Processes.{Setting, Process}
 use Rattle.ti_lang.specs.Meaning.NextStep.{IsNext}
 use Rattle.ti_base.specs.declared.entry.Answer.{Answer}
 use Rattle.ti_lang.specs.Meaning.Steps.{At, step}
-use Rattle.ti_lang.specs.Meaning.Histories.{history_of, is_departure, entries_of, arrivals, departures, has_end, has_fault}
+use Rattle.ti_lang.specs.Meaning.Histories.{history_of, is_departure, arrivals, departures, has_end, has_fault}
 use Rattle.ti_lang.specs.Meaning.HeapAnswers.{Outcome, Answers, Faults, Impossible, heap_answer}
 use Rattle.ti_lang.specs.Meaning.Runs.{AllEnded, World, IsReady, CanTake, IsRun, entry_with, entry_of}
 use Rattle.ti_lang.proofs.MeaningLaws.Total.{next_some}
 use Rattle.ti_align.specs.Alignment.{ArrivalsAgree, NoneAfterEnd}
 use Rattle.ti_align.specs.Stopping.{is_delete, RoundsBalance}
-use Rattle.ti_align.proofs.Ways.{Asked, asking, answers_at_departures, waiting}
+use Rattle.ti_align.proofs.Ways.{Asked, asking, waiting}
+use Rattle.ti_align.proofs.Entries.{left_count}
 use Rattle.ti_align.proofs.Balance.{step_waits, balanced}
 use Rattle.ti_align.proofs.Running.{on_way, at_action}
 use Rattle.ti_align.proofs.Aligning.{way_next}
@@ -46,12 +45,6 @@ abbrev pub NoneWaits : Setting → List Entry → Type 0
 NoneWaits s es = has_fault es ≡ false → ((i : ℕ) (e : Entry) → CanTake s es i e → ⊥) → AllEnded s es ⊎ ((i : ℕ) × DeletesNothing s es i)
 
 -- ---- fates
-
--- departures are as many as their answers
-left_count : (i : ℕ) (es : List Entry) → length (answers_at_departures i es) ≡ departures i es
-left_count i es =
-    length-map (filter (λ (e : Entry). is_departure e.act) (entries_of i es)) (λ (e : Entry). e.answer)
-    ∙ length-filter (λ (e : Entry). is_departure e.act) (entries_of i es)
 
 -- some process has come no further than this many arrivals
 abbrev IsLate : Setting → List Entry → ℕ → Type 0

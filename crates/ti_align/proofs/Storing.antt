@@ -2,6 +2,7 @@
 use Rattle.std.proofs.Common.{◌≡◌, ◌⊎◌, ℕ, ℤ, ◌+◌, length, Bool, true, false, not, ◌&&◌, ◌||◌, ◌==◌, inl, inr, if◌then◌else◌, unwrap_or, option_and_then, Option, Some, List, [], ◌∷◌, refl, ap, sym, ◌∙◌, subst, arith, eqb-true}
 use Rattle.std.specs.List.{list_any}
 use Rattle.ti_base.specs.declared.place.Place.{Place}
+use Rattle.ti_base.specs.declared.point.Point.{Point}
 use Rattle.ti_base.specs.declared.value.Id.{Id}
 use Rattle.ti_base.specs.declared.action.Action.TheVariants as act
 use Rattle.ti_base.specs.declared.value.Value.{Value}
@@ -10,82 +11,60 @@ use Rattle.ti_lang.specs.Program.Types as t
 use Rattle.ti_lang.specs.Program.Expressions.{NumberedExp, place_of_numbered}
 use Rattle.ti_lang.specs.Program.Expressions as e
 use Rattle.ti_lang.specs.Program.Classes.{NumberedProgram}
-use Rattle.ti_lang.specs.Program.Scope.{ScopeContents}
-use Rattle.ti_lang.specs.Typing.Kinds.{as_global, read_through, class_of_type}
+use Rattle.ti_lang.specs.Program.Scope.{ScopeContents, this_of}
+use Rattle.ti_lang.specs.Typing.Kinds.{is_local, as_global, read_through, class_of_type}
 use Rattle.ti_lang.specs.Typing.Fits.{fits}
 use Rattle.ti_lang.specs.Typing.Declared.{variable_type, field_type, field_numbered, named_field_type}
 use Rattle.ti_lang.specs.Typing.Expressions.{plain, operand, all_ints, index_type, select_type, operands, operand_type}
 use Rattle.ti_lang.specs.Meaning.Held.{Held, Plain, thing_of, plain_of}
-use Rattle.ti_lang.specs.Meaning.Asking.{ToBeDone, ValueOf, Reference, request_through, Asking, gives, asked, needed}
+use Rattle.ti_lang.specs.Meaning.Asking.{ToBeDone, ValueOf, request_through, Asking, gives, asked, needed}
 use Rattle.ti_lang.specs.Meaning.Literals.{point_of_numbers}
 use Rattle.ti_lang.specs.Meaning.Conversions.{converted}
 use Rattle.ti_lang.specs.Meaning.Operators.{operated}
 use Rattle.ti_lang.specs.Meaning.Parts.{Field, Element}
 use Rattle.ti_lang.specs.Meaning.Processes.{Variable, Receiver, Nowhere, Declared, Assigned, Updated}
 use Rattle.ti_lang.specs.Meaning.Scoping.{Env, same_declaration, same_variable, declared_type, zero_declared, find_variable, with_changed, without, type_of, field_selected}
-use Rattle.ti_lang.specs.Meaning.Evaluation.{eval, eval_numbers}
+use Rattle.ti_lang.specs.Meaning.Evaluation.{is_own, eval, eval_numbers}
 use Rattle.ti_lang.specs.Meaning.Targets.{Target, InVariable, InPart, located, held_in, stored, into}
-use Rattle.ti_rules.specs.Broken.Targets.{is_foreach_use}
+use Rattle.ti_rules.specs.Broken.Targets.{is_foreach_use, maybe_local, hidden_field, hidden_element}
 use Rattle.ti_rules.specs.Broken.Statements.{narrows}
 use Rattle.ti_lang.specs.Meaning.Answers.{IsPointOf, HasForm}
-use Rattle.ti_align.specs.Things.{Things, Grows, NamesNothing, IsStorable, IsGridOf, IsOf, DimsFine}
+use Rattle.ti_align.specs.Things.{Things, seen_by, Grows, NamesNothing, IsStorable, IsGridOf, IsOwn, IsOf, DimsFine}
 use Rattle.ti_align.specs.Sound.{IsFieldOf, Sound}
 use Rattle.ti_align.specs.Fitting.{EnvFits, FieldsFit}
 use Rattle.ti_align.specs.Heap.{FieldsStorable}
 use Rattle.ti_align.specs.Work.{VariablesFit, uses_of, IsTarget, ReceiverFits}
 use Rattle.ti_align.proofs.Vars.{true_false, and_left, and_right}
-use Rattle.ti_align.proofs.Computing.{grows_not, grows_then, grid_stays, of_stays, sound_then, sound_value, sound_asked}
+use Rattle.ti_align.proofs.Computing.{grows_not, grows_then, own_stays, grid_stays, of_stays, seen_from, own_of, sound_then, sound_value, sound_asked, Names, needed_as}
 use Rattle.ti_align.proofs.Operating.{none_some, some_same, where_some, or_either, type_same, Seen, seen_same, converted_fine, cast_fine, operated_fine}
-use Rattle.ti_align.proofs.Evaluating.{and_then, mapped, both_there, no_call, named_field, needed_fine, object_of, grid_in, ints_count, counts, Evaluates, env_stays, Numbers, zero_fine, eval_fine, numbers_fine}
+use Rattle.ti_align.proofs.Evaluating.{and_then, mapped, both_there, no_call, named_field, this_global, object_of, grid_in, ints_count, counts, Evaluates, env_stays, Numbers, zero_fine, eval_fine, numbers_fine}
 use Rattle.ti_align.proofs.Forms.{numbers_point}
 
--- ---- types that are alike
+-- ---- types of parts
 
-pub global_twice : (a : ValueType) → as_global (as_global a) ≡ as_global a
-global_twice (t.Class c l) = refl
-global_twice (t.Grid e n l) = refl
-global_twice t.Int = refl
-global_twice t.Long = refl
-global_twice t.Boolean = refl
-global_twice (t.Pt n) = refl
-global_twice (t.Rc n) = refl
-global_twice (t.Dm n) = refl
-global_twice t.Region = refl
-global_twice t.Null = refl
-global_twice t.Void = refl
+-- a part that isn't hidden is of local type only where it's reached through a local reference, and is read as what it is
+reached : (b l : Bool) → (b && not l) ≡ false → b ≡ true → l ≡ true
+reached b true h z = refl
+reached true false h z = absurd (true_false h)
+reached false false h z = absurd (true_false (sym z))
 
-pub to_global : (w : Things) (a : ValueType) (h : Held) → IsOf w a h → IsOf w (as_global a) h
-to_global w (t.Class c l) h k = k
-to_global w (t.Grid e n l) h k = k
-to_global w t.Int h k = k
-to_global w t.Long h k = k
-to_global w t.Boolean h k = k
-to_global w (t.Pt n) h k = k
-to_global w (t.Rc n) h k = k
-to_global w (t.Dm n) h k = k
-to_global w t.Region h k = k
-to_global w t.Null h k = k
-to_global w t.Void h k = k
+none_local : (l : Bool) → (l && true) ≡ false → false ≡ l
+none_local true h = absurd (true_false h)
+none_local false h = refl
 
-from_global : (w : Things) (a : ValueType) (h : Held) → IsOf w (as_global a) h → IsOf w a h
-from_global w (t.Class c l) h k = k
-from_global w (t.Grid e n l) h k = k
-from_global w t.Int h k = k
-from_global w t.Long h k = k
-from_global w t.Boolean h k = k
-from_global w (t.Pt n) h k = k
-from_global w (t.Rc n) h k = k
-from_global w (t.Dm n) h k = k
-from_global w t.Region h k = k
-from_global w t.Null h k = k
-from_global w t.Void h k = k
-
-alike : (w : Things) (a b : ValueType) (h : Held) → as_global a ≡ as_global b → IsOf w a h → IsOf w b h
-alike w a b h z k = from_global w b h (subst (λ c. IsOf w c h) z (to_global w a h k))
-
-read_alike : (l : Bool) (a : ValueType) → as_global (read_through l a) ≡ as_global a
-read_alike true a = refl
-read_alike false a = global_twice a
+read_whole : (l : Bool) (a : ValueType) → (is_local a && not l) ≡ false → read_through l a ≡ a
+read_whole true a h = refl
+read_whole false (t.Class c l) h = ap (t.Class c) (none_local l h)
+read_whole false (t.Grid e n l) h = ap (t.Grid e n) (none_local l h)
+read_whole false t.Int h = refl
+read_whole false t.Long h = refl
+read_whole false t.Boolean h = refl
+read_whole false (t.Pt n) h = refl
+read_whole false (t.Rc n) h = refl
+read_whole false (t.Dm n) h = refl
+read_whole false t.Region h = refl
+read_whole false t.Null h = refl
+read_whole false t.Void h = refl
 
 -- what goes into a cell
 pub plain_is : (w : Things) (a : ValueType) (h : Held) → IsStorable a → IsOf w a h → IsOf w a (Plain (plain_of h))
@@ -94,8 +73,8 @@ plain_is w t.Long h s k = (k.0, ap (λ y. Plain (plain_of y)) k.1, k.2)
 plain_is w t.Boolean h s k = (k.0, ap (λ y. Plain (plain_of y)) k.1)
 plain_is w (t.Pt n) h s k = (k.0, ap (λ y. Plain (plain_of y)) k.1, k.2)
 plain_is w (t.Rc n) h s k = (k.0, ap (λ y. Plain (plain_of y)) k.1, k.2)
-plain_is w (t.Class c l) h s k = (k.0, ap (λ y. Plain (plain_of y)) k.1, k.2)
-plain_is w (t.Grid e n l) h s k = (k.0, ap (λ y. Plain (plain_of y)) k.1, k.2)
+plain_is w (t.Class c l) h s k = (k.0, ap (λ y. Plain (plain_of y)) k.1, k.2, k.3)
+plain_is w (t.Grid e n l) h s k = (k.0, ap (λ y. Plain (plain_of y)) k.1, k.2, k.3)
 plain_is w (t.Dm n) h s k = absurd s
 plain_is w t.Region h s k = absurd s
 plain_is w t.Null h s k = absurd s
@@ -157,16 +136,25 @@ without_fits w xs (y ∷ ys) f = by (not (list_any (λ x. same_variable x y.name
 
 -- ---- targets
 
+-- a field or an element of the thing takes values of this type; where these are local references the thing is the own one of the process
+abbrev FieldTakes : NumberedProgram → ValueType → ℕ → Things → Id → Type 0
+FieldTakes p u field w id = IsFieldOf p w id field u × IsOwn w (is_local u) (Some id)
+
+abbrev ElementTakes : ValueType → Point → Things → Id → Type 0
+ElementTakes u index w id = (n : ℕ) × IsGridOf w u n id × IsPointOf n index × IsOwn w (is_local u) (Some id)
+
 -- a target takes values of this type
 abbrev TargetFits : NumberedProgram → Things → ValueType → Target → Type 0
 TargetFits p w u (InVariable x) = u ≡ declared_type x.declared
-TargetFits p w u (InPart (Field object through field)) = (id : Id) → thing_of object ≡ Some id → (a : ValueType) × (as_global u ≡ as_global a) × IsFieldOf p w id field a
-TargetFits p w u (InPart (Element grid through index)) = (id : Id) → thing_of grid ≡ Some id → (a : ValueType) × (n : ℕ) × (as_global u ≡ as_global a) × IsGridOf w a n id × IsPointOf n index
+TargetFits p w u (InPart (Field object through field)) = ((id : Id) → thing_of object ≡ Some id → FieldTakes p u field w id) × IsOwn w (is_local through) (thing_of object)
+TargetFits p w u (InPart (Element grid through index)) = ((id : Id) → thing_of grid ≡ Some id → ElementTakes u index w id) × IsOwn w (is_local through) (thing_of grid)
 
 target_stays : (p : NumberedProgram) (u w : Things) (type : ValueType) (x : Target) → Grows u w → TargetFits p u type x → TargetFits p w type x
 target_stays p u w type (InVariable x) g f = f
-target_stays p u w type (InPart (Field object through field)) g f = λ id z. let k = f id z in (k.0, k.1, (k.2.0, g.classes id k.2.0 k.2.1, k.2.2))
-target_stays p u w type (InPart (Element grid through index)) g f = λ id z. let k = f id z in (k.0, k.1, k.2, grid_stays u w k.0 k.1 id g k.3, k.4)
+target_stays p u w type (InPart (Field object through field)) g f =
+    ((λ id z. let k = f.0 id z in ((k.0.0, g.classes id k.0.0 k.0.1, k.0.2), own_stays u w (is_local type) (Some id) g k.1)), own_stays u w (is_local through) (thing_of object) g f.1)
+target_stays p u w type (InPart (Element grid through index)) g f =
+    ((λ id z. let k = f.0 id z in (k.0, grid_stays u w type k.0 id g k.1, k.2, own_stays u w (is_local type) (Some id) g k.3)), own_stays u w (is_local through) (thing_of grid) g f.1)
 
 plainly : (o : Option ValueType) (u : ValueType) → operand (plain o) ≡ Some u → o ≡ Some u
 plainly o u h = (no_call (plain o) u h).1
@@ -182,71 +170,88 @@ module _ (s : ScopeContents) (w : Things) (env : Env) (f : EnvFits (uses_of env.
       by (t.Typed l a) z i = sym (some_same a u z)
       by t.Foreach z i = absurd (true_false i)
 
-  index_dims : (a u : ValueType) (ts : List ValueType) (h : Held) (zs : List ℤ) (through : ValueType) (x : Things) → index_type a ts ≡ Some u → DimsFine a → IsOf x a h → Numbers (counts ts) zs → TargetFits p x u (InPart (Element h through (point_of_numbers zs)))
-  index_dims (t.Pt n) u ts h zs through x z d k c = λ id q. absurd (none_some id (sym (ap thing_of k.1) ∙ q))
-  index_dims (t.Grid a n l) u ts h zs through x z d k c = λ id q. by ts z c (grid_in x a n l h k id q)
+  index_dims : (a u : ValueType) (ts : List ValueType) (h : Held) (zs : List ℤ) (through : ValueType) (x : Things) → index_type a ts ≡ Some u → hidden_element (Some a) ≡ false → Seen a through → DimsFine a → IsOf x a h → Numbers (counts ts) zs
+      → TargetFits p x u (InPart (Element h through (point_of_numbers zs)))
+  index_dims (t.Pt n) u ts h zs through x z o e d k c = ((λ id q. absurd (none_some id (sym (ap thing_of k.1) ∙ q))), λ i. ap (λ o. is_own x.owner (thing_of o)) k.1)
+  index_dims (t.Grid a n l) u ts h zs through x z o e d k c =
+      let q = by ts z c in
+      let own = own_of x (t.Grid a n l) h k in
+      subst (λ b. TargetFits p x b (InPart (Element h through (point_of_numbers zs)))) (sym (read_whole l a o) ∙ q.0)
+      ((λ id i. (n, grid_in x a n l h k id i, q.1, λ j. subst (λ o. is_own x.owner o ≡ true) i (own (reached (is_local a) l o j)))), λ i. own (sym (ap is_local e) ∙ i))
     where
-      by : (ts : List ValueType) → index_type (t.Grid a n l) ts ≡ Some u → Numbers (counts ts) zs → {id : Id} → IsGridOf x a n id → (b : ValueType) × (m : ℕ) × (as_global u ≡ as_global b) × IsGridOf x b m id × IsPointOf m (point_of_numbers zs)
-      by (t.Pt m ∷ []) z c i =
+      by : (ts : List ValueType) → index_type (t.Grid a n l) ts ≡ Some u → Numbers (counts ts) zs → (read_through l a ≡ u) × IsPointOf n (point_of_numbers zs)
+      by (t.Pt m ∷ []) z c =
           let q = where_some (n == m) (read_through l a) u z in
-          (a, n, ap as_global (sym q.1) ∙ read_alike l a, i, numbers_point zs n (c.0 ∙ plus_zero m ∙ sym (eqb-true n m q.0)) d.0 c.1)
+          (q.1, numbers_point zs n (c.0 ∙ plus_zero m ∙ sym (eqb-true n m q.0)) d.0 c.1)
         where
           plus_zero : (m : ℕ) → m + 0 ≡ m
           plus_zero m = omega arith
-      by ts z c i =
+      by ts z c =
           let q = where_some (all_ints ts && (length ts == n)) (read_through l a) u z in
-          (a, n, ap as_global (sym q.1) ∙ read_alike l a, i, numbers_point zs n (c.0 ∙ ints_count ts (and_left (all_ints ts) (length ts == n) q.0) ∙ eqb-true (length ts) n (and_right (all_ints ts) (length ts == n) q.0)) d.0 c.1)
-  index_dims _ u ts h zs through x z d k c = absurd (none_some u z)
+          (q.1, numbers_point zs n (c.0 ∙ ints_count ts (and_left (all_ints ts) (length ts == n) q.0) ∙ eqb-true (length ts) n (and_right (all_ints ts) (length ts == n) q.0)) d.0 c.1)
+  index_dims _ u ts h zs through x z o e d k c = absurd (none_some u z)
 
   located_fine : (target : NumberedExp) (u : ValueType) → IsTarget p env.method s target u → Sound p (λ x y. TargetFits p x u y) w (located env target)
   located_fine (e.Variable at x) u k = sound_value p _ w _ (variable_target at x u k)
   located_fine (e.OwnField at field) u k =
       let q = mapped as_global (option_and_then (λ c. field_type p c field) s.this_class) u (plainly _ u k.0.1) in
       let c = and_then (λ c. field_type p c field) s.this_class q.0 q.1 in
-      sound_value p _ w _ (λ id z. (q.0, ap as_global (sym q.2) ∙ global_twice q.0, (c.0, f.this c.0 c.1 id z, c.2)))
+      let global : is_local q.0 ≡ false = sym (ap maybe_local q.1) ∙ k.2 in
+      subst (λ b. Sound p (λ x y. TargetFits p x b y) w (located env (e.OwnField at field))) (sym (read_whole false q.0 (ap (λ b. b && true) global)) ∙ q.2)
+      (sound_value p _ w _ (
+        (λ id z. ((c.0, f.this c.0 c.1 id z, c.2), λ i. absurd (true_false (sym i ∙ global)))),
+        λ i. absurd (true_false (sym i ∙ this_global (this_of env.method))),
+      ))
   located_fine (e.Select at a name) u k =
       let q = and_then (λ x. select_type p x name) (operand_type p s a) u (plainly _ u k.0.1) in
-      select q.0 q.2 (eval_fine (uses_of env.method) s w env f g a k.0.0 q.0 q.1)
+      select q.0 q.2 (sym (ap (λ o. hidden_field p o name) q.1) ∙ k.2) (eval_fine (uses_of env.method) s w env f g a k.0.0 q.0 q.1)
     where
-      select : (type : ValueType) → select_type p type name ≡ Some u → Evaluates w env a type → Sound p (λ x y. TargetFits p x u y) w (located env (e.Select at a name))
-      select (t.Class c l) z k =
+      select : (type : ValueType) → select_type p type name ≡ Some u → hidden_field p (Some type) name ≡ false → Evaluates w env a type → Sound p (λ x y. TargetFits p x u y) w (located env (e.Select at a name))
+      select (t.Class c l) z o k =
           let q = mapped (read_through l) (named_field_type p c name) u z in
           let i = named_field p c name q.0 q.1 in
           let number : field_selected env a name ≡ i.0 = ap (λ u. unwrap_or (option_and_then (field_numbered p name) (class_of_type u)) 0) k.seen ∙ ap (λ o. unwrap_or o 0) i.1 in
+          let shown : (is_local q.0 && not l) ≡ false = sym (ap (λ o. maybe_local o && not l) q.1) ∙ o in
           sound_then p (λ x h. IsOf x (t.Class c l) h) _ w (eval env a) _ k.sound (λ x j h y.
+          let own = own_of x (t.Class c l) h y in
           subst (λ m. Sound p (λ x y. TargetFits p x u y) x (gives (InPart (Field h (type_of env a) m)))) (sym number)
-          (sound_value p _ x _ (λ id r. (q.0, ap as_global (sym q.2) ∙ read_alike l q.0, (c, object_of x c l h y id r, i.2)))))
-      select _ z k = absurd (none_some u z)
+          (sound_value p _ x _ (subst (λ b. TargetFits p x b (InPart (Field h (type_of env a) i.0))) (sym (read_whole l q.0 shown) ∙ q.2)
+          ((λ id r. ((c, object_of x c l h y id r, i.2), λ j. subst (λ o. is_own x.owner o ≡ true) r (own (reached (is_local q.0) l shown j)))), λ j. own (sym (ap is_local k.seen) ∙ j)))))
+      select _ z o k = absurd (none_some u z)
   located_fine (e.Index at a parts) u k =
       let q = both_there index_type (operand_type p s a) (operands p s parts) u (plainly _ u k.0.1) in
       let r = eval_fine (uses_of env.method) s w env f g a k.0.0.0 q.0 q.2 in
       sound_then p (λ x h. IsOf x q.0 h) _ w (eval env a) _ r.sound (λ x j h y.
       sound_then p (λ z zs. Numbers (counts q.1) zs) _ x (eval_numbers env parts) _ (numbers_fine (uses_of env.method) s x env (env_stays (uses_of env.method) s w x env j f) g parts k.0.0.1 q.1 q.3) (λ z l zs c.
-      sound_value p _ z _ (index_dims q.0 u q.1 h zs (type_of env a) z q.4 r.dims (of_stays x z q.0 h l y) c)))
-  located_fine _ u k = sound_value p _ w _ (λ id z. absurd (none_some id z))
+      sound_value p _ z _ (index_dims q.0 u q.1 h zs (type_of env a) z q.4 (sym (ap hidden_element q.2) ∙ k.2) r.seen r.dims (of_stays x z q.0 h l y) c)))
+  located_fine _ u k = sound_value p _ w _ ((λ id z. absurd (none_some id z)), λ z. absurd (true_false (sym z)))
 
   -- what a target holds
   held_fine : (at : Place) (u type : ValueType) (x : Target) → DimsFine u → TargetFits p w u x → VariablesFit w env.variables → Sound p (λ y h. IsOf y u h) w (held_in env at type x)
   held_fine at u type (InVariable x) d k v = sound_value p _ w _ (subst (λ a. IsOf w a (find_variable x env.variables)) (sym k) (found_fits w x env.variables (subst DimsFine k d) v))
   held_fine at u type (InPart (Field object through field)) d k v =
-      sound_then p (λ x (r : Reference). (a : ValueType) × (as_global u ≡ as_global a) × IsFieldOf p x r.thing field a) _ w (needed at through object) _ (needed_fine p w at through object (λ x id. (a : ValueType) × (as_global u ≡ as_global a) × IsFieldOf p x id field a) k) (λ x j r z.
-      sound_asked p _ x (request_through r at (act.GetField r.thing field) (ValueOf type)) (z.0, z.2) (λ y l answer q. alike y z.0 u _ (sym z.1) (q z.0 (z.2.0, l.classes r.thing z.2.0 z.2.1, z.2.2))))
+      sound_then p (λ x r. Names (FieldTakes p u field) through x r) _ w (needed at through object) _ (needed_as p w at through object (FieldTakes p u field) k.0 k.1) (λ x j r z.
+      sound_asked p _ x (request_through r at (act.GetField r.thing field) (ValueOf type)) ((u, z.thing.0), z.own) (λ y l answer q.
+      seen_from (seen_by r.thing.owner y) y.owner u _ (λ i. eqb-true r.thing.owner x.owner (z.thing.1 i) ∙ l.owner) (q u (z.thing.0.0, l.classes r.thing z.thing.0.0 z.thing.0.1, z.thing.0.2))))
   held_fine at u type (InPart (Element grid through index)) d k v =
-      sound_then p (λ x (r : Reference). (a : ValueType) × (n : ℕ) × (as_global u ≡ as_global a) × IsGridOf x a n r.thing × IsPointOf n index) _ w (needed at through grid) _ (needed_fine p w at through grid (λ x id. (a : ValueType) × (n : ℕ) × (as_global u ≡ as_global a) × IsGridOf x a n id × IsPointOf n index) k) (λ x j r z.
-      sound_asked p _ x (request_through r at (act.GetElem r.thing index) (ValueOf type)) (z.0, z.1, z.3, z.4) (λ y l answer q. alike y z.0 u _ (sym z.2) (q z.0 z.1 (grid_stays x y z.0 z.1 r.thing l z.3))))
+      sound_then p (λ x r. Names (ElementTakes u index) through x r) _ w (needed at through grid) _ (needed_as p w at through grid (ElementTakes u index) k.0 k.1) (λ x j r z.
+      sound_asked p _ x (request_through r at (act.GetElem r.thing index) (ValueOf type)) ((u, z.thing.0, z.thing.1, z.thing.2), z.own) (λ y l answer q.
+      seen_from (seen_by r.thing.owner y) y.owner u _ (λ i. eqb-true r.thing.owner x.owner (z.thing.3 i) ∙ l.owner) (q u z.thing.0 (grid_stays x y u z.thing.0 r.thing l z.thing.1))))
 
   -- what a target takes
   stored_fine : FieldsStorable p → (at : Place) (u : ValueType) (x : Target) (h : Held) → TargetFits p w u x → VariablesFit w env.variables → IsOf w u h → Sound p (λ y vs. VariablesFit y vs) w (stored env at x h)
   stored_fine d at u (InVariable x) h k v i = sound_value p _ w _ (changed_fits w x h env.variables (subst (λ a. IsOf w a h) k i) v)
   stored_fine d at u (InPart (Field object through field)) h k v i =
-      sound_then p (λ x (r : Reference). (a : ValueType) × (as_global u ≡ as_global a) × IsFieldOf p x r.thing field a) _ w (needed at through object) _ (needed_fine p w at through object (λ x id. (a : ValueType) × (as_global u ≡ as_global a) × IsFieldOf p x id field a) k) (λ x j r z.
+      sound_then p (λ x r. Names (FieldTakes p u field) through x r) _ w (needed at through object) _ (needed_as p w at through object (FieldTakes p u field) k.0 k.1) (λ x j r z.
+      let held = plain_is x u h (d z.thing.0.0 field u z.thing.0.2) (of_stays w x u h j i) in
       sound_then p (λ y o. Unit {0}) _ x (asked (request_through r at (act.PutField r.thing field (plain_of h)) ToBeDone)) _
-      (sound_asked p _ x (request_through r at (act.PutField r.thing field (plain_of h)) ToBeDone) (z.0, z.2, plain_is x z.0 h (d z.2.0 field z.0 z.2.2) (alike x u z.0 h z.1 (of_stays w x u h j i))) (λ y l answer q. tt)) (λ y l o q.
+      (sound_asked p _ x (request_through r at (act.PutField r.thing field (plain_of h)) ToBeDone) ((u, z.thing.0, seen_from x r.thing.owner u _ (λ i. sym (eqb-true r.thing.owner x.owner (z.thing.1 i))) held), z.own) (λ y l answer q. tt)) (λ y l o q.
       sound_value p _ y _ (variables_stay x y env.variables l (variables_stay w x env.variables j v))))
   stored_fine d at u (InPart (Element grid through index)) h k v i =
-      sound_then p (λ x (r : Reference). (a : ValueType) × (n : ℕ) × (as_global u ≡ as_global a) × IsGridOf x a n r.thing × IsPointOf n index) _ w (needed at through grid) _ (needed_fine p w at through grid (λ x id. (a : ValueType) × (n : ℕ) × (as_global u ≡ as_global a) × IsGridOf x a n id × IsPointOf n index) k) (λ x j r z.
+      sound_then p (λ x r. Names (ElementTakes u index) through x r) _ w (needed at through grid) _ (needed_as p w at through grid (ElementTakes u index) k.0 k.1) (λ x j r z.
+      let held = plain_is x u h z.thing.1.4 (of_stays w x u h j i) in
       sound_then p (λ y o. Unit {0}) _ x (asked (request_through r at (act.PutElem r.thing index (plain_of h)) ToBeDone)) _
-      (sound_asked p _ x (request_through r at (act.PutElem r.thing index (plain_of h)) ToBeDone) (z.0, z.1, z.3, z.4, plain_is x z.0 h z.3.4 (alike x u z.0 h z.2 (of_stays w x u h j i))) (λ y l answer q. tt)) (λ y l o q.
+      (sound_asked p _ x (request_through r at (act.PutElem r.thing index (plain_of h)) ToBeDone) ((u, z.thing.0, z.thing.1, z.thing.2, seen_from x r.thing.owner u _ (λ i. sym (eqb-true r.thing.owner x.owner (z.thing.3 i))) held), z.own) (λ y l answer q. tt)) (λ y l o q.
       sound_value p _ y _ (variables_stay x y env.variables l (variables_stay w x env.variables j v))))
 
 grows_two : (u w x : Things) → Grows u w → Grows w x → Grows u x

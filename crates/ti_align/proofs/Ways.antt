@@ -1,5 +1,5 @@
 -- Ways of processes: from one process to another, with the collectives that it comes to and leaves.
-use Rattle.std.specs.Prelude.{◌≡◌, ℕ, suc, false, List, [], ◌∷◌, map, filter, slice_get, Option, None, Some}
+use Rattle.std.specs.Prelude.{◌≡◌, ℕ, suc, false, List, [], ◌∷◌, slice_get, Option, None, Some}
 use Rattle.ti_base.specs.declared.place.Place.{Place}
 use Rattle.ti_base.specs.declared.action.Action.{Action}
 use Rattle.ti_base.specs.declared.action.Action.TheVariants as act
@@ -11,7 +11,8 @@ use Rattle.ti_lang.specs.Program.Types.{ValueType}
 use Rattle.ti_lang.specs.Meaning.Asking.{Wanted, Request}
 use Rattle.ti_lang.specs.Meaning.Processes.{Wait, Process}
 use Rattle.ti_lang.specs.Meaning.Steps.{To, At, step}
-use Rattle.ti_lang.specs.Meaning.Histories.{is_arrival, is_departure, entries_of}
+use Rattle.ti_lang.specs.Meaning.Histories.{is_arrival, is_departure}
+pub use Rattle.ti_align.specs.Slice.{answers_at_departures}
 
 -- through which type an action is asked, and for what
 abbrev pub Asked : Type 0
@@ -58,10 +59,6 @@ answers_left (Left answer ∷ ms) = answer ∷ answers_left ms
 -- departures of one number were answered the same
 abbrev pub SameAnswers : List Meeting → List Meeting → Type 0
 SameAnswers ms ns = (k : ℕ) (r t : Answer) → slice_get (answers_left ms) k ≡ Some r → slice_get (answers_left ns) k ≡ Some t → r ≡ t
-
--- what the departures of a process in a run were answered
-abbrev pub answers_at_departures : ℕ → List Entry → List Answer
-answers_at_departures i es = map (λ (e : Entry). e.answer) (filter (λ (e : Entry). is_departure e.act) (entries_of i es))
 
 -- in a run, departures of one number were answered the same
 abbrev pub SameDepartures : List Entry → Type 0

@@ -67,18 +67,24 @@ one_more_fine f (y ∷ xs) x h k =
     ap₂ (λ a b. a ++ b) (nil_left (f y) (flat_map f xs) h) (one_more_fine f xs x (nil_right (f y) (flat_map f xs) h) k)
 
 -- what may be written
-write_fine : (p : NumberedProgram) (s : ScopeContents) (at : Place) (target : NumberedExp) (value : List Refusal) → write_refusals p s at target value ≡ [] → (is_foreach_variable target ≡ false) × (value ≡ [])
+write_fine : (p : NumberedProgram) (s : ScopeContents) (at : Place) (target : NumberedExp) (value : List Refusal) → write_refusals p s at target value ≡ []
+    → ((is_foreach_variable target ≡ false) × (is_hidden_local p s target ≡ false)) × (value ≡ [])
 write_fine p s at target value h = by (is_coordinate p s target) h
   where
-    by : (b : Bool) → (if b then refused Y1 at else (refused_if (is_foreach_variable target) Y2 at ++ refused_if (is_hidden_local p s target) Q2 at) ++ value) ≡ [] → (is_foreach_variable target ≡ false) × (value ≡ [])
+    turned : List Refusal
+    turned = refused_if (is_foreach_variable target) Y2 at
+
+    hidden : List Refusal
+    hidden = refused_if (is_hidden_local p s target) Q2 at
+
+    by : (b : Bool) → (if b then refused Y1 at else (turned ++ hidden) ++ value) ≡ [] → ((is_foreach_variable target ≡ false) × (is_hidden_local p s target ≡ false)) × (value ≡ [])
     by true h = absurd (never h)
       where
         never : refused Y1 at ≡ [] → ⊥
         never h = cc
-    by false h = (
-      not_refused (is_foreach_variable target) Y2 at (nil_left (refused_if (is_foreach_variable target) Y2 at) (refused_if (is_hidden_local p s target) Q2 at) (nil_left (refused_if (is_foreach_variable target) Y2 at ++ refused_if (is_hidden_local p s target) Q2 at) value h)),
-      nil_right (refused_if (is_foreach_variable target) Y2 at ++ refused_if (is_hidden_local p s target) Q2 at) value h,
-    )
+    by false h =
+        let both = nil_left (turned ++ hidden) value h in
+        ((not_refused (is_foreach_variable target) Y2 at (nil_left turned hidden both), not_refused (is_hidden_local p s target) Q2 at (nil_right turned hidden both)), nil_right (turned ++ hidden) value h)
 
 result_fine : (at : Place) (r u : ValueType) → result_refusals at r u ≡ [] → (narrows r u || fits r u) ≡ true
 result_fine at r u h = by (narrows r u) h
@@ -398,14 +404,14 @@ module _ (p : NumberedProgram) (fields : FieldsMeant p) (m : NumberedMethod) (s 
 
   -- a value of a type goes into a target
   pub assigned_fits : (at : Place) (target : NumberedExp) (u type : ValueType) → IsInner p m s target u → write_refusals p s at target (misfit at type u) ≡ [] → ReceiverFits p m s (Assigned at target) type
-  assigned_fits at target u type i h = let q = write_fine p s at target (misfit at type u) h in (u, (i, q.0), no_misfit at type u q.1)
+  assigned_fits at target u type i h = let q = write_fine p s at target (misfit at type u) h in (u, (i, q.0.0, q.0.1), no_misfit at type u q.1)
 
   pub updated_fits : (at : Place) (op : BinaryOperator) (target : NumberedExp) (u type : ValueType) → IsInner p m s target u → write_refusals p s at target (update_refusals at op u type) ≡ []
       → ReceiverFits p m s (Updated at op target) type
   updated_fits at op target u type i h =
       let q = write_fine p s at target (update_refusals at op u type) h in
       let r = update_fine at op u type q.1 in
-      (u, r.0, (i, q.0), r.1, r.2)
+      (u, r.0, (i, q.0.0, q.0.1), r.1, r.2)
 
 -- in the body of a foreach over such a domain
 pub surrounds_inside : (p : NumberedProgram) (m : NumberedMethod) (s : ScopeContents) (turns : List ℕ) → Surrounds m s turns → (number : ℕ) (domain : NumberedExp) (n : ℕ)

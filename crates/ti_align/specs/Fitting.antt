@@ -16,9 +16,10 @@ use Rattle.ti_lang.specs.Typing.Expressions.{range_count}
 use Rattle.ti_lang.specs.Meaning.Scoping.{Env, value_by}
 use Rattle.ti_align.specs.Things.{Things, IsOf, DimsFine}
 
--- The number of the process and how many there are have 32 bits, `this` is an object of its class, and each variable that is used holds
--- a value of its type; one of a foreach is a point.
+-- What is there is told for the process. Its number and how many there are have 32 bits, `this` is an object of its class, and each
+-- variable that is used holds a value of its type; one of a foreach is a point.
 pub record EnvFits (uses : VariableUse → Bool) (s : ScopeContents) (w : Things) (env : Env) : Type 0 where
+  pub owner : w.owner ≡ env.number
   pub number : Fits w32 (pos env.number)
   pub procs : Fits w32 (pos env.procs)
   pub this_class : s.this_class ≡ this_of env.method

@@ -8,7 +8,7 @@ use Rattle.ti_base.specs.declared.action.Action.TheVariants as act
 use Rattle.ti_base.specs.declared.entry.Answer.{Answer}
 use Rattle.ti_base.specs.declared.entry.Answer.TheVariants.{Val}
 use Rattle.ti_base.specs.declared.place.Place.{Place}
-use Rattle.ti_base.specs.Cells.{Cell, Field, Element, Grid, same_id}
+use Rattle.ti_base.specs.Cells.{Cell, Field, Element, thing_of, Grid, same_id}
 use Rattle.ti_lang.specs.Program.Types.{ValueType}
 use Rattle.ti_lang.specs.Program.Types as t
 use Rattle.ti_lang.specs.Program.Classes.{NumberedProgram}
@@ -27,9 +27,9 @@ use Rattle.ti_align.specs.Sound.{IsFieldOf, FitsAsked}
 abbrev pub Elements : Type 0
 Elements = Id → Option ValueType
 
--- what is there after a history, where the elements of blocks have these types
-abbrev pub things_of : Elements → History → Things
-things_of elements h = record { class_at = λ id. class_of id h; grid_at = λ id. grid_of id h; element_at = elements; is_made = λ r. is_made r h }
+-- what is there for a process after a history, where the elements of blocks have these types
+abbrev pub things_of : ℕ → Elements → History → Things
+things_of i elements h = record { owner = i; class_at = λ id. class_of id h; grid_at = λ id. grid_of id h; element_at = elements; is_made = λ r. is_made r h }
 
 -- the block is a grid of zeros of the type of its elements, which may have it
 abbrev pub IsBlock : History → Id → ValueType → Type 0
@@ -44,9 +44,9 @@ abbrev pub MayHold : NumberedProgram → Things → Cell → Value → Type 0
 MayHold p w (Field obj field) value = (type : ValueType) × IsFieldOf p w obj field type × IsOf w type (Plain value)
 MayHold p w (Element block at) value = (type : ValueType) × (w.element_at block ≡ Some type) × IsOf w type (Plain value)
 
--- what was written to cells is of their types; each block is a grid of zeros of the type of its elements
+-- what was written to cells is of their types in the memory in which they lie; each block is a grid of zeros of the type of its elements
 pub record HeapFits (p : NumberedProgram) (elements : Elements) (h : History) : Type 0 where
-  pub cells : (cell : Cell) (value : Value) → last_written cell h ≡ Some value → MayHold p (things_of elements h) cell value
+  pub cells : (cell : Cell) (value : Value) → last_written cell h ≡ Some value → MayHold p (things_of (thing_of cell).owner elements h) cell value
   pub blocks : (block : Id) (type : ValueType) → elements block ≡ Some type → IsBlock h block type
 
 -- ---- an action
@@ -74,6 +74,6 @@ pub record KeepsTypes (p : NumberedProgram) (elements : Elements) (h : History) 
   pub kept : (place : Place) (r : Answer) → heap_answer p h i a ≡ Answers r
       → HeapFits p (elements_behind elements a wanted r) (record { proc = i; place = place; act = a; answer = r } ∷ h)
   pub grown : (place : Place) (r : Answer) → heap_answer p h i a ≡ Answers r
-      → Grows (things_of elements h) (things_of (elements_behind elements a wanted r) (record { proc = i; place = place; act = a; answer = r } ∷ h))
+      → Grows (things_of i elements h) (things_of i (elements_behind elements a wanted r) (record { proc = i; place = place; act = a; answer = r } ∷ h))
   pub answered : (place : Place) (r : Answer) → is_of_heap a ≡ true → heap_answer p h i a ≡ Answers r
-      → FitsAsked p (things_of (elements_behind elements a wanted r) (record { proc = i; place = place; act = a; answer = r } ∷ h)) a wanted r
+      → FitsAsked p (things_of i (elements_behind elements a wanted r) (record { proc = i; place = place; act = a; answer = r } ∷ h)) a wanted r

@@ -1,6 +1,8 @@
 pub mod SinglePart
 pub mod Alignment
+pub mod Slice
 pub mod Stopping
+pub mod Owners
 pub mod Things
 pub mod Sound
 pub mod Literals
@@ -8,5 +10,8 @@ pub mod Fitting
 pub mod Heap
 pub mod Work
 pub mod Typed
+pub mod Names
+pub mod Departing
 pub mod Formed
 pub mod Dangling
+pub mod Counted

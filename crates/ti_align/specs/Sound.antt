@@ -15,12 +15,14 @@ use Rattle.ti_base.specs.Points.{IsDim}
 use Rattle.ti_lang.specs.Program.Types.{ValueType}
 use Rattle.ti_lang.specs.Program.Types as t
 use Rattle.ti_lang.specs.Program.Classes.{NumberedProgram}
+use Rattle.ti_lang.specs.Typing.Kinds.{is_local}
 use Rattle.ti_lang.specs.Typing.Declared.{field_type}
 use Rattle.ti_lang.specs.Meaning.Held.{Plain}
 use Rattle.ti_lang.specs.Meaning.Zeros.{zeros_of_class, zero_of_type}
 use Rattle.ti_lang.specs.Meaning.Answers.{IsPointOf, IsRectOf}
-use Rattle.ti_lang.specs.Meaning.Asking.{Wanted, ValueOf, NewThing, Request, Asking, Gives, Asks, Fails, told}
-use Rattle.ti_align.specs.Things.{Things, Grows, IsStorable, IsGridOf, IsPlaced, IsOf}
+use Rattle.ti_lang.specs.Meaning.Asking.{Wanted, ValueOf, NewThing, Reference, Request, Asking, Gives, Asks, Fails, told}
+use Rattle.ti_align.specs.Things.{Things, seen_by, Grows, IsStorable, IsGridOf, IsPlaced, IsOwn, IsOf}
+use Rattle.ti_align.specs.Owners.{IsOwnAction}
 
 -- ---- what is asked for
 
@@ -39,38 +41,42 @@ dims_viewed how n = n
 abbrev pub IsFieldOf : NumberedProgram → Things → Id → ℕ → ValueType → Type 0
 IsFieldOf p w obj field type = (class : ℕ) × (w.class_at obj ≡ Some class) × (field_type p class field ≡ Some type)
 
--- what an action names is there
+-- what an action names is there; what is written to a cell is of its type in the memory in which the cell lies
 abbrev pub IsThere : NumberedProgram → Things → Action → Wanted → Type 0
 IsThere p w (act.GetField obj field) wanted = (type : ValueType) × IsFieldOf p w obj field type
-IsThere p w (act.PutField obj field value) wanted = (type : ValueType) × IsFieldOf p w obj field type × IsOf w type (Plain value)
+IsThere p w (act.PutField obj field value) wanted = (type : ValueType) × IsFieldOf p w obj field type × IsOf (seen_by obj.owner w) type (Plain value)
 IsThere p w (act.NewObj class region) wanted = (zeros : List Zero) × (zeros_of_class p class ≡ Some zeros) × IsPlaced w region
 IsThere p w (act.NewGrid zero domain region) wanted =
     (element : ValueType) × (n : ℕ) × (wanted ≡ NewThing (t.Grid element n true)) × (zero ≡ zero_of_type element) × IsRectOf n domain × IsDim n × IsPlaced w region × IsStorable element
 IsThere p w (act.GetElem grid at) wanted = (element : ValueType) × (n : ℕ) × IsGridOf w element n grid × IsPointOf n at
-IsThere p w (act.PutElem grid at value) wanted = (element : ValueType) × (n : ℕ) × IsGridOf w element n grid × IsPointOf n at × IsOf w element (Plain value)
+IsThere p w (act.PutElem grid at value) wanted = (element : ValueType) × (n : ℕ) × IsGridOf w element n grid × IsPointOf n at × IsOf (seen_by grid.owner w) element (Plain value)
 IsThere p w (act.MakeView grid how) wanted = (element : ValueType) × (n : ℕ) × IsGridOf w element n grid × SuitsView how n
 IsThere p w (act.DomainOf grid) wanted = (element : ValueType) × (n : ℕ) × IsGridOf w element n grid
 IsThere p w a wanted = Unit {0}
 
+-- what the reference names lies in the memory of the process, where the reference is local
+abbrev pub IsOwnReference : Things → Reference → Type 0
+IsOwnReference w r = IsOwn w (is_local r.type) (Some r.thing)
+
 -- ---- what is answered
 
--- the answer fits the action
+-- the answer fits the action; what is read from a cell is of its type in the memory in which the cell lies
 abbrev pub FitsAsked : NumberedProgram → Things → Action → Wanted → Answer → Type 0
-FitsAsked p w (act.GetField obj field) wanted r = (type : ValueType) → IsFieldOf p w obj field type → IsOf w type (told r)
+FitsAsked p w (act.GetField obj field) wanted r = (type : ValueType) → IsFieldOf p w obj field type → IsOf (seen_by obj.owner w) type (told r)
 FitsAsked p w (act.NewObj class region) wanted r = IsOf w (t.Class class true) (told r)
 FitsAsked p w (act.NewGrid zero domain region) wanted r = (element : ValueType) (n : ℕ) → wanted ≡ NewThing (t.Grid element n true) → IsOf w (t.Grid element n true) (told r)
-FitsAsked p w (act.GetElem grid at) wanted r = (element : ValueType) (n : ℕ) → IsGridOf w element n grid → IsOf w element (told r)
-FitsAsked p w (act.MakeView grid how) wanted r = (element : ValueType) (n : ℕ) → IsGridOf w element n grid → IsOf w (t.Grid element (dims_viewed how n) true) (told r)
+FitsAsked p w (act.GetElem grid at) wanted r = (element : ValueType) (n : ℕ) → IsGridOf w element n grid → IsOf (seen_by grid.owner w) element (told r)
+FitsAsked p w (act.MakeView grid how) wanted r = (element : ValueType) (n : ℕ) → IsGridOf w element n grid → IsOf (seen_by grid.owner w) (t.Grid element (dims_viewed how n) true) (told r)
 FitsAsked p w (act.DomainOf grid) wanted r = (element : ValueType) (n : ℕ) → IsGridOf w element n grid → IsOf w (t.Rc n) (told r)
 FitsAsked p w (act.Take who) wanted r = (type : ValueType) → wanted ≡ ValueOf type → IsOf w type (told r)
 FitsAsked p w a wanted r = Unit {0}
 
 -- ---- computations
 
--- The computation comes to what the fact holds of, or to a fault, or asks for what is there; and where the answer fits, in whatever
--- is there by then, so does what is left of it.
+-- The computation comes to what the fact holds of, or to a fault, or asks for what is there, and through a local reference for what is
+-- there in the memory of its process; and where the answer fits, in whatever is there by then, so does what is left of it.
 pub data Sound (p : NumberedProgram) {A : Type 0} (P : Things → A → Type 0) : Things → Asking A → Type 0 where
   value : {w : Things} {m : Asking A} (a : A) → P w a → ((rest : List Answer) → m rest ≡ Gives a rest) → Sound p P w m
   fault : {w : Things} {m : Asking A} (kind : FaultKind) (at : Place) → ((rest : List Answer) → m rest ≡ Fails kind at) → Sound p P w m
-  asks : {w : Things} {m : Asking A} (q : Request) → m [] ≡ Asks q → IsThere p w q.action q.wanted
+  asks : {w : Things} {m : Asking A} (q : Request) → m [] ≡ Asks q → IsThere p w q.action q.wanted × IsOwnAction w.owner q.through q.action
       → ((u : Things) → Grows w u → (r : Answer) → FitsAsked p u q.action q.wanted r → Sound p P u (λ rest. m (r ∷ rest))) → Sound p P w m

@@ -14,18 +14,26 @@ use Rattle.ti_lang.specs.Program.Types as t
 use Rattle.ti_lang.specs.Meaning.Held.{Held, Plain, Dm}
 use Rattle.ti_lang.specs.Meaning.Answers.{IsPointOf, IsRectOf}
 use Rattle.ti_lang.specs.Meaning.Conversions.{most_points}
+use Rattle.ti_lang.specs.Meaning.Evaluation.{is_own}
 
 -- ---- things
 
--- the class of each object, each grid, the type of the elements of each block, and the regions that were made
+-- for a process: the class of each object, each grid, the type of the elements of each block, and the regions that were made
 pub record Things : Type 0 where
+  -- the process; its local references name things in its own memory
+  pub owner : ℕ
   pub class_at : Id → Option ℕ
   pub grid_at : Id → Option Grid
   pub element_at : Id → Option ValueType
   pub is_made : ℕ → Bool
 
--- all that is there in the first is there in the second
+-- the same for another process
+abbrev pub seen_by : ℕ → Things → Things
+seen_by i w = record w { owner = i }
+
+-- all that is there in the first is there in the second, for the same process
 pub record Grows (u w : Things) : Type 0 where
+  pub owner : u.owner ≡ w.owner
   pub classes : (id : Id) (class : ℕ) → u.class_at id ≡ Some class → w.class_at id ≡ Some class
   pub grids : (id : Id) (g : Grid) → u.grid_at id ≡ Some g → w.grid_at id ≡ Some g
   pub elements : (id : Id) (type : ValueType) → u.element_at id ≡ Some type → w.element_at id ≡ Some type
@@ -54,15 +62,20 @@ IsStorable t.Null = ⊥
 IsStorable t.Void = ⊥
 IsStorable type = Unit {0}
 
--- the thing is a grid of so many dimensions, whose elements have this type
+-- the thing is a grid of so many dimensions, whose elements have this type; it lies in the memory in which its elements do
 abbrev pub IsGridOf : Things → ValueType → ℕ → Id → Type 0
-IsGridOf w element n id = (g : Grid) × (w.grid_at id ≡ Some g) × IsRectOf n g.domain × (w.element_at g.block ≡ Some element) × IsStorable element
+IsGridOf w element n id = (g : Grid) × (w.grid_at id ≡ Some g) × IsRectOf n g.domain × (w.element_at g.block ≡ Some element) × IsStorable element × (g.block.owner ≡ id.owner)
 
 -- things are placed there: in none, or in a region that was made
 abbrev pub IsPlaced : Things → ℕ → Type 0
 IsPlaced w r = (r ≡ 0) ⊎ (w.is_made r ≡ true)
 
--- a value of the type, in the form of its type; a reference names nothing, or a thing of the class, or of the element type and dimensions
+-- what a reference names, if it names something, lies in the memory of the process, where the reference is local
+abbrev pub IsOwn : Things → Bool → Option Id → Type 0
+IsOwn w is_local o = is_local ≡ true → is_own w.owner o ≡ true
+
+-- A value of the type, in the form of its type; a reference names nothing, or a thing of the class, or of the element type and
+-- dimensions, which is the own one of the process where the type is local.
 abbrev pub IsOf : Things → ValueType → Held → Type 0
 IsOf w t.Int h = (n : ℤ) × (h ≡ Plain (v.Int n)) × Fits w32 n
 IsOf w t.Long h = (n : ℤ) × (h ≡ Plain (v.Long n)) × Fits w64 n
@@ -71,8 +84,8 @@ IsOf w (t.Pt n) h = (p : Point) × (h ≡ Plain (v.Pt p)) × IsPointOf n p
 IsOf w (t.Rc n) h = (r : Rect) × (h ≡ Plain (v.Rc r)) × IsRectOf n r
 IsOf w (t.Dm n) h = (ps : List Point) × (h ≡ Dm n ps) × IsDomainOf n ps
 IsOf w t.Region h = (r : ℕ) × (h ≡ Plain (v.Region r)) × IsPlaced w r
-IsOf w (t.Class class is_local) h = (o : Option Id) × (h ≡ Plain (v.Obj o)) × ((id : Id) → o ≡ Some id → w.class_at id ≡ Some class)
-IsOf w (t.Grid element n is_local) h = (o : Option Id) × (h ≡ Plain (v.Grid o)) × ((id : Id) → o ≡ Some id → IsGridOf w element n id)
+IsOf w (t.Class class is_local) h = (o : Option Id) × (h ≡ Plain (v.Obj o)) × ((id : Id) → o ≡ Some id → w.class_at id ≡ Some class) × IsOwn w is_local o
+IsOf w (t.Grid element n is_local) h = (o : Option Id) × (h ≡ Plain (v.Grid o)) × ((id : Id) → o ≡ Some id → IsGridOf w element n id) × IsOwn w is_local o
 IsOf w t.Null h = h ≡ Plain (v.Obj None)
 IsOf w t.Void h = Unit {0}
 

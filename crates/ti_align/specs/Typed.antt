@@ -1,5 +1,6 @@
 -- Types of runs: what each process of a run holds, where what is there is as the types say.
 use Rattle.std.specs.Prelude.{◌≡◌, ◌<◌, ℕ, suc, Bool, true, false, List, [], ◌∷◌, ◌++◌, Option, Some, None}
+use Rattle.ti_base.specs.declared.value.Id.{Id}
 use Rattle.ti_base.specs.declared.value.Value.{Value}
 use Rattle.ti_base.specs.declared.action.Action.{Action}
 use Rattle.ti_base.specs.declared.action.Action.TheVariants as act
@@ -13,7 +14,7 @@ use Rattle.ti_lang.specs.Program.Types.{ValueType}
 use Rattle.ti_lang.specs.Program.Classes.{NumberedProgram}
 use Rattle.ti_lang.specs.Program.Scope.{method_scope}
 use Rattle.ti_lang.specs.Typing.Declared.{result_type}
-use Rattle.ti_lang.specs.Typing.Kinds.{element_of}
+use Rattle.ti_lang.specs.Typing.Kinds.{is_local, element_of}
 use Rattle.ti_lang.specs.Meaning.Held.{Plain}
 use Rattle.ti_lang.specs.Meaning.Asking.{Wanted}
 use Rattle.ti_lang.specs.Meaning.Processes.{Setting, Frame, Work, TakeAll, Wait, Process}
@@ -25,6 +26,7 @@ use Rattle.ti_lang.specs.Meaning.RoundsOf as rounds
 use Rattle.ti_lang.specs.Meaning.RoundsOf.{arrival_at, value_in}
 use Rattle.ti_lang.specs.Meaning.Runs.{World}
 use Rattle.ti_align.specs.Alignment.{Arrival, ArrivesAt}
+use Rattle.ti_align.specs.Owners.{MadeWith}
 use Rattle.ti_align.specs.Things.{Things, IsOf}
 use Rattle.ti_align.specs.Sound.{IsThere, Sound}
 use Rattle.ti_align.specs.Fitting.{FieldsFit}
@@ -87,7 +89,7 @@ abbrev pub WaitFits : NumberedProgram → (ValueType → Type 0) → Wait → Li
 WaitFits p G wait [] = ⊥
 WaitFits p G wait (f ∷ fs) =
     (type : ValueType) × IsAwaited p f.method (scope_over p (method_scope f.method) f.left) wait.wanted wait.receiver type
-    × IsOfRound G wait.kind type × WantsOf wait.kind wait.wanted × TakesOf (taken_behind wait.kind type) f.left
+    × IsOfRound G wait.kind type × WantsOf wait.kind wait.wanted type × TakesOf (taken_behind wait.kind type) f.left
 
 -- what the process does next fits
 abbrev pub NextFits : Things → (ValueType → Type 0) → Process → Option Wait → List Frame → Type 0
@@ -117,17 +119,19 @@ hands_in coll.Broadcast = true
 hands_in coll.Exchange = true
 hands_in kind = false
 
--- All that is there in a run is as the types say: cells, processes, and what was handed in at collectives.
+-- All that is there in a run is as the types say: cells, processes, and what was handed in at collectives; the elements of each new
+-- grid are of the type of which they were asked for.
 pub record RunFits (s : Setting) (es : List Entry) : Type 0 where
   pub elements : Elements
+  pub made : (grid : Id) (element : ValueType) → MadeWith s es grid element → elements grid ≡ Some element
   pub heap : HeapFits s.program elements (history_of es)
-  pub processes : (i : ℕ) (pr : Process) → i < s.procs → World s es i pr → ProcessFits (things_of elements (history_of es)) (GivesLast s es i) pr
+  pub processes : (i : ℕ) (pr : Process) → i < s.procs → World s es i pr → ProcessFits (things_of i elements (history_of es)) (GivesLast s es i) pr
   pub deposits : (i k : ℕ) (a : rounds.Arrival) (value : Value) → arrival_at i (suc k) (history_of es) ≡ Some a → hands_in a.kind ≡ true → value_in a.deposit ≡ Some value
-      → (type : ValueType) × GivesAt s es i k type × IsOf (things_of elements (history_of es)) type (Plain value)
+      → (type : ValueType) × GivesAt s es i k type × IsOf (things_of i elements (history_of es)) type (Plain value) × (is_local type ≡ false)
 
 -- The same; and what each process hands in or names in the action that it has next is of a type, or is there.
 pub record RunTyped (s : Setting) (es : List Entry) : Type 0 where
   pub fits : RunFits s es
   pub handed : (i : ℕ) (pr : Process) (at : Place) (kind : CollKind) (arg : Option ℕ) (given : Deposit) → i < s.procs → World s es i pr → IsNext pr (next.Act at (act.Arrive kind arg given))
-      → (type : ValueType) × DepositFits (things_of fits.elements (history_of es)) type given
-  pub there : (i : ℕ) (pr : Process) (at : Place) (a : Action) → i < s.procs → World s es i pr → IsNext pr (next.Act at a) → (wanted : Wanted) × IsThere s.program (things_of fits.elements (history_of es)) a wanted
+      → (type : ValueType) × DepositFits (things_of i fits.elements (history_of es)) type given
+  pub there : (i : ℕ) (pr : Process) (at : Place) (a : Action) → i < s.procs → World s es i pr → IsNext pr (next.Act at a) → (wanted : Wanted) × IsThere s.program (things_of i fits.elements (history_of es)) a wanted

@@ -19,7 +19,7 @@ use Rattle.ti_lang.specs.Program.Statements as st
 use Rattle.ti_lang.specs.Program.Classes.{NumberedMethod, NumberedProgram}
 use Rattle.ti_lang.specs.Program.Scope.{ScopeContents, this_of, method_scope}
 use Rattle.ti_lang.specs.Typing.Declared.{in_scope, result_type}
-use Rattle.ti_lang.specs.Typing.Kinds.{is_void, element_of, as_global, domain_dim}
+use Rattle.ti_lang.specs.Typing.Kinds.{is_local, is_void, element_of, as_global, domain_dim}
 use Rattle.ti_lang.specs.Typing.Fits.{fits}
 use Rattle.ti_lang.specs.Typing.Operators.{binary_type}
 use Rattle.ti_lang.specs.Typing.Expressions.{typed, operand_type}
@@ -33,9 +33,10 @@ use Rattle.ti_lang.specs.Meaning.Statements.{one_more}
 use Rattle.ti_lang.specs.Meaning.Moves.{Move, Goes, Turns, Calls, Returns, Meets, Deletes}
 use Rattle.ti_rules.specs.InitialTypes.{can_broadcast}
 use Rattle.ti_rules.specs.Standing.{variables_inside}
-use Rattle.ti_rules.specs.Broken.Targets.{is_foreach_variable}
+use Rattle.ti_rules.specs.Broken.Targets.{is_foreach_variable, is_hidden_local}
 use Rattle.ti_rules.specs.Broken.Statements.{narrows}
-use Rattle.ti_align.specs.Things.{Things, ArePoints, IsStorable, IsGridOf, IsPlaced, IsOf}
+use Rattle.ti_align.specs.Things.{Things, ArePoints, IsStorable, IsGridOf, IsPlaced, IsOwn, IsOf}
+use Rattle.ti_align.specs.Sound.{IsOwnReference}
 use Rattle.ti_align.specs.Fitting.{IsWritten, AreWritten}
 
 -- ---- variables
@@ -104,9 +105,9 @@ module _ (p : NumberedProgram) (m : NumberedMethod) where
   abbrev pub WholeFits : ScopeContents → NumberedExp → ValueType → Type 0
   WholeFits s x type = (typed p s x ≡ Some type) × IsWhole s x
 
-  -- what is assigned to has this type
+  -- what is assigned to has this type, and isn't a local part that is reached through a global reference
   abbrev pub IsTarget : ScopeContents → NumberedExp → ValueType → Type 0
-  IsTarget s target type = IsInner s target type × (is_foreach_variable target ≡ false)
+  IsTarget s target type = IsInner s target type × (is_foreach_variable target ≡ false) × (is_hidden_local p s target ≡ false)
 
   -- the receiver takes a value of this type
   abbrev pub ReceiverFits : ScopeContents → Receiver → ValueType → Type 0
@@ -196,9 +197,9 @@ MethodsFit p (m ∷ ms) = MethodFits p m × MethodsFit p ms
 abbrev pub ThisFits : Things → NumberedMethod → Option Id → Type 0
 ThisFits w m this = (class : ℕ) → this_of m ≡ Some class → (id : Id) → this ≡ Some id → w.class_at id ≡ Some class
 
--- a deposit of this type
+-- a deposit of this type, which isn't local
 abbrev pub DepositFits : Things → ValueType → Deposit → Type 0
-DepositFits w type (deposit.One value) = IsOf w type (Plain value) × (is_void type ≡ false)
+DepositFits w type (deposit.One value) = IsOf w type (Plain value) × (is_void type ≡ false) × (is_local type ≡ false)
 DepositFits w type given = Unit {0}
 
 -- ---- processes
@@ -245,11 +246,12 @@ IsOfRound G coll.Exchange type = G type
 IsOfRound G coll.MakeRegion type = type ≡ t.Region
 IsOfRound G kind type = Unit {0}
 
--- only a broadcast and the making of a region have an answer that is wanted
-abbrev pub WantsOf : CollKind → Wanted → Type 0
-WantsOf coll.Broadcast wanted = Unit {0}
-WantsOf coll.MakeRegion wanted = Unit {0}
-WantsOf kind wanted = wanted ≡ ToBeDone
+-- What is wanted at a collective with values of this type: at a broadcast one of the type of its value, which is handed in as a global
+-- one, and a region where one is made. Nothing else is.
+abbrev pub WantsOf : CollKind → Wanted → ValueType → Type 0
+WantsOf coll.Broadcast wanted type = (u : ValueType) × (wanted ≡ ValueOf u) × (type ≡ as_global u) × (can_broadcast u ≡ true)
+WantsOf coll.MakeRegion wanted type = wanted ≡ ValueOf t.Region
+WantsOf kind wanted type = wanted ≡ ToBeDone
 
 -- each number is one of 32 bits
 abbrev pub AreCounted : List ℕ → Type 0
@@ -264,8 +266,11 @@ module _ (p : NumberedProgram) (m : NumberedMethod) where
   WorkFits s w (Before loop) = LoopFits p m s loop
   WorkFits s w (Behind loop) = LoopFits p m s loop × IsTurning loop
   WorkFits s w (Receive receiver h) = (type : ValueType) × IsOf w type h × ReceiverFits p m s receiver type
-  WorkFits s w (CopyAll at to from points) = (element : ValueType) × (n : ℕ) × IsGridOf w element n to.thing × IsGridOf w element n from.thing × ArePoints n points
-  WorkFits s w (TakeAll at grid procs) = IsGridOf w (element_of grid.type) 1 grid.thing × AreCounted procs
+  WorkFits s w (CopyAll at to from points) =
+      (element : ValueType) × (n : ℕ) × IsGridOf w element n to.thing × IsGridOf w element n from.thing × ArePoints n points
+      × IsOwnReference w to × IsOwnReference w from × IsOwn w (is_local element) (Some to.thing) × IsOwn w (is_local element) (Some from.thing)
+  WorkFits s w (TakeAll at grid procs) =
+      IsGridOf w (element_of grid.type) 1 grid.thing × AreCounted procs × IsOwnReference w grid × (is_local (element_of grid.type) ≡ false)
 
   -- all that is left
   abbrev pub WorksFit : ScopeContents → Things → List Work → Type 0
@@ -288,7 +293,7 @@ module _ (p : NumberedProgram) (m : NumberedMethod) where
   MoveFits gives takes s w (Returns None) = Unit {0}
   MoveFits gives takes s w (Returns (Some h)) = IsOf w (result_type m) h
   MoveFits gives takes s w (Meets wait given behind) =
-      ((type : ValueType) × IsAwaited (scope_over p s behind) wait.wanted wait.receiver type × DepositFits w type given × IsOfRound (λ u. gives ≡ Some u) wait.kind type × WantsOf wait.kind wait.wanted
+      ((type : ValueType) × IsAwaited (scope_over p s behind) wait.wanted wait.receiver type × DepositFits w type given × IsOfRound (λ u. gives ≡ Some u) wait.kind type × WantsOf wait.kind wait.wanted type
       × TakesOf (taken_behind wait.kind type) behind) × WorksFit s w behind
   MoveFits gives takes s w (Deletes at region) = IsPlaced w region
   MoveFits gives takes s w move = Unit {0}

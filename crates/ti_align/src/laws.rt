@@ -15,16 +15,19 @@ ghost use Rattle.ti_lang.specs.Meaning.Answers.{HasForm};
 ghost use Rattle.ti_lang.specs.Meaning.Asking.{Wanted};
 ghost use Rattle.ti_lang.specs.Meaning.Processes.{Process, Frame, Work};
 ghost use Rattle.ti_lang.specs.Meaning.Performing.{performed};
-ghost use Rattle.ti_lang.specs.Meaning.Histories.{History};
+ghost use Rattle.ti_lang.specs.Meaning.Histories.{History, history_of};
 ghost use Rattle.ti_lang.specs.Meaning.HeapAnswers.{IsAnswered};
 ghost use Rattle.ti_align.specs.Alignment.{ArrivalsAgree, NoneAfterEnd, OfEveryRun, IsAligned};
 ghost use Rattle.ti_align.specs.Stopping.{NoneImpossible, RoundsBalance, RegionsMade};
+ghost use Rattle.ti_align.specs.Owners.{OwnersKept};
 ghost use Rattle.ti_align.specs.Things.{Things, IsOf, NamesNothing};
 ghost use Rattle.ti_align.specs.Sound.{IsThere, Sound};
 ghost use Rattle.ti_align.specs.Fitting.{EnvFits, FieldsFit, IsWritten};
 ghost use Rattle.ti_align.specs.Work.{VariablesFit, scope_over, MethodsFit, ThisFits, HasNumber, given_type, taken_type, WorksFit, MoveFits};
 ghost use Rattle.ti_align.specs.Typed.{RunTyped};
 ghost use Rattle.ti_align.specs.Formed.{ActionsFormed};
+ghost use Rattle.ti_align.specs.Dangling.{NothingDangles};
+ghost use Rattle.ti_align.specs.Counted.{CellsCounted};
 ghost use Rattle.ti_align.specs.Heap.{Elements, things_of, FieldsStorable, HeapFits, KeepsTypes};
 
 use crate::reading::literals_fit;
@@ -73,6 +76,11 @@ pub fn fields_fit(c: &Checked)
     ensures { FieldsFit (program_of c.now.program.parts) }
 {}
 
+/// The fields of a checked program have types that a field may have.
+pub fn fields_storable(c: &Checked)
+    ensures { FieldsStorable (program_of c.now.program.parts) }
+{}
+
 /// In every run of a checked program a process has left each round that it reached, but for the round
 /// that it leaves next.
 pub fn rounds_balance(c: &Checked)
@@ -90,10 +98,36 @@ pub fn run_typed(c: &Checked)
     literals_fit(c.program());
 }
 
+/// In every run of a checked program what a reference of local type names, if it names something, lies
+/// in the memory of its own process: a local variable names a thing of the process whose variable it is,
+/// a field or an element of local type one in the memory in which the field or the element lies, and an
+/// action through a local reference uses a thing of the process that acts.
+pub fn owners_kept(c: &Checked)
+    ensures { OfEveryRun OwnersKept (program_of c.now.program.parts) }
+{
+    literals_fit(c.program());
+}
+
 /// In every run of a checked program the values, points and domains that a process hands in with the
 /// action that it has next are in their one form.
 pub fn actions_formed(c: &Checked)
     ensures { OfEveryRun ActionsFormed (program_of c.now.program.parts) }
+{
+    literals_fit(c.program());
+}
+
+/// In every run of a checked program whatever a process has next neither uses nor hands on a thing in a
+/// region that is gone; and 0, which is no region, is never gone.
+pub fn nothing_dangles(c: &Checked)
+    ensures { OfEveryRun NothingDangles (program_of c.now.program.parts) }
+{
+    literals_fit(c.program());
+}
+
+/// In every run of a checked program all cells are counted among those of the run: each that was
+/// written, each field that holds something, and each that a grid has for a point of its domain.
+pub fn cells_are_counted(c: &Checked)
+    ensures { OfEveryRun (λ s es. CellsCounted s.program (history_of es)) (program_of c.now.program.parts) }
 {
     literals_fit(c.program());
 }
@@ -116,13 +150,13 @@ pub fn expressions_fit()
 /// fields and elements is of their types, and its answer fits.
 pub fn heap_fits()
     ensures { (p : NumberedProgram) (elements : Elements) (h : History) (i : ℕ) (a : Action) (wanted : Wanted) → FieldsStorable p → IsAnswered p h → HeapFits p elements h
-        → IsThere p (things_of elements h) a wanted → KeepsTypes p elements h i a wanted }
+        → IsThere p (things_of i elements h) a wanted → KeepsTypes p elements h i a wanted }
 {}
 
 /// What is to be done next in a frame that fits the types comes to a move that fits them, whatever
 /// fitting answers it gets: variables keep to their types, and so do parameters, results and deposits.
 pub fn work_fits()
-    ensures { (p : Process) (f : Frame) (left : List Work) (w : Things) (x : Work) → HasNumber p → VariablesFit w f.variables → ThisFits w f.method f.this → FieldsFit p.setting.program
+    ensures { (p : Process) (f : Frame) (left : List Work) (w : Things) (x : Work) → w.owner ≡ p.number → HasNumber p → VariablesFit w f.variables → ThisFits w f.method f.this → FieldsFit p.setting.program
         → FieldsStorable p.setting.program → MethodsFit p.setting.program p.setting.program.methods → WorksFit p.setting.program f.method (method_scope f.method) w (x ∷ left)
         → Sound p.setting.program (λ u move. MoveFits p.setting.program f.method (given_type p.setting.program (scope_over p.setting.program (method_scope f.method) left) x) (taken_type x) (scope_over p.setting.program (method_scope f.method) left) u move) w (performed (env_of p f left) x) }
 {}

@@ -2,11 +2,15 @@
 #![tactic(auto)]
 
 mod laws;
+mod names;
 mod reading;
+mod slices;
 
 pub use laws::{
-    actions_formed, aligned, arrivals_agree, expressions_fit, fields_fit, heap_fits,
-    none_after_end, none_impossible, regions_made, rounds_balance, run_typed, values_have_forms,
-    work_fits,
+    actions_formed, aligned, arrivals_agree, cells_are_counted, expressions_fit, fields_fit,
+    fields_storable, heap_fits, none_after_end, none_impossible, nothing_dangles, owners_kept,
+    regions_made, rounds_balance, run_typed, values_have_forms, work_fits,
 };
+pub use names::{departures_fit, names_fit};
 pub use reading::literals_fit;
+pub use slices::{SliceStep, one_slice_answer, slice_tells};

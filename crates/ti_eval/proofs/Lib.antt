@@ -4,6 +4,7 @@ pub mod FieldLaws
 pub mod LiteralLaws
 pub mod MemberLaws
 pub mod Nexts
+pub mod Operands
 pub mod Points
 pub mod Sizes
 pub mod Slots

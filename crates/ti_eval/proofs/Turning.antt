@@ -2,12 +2,15 @@
 use Rattle.std.proofs.Common.{◌≡◌, ◌∙◌, ap, refl, sym, ℕ, zero, suc, ◌-◌, ◌==◌, ◌<◌, ◌≤◌, eq-eqb, true, List, [], ◌∷◌, ◌++◌, take, reverse, length, map, drop, get_or, arith}
 use Rattle.std.proofs.Math.Seq.{take-suc}
 use Rattle.std.proofs.lemmas.List.{reverse-append, length-reverse, length-take-le}
+use Rattle.std.specs.declared.alloc.Global.{Global}
+use Rattle.std.specs.declared.boxed.Box.{Box}
 use Rattle.ti_lang.specs.Program.Statements.{NumberedStm, NumberedStms}
 use Rattle.ti_lang.specs.Program.Statements as s
 use Rattle.ti_base.specs.declared.value.Value.TheVariants.{Pt}
-use Rattle.ti_lang.specs.Meaning.Held.{Held, Plain, nothing, point_of}
+use Rattle.ti_lang.specs.Meaning.Held.{Held, Plain, nothing}
 use Rattle.ti_lang.specs.Meaning.Processes.{Work, Do, End}
 use Rattle.ti_lang.specs.Meaning.Turns.{Turn, turns_at, point_at}
+use Rattle.ti_eval.specs.declared.frame.Spot.{Spot}
 use Rattle.ti_eval.specs.declared.frame.Todo.{Todo}
 use Rattle.ti_eval.specs.declared.frame.Todo.TheVariants as todo
 use Rattle.ti_eval.specs.declared.frame.Level.{Level}
@@ -16,7 +19,7 @@ use Rattle.ti_eval.specs.Frames.{Site, work_of, work_of_body, left_of, rest_of, 
 
 -- the turn that is left of a statement, before those around it
 abbrev pub turn_in : Todo → List Turn → List Turn
-turn_in (todo.Turn variable domain point) ts = record { variable = variable; point = point_of point } ∷ ts
+turn_in (todo.Turn variable domain at) ts = record { variable = variable; point = at.point } ∷ ts
 turn_in t ts = ts
 
 abbrev pub turns_left : List Level → Todo → List Turn
@@ -66,8 +69,8 @@ turn_of site x todo.Ending ws = refl
 turn_of site x todo.Before ws = none_at_end x ws
 turn_of site x todo.Behind ws = none_at_end x ws
 turn_of site x (todo.Each variable domain last) ws = refl
-turn_of site x (todo.Turn variable domain point) ws = refl
-turn_of site x (todo.Copying to from domain last) ws = refl
+turn_of site x (todo.Turn variable domain at) ws = refl
+turn_of site x (todo.Copying copy last) ws = refl
 turn_of site x (todo.Taking grid next) ws = refl
 
 turns_of_body : (body : NumberedStms) (t : Todo) → turns_at (work_of_body body t) ≡ []
@@ -78,8 +81,8 @@ turns_of_body body todo.Ending = refl
 turns_of_body body todo.Before = refl
 turns_of_body body todo.Behind = refl
 turns_of_body body (todo.Each variable domain last) = refl
-turns_of_body body (todo.Turn variable domain point) = refl
-turns_of_body body (todo.Copying to from domain last) = refl
+turns_of_body body (todo.Turn variable domain at) = refl
+turns_of_body body (todo.Copying copy last) = refl
 turns_of_body body (todo.Taking grid next) = refl
 
 turns_in_left : (site : Site) (body : NumberedStms) (ls : List Level) (t : Todo) → turns_at (left_of site body ls t) ≡ turns_left ls t
@@ -108,16 +111,16 @@ none_before (x ∷ xs) (suc zero) h = refl
 none_before xs (suc (suc n)) h = absurd (omega arith)
 
 -- the innermost turn of the loop with this variable
-pub turn_found : (site : Site) (body : NumberedStms) (xs : List Level) (n : ℕ) (d : Level) (number variable : ℕ) (domain point : Held) → 1 < n → n ≤ length xs
-    → (get_or xs (n - 1) d).todo ≡ todo.Turn variable domain point → variable ≡ number → point_at number (turns_rest (reverse xs)) ≡ point_at number (turns_rest (reverse (take n xs)))
-    → Plain (Pt (point_of point)) ≡ point_at number (turns_at (rest_of site body (reverse xs)))
-turn_found site body xs n d number variable domain point h k is same so =
+pub turn_found : (site : Site) (body : NumberedStms) (xs : List Level) (n : ℕ) (d : Level) (number variable : ℕ) (domain : Box Held Global) (at : Spot) → 1 < n → n ≤ length xs
+    → (get_or xs (n - 1) d).todo ≡ todo.Turn variable domain at → variable ≡ number → point_at number (turns_rest (reverse xs)) ≡ point_at number (turns_rest (reverse (take n xs)))
+    → Plain (Pt at.point) ≡ point_at number (turns_at (rest_of site body (reverse xs)))
+turn_found site body xs n d number variable domain at h k is same so =
     let m : ℕ = n - 1 in
     let e : n ≡ suc m = omega arith in
     let l : m < length xs = omega arith in
     let p : 0 < m = omega arith in
     let rest : List Turn = turns_rest (reverse (take m xs)) in
-    let t : turns_rest (reverse (take n xs)) ≡ turn_in (todo.Turn variable domain point) rest =
+    let t : turns_rest (reverse (take n xs)) ≡ turn_in (todo.Turn variable domain at) rest =
     ap (λ j. turns_rest (reverse (take j xs))) e ∙ one_turn xs m d l p ∙ ap (λ (u : Todo). turn_in u rest) is in
     let f : (variable == number) ≡ true = eq-eqb variable number same in
     sym (ap (point_at number) (turns_in_rest site body (reverse xs)) ∙ so ∙ ap (point_at number) t ∙ rw f refl)

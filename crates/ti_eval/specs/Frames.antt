@@ -14,7 +14,7 @@ use Rattle.ti_lang.specs.Program.Statements as s
 use Rattle.ti_lang.specs.Program.Classes.{NumberedMethod, NumberedProgram, Void, Words}
 use Rattle.ti_lang.specs.Program.Views.{numbered_method_of, variable_of}
 use Rattle.ti_lang.specs.Typing.TextTypes.{type_in_text}
-use Rattle.ti_lang.specs.Meaning.Held.{Held, points_in, point_of, dim_of}
+use Rattle.ti_lang.specs.Meaning.Held.{Held, points_in, dim_of}
 use Rattle.ti_lang.specs.Meaning.Asking.{Reference}
 use Rattle.ti_lang.specs.Meaning.Copies.{counted}
 use Rattle.ti_lang.specs.Meaning.Processes.{Variable, Loop, While, Foreach, Work, Do, End, Before, Behind, CopyAll, TakeAll}
@@ -140,10 +140,10 @@ work_of site x (todo.From n) = map Do (drop n (list_in x)) ++ End x ∷ []
 work_of site x todo.Ending = End x ∷ []
 work_of site x todo.Before = Before (loop_of x) ∷ end_of_for x
 work_of site x todo.Behind = Behind (loop_of x) ∷ end_of_for x
-work_of site x (todo.Each variable domain last) = Before (foreach_of x variable (points_above domain last)) ∷ []
-work_of site x (todo.Turn variable domain point) = Behind (foreach_of x variable (point_of point ∷ points_above domain (Some (point_of point)))) ∷ []
-work_of site x (todo.Copying to from domain last) =
-    CopyAll (member_place x) (reference site (member_receiver x) to) (first_reference site (member_args x) from) (points_above domain last) ∷ []
+work_of site x (todo.Each variable domain last) = Before (foreach_of x variable (points_above domain.value last)) ∷ []
+work_of site x (todo.Turn variable domain at) = Behind (foreach_of x variable (at.point ∷ points_above domain.value (Some at.point))) ∷ []
+work_of site x (todo.Copying copy last) =
+    CopyAll (member_place x) (reference site (member_receiver x) copy.value.to) (first_reference site (member_args x) copy.value.from) (points_above copy.value.domain last) ∷ []
 work_of site x (todo.Taking grid next) = TakeAll (member_place x) (reference site (member_receiver x) grid) (counted next (site.procs - next)) ∷ []
 
 -- that is left of the body of a method

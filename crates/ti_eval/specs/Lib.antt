@@ -5,3 +5,4 @@ pub mod Forms
 pub mod Frames
 pub mod Operators
 pub mod Places
+pub mod Scalars

@@ -76,14 +76,9 @@ pub fn point_of_turn(levels: &[Level], number: u32) -> Option<Point>
     while n > 1 {
         n -= 1;
         let level = &levels[n];
-        if let Todo::Turn {
-            variable,
-            point,
-            ..
-        } = &level.todo
-        {
+        if let Todo::Turn { variable, at, .. } = &level.todo {
             if *variable == number {
-                return Some(point.point());
+                return Some(at.point);
             }
         }
     }

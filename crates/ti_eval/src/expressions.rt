@@ -19,6 +19,7 @@ ghost use Rattle.ti_lang.specs.Meaning.Evaluation as evaluation;
 ghost use Rattle.ti_eval.specs.Bounds.{bounds_of};
 ghost use Rattle.ti_eval.specs.Comes.{Comes, ComesAs};
 ghost use Rattle.ti_eval.specs.Envs.{env_of};
+ghost use Rattle.ti_eval.specs.Scalars.{held_of_scalar};
 
 use crate::bounds::Bounds;
 use crate::continued::{
@@ -31,10 +32,11 @@ use crate::held::Held;
 use crate::literals::{joined, no_bounds, with_numbers};
 use crate::operators::{operated, settled};
 use crate::parts::fetch_field;
+use crate::scalars::{Scalar, computed};
 use crate::stop::Stop;
 use crate::told::Told;
 use std::alloc::Global;
-use ti_base::{Place, Value};
+use ti_base::{Id, Place, Value};
 use ti_lang::program::{Expr, Range, Variable};
 use ti_lang::tree::BinaryOperator;
 use ti_lang::typing::{BuiltIn, Seen as Kind};
@@ -129,7 +131,7 @@ fn binary<'a>(
     match got {
         Ok((h, answers)) => match settled(op, &h) {
             Some(k) => Ok((k, answers)),
-            None => operated_from(alloc, at, op, &h, evaluate(alloc, env, e, answers)),
+            None => operated_from(alloc, at, op, &h, evaluated(alloc, env, e, answers)),
         },
         Err(stop) => Err(stop),
     }
@@ -284,7 +286,6 @@ pub fn evaluate_ranges<'a>(
 /// the answers are used up, and fails with a fault where the language says so; a call of a declared
 /// method has no value here.
 #[cycle(evaluate)]
-#[tactic(auto, using(crate::proofs::Evaluating::evaluating))]
 pub fn evaluate<'a>(
     alloc: Global,
     env: &Env,
@@ -293,16 +294,33 @@ pub fn evaluate<'a>(
 ) -> Result<(Held, &'a [Told]), Stop>
     ensures { Comes result (evaluation.eval (env_of env.now) (expression_of e.now) answers.now) }
 {
+    match computed(env, e) {
+        Some(x) => made(x, answers),
+        None => evaluated(alloc, env, e, answers),
+    }
+}
+
+// The same, of an expression of any form.
+#[cycle(evaluate)]
+#[tactic(auto, using(crate::proofs::Evaluating::evaluating))]
+fn evaluated<'a>(
+    alloc: Global,
+    env: &Env,
+    e: &Expr,
+    answers: &'a [Told],
+) -> Result<(Held, &'a [Told]), Stop>
+    ensures { Comes result (evaluation.eval (env_of env.now) (expression_of e.now) answers.now) }
+{
     match e {
-        Expr::Int(_, n) => Ok((Held::plain(Value::Int(*n)), answers)),
-        Expr::Long(_, n) => Ok((Held::plain(Value::Long(*n)), answers)),
-        Expr::Truth(_, b) => Ok((Held::truth(*b), answers)),
-        Expr::Null(_) => Ok((Held::plain(Value::Obj(None)), answers)),
-        Expr::This(_) => Ok((Held::plain(Value::Obj(env.this)), answers)),
+        Expr::Int(_, n) => made(Scalar::Int(*n), answers),
+        Expr::Long(_, n) => made(Scalar::Long(*n), answers),
+        Expr::Truth(_, b) => made(Scalar::Truth(*b), answers),
+        Expr::Null(_) => object(None, answers),
+        Expr::This(_) => object(env.this, answers),
         Expr::Variable(_, v) => held_by(alloc, env, v, answers),
         Expr::OwnField(place, field) => own_field(env, *place, *field, answers),
-        Expr::ThisProc(_) => Ok((this_proc(env), answers)),
-        Expr::NumProcs(_) => Ok((num_procs(env), answers)),
+        Expr::ThisProc(_) => made(this_proc(env), answers),
+        Expr::NumProcs(_) => made(num_procs(env), answers),
         Expr::Point(_, parts) => point_from(evaluate_numbers(alloc, env, parts, answers)),
         Expr::Rect(place, ranges) => {
             rect_from(*place, evaluate_ranges(alloc, env, ranges, answers))
@@ -311,19 +329,19 @@ pub fn evaluate<'a>(
             place: _,
             operator,
             operand,
-        } => alone_from(*operator, evaluate(alloc, env, operand, answers)),
+        } => alone_from(*operator, evaluated(alloc, env, operand, answers)),
         Expr::Binary {
             place,
             operator,
             left,
             right,
         } => {
-            let got = evaluate(alloc, env, left, answers);
+            let got = evaluated(alloc, env, left, answers);
             binary(alloc, env, *place, *operator, got, right)
         }
         Expr::Cast { place, to, operand } => {
             let number = env.team.number;
-            let got = evaluate(alloc, env, operand, answers);
+            let got = evaluated(alloc, env, operand, answers);
             cast_from(alloc, number, *place, &to.ty, got)
         }
         Expr::Select {
@@ -335,7 +353,7 @@ pub fn evaluate<'a>(
             *place,
             receiver,
             *name,
-            evaluate(alloc, env, receiver, answers),
+            evaluated(alloc, env, receiver, answers),
         ),
         Expr::Member {
             place,
@@ -344,7 +362,7 @@ pub fn evaluate<'a>(
             args,
         } => {
             let called = called_member(env, receiver, *name);
-            let got = evaluate(alloc, env, receiver, answers);
+            let got = evaluated(alloc, env, receiver, answers);
             with_arguments(alloc, env, *place, called, got, args)
         }
         Expr::Index {
@@ -353,26 +371,40 @@ pub fn evaluate<'a>(
             indices,
         } => {
             let is_point = is_point(env, receiver);
-            let got = evaluate(alloc, env, receiver, answers);
+            let got = evaluated(alloc, env, receiver, answers);
             with_indices(alloc, env, *place, is_point, got, indices)
         }
-        Expr::Call { .. } => Ok((Held::truth(false), answers)),
-        Expr::OwnCall { .. } => Ok((Held::truth(false), answers)),
+        Expr::Call { .. } => made(Scalar::Truth(false), answers),
+        Expr::OwnCall { .. } => made(Scalar::Truth(false), answers),
     }
 }
 
 // The number of the process.
-fn this_proc(env: &Env) -> Held
-    ensures { result ≡ Plain (Int (pos env.now.team.number)) }
+fn this_proc(env: &Env) -> Scalar
+    ensures { held_of_scalar result ≡ Plain (Int (pos env.now.team.number)) }
 {
     let team = env.team;
-    Held::plain(Value::Int(team.number as i32))
+    Scalar::Int(team.number as i32)
 }
 
 // How many processes there are.
-fn num_procs(env: &Env) -> Held
-    ensures { result ≡ Plain (Int (pos env.now.team.procs)) }
+fn num_procs(env: &Env) -> Scalar
+    ensures { held_of_scalar result ≡ Plain (Int (pos env.now.team.procs)) }
 {
     let team = env.team;
-    Held::plain(Value::Int(team.procs as i32))
+    Scalar::Int(team.procs as i32)
+}
+
+// A number or a boolean.
+fn made<'a>(x: Scalar, answers: &'a [Told]) -> Result<(Held, &'a [Told]), Stop>
+    ensures { Comes result (gives (held_of_scalar x) answers.now) }
+{
+    Ok((x.held(), answers))
+}
+
+// An object, or none.
+fn object<'a>(id: Option<Id>, answers: &'a [Told]) -> Result<(Held, &'a [Told]), Stop>
+    ensures { Comes result (gives (Plain (Obj id)) answers.now) }
+{
+    Ok((Held::plain(Value::Obj(id)), answers))
 }

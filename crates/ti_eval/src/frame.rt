@@ -1,5 +1,7 @@
 // Where a call stands in its method.
 
+ghost use Rattle.ti_base.specs.Points.{IsPoint};
+
 use crate::held::Held;
 use ti_base::{Id, Point};
 use ti_lang::program::Variable;
@@ -9,6 +11,21 @@ use ti_lang::program::Variable;
 pub struct Slot {
     pub variable: Variable,
     pub held: Held,
+}
+
+/// A point in its one form.
+#[derive(Clone, Copy)]
+pub struct Spot {
+    pub point: Point,
+    pub ghost formed: { IsPoint point },
+}
+
+/// A copy of one grid into another at the points of a domain.
+#[derive(Drop)]
+pub struct Copy {
+    pub to: Id,
+    pub from: Id,
+    pub domain: Held,
 }
 
 /// What is left to do of a statement.
@@ -29,20 +46,18 @@ pub enum Todo {
     /// The next turn of a `foreach`, with its variable and its domain: it is at the first point above the last one.
     Each {
         variable: u32,
-        domain: Held,
+        domain: Box<Held>,
         last: Option<Point>,
     },
     /// The end of a turn of a `foreach` at a point.
     Turn {
         variable: u32,
-        domain: Held,
-        point: Held,
+        domain: Box<Held>,
+        at: Spot,
     },
-    /// A copy of one grid into another at the points of a domain above the last one.
+    /// A copy at the points above the last one.
     Copying {
-        to: Id,
-        from: Id,
-        domain: Held,
+        copy: Box<Copy>,
         last: Option<Point>,
     },
     /// The values of an exchange, from that of a process on, go into the grid.

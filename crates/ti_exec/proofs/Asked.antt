@@ -1,11 +1,12 @@
 -- Actions that are asked for.
-use Rattle.std.proofs.Common.{◌≡◌, ◌∙◌, ap, sym, refl, subst, ◌<◌, ◌≤◌, ℕ, List, [], Option, None, Some}
+use Rattle.std.proofs.Common.{◌≡◌, ◌∙◌, ap, sym, refl, subst, ◌<◌, ◌≤◌, List, [], Option, None, Some}
 use Rattle.std.proofs.lemmas.Bool.{lt-ltb, le-ltb}
+use Rattle.std.specs.declared.alloc.Global.{Global}
+use Rattle.std.specs.declared.boxed.Box.{Box}
 use Rattle.ti_base.specs.declared.place.Place.{Place}
 use Rattle.ti_base.specs.declared.action.Action.{Action}
 use Rattle.ti_base.specs.declared.fault.FaultKind.TheVariants.{Fuel}
 use Rattle.ti_base.specs.declared.entry.Answer.{Answer}
-use Rattle.ti_base.specs.declared.entry.Next.TheVariants as next
 use Rattle.ti_lang.specs.Program.Classes.{NumberedProgram}
 use Rattle.ti_lang.specs.Meaning.Asking.{Request, ToBeDone, Got, Gives, Asks, Fails, told as value_told}
 use Rattle.ti_lang.specs.Meaning.Moves.{Move}
@@ -16,19 +17,19 @@ use Rattle.ti_eval.specs.Comes.{asked_in}
 use Rattle.ti_moves.specs.declared.moves.Meeting.{Meeting}
 use Rattle.ti_moves.specs.Moves.{wait_of, expected}
 use Rattle.ti_moves.specs.Receiving.{receiver_of}
+use Rattle.ti_exec.specs.declared.process.Asking.{Asking}
 use Rattle.ti_exec.specs.declared.process.Mode.{Mode}
 use Rattle.ti_exec.specs.declared.process.Mode.TheVariants as mode
 use Rattle.ti_exec.specs.declared.process.Walker.{Walker}
-use Rattle.ti_exec.specs.declared.process.Pending.{Pending}
 use Rattle.ti_exec.specs.declared.process.Pending.TheVariants as pend
 use Rattle.ti_exec.specs.declared.process.Turn.{Turn}
 use Rattle.ti_exec.specs.declared.process.Turn.TheVariants as turn
 use Rattle.ti_exec.specs.States.{IsStep, process_of, going_on, frames_in, wait_in, mode_behind, env_in, here, told}
 
 -- the process stands at the action where a tick is left
-pub asks_there : (c : NumberedProgram) (w : Walker) (q : Request) (go : Answer → Process) (at : Place) (a : Action) (pending : Pending) → w.spent < w.fuel
-    → q.place ≡ at → q.action ≡ a → ((r : Answer) → spends (go r) ≡ told c w pending r) → IsStep c (process_of c w) (asks (process_of c w) q go) (turn.Asks at a pending) w
-asks_there c w q go at a pending h p e g =
+pub asks_there : (c : NumberedProgram) (w : Walker) (q : Request) (go : Answer → Process) (b : Box Asking Global) → w.spent < w.fuel
+    → q.place ≡ b.value.place → q.action ≡ b.value.action → ((r : Answer) → spends (go r) ≡ told c w b.value.pending r) → IsStep c (process_of c w) (asks (process_of c w) q go) (turn.Asks b) w
+asks_there c w q go b h p e g =
     (refl, record { request = q; go = λ r. spends (go r); is = rw (lt-ltb w.spent w.fuel h) refl; shows = rw (lt-ltb w.spent w.fuel h, p, e) refl; goes = g })
 
 -- and fails where none is

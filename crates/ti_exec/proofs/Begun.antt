@@ -1,10 +1,11 @@
 -- The steps at what is left of a statement.
 use Rattle.std.proofs.Common.{◌≡◌, ◌∙◌, ap, sym, refl, subst, ℕ, suc, ◌+◌, ◌-◌, ◌<◌, ◌≤◌, Bool, true, false, cond, List, [], ◌∷◌, ◌++◌, map, length, reverse, Option, Some, arith, drop_of_length-le}
 use Rattle.std.proofs.lemmas.Bool.{lt-ltb, le-ltb}
+use Rattle.std.specs.declared.alloc.Global.{Global}
+use Rattle.std.specs.declared.boxed.Box.{Box}
 use Rattle.ti_base.specs.declared.place.Place.{Place}
 use Rattle.ti_base.specs.declared.point.Point.{Point}
 use Rattle.ti_base.specs.declared.value.Id.{Id}
-use Rattle.ti_base.specs.declared.value.Value.TheVariants.{Pt}
 use Rattle.ti_base.specs.declared.fault.FaultKind.TheVariants.{Fuel}
 use Rattle.ti_base.specs.declared.entry.Answer.{Answer}
 use Rattle.ti_lang.specs.Program.Classes.{NumberedProgram}
@@ -13,7 +14,7 @@ use Rattle.ti_lang.specs.Program.Expressions as e
 use Rattle.ti_lang.specs.Program.Expressions.{NumberedExps}
 use Rattle.ti_lang.specs.Program.Statements.{NumberedStm}
 use Rattle.ti_lang.specs.Program.Statements as s
-use Rattle.ti_lang.specs.Meaning.Held.{Held, Plain, point_of, truth_of}
+use Rattle.ti_lang.specs.Meaning.Held.{Held, truth_of}
 use Rattle.ti_lang.specs.Meaning.Asking.{Got, Gives, Asks, Fails, followed, gives, Reference}
 use Rattle.ti_lang.specs.Meaning.Copies.{counted, copied, taken}
 use Rattle.ti_lang.specs.Meaning.Moves.{Move, Goes}
@@ -23,6 +24,8 @@ use Rattle.ti_lang.specs.Meaning.Scoping.{Env, env_of, without}
 use Rattle.ti_lang.specs.Meaning.Statements.{maybe_do}
 use Rattle.ti_lang.specs.Meaning.Steps.{Step, To, Faults, step, works, moves, valued, ticks, spends}
 use Rattle.ti_eval.specs.declared.stop.Stop.{Stop}
+use Rattle.ti_eval.specs.declared.frame.Copy.{Copy}
+use Rattle.ti_eval.specs.declared.frame.Spot.{Spot}
 use Rattle.ti_eval.specs.declared.frame.Todo.{Todo}
 use Rattle.ti_eval.specs.declared.frame.Todo.TheVariants as todo
 use Rattle.ti_eval.specs.declared.frame.Part.TheVariants as part
@@ -179,36 +182,36 @@ turns_again c w x b h i t u =
 
 -- ---- `foreach`
 
-pub each_done : (c : NumberedProgram) (w : Walker) (v : ℕ) (d : Held) (last : Option Point) → 0 < length w.top.levels.items → points_above d last ≡ []
+pub each_done : (c : NumberedProgram) (w : Walker) (v : ℕ) (d : Box Held Global) (last : Option Point) → 0 < length w.top.levels.items → points_above d.value last ≡ []
     → step (walking c w (todo.Each v d last)) ≡ To (done_with c w (vars w) (rest c w.team.procs w.top))
 each_done c w v d last h e = step_there c w (todo.Each v d last) _ h (ap (λ ps. Before (foreach_of (here c w.top) v ps) ∷ []) e)
 
-each_there : (c : NumberedProgram) (w : Walker) (v : ℕ) (d : Held) (last : Option Point) (p : Point) (ps : List Point) → 0 < length w.top.levels.items → points_above d last ≡ p ∷ ps
+each_there : (c : NumberedProgram) (w : Walker) (v : ℕ) (d : Box Held Global) (last : Option Point) (p : Point) (ps : List Point) → 0 < length w.top.levels.items → points_above d.value last ≡ p ∷ ps
     → step (walking c w (todo.Each v d last))
     ≡ ticks (walking c w (todo.Each v d last)) (place_of (here c w.top))
     (To (spends (done_with c w (vars w) (Do (part_of (here c w.top) part.Body) ∷ Behind (foreach_of (here c w.top) v (p ∷ ps)) ∷ rest c w.team.procs w.top))))
 each_there c w v d last p ps h e = step_there c w (todo.Each v d last) _ h (ap (λ qs. Before (foreach_of (here c w.top) v qs) ∷ []) e)
 
-pub each_fails : (c : NumberedProgram) (w : Walker) (v : ℕ) (d : Held) (last : Option Point) (p : Point) (ps : List Point) (x : NumberedStm) (at : Place) → 0 < length w.top.levels.items → points_above d last ≡ p ∷ ps
+pub each_fails : (c : NumberedProgram) (w : Walker) (v : ℕ) (d : Box Held Global) (last : Option Point) (p : Point) (ps : List Point) (x : NumberedStm) (at : Place) → 0 < length w.top.levels.items → points_above d.value last ≡ p ∷ ps
     → w.fuel ≤ w.spent → x ≡ here c w.top → at ≡ place_of x → step (walking c w (todo.Each v d last)) ≡ Faults Fuel at
 each_fails c w v d last p ps x at h e f i a =
     each_there c w v d last p ps h e ∙ unticked (walking c w (todo.Each v d last)) (place_of (here c w.top)) _ f ∙ ap (Faults Fuel) (sym (a ∙ ap place_of i))
 
-pub each_turns : (c : NumberedProgram) (w new : Walker) (v : ℕ) (d point : Held) (last : Option Point) (p : Point) → 0 < length w.top.levels.items → points_above d last ≡ p ∷ points_above d (Some p)
-    → w.spent < w.fuel → point ≡ Plain (Pt p)
-    → process_of c new ≡ done_with c (record w { spent = w.spent + 1 }) (vars w) (Do (part_of (here c w.top) part.Body) ∷ left_in c w.team.procs w.top (todo.Turn v d point))
+pub each_turns : (c : NumberedProgram) (w new : Walker) (v : ℕ) (d : Box Held Global) (at : Spot) (last : Option Point) (p : Point) → 0 < length w.top.levels.items → points_above d.value last ≡ p ∷ points_above d.value (Some p)
+    → w.spent < w.fuel → at.point ≡ p
+    → process_of c new ≡ done_with c (record w { spent = w.spent + 1 }) (vars w) (Do (part_of (here c w.top) part.Body) ∷ left_in c w.team.procs w.top (todo.Turn v d at))
     → IsTurnAt c w (todo.Each v d last) turn.Went new
-each_turns c w new v d point last p h e f i n =
-    let l : left_in c w.team.procs w.top (todo.Turn v d point) ≡ Behind (foreach_of (here c w.top) v (p ∷ points_above d (Some p))) ∷ rest c w.team.procs w.top =
-    ap (λ q. left_in c w.team.procs w.top (todo.Turn v d q)) i ∙ left_here c w (todo.Turn v d (Plain (Pt p))) h in
+each_turns c w new v d at last p h e f i n =
+    let l : left_in c w.team.procs w.top (todo.Turn v d at) ≡ Behind (foreach_of (here c w.top) v (p ∷ points_above d.value (Some p))) ∷ rest c w.team.procs w.top =
+    left_here c w (todo.Turn v d at) h ∙ ap (λ q. Behind (foreach_of (here c w.top) v (q ∷ points_above d.value (Some q))) ∷ rest c w.team.procs w.top) i in
     each_there c w v d last p _ h e
     ∙ ticked (walking c w (todo.Each v d last)) (place_of (here c w.top)) _ f
     ∙ ap To (sym (n ∙ ap (λ us. done_with c (record w { spent = w.spent + 1 }) (vars w) (Do (part_of (here c w.top) part.Body) ∷ us)) l))
 
-pub turn_done : (c : NumberedProgram) (w : Walker) (v : ℕ) (d point : Held) → 0 < length w.top.levels.items
-    → step (walking c w (todo.Turn v d point)) ≡ To (done_with c w (vars w) (left_in c w.team.procs w.top (todo.Each v d (Some (point_of point)))))
-turn_done c w v d point h =
-    step_there c w (todo.Turn v d point) _ h refl ∙ ap (λ us. To (done_with c w (vars w) us)) (sym (left_here c w (todo.Each v d (Some (point_of point))) h))
+pub turn_done : (c : NumberedProgram) (w : Walker) (v : ℕ) (d : Box Held Global) (at : Spot) → 0 < length w.top.levels.items
+    → step (walking c w (todo.Turn v d at)) ≡ To (done_with c w (vars w) (left_in c w.team.procs w.top (todo.Each v d (Some (at.point)))))
+turn_done c w v d at h =
+    step_there c w (todo.Turn v d at) _ h refl ∙ ap (λ us. To (done_with c w (vars w) us)) (sym (left_here c w (todo.Each v d (Some (at.point))) h))
 
 -- ---- copies and exchanges
 
@@ -223,52 +226,52 @@ to_of c w id = record { thing = id; type = (reference (site_of c w.team.procs w.
 abbrev pub from_of : NumberedProgram → Walker → Id → Reference
 from_of c w id = record { thing = id; type = (first_reference (site_of c w.team.procs w.top) (member_args (here c w.top)) id).type }
 
-pub copy_done : (c : NumberedProgram) (w : Walker) (to from : Id) (d : Held) (last : Option Point) → 0 < length w.top.levels.items → points_above d last ≡ []
-    → step (walking c w (todo.Copying to from d last)) ≡ To (done_with c w (vars w) (rest c w.team.procs w.top))
-copy_done c w to from d last h e =
-    step_there c w (todo.Copying to from d last) _ h (ap (λ ps. CopyAll (member_place (here c w.top)) (to_of c w to) (first_reference (site_of c w.team.procs w.top) (member_args (here c w.top)) from) ps ∷ []) e)
+pub copy_done : (c : NumberedProgram) (w : Walker) (d : Box Copy Global) (last : Option Point) → 0 < length w.top.levels.items → points_above d.value.domain last ≡ []
+    → step (walking c w (todo.Copying d last)) ≡ To (done_with c w (vars w) (rest c w.team.procs w.top))
+copy_done c w d last h e =
+    step_there c w (todo.Copying d last) _ h (ap (λ ps. CopyAll (member_place (here c w.top)) (to_of c w d.value.to) (first_reference (site_of c w.team.procs w.top) (member_args (here c w.top)) d.value.from) ps ∷ []) e)
 
-pub copy_there : (c : NumberedProgram) (w : Walker) (to from : Id) (d : Held) (last : Option Point) (p : Point) (ps : List Point) → 0 < length w.top.levels.items → points_above d last ≡ p ∷ ps
-    → step (walking c w (todo.Copying to from d last))
-    ≡ valued (walking c w (todo.Copying to from d last)) (copied (env_in c w) (member_place (here c w.top)) (to_of c w to) (from_of c w from) (p ∷ ps) w.answers.items)
-    (moves (walking c w (todo.Copying to from d last)) (top_of c w (left_in c w.team.procs w.top (todo.Copying to from d last))) (below_of c w) (rest c w.team.procs w.top))
-copy_there c w to from d last p ps h e =
-    step_there c w (todo.Copying to from d last) _ h
-    (ap (λ r. CopyAll (member_place (here c w.top)) (to_of c w to) r (points_above d last) ∷ []) (first_thing (site_of c w.team.procs w.top) (member_args (here c w.top)) from)
-    ∙ ap (λ qs. CopyAll (member_place (here c w.top)) (to_of c w to) (from_of c w from) qs ∷ []) e)
+pub copy_there : (c : NumberedProgram) (w : Walker) (d : Box Copy Global) (last : Option Point) (p : Point) (ps : List Point) → 0 < length w.top.levels.items → points_above d.value.domain last ≡ p ∷ ps
+    → step (walking c w (todo.Copying d last))
+    ≡ valued (walking c w (todo.Copying d last)) (copied (env_in c w) (member_place (here c w.top)) (to_of c w d.value.to) (from_of c w d.value.from) (p ∷ ps) w.answers.items)
+    (moves (walking c w (todo.Copying d last)) (top_of c w (left_in c w.team.procs w.top (todo.Copying d last))) (below_of c w) (rest c w.team.procs w.top))
+copy_there c w d last p ps h e =
+    step_there c w (todo.Copying d last) _ h
+    (ap (λ r. CopyAll (member_place (here c w.top)) (to_of c w d.value.to) r (points_above d.value.domain last) ∷ []) (first_thing (site_of c w.team.procs w.top) (member_args (here c w.top)) d.value.from)
+    ∙ ap (λ qs. CopyAll (member_place (here c w.top)) (to_of c w d.value.to) (from_of c w d.value.from) qs ∷ []) e)
 
-pub copy_left : (c : NumberedProgram) (w : Walker) (to from : Id) (d : Held) (last : Option Point) → 0 < length w.top.levels.items
-    → left_in c w.team.procs w.top (todo.Copying to from d last) ≡ CopyAll (member_place (here c w.top)) (to_of c w to) (from_of c w from) (points_above d last) ∷ rest c w.team.procs w.top
-copy_left c w to from d last h =
-    left_here c w (todo.Copying to from d last) h
-    ∙ ap (λ r. CopyAll (member_place (here c w.top)) (to_of c w to) r (points_above d last) ∷ rest c w.team.procs w.top) (first_thing (site_of c w.team.procs w.top) (member_args (here c w.top)) from)
+pub copy_left : (c : NumberedProgram) (w : Walker) (d : Box Copy Global) (last : Option Point) → 0 < length w.top.levels.items
+    → left_in c w.team.procs w.top (todo.Copying d last) ≡ CopyAll (member_place (here c w.top)) (to_of c w d.value.to) (from_of c w d.value.from) (points_above d.value.domain last) ∷ rest c w.team.procs w.top
+copy_left c w d last h =
+    left_here c w (todo.Copying d last) h
+    ∙ ap (λ r. CopyAll (member_place (here c w.top)) (to_of c w d.value.to) r (points_above d.value.domain last) ∷ rest c w.team.procs w.top) (first_thing (site_of c w.team.procs w.top) (member_args (here c w.top)) d.value.from)
 
-pub copy_went : (c : NumberedProgram) (w new : Walker) (to from : Id) (d : Held) (last : Option Point) (p : Point) (x : NumberedStm) (at : Place) (ts more : List Answer) → 0 < length w.top.levels.items
-    → points_above d last ≡ p ∷ points_above d (Some p) → x ≡ here c w.top → at ≡ member_place x → ts ≡ w.answers.items
-    → ((env : Env) (t u : ValueType) (ps : List Point) → copied env at (record { thing = to; type = t }) (record { thing = from; type = u }) (p ∷ ps) ts ≡ Gives (Goes env.variables (CopyAll at (record { thing = to; type = t }) (record { thing = from; type = u }) ps ∷ [])) more)
-    → process_of c new ≡ done_with c w (vars w) (left_in c w.team.procs w.top (todo.Copying to from d (Some p))) → IsTurnAt c w (todo.Copying to from d last) turn.Went new
-copy_went c w new to from d last p x at ts more h e i a b k n =
+pub copy_went : (c : NumberedProgram) (w new : Walker) (d : Box Copy Global) (last : Option Point) (p : Point) (x : NumberedStm) (at : Place) (ts more : List Answer) → 0 < length w.top.levels.items
+    → points_above d.value.domain last ≡ p ∷ points_above d.value.domain (Some p) → x ≡ here c w.top → at ≡ member_place x → ts ≡ w.answers.items
+    → ((env : Env) (t u : ValueType) (ps : List Point) → copied env at (record { thing = d.value.to; type = t }) (record { thing = d.value.from; type = u }) (p ∷ ps) ts ≡ Gives (Goes env.variables (CopyAll at (record { thing = d.value.to; type = t }) (record { thing = d.value.from; type = u }) ps ∷ [])) more)
+    → process_of c new ≡ done_with c w (vars w) (left_in c w.team.procs w.top (todo.Copying d (Some p))) → IsTurnAt c w (todo.Copying d last) turn.Went new
+copy_went c w new d last p x at ts more h e i a b k n =
     let env : Env = env_in c w in
-    let qs : List Point = points_above d (Some p) in
-    let g : copied env (member_place (here c w.top)) (to_of c w to) (from_of c w from) (p ∷ qs) w.answers.items ≡ Gives (Goes env.variables (CopyAll (member_place (here c w.top)) (to_of c w to) (from_of c w from) qs ∷ [])) more =
-    subst (λ (z : Place). copied env z (to_of c w to) (from_of c w from) (p ∷ qs) w.answers.items ≡ Gives (Goes env.variables (CopyAll z (to_of c w to) (from_of c w from) qs ∷ [])) more) (a ∙ ap member_place i)
-    (subst (λ (bs : List Answer). copied env at (to_of c w to) (from_of c w from) (p ∷ qs) bs ≡ Gives (Goes env.variables (CopyAll at (to_of c w to) (from_of c w from) qs ∷ [])) more) b (k env _ _ qs)) in
-    copy_there c w to from d last p qs h e
-    ∙ ap (λ got. valued (walking c w (todo.Copying to from d last)) got (moves (walking c w (todo.Copying to from d last)) (top_of c w (left_in c w.team.procs w.top (todo.Copying to from d last))) (below_of c w) (rest c w.team.procs w.top))) g
-    ∙ ap To (ap (done_with c w (vars w)) (sym (copy_left c w to from d (Some p) h)) ∙ sym n)
+    let qs : List Point = points_above d.value.domain (Some p) in
+    let g : copied env (member_place (here c w.top)) (to_of c w d.value.to) (from_of c w d.value.from) (p ∷ qs) w.answers.items ≡ Gives (Goes env.variables (CopyAll (member_place (here c w.top)) (to_of c w d.value.to) (from_of c w d.value.from) qs ∷ [])) more =
+    subst (λ (z : Place). copied env z (to_of c w d.value.to) (from_of c w d.value.from) (p ∷ qs) w.answers.items ≡ Gives (Goes env.variables (CopyAll z (to_of c w d.value.to) (from_of c w d.value.from) qs ∷ [])) more) (a ∙ ap member_place i)
+    (subst (λ (bs : List Answer). copied env at (to_of c w d.value.to) (from_of c w d.value.from) (p ∷ qs) bs ≡ Gives (Goes env.variables (CopyAll at (to_of c w d.value.to) (from_of c w d.value.from) qs ∷ [])) more) b (k env _ _ qs)) in
+    copy_there c w d last p qs h e
+    ∙ ap (λ got. valued (walking c w (todo.Copying d last)) got (moves (walking c w (todo.Copying d last)) (top_of c w (left_in c w.team.procs w.top (todo.Copying d last))) (below_of c w) (rest c w.team.procs w.top))) g
+    ∙ ap To (ap (done_with c w (vars w)) (sym (copy_left c w d (Some p) h)) ∙ sym n)
 
-pub copy_stops : (c : NumberedProgram) (w new : Walker) (to from : Id) (d : Held) (last : Option Point) (p : Point) (x : NumberedStm) (at : Place) (ts : List Answer) (stop : Stop) (r : Turn) → 0 < length w.top.levels.items
-    → points_above d last ≡ p ∷ points_above d (Some p) → x ≡ here c w.top → at ≡ member_place x → ts ≡ w.answers.items
-    → ((env : Env) (t u : ValueType) (ps : List Point) → Stops stop (copied env at (record { thing = to; type = t }) (record { thing = from; type = u }) (p ∷ ps) ts))
-    → ((got : Got Move) (go : Move → Step) → Stops stop got → IsStep c (walking c w (todo.Copying to from d last)) (valued (walking c w (todo.Copying to from d last)) got go) r new)
-    → IsTurnAt c w (todo.Copying to from d last) r new
-copy_stops c w new to from d last p x at ts stop r h e i a b k g =
+pub copy_stops : (c : NumberedProgram) (w new : Walker) (d : Box Copy Global) (last : Option Point) (p : Point) (x : NumberedStm) (at : Place) (ts : List Answer) (stop : Stop) (r : Turn) → 0 < length w.top.levels.items
+    → points_above d.value.domain last ≡ p ∷ points_above d.value.domain (Some p) → x ≡ here c w.top → at ≡ member_place x → ts ≡ w.answers.items
+    → ((env : Env) (t u : ValueType) (ps : List Point) → Stops stop (copied env at (record { thing = d.value.to; type = t }) (record { thing = d.value.from; type = u }) (p ∷ ps) ts))
+    → ((got : Got Move) (go : Move → Step) → Stops stop got → IsStep c (walking c w (todo.Copying d last)) (valued (walking c w (todo.Copying d last)) got go) r new)
+    → IsTurnAt c w (todo.Copying d last) r new
+copy_stops c w new d last p x at ts stop r h e i a b k g =
     let env : Env = env_in c w in
-    let qs : List Point = points_above d (Some p) in
-    let s : Stops stop (copied env (member_place (here c w.top)) (to_of c w to) (from_of c w from) (p ∷ qs) w.answers.items) =
-    subst (λ (z : Place). Stops stop (copied env z (to_of c w to) (from_of c w from) (p ∷ qs) w.answers.items)) (a ∙ ap member_place i)
-    (subst (λ (bs : List Answer). Stops stop (copied env at (to_of c w to) (from_of c w from) (p ∷ qs) bs)) b (k env _ _ qs)) in
-    step_is c (walking c w (todo.Copying to from d last)) _ _ r new (copy_there c w to from d last p qs h e) (g _ _ s)
+    let qs : List Point = points_above d.value.domain (Some p) in
+    let s : Stops stop (copied env (member_place (here c w.top)) (to_of c w d.value.to) (from_of c w d.value.from) (p ∷ qs) w.answers.items) =
+    subst (λ (z : Place). Stops stop (copied env z (to_of c w d.value.to) (from_of c w d.value.from) (p ∷ qs) w.answers.items)) (a ∙ ap member_place i)
+    (subst (λ (bs : List Answer). Stops stop (copied env at (to_of c w d.value.to) (from_of c w d.value.from) (p ∷ qs) bs)) b (k env _ _ qs)) in
+    step_is c (walking c w (todo.Copying d last)) _ _ r new (copy_there c w d last p qs h e) (g _ _ s)
 
 counted_by : (i n m : ℕ) → n ≡ suc m → counted i n ≡ i ∷ counted (i + 1) m
 counted_by i n m e = ap (counted i) e

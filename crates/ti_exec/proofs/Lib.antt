@@ -6,6 +6,7 @@ pub mod Few
 pub mod Fieldless
 pub mod Formed
 pub mod Marks
+pub mod Sending
 pub mod Settling
 pub mod Spots
 pub mod Standings

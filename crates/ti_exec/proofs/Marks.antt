@@ -65,8 +65,8 @@ has_in_work site x todo.Ending ws = refl
 has_in_work site x todo.Before ws = at_end_of_for (λ es. has_mark (es ++ ws) ≡ has_mark ws) x refl refl
 has_in_work site x todo.Behind ws = refl
 has_in_work site x (todo.Each variable domain last) ws = refl
-has_in_work site x (todo.Turn variable domain point) ws = refl
-has_in_work site x (todo.Copying to from domain last) ws = refl
+has_in_work site x (todo.Turn variable domain at) ws = refl
+has_in_work site x (todo.Copying copy last) ws = refl
 has_in_work site x (todo.Taking grid next) ws = refl
 
 none_in_body : (body : NumberedStms) (t : Todo) → has_mark (work_of_body body t) ≡ false
@@ -77,8 +77,8 @@ none_in_body body todo.Ending = refl
 none_in_body body todo.Before = refl
 none_in_body body todo.Behind = refl
 none_in_body body (todo.Each variable domain last) = refl
-none_in_body body (todo.Turn variable domain point) = refl
-none_in_body body (todo.Copying to from domain last) = refl
+none_in_body body (todo.Turn variable domain at) = refl
+none_in_body body (todo.Copying copy last) = refl
 none_in_body body (todo.Taking grid next) = refl
 
 -- a level behind which the mark of a loop is left
@@ -134,32 +134,32 @@ from_passed site x todo.Ending ws h = refl
 from_passed site x todo.Before ws h = at_end_of_for (λ es. from_mark (es ++ ws) ≡ from_mark ws) x refl refl
 from_passed site x todo.Behind ws h = cc
 from_passed site x (todo.Each variable domain last) ws h = refl
-from_passed site x (todo.Turn variable domain point) ws h = cc
-from_passed site x (todo.Copying to from domain last) ws h = refl
+from_passed site x (todo.Turn variable domain at) ws h = cc
+from_passed site x (todo.Copying copy last) ws h = refl
 from_passed site x (todo.Taking grid next) ws h = refl
 
 at_mark : (site : Site) (x : NumberedStm) (t : Todo) (ws : List Work) → is_mark t ≡ true → from_mark (work_of site x t ++ ws) ≡ work_of site x t ++ ws
 at_mark site x todo.Behind ws h = refl
-at_mark site x (todo.Turn variable domain point) ws h = refl
+at_mark site x (todo.Turn variable domain at) ws h = refl
 at_mark site x todo.Here ws h = cc
 at_mark site x todo.Inside ws h = cc
 at_mark site x (todo.From n) ws h = cc
 at_mark site x todo.Ending ws h = cc
 at_mark site x todo.Before ws h = cc
 at_mark site x (todo.Each variable domain last) ws h = cc
-at_mark site x (todo.Copying to from domain last) ws h = cc
+at_mark site x (todo.Copying copy last) ws h = cc
 at_mark site x (todo.Taking grid next) ws h = cc
 
 same_at_mark : (site : Site) (x : NumberedStm) (t : Todo) (ws : List Work) (vs : List Variable) → is_mark t ≡ true → variables_at_mark (work_of site x t ++ ws) vs ≡ vs
 same_at_mark site x todo.Behind ws vs h = refl
-same_at_mark site x (todo.Turn variable domain point) ws vs h = refl
+same_at_mark site x (todo.Turn variable domain at) ws vs h = refl
 same_at_mark site x todo.Here ws vs h = cc
 same_at_mark site x todo.Inside ws vs h = cc
 same_at_mark site x (todo.From n) ws vs h = cc
 same_at_mark site x todo.Ending ws vs h = cc
 same_at_mark site x todo.Before ws vs h = cc
 same_at_mark site x (todo.Each variable domain last) ws vs h = cc
-same_at_mark site x (todo.Copying to from domain last) ws vs h = cc
+same_at_mark site x (todo.Copying copy last) ws vs h = cc
 same_at_mark site x (todo.Taking grid next) ws vs h = cc
 
 -- at a mark all is left

@@ -35,17 +35,17 @@ begins s w t e = record {
 
 pub unspent : (s : Standing) (w : Walker) (st : State) → Agrees s w st → spent_in st ≡ false → Follows s w
 unspent s w state.Goes a e = a
-unspent s w (state.Asks pending) a e = a.0
+unspent s w (state.Asks asking) a e = a.0
 unspent s w state.Spent a e = cc
 
 shows : (c : NumberedProgram) (w : Walker) (n : Next) (st : State) → Rests c w n st → shown (step (process_of c w)) ≡ Some n
 shows c w n state.Goes r = r.0
-shows c w n (state.Asks pending) r = r.0.shows
+shows c w n (state.Asks asking) r = r.0.shows
 shows c w n state.Spent r = absurd r
 
 pub asks_there : (c : NumberedProgram) (w : Walker) (n : Next) (st : State) → Rests c w n st → asks_in st ≡ is_act n
 asks_there c w n state.Goes r = sym r.1
-asks_there c w n (state.Asks pending) r = sym r.1
+asks_there c w n (state.Asks asking) r = sym r.1
 asks_there c w n state.Spent r = absurd r
 
 pub has_next : (s : Standing) (old new : Walker) (n : Next) (st : State) → Follows s old → GoesOn (program_of s.program) old n st new → HasNext s n
@@ -85,9 +85,9 @@ follows_on s b old new v e f r =
 pub agrees : (s : Standing) (old new : Walker) (v : Vec Answer Global) (n : Next) (st : State) → v.items ≡ new.answers.items → vec_len v < vec_capacity v
     → Follows s old → GoesOn (program_of s.program) old n st new → Agrees (record s { asks = asks_in st }) (record new { answers = v }) st
 agrees s old new v n state.Goes e l f g = follows_on s _ old new v e f g.reaches
-agrees s old new v n (state.Asks pending) e l f g = (
+agrees s old new v n (state.Asks asking) e l f g = (
   follows_on s _ old new v e f g.reaches,
-  record { next = n; stands = stands_with_room (program_of s.program) new v pending n e g.rests.0; room = l },
+  record { next = n; stands = stands_with_room (program_of s.program) new v asking.value.pending n e g.rests.0; room = l },
 )
 agrees s old new v n state.Spent e l f g = absurd g.rests
 

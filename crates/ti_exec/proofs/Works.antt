@@ -1,5 +1,5 @@
 -- The step at which a process stands, and what is left in its frames.
-use Rattle.std.proofs.Common.{◌≡◌, ◌∙◌, ap, sym, refl, subst, ◌<◌, ◌≤◌, ℕ, suc, ◌+◌, true, false, List, [], ◌∷◌, ◌++◌, map, drop, length, reverse, Option, None, Some, Result, Ok, Err, IfOk, arith}
+use Rattle.std.proofs.Common.{◌≡◌, ◌∙◌, ap, sym, refl, subst, ◌<◌, ◌≤◌, ℕ, suc, ◌+◌, true, false, List, [], ◌∷◌, ◌++◌, map, length, reverse, Option, None, Result, Ok, Err, IfOk, arith}
 use Rattle.std.proofs.Math.Dec.{ltb}
 use Rattle.std.proofs.lemmas.Bool.{lt-ltb, le-ltb}
 use Rattle.std.proofs.lemmas.List.{reverse-append, length-reverse, append-nil}
@@ -66,8 +66,8 @@ none_of_body body todo.Ending h = refl
 none_of_body body todo.Before h = refl
 none_of_body body todo.Behind h = refl
 none_of_body body (todo.Each variable domain last) h = refl
-none_of_body body (todo.Turn variable domain point) h = refl
-none_of_body body (todo.Copying to from domain last) h = refl
+none_of_body body (todo.Turn variable domain at) h = refl
+none_of_body body (todo.Copying copy last) h = refl
 none_of_body body (todo.Taking grid next) h = refl
 
 -- the body of a method is done

@@ -8,7 +8,7 @@ use Rattle.ti_eval.specs.declared.frame.Level.{Level}
 -- what is left of a statement begins with the end of a turn, which is its mark
 abbrev pub is_mark : Todo → Bool
 is_mark todo.Behind = true
-is_mark (todo.Turn variable domain point) = true
+is_mark (todo.Turn variable domain at) = true
 is_mark t = false
 
 -- a loop is in progress around the innermost statement; what is left of the body of a method is none

@@ -30,13 +30,13 @@ spent_in s = false
 
 -- it stands at an action
 abbrev pub asks_in : State → Bool
-asks_in (state.Asks pending) = true
+asks_in (state.Asks asking) = true
 asks_in s = false
 
 -- a process that has come so far stands where it has this next
 abbrev pub Rests : NumberedProgram → Walker → Next → State → Type 0
 Rests c w n state.Goes = (shown (step (process_of c w)) ≡ Some n) × (is_act n ≡ false)
-Rests c w n (state.Asks pending) = Stands (step (process_of c w)) n (told c w pending) × (is_act n ≡ true)
+Rests c w n (state.Asks asking) = Stands (step (process_of c w)) n (told c w asking.value.pending) × (is_act n ≡ true)
 Rests c w n state.Spent = ⊥
 
 -- silent steps lead from the first process to the second, which has this next and has come so far

@@ -34,7 +34,7 @@ pub record Awaits (c : NumberedProgram) (w : Walker) (pending : Pending) : Type 
 -- the process of the code is where contracts see it
 abbrev pub Agrees : Standing → Walker → State → Type 0
 Agrees s w state.Goes = Follows s w
-Agrees s w (state.Asks pending) = Follows s w × Awaits (program_of s.program) w pending
+Agrees s w (state.Asks asking) = Follows s w × Awaits (program_of s.program) w asking.value.pending
 Agrees s w state.Spent = Unit {0}
 
 abbrev pub IsSound : Inside → Type 0

@@ -4,7 +4,7 @@ use Rattle.ti_base.specs.declared.entry.Answer.{Answer}
 use Rattle.ti_base.specs.declared.entry.Next.{Next}
 use Rattle.ti_base.specs.declared.entry.Next.TheVariants as next
 use Rattle.ti_lang.specs.Program.Statements.{NumberedStm, NumberedStms, numbered_stms}
-use Rattle.ti_lang.specs.Program.Classes.{NumberedMethod, NumberedProgram}
+use Rattle.ti_lang.specs.Program.Classes.{NumberedProgram}
 use Rattle.ti_lang.specs.Program.Scope.{this_of}
 use Rattle.ti_lang.specs.Meaning.Asking.{Request, ToBeDone, told as value_told}
 use Rattle.ti_lang.specs.Meaning.Processes as process
@@ -141,7 +141,7 @@ pub record Stands (s : Step) (n : Next) (makes : Answer → Process) : Type 0 wh
 -- what the code makes of a step at which a process stands
 abbrev pub IsStep : NumberedProgram → Process → Step → Turn → Walker → Type 0
 IsStep c p s turn.Went new = s ≡ To (process_of c new)
-IsStep c p s (turn.Asks at action pending) new = (process_of c new ≡ p) × Stands s (next.Act at action) (told c new pending)
+IsStep c p s (turn.Asks q) new = (process_of c new ≡ p) × Stands s (next.Act q.value.place q.value.action) (told c new q.value.pending)
 IsStep c p s (turn.Ends at) new = (process_of c new ≡ p) × (s ≡ Ends at)
 IsStep c p s (turn.Fails kind at) new = (process_of c new ≡ p) × (s ≡ Faults kind at)
 

@@ -11,7 +11,8 @@ ghost use Rattle.ti_eval.specs.Comes.{Stops};
 ghost use Rattle.ti_moves.specs.Moves.{wait_of};
 ghost use Rattle.ti_exec.specs.States.{IsStep, process_of, told, frames_in, wait_in};
 
-use crate::process::{Mode, Pending, Turn, Walker};
+use crate::process::{Asking, Mode, Pending, Turn, Walker};
+use std::alloc::Global;
 use ti_base::{Action, Deposit, FaultKind, Memory, Place};
 use ti_eval::Stop;
 use ti_moves::Meeting;
@@ -19,36 +20,52 @@ use ti_moves::Meeting;
 impl Walker {
     // An action, which costs a tick.
     #[tactic(auto, using(crate::proofs::Asked::asked))]
-    pub(crate) fn asks(&self, at: Place, action: Action, pending: Pending) -> Turn
-        ensures { (c : NumberedProgram) (q : Request) (go : Answer → Process) → q.place ≡ at → q.action ≡ action → ((r : Answer) → spends (go r) ≡ told c self.now pending r) → IsStep c (process_of c self.now) (asks_spec (process_of c self.now) q go) result self.now }
+    pub(crate) fn asks(
+        &self,
+        alloc: Global,
+        place: Place,
+        action: Action,
+        pending: Pending,
+    ) -> Result<Turn, Memory>
+        ensures { IfOk result (λ t. (c : NumberedProgram) (q : Request) (go : Answer → Process) → q.place ≡ place → q.action ≡ action → ((r : Answer) → spends (go r) ≡ told c self.now pending r) → IsStep c (process_of c self.now) (asks_spec (process_of c self.now) q go) t self.now) }
     {
-        if self.spent < self.fuel {
-            Turn::Asks(at, action, pending)
-        } else {
-            Turn::Fails(FaultKind::Fuel, at)
+        if self.spent >= self.fuel {
+            return Ok(Turn::Fails(FaultKind::Fuel, place));
         }
+        let asking = Asking {
+            place,
+            action,
+            pending,
+        };
+        Ok(Turn::Asks(Box::new(alloc, asking)?))
     }
 
     // A computation that gives nothing yet.
-    pub(crate) fn stops(&self, stop: Stop) -> Result<Turn, Memory>
+    pub(crate) fn stops(&self, alloc: Global, stop: Stop) -> Result<Turn, Memory>
         ensures { IfOk result (λ t. (c : NumberedProgram) (got : Got Move) (go : Move → Step) → Stops stop got → IsStep c (process_of c self.now) (valued (process_of c self.now) got go) t self.now) }
     {
         match stop {
-            Stop::Asks(at, action) => Ok(self.asks(at, action, Pending::Pushed)),
+            Stop::Asks(at, action) => self.asks(alloc, at, action, Pending::Pushed),
             Stop::Fails(kind, at) => Ok(Turn::Fails(kind, at)),
             Stop::Memory => Err(Memory),
         }
     }
 
     // An arrival at a collective, behind which the process goes on so.
-    pub(crate) fn arrives(&self, meeting: Meeting, deposit: Deposit, mode: Mode) -> Turn
-        ensures { (c : NumberedProgram) (frames : List Frame) (wanted : Wanted) (receiver : Receiver) → frames ≡ frames_in c self.now mode → Some (wait_of meeting wanted receiver) ≡ wait_in c self.now mode → IsStep c (process_of c self.now) (arrives (process_of c self.now) frames (wait_of meeting wanted receiver) deposit) result self.now }
+    pub(crate) fn arrives(
+        &self,
+        alloc: Global,
+        meeting: Meeting,
+        deposit: Deposit,
+        mode: Mode,
+    ) -> Result<Turn, Memory>
+        ensures { IfOk result (λ t. (c : NumberedProgram) (frames : List Frame) (wanted : Wanted) (receiver : Receiver) → frames ≡ frames_in c self.now mode → Some (wait_of meeting wanted receiver) ≡ wait_in c self.now mode → IsStep c (process_of c self.now) (arrives (process_of c self.now) frames (wait_of meeting wanted receiver) deposit) t self.now) }
     {
         let action = Action::Arrive {
             kind: meeting.kind,
             arg: meeting.arg,
             deposit,
         };
-        self.asks(meeting.place, action, Pending::Arrived(mode))
+        self.asks(alloc, meeting.place, action, Pending::Arrived(mode))
     }
 }

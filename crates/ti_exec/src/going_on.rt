@@ -12,7 +12,7 @@ ghost use Rattle.ti_exec.specs.declared.process.Pending.TheVariants.{Pushed};
 ghost use Rattle.ti_exec.specs.States.{process_of, going_on, mode_behind, told};
 ghost use Rattle.ti_exec.specs.MirrorsGoingOn.{fresh_process, spent_in, GoesOn};
 
-use crate::process::{Below, Call, Mode, Pending, Turn, Variables, Walker};
+use crate::process::{Asking, Below, Call, Mode, Pending, Turn, Variables, Walker};
 use std::alloc::Global;
 use std::mem;
 use ti_base::{Memory, Next};
@@ -25,7 +25,7 @@ pub enum State {
     /// It stands somewhere behind its last answer.
     Goes,
     /// It stands at an action, of which the answer makes this.
-    Asks(Pending),
+    Asks(Box<Asking>),
     /// Memory was wanting, and it stands nowhere.
     Spent,
 }
@@ -113,8 +113,9 @@ impl Walker {
         'steps: loop {
             match self.step(alloc, c)? {
                 Turn::Went => {}
-                Turn::Asks(at, action, pending) => {
-                    return Ok((Next::Act(at, action), State::Asks(pending)));
+                Turn::Asks(asking) => {
+                    let next = Next::Act(asking.place, asking.action);
+                    return Ok((next, State::Asks(asking)));
                 }
                 Turn::Ends(at) => return Ok((Next::End(at), State::Goes)),
                 Turn::Fails(kind, at) => return Ok((Next::Fault(kind, at), State::Goes)),

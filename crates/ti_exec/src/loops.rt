@@ -16,8 +16,8 @@ ghost use Rattle.ti_exec.specs.Walking.{walking, turning, Decides, IsTurnAt};
 
 use crate::process::{Mode, Turn, Walker};
 use std::alloc::Global;
-use ti_base::{FaultKind, Id, Memory, Place, Point, Value};
-use ti_eval::{Held, Part, Stop, Todo};
+use ti_base::{FaultKind, Id, Memory, Place, Point};
+use ti_eval::{Copy, Held, Part, Spot, Stop, Todo};
 use ti_lang::program::{Expr, Parts, Stmt};
 use ti_moves::{condition, copy_element, has_update, is_for, loop_place, next_point, take_element};
 
@@ -104,7 +104,7 @@ impl Walker {
             Ok(again) => self.turn(c, again),
             Err(stop) => {
                 self.mode = Mode::Walks(Todo::Before);
-                Ok(self.stops(stop)?)
+                self.stops(alloc, stop)
             }
         }
     }
@@ -129,7 +129,7 @@ impl Walker {
         &mut self,
         c: &Parts,
         variable: u32,
-        domain: Held,
+        domain: Box<Held>,
         last: Option<Point>,
     ) -> Result<Turn, Memory>
         requires { 0 < length self.old.top.levels.items }
@@ -147,13 +147,13 @@ impl Walker {
                     return Ok(Turn::Fails(FaultKind::Fuel, at));
                 }
                 self.spent += 1;
-                let point = Held::plain(Value::Pt(p));
+                let at = Spot { point: p };
                 self.enter(
                     Part::Body,
                     Todo::Turn {
                         variable,
                         domain,
-                        point,
+                        at,
                     },
                 )?;
                 Ok(Turn::Went)
@@ -167,11 +167,11 @@ impl Walker {
 
     // The end of a turn of a `foreach`.
     #[tactic(auto, using(crate::proofs::Begun::begun))]
-    fn turned(&mut self, variable: u32, domain: Held, point: Held)
+    fn turned(&mut self, variable: u32, domain: Box<Held>, at: Spot)
         requires { 0 < length self.old.top.levels.items }
-        ensures { (c : NumberedProgram) → IsTurnAt c self.old (left.Turn variable domain point) Went self.new }
+        ensures { (c : NumberedProgram) → IsTurnAt c self.old (left.Turn variable domain at) Went self.new }
     {
-        let last = Some(point.point());
+        let last = Some(at.point);
         self.done(Todo::Each {
             variable,
             domain,
@@ -183,36 +183,29 @@ impl Walker {
     #[tactic(auto, using(crate::proofs::Begun::begun))]
     fn copying(
         &mut self,
+        alloc: Global,
         c: &Parts,
-        to: Id,
-        from: Id,
-        domain: Held,
+        copy: Box<Copy>,
         last: Option<Point>,
     ) -> Result<Turn, Memory>
         requires { 0 < length self.old.top.levels.items }
-        ensures { IfOk result (λ r. IsTurnAt (program_of c.now) self.old (left.Copying to from domain last) r self.new) }
+        ensures { IfOk result (λ r. IsTurnAt (program_of c.now) self.old (left.Copying copy last) r self.new) }
     {
-        match next_point(&domain, last) {
+        let Copy { to, from, domain } = &*copy;
+        match next_point(domain, last) {
             Some(p) => {
                 let at = member_place(self.top.stands(c));
-                match copy_element(at, to, from, p, &self.answers) {
+                match copy_element(at, *to, *from, p, &self.answers) {
                     Ok(_) => {
                         self.done(Todo::Copying {
-                            to,
-                            from,
-                            domain,
+                            copy,
                             last: Some(p),
                         });
                         Ok(Turn::Went)
                     }
                     Err(stop) => {
-                        self.mode = Mode::Walks(Todo::Copying {
-                            to,
-                            from,
-                            domain,
-                            last,
-                        });
-                        Ok(self.stops(stop)?)
+                        self.mode = Mode::Walks(Todo::Copying { copy, last });
+                        self.stops(alloc, stop)
                     }
                 }
             }
@@ -225,7 +218,7 @@ impl Walker {
 
     // An exchange, with the value of the next process, if one is left.
     #[tactic(auto, using(crate::proofs::Begun::begun))]
-    fn taking(&mut self, c: &Parts, grid: Id, next: u32) -> Result<Turn, Memory>
+    fn taking(&mut self, alloc: Global, c: &Parts, grid: Id, next: u32) -> Result<Turn, Memory>
         requires { 0 < length self.old.top.levels.items }
         ensures { IfOk result (λ r. IsTurnAt (program_of c.now) self.old (left.Taking grid next) r self.new) }
     {
@@ -244,7 +237,7 @@ impl Walker {
             }
             Err(stop) => {
                 self.mode = Mode::Walks(Todo::Taking { grid, next });
-                Ok(self.stops(stop)?)
+                self.stops(alloc, stop)
             }
         }
     }
@@ -281,18 +274,13 @@ impl Walker {
             Todo::Turn {
                 variable,
                 domain,
-                point,
+                at,
             } => {
-                self.turned(variable, domain, point);
+                self.turned(variable, domain, at);
                 Ok(Turn::Went)
             }
-            Todo::Copying {
-                to,
-                from,
-                domain,
-                last,
-            } => self.copying(c, to, from, domain, last),
-            Todo::Taking { grid, next } => self.taking(c, grid, next),
+            Todo::Copying { copy, last } => self.copying(alloc, c, copy, last),
+            Todo::Taking { grid, next } => self.taking(alloc, c, grid, next),
         }
     }
 

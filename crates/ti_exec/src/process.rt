@@ -71,12 +71,20 @@ pub enum Pending {
     Left,
 }
 
+/// An action at which a process stands, and what its answer makes of the process.
+#[derive(Drop)]
+pub struct Asking {
+    pub place: Place,
+    pub action: Action,
+    pub pending: Pending,
+}
+
 /// A step of a process.
 #[derive(Drop)]
 pub enum Turn {
     /// It went on silently.
     Went,
-    Asks(Place, Action, Pending),
+    Asks(Box<Asking>),
     Ends(Place),
     Fails(FaultKind, Place),
 }

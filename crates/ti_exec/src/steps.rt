@@ -12,6 +12,7 @@ ghost use Rattle.ti_eval.specs.declared.frame.Todo.TheVariants.{Here};
 ghost use Rattle.ti_eval.specs.Comes.{ComesAs};
 ghost use Rattle.ti_moves.specs.Moves.{move_of};
 ghost use Rattle.ti_moves.specs.Receiving.{receiver_of};
+ghost use Rattle.ti_moves.specs.Ways.{GoesBy};
 ghost use Rattle.ti_moves.specs.declared.moves.Meeting.{Meeting as Met};
 ghost use Rattle.ti_exec.specs.declared.process.Mode.TheVariants.{Walks, Waits, Expects};
 ghost use Rattle.ti_exec.specs.States.{IsTurn, IsSettled, IsWalking, IsReceiving, env_in, here};
@@ -21,7 +22,7 @@ use std::alloc::Global;
 use ti_base::{Action, Memory, Place};
 use ti_eval::{Held, Stop, Todo, Told};
 use ti_lang::program::Parts;
-use ti_moves::{Move, received, statement};
+use ti_moves::{Move, Way, received, statement, unasked};
 
 // The place of the brace that closes `main`.
 #[tactic(auto, using(crate::proofs::Spots::spots))]
@@ -43,6 +44,14 @@ impl Walker {
         statement(alloc, &self.env(c), self.top.stands(c), &self.answers)
     }
 
+    // How it goes on, where it asks for no action.
+    fn way_at<'c>(&self, c: &'c Parts) -> Option<Way<'c>>
+        requires { 0 < length self.now.top.levels.items }
+        ensures { GoesBy (env_in (program_of c.now) self.now) (here (program_of c.now) self.now.top) result }
+    {
+        unasked(&self.env(c), self.top.stands(c))
+    }
+
     // What it comes to when a value has gone to where it wants it.
     fn given<'a, 'c>(
         &'a self,
@@ -62,9 +71,12 @@ impl Walker {
         requires mode { self.old.mode ≡ Walks Here }
         ensures { IfOk result (λ t. IsTurn (program_of c.now) self.old t self.new) }
     {
-        match self.stated(alloc, c) {
-            Ok((m, _)) => self.moves(alloc, c, m),
-            Err(stop) => self.stops(stop),
+        match self.way_at(c) {
+            Some(way) => self.goes_by(alloc, way),
+            None => match self.stated(alloc, c) {
+                Ok((m, _)) => self.moves(alloc, c, m),
+                Err(stop) => self.stops(alloc, stop),
+            },
         }
     }
 
@@ -95,18 +107,18 @@ impl Walker {
         match &self.mode {
             Mode::Receives(h) => match self.given(alloc, c, h) {
                 Ok((m, _)) => self.moves(alloc, c, m),
-                Err(stop) => self.stops(stop),
+                Err(stop) => self.stops(alloc, stop),
             },
             _ => unreachable!(),
         }
     }
 
     // The step of a process that waits at a collective.
-    fn leaves(&self, at: Place) -> Turn
-        ensures waits { (c : NumberedProgram) (m : Met) (t : Left) → self.now.mode ≡ Waits m t → m.place ≡ at → IsTurn c self.now result self.now }
-        ensures expects { (c : NumberedProgram) (m : Met) → self.now.mode ≡ Expects m → m.place ≡ at → IsTurn c self.now result self.now }
+    fn leaves(&self, alloc: Global, at: Place) -> Result<Turn, Memory>
+        ensures waits { IfOk result (λ r. (c : NumberedProgram) (m : Met) (t : Left) → self.now.mode ≡ Waits m t → m.place ≡ at → IsTurn c self.now r self.now) }
+        ensures expects { IfOk result (λ r. (c : NumberedProgram) (m : Met) → self.now.mode ≡ Expects m → m.place ≡ at → IsTurn c self.now r self.now) }
     {
-        self.asks(at, Action::Depart, Pending::Left)
+        self.asks(alloc, at, Action::Depart, Pending::Left)
     }
 
     // The step at what is at hand.
@@ -117,8 +129,8 @@ impl Walker {
         match &self.mode {
             Mode::Walks(_) => self.walks(alloc, c),
             Mode::Receives(_) => self.receiving(alloc, c),
-            Mode::Waits(meeting, _) => Ok(self.leaves(meeting.place)),
-            Mode::Expects(meeting) => Ok(self.leaves(meeting.place)),
+            Mode::Waits(meeting, _) => self.leaves(alloc, meeting.place),
+            Mode::Expects(meeting) => self.leaves(alloc, meeting.place),
             Mode::Ended => Ok(Turn::Ends(end_place(c))),
         }
     }
@@ -128,6 +140,6 @@ impl Walker {
         ensures { IfOk result (λ t. IsTurn (program_of c.now) self.old t self.new) }
     {
         self.settle(c)?;
-        Ok(self.act(alloc, c)?)
+        self.act(alloc, c)
     }
 }

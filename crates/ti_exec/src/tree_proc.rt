@@ -7,7 +7,7 @@ ghost use Rattle.ti_exec.specs.Standing.{is_act, HasNext, IsAnswered};
 
 use crate::going_on::State;
 use crate::past::Past;
-use crate::process::Walker;
+use crate::process::{Asking, Walker};
 use std::alloc::Global;
 use std::marker::Model;
 use std::mem;
@@ -93,9 +93,10 @@ impl TreeProc {
         ensures standing { self.new ≡ record self.old { told = self.old.told ++ a ∷ []; asks = false } }
         ensures answered { IsAnswered self.old a self.new }
     {
-        let State::Asks(pending) = mem::replace(&mut self.state, State::Goes) else {
+        let State::Asks(asking) = mem::replace(&mut self.state, State::Goes) else {
             unreachable!()
         };
+        let Asking { pending, .. } = Box::into_inner(asking);
         self.walker.hear(pending, Told::of(a));
         self.past = self.past.and(&a);
     }

@@ -12,11 +12,11 @@ use Rattle.ti_lang.specs.Meaning.Scoping.{type_of}
 use Rattle.ti_lang.specs.Meaning.Copies.{first_type}
 use Rattle.ti_lang.specs.Meaning.Moves.{Goes}
 use Rattle.ti_eval.specs.declared.env.Env.{Env}
+use Rattle.ti_eval.specs.declared.frame.Copy.{Copy}
 use Rattle.ti_eval.specs.declared.stop.Stop.{Stop}
 use Rattle.ti_eval.specs.Comes.{ComesAs}
 use Rattle.ti_eval.specs.Envs.{env_of, site_of}
 use Rattle.ti_eval.specs.Frames.{reference, first_reference}
-use Rattle.ti_moves.specs.declared.copies.Copy.{Copy}
 use Rattle.ti_moves.specs.Copying.{move_of_copy}
 
 -- a result by two views that are the same

@@ -7,4 +7,5 @@ pub mod Leaving
 pub mod MethodLaws
 pub mod PointsAbove
 pub mod SameRects
+pub mod Silent
 pub mod Teams

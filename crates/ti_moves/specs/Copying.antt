@@ -12,7 +12,7 @@ use Rattle.ti_lang.specs.Meaning.Processes.{Variable, CopyAll}
 use Rattle.ti_lang.specs.Meaning.Parts.{domain_asked}
 use Rattle.ti_lang.specs.Meaning.Copies.{common_points}
 use Rattle.ti_lang.specs.Meaning.Moves.{Move, Goes}
-use Rattle.ti_moves.specs.declared.copies.Copy.{Copy}
+use Rattle.ti_eval.specs.declared.frame.Copy.{Copy}
 
 -- a thing, if there is one, with the type of the expression that named it
 abbrev pub named : Place → ValueType → Option Id → Asking Reference

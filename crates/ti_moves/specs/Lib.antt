@@ -7,3 +7,4 @@ pub mod Points
 pub mod Receiving
 pub mod Scopes
 pub mod Targets
+pub mod Ways

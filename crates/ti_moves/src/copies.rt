@@ -19,23 +19,15 @@ ghost use Rattle.ti_lang.specs.Meaning.Copies as copying;
 ghost use Rattle.ti_eval.specs.Comes.{Comes, ComesAs};
 ghost use Rattle.ti_eval.specs.Envs.{env_of, site_of};
 ghost use Rattle.ti_eval.specs.Frames.{reference, first_reference};
-ghost use Rattle.ti_moves.specs.declared.copies.Copy.{Copy as Copying};
+ghost use Rattle.ti_eval.specs.declared.frame.Copy.{Copy as Copying};
 ghost use Rattle.ti_moves.specs.Copying.{written, move_of_copy, copy_left, copy_named};
 
 use crate::actions::perform;
 use std::alloc::Global;
 use ti_base::{Action, FaultKind, Id, Place, Point, Rect, Value};
-use ti_eval::{Env, Held, Stop, Told, asked, evaluate, evaluate_all};
+use ti_eval::{Copy, Env, Held, Stop, Told, asked, evaluate, evaluate_all};
 use ti_lang::program::Expr;
 use ti_rect::rect_meet;
-
-/// A copy of one grid into another at the points of a domain.
-#[derive(Drop)]
-pub struct Copy {
-    pub to: Id,
-    pub from: Id,
-    pub domain: Held,
-}
 
 // ---- copies
 

@@ -14,11 +14,13 @@ mod scopes;
 mod spots;
 mod statements;
 mod targets;
+mod ways;
 
 pub use copies::{copy_element, take_element};
 pub use moves::{Change, Left, Meeting, Move};
 pub use points::next_point;
-pub use receiving::{Receiver, Right};
+pub use receiving::{Receiver, Right, new_slot};
 pub use scopes::leave;
 pub use spots::{condition, count, has_update, is_for, loop_place, statement_at};
 pub use statements::{received, statement};
+pub use ways::{Way, unasked};

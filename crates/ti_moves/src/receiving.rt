@@ -62,8 +62,8 @@ pub enum Right<'r> {
     Known(&'r Held),
 }
 
-// `++` adds 1, and `--` subtracts it.
-fn one_more(operator: StepOperator) -> BinaryOperator
+/// `++` adds 1, and `--` subtracts it.
+pub fn one_more(operator: StepOperator) -> BinaryOperator
     ensures { result ≡ one_more_spec operator }
 {
     match operator {

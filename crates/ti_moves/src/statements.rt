@@ -185,15 +185,10 @@ fn copy<'a, 'c>(
     ensures { (name : ℕ) → ComesAs (move_of (env_of env.now) (stm.Call (exp.member at (expression_of receiver.now) name (map expression_of args.now)))) result (copying.copies (env_of env.now) at (expression_of receiver.now) (numbered_exps (map expression_of args.now)) answers.now) }
 {
     match copies(alloc, env, at, receiver, args, answers) {
-        Ok((copy, answers)) => Ok((
-            goes(Todo::Copying {
-                to: copy.to,
-                from: copy.from,
-                domain: copy.domain,
-                last: None,
-            }),
-            answers,
-        )),
+        Ok((copy, answers)) => {
+            let copy = Box::new(alloc, copy)?;
+            Ok((goes(Todo::Copying { copy, last: None }), answers))
+        }
         Err(stop) => Err(stop),
     }
 }
@@ -431,14 +426,17 @@ fn foreach<'a, 'c>(
     ensures { (at : At) (body : NumberedStm) → ComesAs (move_of (env_of env.now) (stm.Foreach at variable (expression_of domain.now) body)) result (statements.statement (env_of env.now) (stm.Foreach at variable (expression_of domain.now) body) answers.now) }
 {
     match evaluate(alloc, env, domain, answers) {
-        Ok((domain, answers)) => Ok((
-            goes(Todo::Each {
-                variable,
-                domain,
-                last: None,
-            }),
-            answers,
-        )),
+        Ok((domain, answers)) => {
+            let domain = Box::new(alloc, domain)?;
+            Ok((
+                goes(Todo::Each {
+                    variable,
+                    domain,
+                    last: None,
+                }),
+                answers,
+            ))
+        }
         Err(stop) => Err(stop),
     }
 }

@@ -4,5 +4,6 @@ pub mod Outcomes
 pub mod Refused
 pub mod Rows
 pub mod Simulation
+pub mod Slices
 pub mod Texts
 pub mod Words

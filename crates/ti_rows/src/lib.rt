@@ -4,3 +4,4 @@
 pub mod refusals;
 pub mod rows;
 pub mod simulation;
+pub mod slices;

@@ -113,7 +113,7 @@ written_formed _ h c y f e = cc
 
 pub last_formed : (procs : ℕ) (h : History) (cell : Cell) (y : Value) → AreOurs procs h → last_written cell h ≡ Some y → IsFormedValue y
 last_formed procs [] cell y ours e = cc
-last_formed procs (d ∷ h) cell y ours e = by (written_by d.act h) refl (last_formed procs h cell y ours.3) e
+last_formed procs (d ∷ h) cell y ours e = by (written_by d.act h) refl (last_formed procs h cell y ours.2) e
   where
     over : (t : Bool) (x : Value) → (last_written cell h ≡ Some y → IsFormedValue y) → IsFormedValue x → or_else (cond t (Some x) None) (last_written cell h) ≡ Some y → IsFormedValue y
     over true x go f k = subst IsFormedValue (some_same x y k) f
@@ -121,7 +121,7 @@ last_formed procs (d ∷ h) cell y ours e = by (written_by d.act h) refl (last_f
 
     by : (o : Option (Cell × Value)) → written_by d.act h ≡ o → (last_written cell h ≡ Some y → IsFormedValue y) → or_else (written_to cell o) (last_written cell h) ≡ Some y → IsFormedValue y
     by None w go k = go k
-    by (Some (other, x)) w go k = over (same_cell cell other) x go (written_formed d.act h other x ours.2 w) k
+    by (Some (other, x)) w go k = over (same_cell cell other) x go (written_formed d.act h other x ours.1 w) k
 
 -- ---- the zeros of grids
 
@@ -136,10 +136,10 @@ made_zero _ id earlier g ih f e = cc
 
 pub grid_zero : (procs : ℕ) (h : History) (id : Id) (g : Grid) → AreOurs procs h → grid_of id h ≡ Some g → IsFormedZero g.zero
 grid_zero procs [] id g ours e = cc
-grid_zero procs (d ∷ h) id g ours e = by (is_making d.act && is_grid id d.answer) (λ viewed x. grid_zero procs h viewed x ours.3) e
+grid_zero procs (d ∷ h) id g ours e = by (is_making d.act && is_grid id d.answer) (λ viewed x. grid_zero procs h viewed x ours.2) e
   where
     by : (t : Bool) → ((viewed : Id) (x : Grid) → grid_of viewed h ≡ Some x → IsFormedZero x.zero) → cond t (grid_made id d.act (λ viewed. grid_of viewed h)) (grid_of id h) ≡ Some g → IsFormedZero g.zero
-    by true ih k = made_zero d.act id (λ viewed. grid_of viewed h) g ih ours.2 k
+    by true ih k = made_zero d.act id (λ viewed. grid_of viewed h) g ih ours.1 k
     by false ih k = ih id g k
 
 -- ---- cells
@@ -180,10 +180,10 @@ arrival_formed _ x f e = cc
 
 deposit_formed : (procs i round : ℕ) (h : History) (x : Arrival) → AreOurs procs h → arrival_at i round h ≡ Some x → IsFormedDeposit x.deposit
 deposit_formed procs i round [] x ours e = cc
-deposit_formed procs i round (d ∷ h) x ours e = by (d.proc == i && is_arrival d.act && arrivals i (d ∷ h) == round) (deposit_formed procs i round h x ours.3) e
+deposit_formed procs i round (d ∷ h) x ours e = by (d.proc == i && is_arrival d.act && arrivals i (d ∷ h) == round) (deposit_formed procs i round h x ours.2) e
   where
     by : (t : Bool) → (arrival_at i round h ≡ Some x → IsFormedDeposit x.deposit) → cond t (arrival_in d.act) (arrival_at i round h) ≡ Some x → IsFormedDeposit x.deposit
-    by true go k = arrival_formed d.act x ours.2 k
+    by true go k = arrival_formed d.act x ours.1 k
     by false go k = go k
 
 deposit_value : (d : Deposit) (y : Value) → IsFormedDeposit d → value_in d ≡ Some y → IsFormedValue y
@@ -273,7 +273,7 @@ outcome_formed program procs h s i (act.MakeView grid how) f ours k =
     some_out (grid_of grid h) (λ g. possible_if (suits how g.domain) (views (view_fault how g.domain) (makes program h i (act.MakeView grid how) made)))
     (λ g e. if_out (suits how g.domain) (views (view_fault how g.domain) (makes program h i (act.MakeView grid how) made))
     (view_out (view_fault how g.domain) (makes program h i (act.MakeView grid how) made) (make_out program h i (act.MakeView grid how) made tt)))
-outcome_formed program procs h s i (act.DomainOf grid) f ours k = some_out (grid_of grid h) (λ g. Answers (Val (v.Rc g.domain))) (λ g e. (k.grids grid g e).form)
+outcome_formed program procs h s i (act.DomainOf grid) f ours k = some_out (grid_of grid h) (λ g. Answers (Val (v.Rc g.domain))) (λ g e. k.forms grid g e)
 outcome_formed program procs h s i (act.Print literal value) f ours k = tt
 outcome_formed program procs h s i (act.Arrive kind arg d) f ours k = arrives_out h kind arg
 outcome_formed program procs h s i act.Depart f ours k = some_out (last_arrival i h) (λ a. departs program h i a.kind a.arg) (λ a e. departs_out program procs h i a.kind a.arg ours)

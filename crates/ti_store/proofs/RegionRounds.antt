@@ -32,7 +32,7 @@ pub makes_none : (a : Action) → is_arrival a ≡ false → makes_region a ≡ 
 makes_none (act.Arrive kind arg given) k = cc
 makes_none _ k = refl
 
-still : (i : ℕ) (e : Entry) (h : History) → makes_region e.act ≡ false → rounds_making i (e ∷ h) ≡ rounds_making i h
+pub still : (i : ℕ) (e : Entry) (h : History) → makes_region e.act ≡ false → rounds_making i (e ∷ h) ≡ rounds_making i h
 still i e h m =
     ⊎_elim
     (λ own. counted_own makes_region i e h (eqb-true e.proc i own) ∙ ap (λ t. one t + rounds_making i h) m ∙ zero-add (rounds_making i h))

@@ -1,47 +1,62 @@
 -- What a store does is a step of a run, and what is known of every run is known of it.
-use Rattle.std.proofs.Common.{◌≡◌, ⊎_elim, ℕ, ◌+◌, ◌<◌, ◌==◌, ◌&&◌, Bool, true, false, cond, List, [], ◌∷◌, ◌++◌, Option, Some, None, IfSome, refl, sym, ap, subst, ◌∙◌, arith, eq-eqb, eqb-true, append_assoc}
+use Rattle.std.proofs.Common.{◌≡◌, inl, ⊎_elim, ℕ, ◌+◌, ◌<◌, ◌≤◌, ◌==◌, ◌&&◌, Bool, true, false, cond, List, [], ◌∷◌, ◌++◌, Option, Some, None, IfSome, refl, sym, ap, subst, ◌∙◌, arith, eq-eqb, eqb-true, append_assoc}
 use Rattle.std.specs.Option.{option_map}
-use Rattle.std.proofs.lemmas.Bool.{and_parts, ne_eqb, cases_eq}
+use Rattle.std.proofs.lemmas.Bool.{and_parts, or_cases, ne_eqb, cases_eq}
 use Rattle.ti_base.specs.declared.place.Place.{Place}
 use Rattle.ti_base.specs.declared.point.Rect.{Rect}
+use Rattle.ti_base.specs.declared.value.Id.{Id}
+use Rattle.ti_base.specs.declared.value.Value.TheVariants as v
 use Rattle.ti_base.specs.declared.value.Zero.{Zero}
+use Rattle.ti_base.specs.declared.fault.FaultKind.{FaultKind}
 use Rattle.ti_base.specs.declared.action.Action.{Action}
 use Rattle.ti_base.specs.declared.action.Action.TheVariants as act
 use Rattle.ti_base.specs.declared.action.CollKind.{CollKind}
-use Rattle.ti_base.specs.declared.action.CollKind.TheVariants as coll
 use Rattle.ti_base.specs.declared.action.Deposit.{Deposit}
+use Rattle.ti_base.specs.declared.action.Deposit.TheVariants as deposit
 use Rattle.ti_base.specs.declared.entry.Answer.{Answer}
 use Rattle.ti_base.specs.declared.entry.Answer.TheVariants.{Done}
 use Rattle.ti_base.specs.declared.entry.Entry.{Entry}
 use Rattle.ti_base.specs.declared.entry.Next.{Next}
 use Rattle.ti_base.specs.declared.entry.Next.TheVariants as next
+use Rattle.ti_rounds.specs.declared.arrival.Arrival.{Arrival as Said}
 use Rattle.ti_rounds.specs.Seats.{collective_of}
+use Rattle.ti_rounds.specs.Courses as rounds
+use Rattle.ti_lang.specs.Program.Types.{ValueType}
 use Rattle.ti_lang.specs.Program.Classes.{NumberedProgram}
+use Rattle.ti_lang.specs.Meaning.Held.{Plain}
 use Rattle.ti_lang.specs.Meaning.Asking.{Wanted}
 use Rattle.ti_lang.specs.Meaning.Processes.{Setting, Process}
 use Rattle.ti_lang.specs.Meaning.NextStep.{IsNext, Settles}
-use Rattle.ti_lang.specs.Meaning.Histories.{History, history_of, is_end, is_fault, is_arrival, is_departure, entries_of, arrivals, has_fault}
-use Rattle.ti_lang.specs.Meaning.HeapAnswers.{Outcome, Answers, Faults, Impossible, arrives, heap_answer}
+use Rattle.ti_lang.specs.Meaning.Histories.{History, history_of, is_end, is_fault, is_making, is_arrival, is_departure, entries_of, arrivals, departures, things_made, has_fault}
+use Rattle.ti_lang.specs.Meaning.RoundsOf as lang
+use Rattle.ti_lang.specs.Meaning.RoundsOf.{arrival_at, last_arrival, value_in}
+use Rattle.ti_lang.specs.Meaning.RegionsOf.{is_made, is_gone, is_place}
+use Rattle.ti_lang.specs.Meaning.HeapAnswers.{Outcome, Answers, Faults, Impossible, heap_answer, IsAnswered}
+use Rattle.ti_lang.specs.Meaning.HeapAnswers as heap
 use Rattle.ti_lang.specs.Meaning.Runs.{World, IsReady, entry_with, entry_of, CanTake, IsRun, none, more}
-use Rattle.ti_lang.proofs.MeaningLaws.Running.{history_grows, taker}
+use Rattle.ti_lang.proofs.MeaningLaws.Running.{history_grows, run_answered, taker}
 use Rattle.ti_align.specs.SinglePart.{SingleFrame, single_part}
 use Rattle.ti_align.specs.Alignment.{Arrival, ArrivesAt, ArrivalsAgree, OfEveryRun}
-use Rattle.ti_align.specs.Stopping.{is_delete, RoundsBalance, NoneImpossible}
-use Rattle.ti_align.specs.Things.{Things}
+use Rattle.ti_align.specs.Stopping.{RoundsBalance, NoneImpossible}
+use Rattle.ti_align.specs.Things.{Things, IsOf}
 use Rattle.ti_align.specs.Sound.{IsThere}
-use Rattle.ti_align.specs.Heap.{things_of}
+use Rattle.ti_align.specs.Work.{DepositFits}
+use Rattle.ti_align.specs.Heap.{Elements, things_of, FieldsStorable}
 use Rattle.ti_align.specs.Typed.{RunTyped}
 use Rattle.ti_align.specs.Formed.{IsFormedAction, ActionsFormed}
+use Rattle.ti_align.specs.Dangling.{NothingDangles}
 use Rattle.ti_store.specs.Conditions.{IsWithin, HasNext}
 use Rattle.ti_store.specs.Stores.{next_of}
 use Rattle.ti_store.specs.MirrorsRounds.{arrivals_said}
-use Rattle.ti_store.specs.MirrorsLedger.{IsFormedZero, AllFormed, IsPossible, collective_in, collective_at, AllArrived, AgreesWith, MayDo}
+use Rattle.ti_store.specs.MirrorsLedger.{IsFormedZero, AllFormed, IsPossible, collective_in, collective_at, AllArrived, AgreesWith, thing_written, KnowsRegions, MayDo}
 use Rattle.ti_store.specs.MirrorsStore.{KeepsLaws}
 use Rattle.ti_store.proofs.OneMore.{one, some_same, counted_own, counted_back}
-use Rattle.ti_store.proofs.Ticks.{arrivals_few}
+use Rattle.ti_store.proofs.Ticks.{actions_few}
 use Rattle.ti_store.proofs.RegionRounds.{makings_few}
-use Rattle.ti_store.proofs.Courses.{length_said, collective_met, none_beyond}
+use Rattle.ti_store.proofs.Courses.{length_said, heard, heard_at, collective_met, none_beyond}
 use Rattle.ti_store.proofs.Forming.{storable_formed}
+use Rattle.ti_store.proofs.Lockstep.{IsTaken, AreTaken, Agree, arrival_is, delete_some, gone_made, leaving, numbered}
+use Rattle.ti_store.proofs.Placing.{value_placed, region_placed}
 
 -- ---- one step more
 
@@ -69,13 +84,6 @@ ready_when s es i at (act.Fault kind) h = tt
 ready_when s es i at _ h = tt
 
 -- ---- arrivals agree
-
-pub arrives_done : (h : History) (kind : CollKind) (arg : Option ℕ) (d : Deposit) → is_delete (act.Arrive kind arg d) ≡ false → arrives h kind arg ≡ Answers Done
-arrives_done h coll.Barrier arg d k = refl
-arrives_done h coll.Broadcast arg d k = refl
-arrives_done h coll.Exchange arg d k = refl
-arrives_done h coll.MakeRegion arg d k = refl
-arrives_done h coll.DeleteRegion arg d k = cc
 
 -- the new arrival is at the next round
 met_now : (p : ℕ) (at : Place) (kind : CollKind) (arg : Option ℕ) (d : Deposit) (h : History) (round : ℕ) → round ≡ arrivals p h + 1
@@ -108,19 +116,23 @@ if_some (Some other) said h = h other refl
 abbrev arrival_with : CollKind × Place × Option ℕ → List SingleFrame → Arrival
 arrival_with said single = record { place = said.1; kind = said.0; arg = said.2; single = single }
 
+false_true : false ≡ true → ⊥
+false_true e = cc
+
 some_entry : (d e : Entry) → Some d ≡ Some e → d ≡ e
 some_entry d e h = cc
 
--- what comes of an arrival is that arrival, or a fault
-came_with : (i : ℕ) (at : Place) (a : Action) (o : Outcome) (e : Entry) → entry_with i at a o ≡ Some e → is_arrival e.act ≡ true → next.Act at a ≡ next.Act e.place e.act
-came_with i at a (Answers r) e h k = ap (λ (x : Entry). next.Act x.place x.act) (some_entry _ e h)
-came_with i at a (Faults kind) e h k = let same : is_arrival (act.Fault kind) ≡ is_arrival e.act = ap (λ (x : Entry). is_arrival x.act) (some_entry _ e h) in cc
-came_with i at a Impossible e h k = cc
+-- what comes of an action is that action, or a fault
+module _ (f : Action → Bool) (ends : f act.End ≡ false) (faults : (kind : FaultKind) → f (act.Fault kind) ≡ false) where
+  came_with : (i : ℕ) (at : Place) (a : Action) (o : Outcome) (e : Entry) → entry_with i at a o ≡ Some e → f e.act ≡ true → next.Act at a ≡ next.Act e.place e.act
+  came_with i at a (Answers r) e h k = ap (λ (x : Entry). next.Act x.place x.act) (some_entry _ e h)
+  came_with i at a (Faults kind) e h k = let same : f (act.Fault kind) ≡ f e.act = ap (λ (x : Entry). f x.act) (some_entry _ e h) in absurd (false_true (sym (faults kind) ∙ same ∙ k))
+  came_with i at a Impossible e h k = cc
 
-came_next : (s : Setting) (es : List Entry) (i : ℕ) (n : Next) (e : Entry) → entry_of s es i n ≡ Some e → is_arrival e.act ≡ true → n ≡ next.Act e.place e.act
-came_next s es i (next.Act at a) e h k = came_with i at a (heap_answer s.program (history_of es) i a) e h k
-came_next s es i (next.End at) e h k = let same : is_arrival act.End ≡ is_arrival e.act = ap (λ (x : Entry). is_arrival x.act) (some_entry _ e h) in cc
-came_next s es i (next.Fault kind at) e h k = let same : is_arrival (act.Fault kind) ≡ is_arrival e.act = ap (λ (x : Entry). is_arrival x.act) (some_entry _ e h) in cc
+  pub came_next : (s : Setting) (es : List Entry) (i : ℕ) (n : Next) (e : Entry) → entry_of s es i n ≡ Some e → f e.act ≡ true → n ≡ next.Act e.place e.act
+  came_next s es i (next.Act at a) e h k = came_with i at a (heap_answer s.program (history_of es) i a) e h k
+  came_next s es i (next.End at) e h k = let same : f act.End ≡ f e.act = ap (λ (x : Entry). f x.act) (some_entry _ e h) in absurd (false_true (sym ends ∙ same ∙ k))
+  came_next s es i (next.Fault kind at) e h k = let same : f (act.Fault kind) ≡ f e.act = ap (λ (x : Entry). f x.act) (some_entry _ e h) in absurd (false_true (sym (faults kind) ∙ same ∙ k))
 
 -- the process of an entry that is an arrival arrives there
 arrives_now : (s : Setting) (es all : List Entry) (q k : ℕ) (at : Place) (kind : CollKind) (arg : Option ℕ) (d : Deposit) (r : Answer)
@@ -128,7 +140,7 @@ arrives_now : (s : Setting) (es all : List Entry) (q k : ℕ) (at : Place) (kind
     → arrivals q es ≡ k → ArrivesAt s all q k (arrival_with (kind, at, arg) (single_part t.is_next.0))
 arrives_now s es all q k at kind arg d r t split count =
     let e : Entry = record { proc = q; place = at; act = act.Arrive kind arg d; answer = r } in
-    let n : t.next ≡ next.Act at (act.Arrive kind arg d) = came_next s es q t.next e t.entry refl in
+    let n : t.next ≡ next.Act at (act.Arrive kind arg d) = came_next is_arrival refl (λ kind. refl) s es q t.next e t.entry refl in
     record {
       before = es;
       rest = [];
@@ -235,15 +247,93 @@ pub law_of : (fact : Setting → List Entry → Type 0) (s : Setting) (es : List
 law_of fact s es all w run = all s.procs s.fuel es w.some w.few w.fueled w.limited run
 
 agrees : (s : Setting) (es : List Entry) (p : ℕ) (at : Place) (a : Action) → IsWithin s.procs s.fuel → KeepsLaws s.program → IsRun s es → p < s.procs → has_fault es ≡ false
-    → HasNext s p (entries_of p es) (next.Act at a) → is_delete a ≡ false
-    → (said : CollKind × Place × Option ℕ) → collective_in at a ≡ Some said → AgreesWith p es said
-agrees s es p at (act.Arrive kind arg d) w all run inside goes has k said is =
+    → HasNext s p (entries_of p es) (next.Act at a)
+    → (said : CollKind × Place × Option ℕ) → collective_in at a ≡ Some said → heap_answer s.program (history_of es) p a ≡ Answers Done → AgreesWith p es said
+agrees s es p at (act.Arrive kind arg d) w all run inside goes has said is done =
     let e : Entry = record { proc = p; place = at; act = act.Arrive kind arg d; answer = Done } in
-    let entry : entry_of s es p (next.Act at (act.Arrive kind arg d)) ≡ Some e = ap (entry_with p at (act.Arrive kind arg d)) (arrives_done (history_of es) kind arg d k) in
+    let entry : entry_of s es p (next.Act at (act.Arrive kind arg d)) ≡ Some e = ap (entry_with p at (act.Arrive kind arg d)) done in
     let grown = run_more s es p (next.Act at (act.Arrive kind arg d)) e run inside goes has tt entry in
     let same : (kind, at, arg) ≡ said = cc in
     subst (AgreesWith p es) same (agree_now s es p at kind arg d grown (law_of ArrivalsAgree s (es ++ e ∷ []) all.agree w grown))
-agrees s es p at _ w all run inside goes has k said is = cc
+agrees s es p at _ w all run inside goes has said is done = cc
+
+-- all arrivals at a round are of one kind and argument
+heard_of : (i m : ℕ) (h : History) (a : lang.Arrival) → arrival_at i m h ≡ Some a → (said : CollKind × Place × Option ℕ) × (collective_at i m h ≡ Some said) × (said.0 ≡ a.kind) × (said.2 ≡ a.arg)
+heard_of i m h a k = by (rounds.arrival_at m (arrivals_said i h)) refl (heard_at i m h ∙ k)
+  where
+    by : (o : Option Said) → rounds.arrival_at m (arrivals_said i h) ≡ o → option_map heard (rounds.arrival_at m (arrivals_said i h)) ≡ Some a → (said : CollKind × Place × Option ℕ) × (collective_at i m h ≡ Some said) × (said.0 ≡ a.kind) × (said.2 ≡ a.arg)
+    by None e x = let none : None ≡ Some a = sym (ap (option_map heard) e) ∙ x in cc
+    by (Some y) e x =
+        let same = some_same (heard y) a (sym (ap (option_map heard) e) ∙ x) in
+        (collective_of y, sym (collective_met i m h) ∙ ap (option_map collective_of) e, ap (λ (b : lang.Arrival). b.kind) same, ap (λ (b : lang.Arrival). b.arg) same)
+
+pub run_agrees : (s : Setting) (es : List Entry) → IsRun s es → ArrivalsAgree s es → Agree (history_of es)
+run_agrees s es run agree i j m a b x y =
+    let k = heard_of i m (history_of es) a x in
+    let l = heard_of j m (history_of es) b y in
+    let same = rounds_agree s es run agree i j m k.0 l.0 k.1 l.1 in
+    (sym k.2 ∙ ap (λ (t : CollKind × Place × Option ℕ). t.0) same ∙ l.2, sym k.3 ∙ ap (λ (t : CollKind × Place × Option ℕ). t.2) same ∙ l.3)
+
+-- ---- what is known of the entries
+
+entry_said : (program : NumberedProgram) (h : History) (e : Entry) → IsAnswered program (e ∷ h) → heap_answer program h e.proc e.act ≡ Answers e.answer
+entry_said program h e (heap.more w k) = k
+
+no_more : (a b : ℕ) → a ≡ b + 0 → a ≡ b
+no_more a b k = omega arith
+
+arrival_no_departure : (a : Action) → is_arrival a ≡ true → is_departure a ≡ false
+arrival_no_departure (act.Arrive kind arg d) k = refl
+arrival_no_departure _ k = absurd (false_true k)
+
+ready_all : (s : Setting) (es : List Entry) (i : ℕ) (at : Place) (a : Action) → IsReady s es i (next.Act at a) → is_departure a ≡ true → (j : ℕ) → j < s.procs → departures i es < arrivals j es
+ready_all s es i at act.Depart h d = h
+ready_all s es i at _ h d = absurd (false_true d)
+
+value_fits : (h : History) (i : ℕ) (elements : Elements) (d : Deposit) (r : ℕ) (type : ValueType) → DepositFits (things_of i elements h) type d → value_in d ≡ Some (v.Region r) → is_place r h ≡ true
+value_fits h i elements (deposit.One value) r type f k =
+    let same = some_same value (v.Region r) k in region_placed h i elements type r f.1 (subst (λ x. IsOf (things_of i elements h) type (Plain x)) same f.0)
+value_fits h i elements deposit.Nothing r type f k = cc
+value_fits h i elements (deposit.Count n) r type f k = cc
+
+entry_taken : (s : Setting) (es : List Entry) (i : ℕ) (e : Entry) → IsWithin s.procs s.fuel → KeepsLaws s.program → IsRun s es → CanTake s es i e → IsTaken s.program s.procs (history_of es) e
+entry_taken s es i e w all run t =
+    let h = history_of es in
+    let who : e.proc ≡ i = taker s es i e t in
+    let balance : is_arrival e.act ≡ true → arrivals i es ≡ departures i es + cond (is_departure e.act) 1 0 = λ k.
+    law_of RoundsBalance s es all.balance w run i t.process e.place e.act t.world (subst (IsNext t.process) (came_next is_arrival refl (λ kind. refl) s es i t.next e t.entry k) t.is_next) in
+    let leaves : is_departure e.act ≡ true → IsNext t.process (next.Act e.place e.act) = λ k. subst (IsNext t.process) (came_next is_departure refl (λ kind. refl) s es i t.next e t.entry k) t.is_next in
+    record {
+      who = subst (λ j. j < s.procs) (sym who) t.within;
+      said = entry_said s.program h e (subst (IsAnswered s.program) (history_grows es e) (run_answered s (es ++ e ∷ []) (more run t refl)));
+      arrives = λ k.
+          subst (λ j. arrivals j h ≡ departures j h) (sym who)
+          (counted_back is_arrival i es ∙ no_more (arrivals i es) (departures i es) (balance k ∙ ap (λ b. departures i es + cond b 1 0) (arrival_no_departure e.act k)) ∙ sym (counted_back is_departure i es));
+      departs = λ k.
+          subst (λ j. arrivals j h ≡ departures j h + 1) (sym who)
+          (counted_back is_arrival i es
+          ∙ law_of RoundsBalance s es all.balance w run i t.process e.place e.act t.world (leaves k)
+          ∙ ap (λ b. departures i es + cond b 1 0) k
+          ∙ ap (λ n. n + 1) (sym (counted_back is_departure i es)));
+      all = λ k j l.
+          subst (λ m. departures m h < arrivals j h) (sym who)
+          (ready_counts i j (ready_all s es i e.place e.act (subst (IsReady s es i) (came_next is_departure refl (λ kind. refl) s es i t.next e t.entry k) t.ready) k j l));
+      gives = λ a r x y.
+          let is : e.act ≡ act.Arrive a.kind a.arg a.deposit = arrival_is e.act a x in
+          let typed = law_of RunTyped s es all.typed w run in
+          let n : IsNext t.process (next.Act e.place (act.Arrive a.kind a.arg a.deposit)) = subst (λ b. IsNext t.process (next.Act e.place b)) is
+          (subst (IsNext t.process) (came_next is_arrival refl (λ kind. refl) s es i t.next e t.entry (ap is_arrival is)) t.is_next) in
+          let f = typed.handed i t.process e.place a.kind a.arg a.deposit t.within t.world n in
+          value_fits h i typed.fits.elements a.deposit r f.0 f.1 y;
+    }
+  where
+    ready_counts : (i j : ℕ) → departures i es < arrivals j es → departures i (history_of es) < arrivals j (history_of es)
+    ready_counts i j l = omega (arith, counted_back is_departure i es, counted_back is_arrival j es)
+
+pub run_taken : (s : Setting) (es : List Entry) → IsWithin s.procs s.fuel → KeepsLaws s.program → IsRun s es → AreTaken s.program s.procs (history_of es)
+run_taken s es w all none = tt
+run_taken s whole w all (more {es = es} {i = i} {e = e} run t split) =
+    subst (AreTaken s.program s.procs) (sym (ap history_of split ∙ history_grows es e)) (entry_taken s es i e w all run t, run_taken s es w all run)
 
 possible_from : (o : Outcome) → (o ≡ Impossible → ⊥) → IsPossible o
 possible_from Impossible h = h refl
@@ -261,18 +351,55 @@ all_formed program w _ wanted x form = form
 run_formed : (s : Setting) (es : List Entry) (p : ℕ) (q : Process) (at : Place) (a : Action) → RunTyped s es → ActionsFormed s es → p < s.procs → World s es p q → IsNext q (next.Act at a) → AllFormed a
 run_formed s es p q at a typed formed inside world is =
     let there = typed.there p q at a inside world is in
-    all_formed s.program (things_of typed.fits.elements (history_of es)) a there.0 there.1 (formed p q at a inside world is)
+    all_formed s.program (things_of p typed.fits.elements (history_of es)) a there.0 there.1 (formed p q at a inside world is)
+
+-- what it writes as a value lies there
+written_there : (s : Setting) (es : List Entry) (i : ℕ) (w : Elements) (a : Action) (wanted : Wanted) (id : Id) → FieldsStorable s.program → AreTaken s.program s.procs (history_of es) → IsThere s.program (things_of i w (history_of es)) a wanted
+    → thing_written a ≡ Some id → is_place id.region (history_of es) ≡ true
+written_there s es i w (act.PutField obj field value) wanted id store taken x k =
+    value_placed s.program s.procs (history_of es) obj.owner w x.0 value id taken (store x.1.0 field x.0 x.1.2) x.2 k
+written_there s es i w (act.PutElem grid at value) wanted id store taken x k = value_placed s.program s.procs (history_of es) grid.owner w x.0 value id taken x.2.4 x.4 k
+written_there s es i w _ wanted id store taken x k = cc
+
+know_regions : (s : Setting) (es : List Entry) (p : ℕ) (at : Place) (a : Action) → IsWithin s.procs s.fuel → KeepsLaws s.program → IsRun s es → p < s.procs → has_fault es ≡ false
+    → HasNext s p (entries_of p es) (next.Act at a) → IsReady s es p (next.Act at a) → KnowsRegions s.program s.procs (history_of es) p at a
+know_regions s es p at a w all run inside goes has ready =
+    let h = history_of es in
+    let taken = run_taken s es w all run in
+    let dangles = law_of NothingDangles s es all.dangles w run in
+    let typed = law_of RunTyped s es all.typed w run in
+    let there = typed.there p has.process at a inside has.world has.is_next in
+    let balance = law_of RoundsBalance s es all.balance w run p has.process at a has.world has.is_next in
+    record {
+      living = dangles.actions p has.process at a inside has.world has.is_next;
+      written = λ id k. written_there s es p typed.fits.elements a there.0 id all.storable taken there.1 k;
+      numbered = λ r m. ⊎_elim (λ z. inl (eqb-true r 0 z)) (λ m. numbered s.program s.procs r h taken m) (or_cases (r == 0) (is_made r h) m);
+      gone_made = λ r g. gone_made s.program s.procs r h taken g;
+      nowhere = dangles.nowhere;
+      nowhere_behind = λ answer k.
+          let e : Entry = record { proc = p; place = at; act = a; answer = answer } in
+          let grown = run_more s es p (next.Act at a) e run inside goes has ready (ap (entry_with p at a) k) in
+          subst (λ h. is_gone 0 h ≡ false) (history_grows es e) (law_of NothingDangles s (es ++ e ∷ []) all.dangles w grown).nowhere;
+      leaving = λ d r k.
+          let x = delete_some r (last_arrival p h) k in
+          leaving s.program s.procs p r h x.0 taken (run_agrees s es run (law_of ArrivalsAgree s es all.agree w run))
+          (counted_back is_arrival p es ∙ balance ∙ ap (λ b. departures p es + cond b 1 0) d ∙ ap (λ n. n + 1) (sym (counted_back is_departure p es))) x.1 x.2;
+    }
+
+things_few : (m n f : ℕ) → m ≡ n → n ≤ f → f ≤ 4000000 → m < 4294967295
+things_few m n f x y z = omega arith
 
 pub may_do : (s : Setting) (es : List Entry) (p : ℕ) (at : Place) (a : Action) → IsWithin s.procs s.fuel → KeepsLaws s.program → IsRun s es → p < s.procs → has_fault es ≡ false
-    → HasNext s p (entries_of p es) (next.Act at a) → IsReady s es p (next.Act at a) → (is_departure a ≡ true → AllArrived s.procs p es) → is_delete a ≡ false
+    → HasNext s p (entries_of p es) (next.Act at a) → IsReady s es p (next.Act at a) → (is_departure a ≡ true → AllArrived s.procs p es)
     → MayDo s.program s.procs es p at a
-may_do s es p at a w all run inside goes has ready arrived no_delete =
+may_do s es p at a w all run inside goes has ready arrived =
     record {
       possible = possible_from (heap_answer s.program (history_of es) p a) (law_of NoneImpossible s es all.possible w run p has.process at a inside has.world has.is_next ready);
       formed = run_formed s es p has.process at a (law_of RunTyped s es all.typed w run) (law_of ActionsFormed s es all.formed w run) inside has.world has.is_next;
-      keeps_regions = no_delete;
-      few = makings_few es p s.fuel (arrivals_few s es p has.process has.world) w.limited;
+      few = makings_few es p s.fuel (actions_few is_arrival refl (λ kind. refl) s es p has.process has.world) w.limited;
+      things = things_few (things_made p (history_of es)) (things_made p es) s.fuel (counted_back is_making p es) (actions_few is_making refl (λ kind. refl) s es p has.process has.world) w.limited;
       balance = law_of RoundsBalance s es all.balance w run p has.process at a has.world has.is_next;
       arrived = arrived;
-      agrees = agrees s es p at a w all run inside goes has no_delete;
+      agrees = agrees s es p at a w all run inside goes has;
+      regions = know_regions s es p at a w all run inside goes has ready;
     }

@@ -8,6 +8,7 @@ use Rattle.ti_base.specs.declared.entry.Answer.{Answer}
 use Rattle.ti_base.specs.declared.entry.Answer.TheVariants.{Done}
 use Rattle.ti_base.specs.declared.entry.Entry.{Entry}
 use Rattle.ti_base.specs.declared.entry.Next.TheVariants as next
+use Rattle.ti_region.specs.declared.region.Region.{Region}
 use Rattle.ti_rounds.specs.declared.seat.Seat.{Seat}
 use Rattle.ti_heap.specs.Contents.{Contents}
 use Rattle.ti_heap.specs.Things.{contents}
@@ -22,7 +23,7 @@ use Rattle.ti_eval.specs.Forms.{IsFormedAnswer}
 use Rattle.ti_store.specs.declared.ledger.Ledger.{Ledger}
 use Rattle.ti_store.specs.declared.ledger.Reply.{Reply}
 use Rattle.ti_store.specs.declared.ledger.Reply.TheVariants.{Answered, Faulted}
-use Rattle.ti_align.specs.Stopping.{is_delete, RoundsBalance}
+use Rattle.ti_align.specs.Stopping.{RoundsBalance}
 use Rattle.ti_store.specs.Conditions.{IsWithin, HasNext}
 use Rattle.ti_store.specs.Stores.{next_of}
 use Rattle.ti_store.specs.MirrorsLedger.{AllArrived}
@@ -45,14 +46,14 @@ comes_from l l' p at a reply f d = record { answer = came_acts (program_in l) (h
 pub end_comes : (l : Ledger) (p : ℕ) (at : Place) (a : Action) → p < l.procs → IsKept l (history_in l) → a ≡ act.End → Comes l p at a (Answered Done) l
 end_comes l p at a inside k is = subst (λ a. Comes l p at a (Answered Done) l) (sym is) (record {
   answer = refl;
-  kept = quiet_parts (program_in l) l.procs (entry_after p at act.End (Answered Done)) (history_in l) (contents l.heap) l.rounds l.makings inside refl tt refl refl refl refl k;
+  kept = quiet_parts (program_in l) l.procs (entry_after p at act.End (Answered Done)) (history_in l) (contents l.heap) l.rounds l.makings l.regions inside tt refl refl refl refl k;
   same = refl;
 })
 
 pub fault_comes : (l : Ledger) (p : ℕ) (at : Place) (a : Action) (kind : FaultKind) → p < l.procs → IsKept l (history_in l) → a ≡ act.Fault kind → Comes l p at a (Faulted kind) l
 fault_comes l p at a kind inside k is = subst (λ a. Comes l p at a (Faulted kind) l) (sym is) (record {
   answer = refl;
-  kept = fault_parts (program_in l) l.procs (history_in l) (contents l.heap) l.rounds l.makings p at kind inside k;
+  kept = fault_parts (program_in l) l.procs (history_in l) (contents l.heap) l.rounds l.makings l.regions p at kind inside k;
   same = refl;
 })
 
@@ -79,23 +80,23 @@ entry_is s es p at a (Faulted k) e = ap (entry_with p at a) e
 
 -- ---- ledgers
 
-along : (a b : NumberedProgram) (m n : ℕ) (g h : History) (s t : Contents) (u v : List Seat) (x y : List ℕ) → a ≡ b → m ≡ n → g ≡ h → s ≡ t → u ≡ v → x ≡ y
-    → KeepsParts a m g s u x → KeepsParts b n h t v y
-along a b m n g h s t u v x y i j l o q r k =
-    subst (λ y. KeepsParts b n h t v y) r (subst (λ v. KeepsParts b n h t v x) q (subst (λ t. KeepsParts b n h t u x) o (subst (λ h. KeepsParts b n h s u x) l (subst (λ n. KeepsParts b n g s u x) j (subst (λ b. KeepsParts b m g s u x) i k)))))
+along : (a b : NumberedProgram) (m n : ℕ) (g h : History) (s t : Contents) (u v : List Seat) (x y : List ℕ) (c d : List Region) → a ≡ b → m ≡ n → g ≡ h → s ≡ t → u ≡ v → x ≡ y → c ≡ d
+    → KeepsParts a m g s u x c → KeepsParts b n h t v y d
+along a b m n g h s t u v x y c d i j l o q r w k =
+    subst (λ d. KeepsParts b n h t v y d) w (subst (λ y. KeepsParts b n h t v y c) r (subst (λ v. KeepsParts b n h t v x c) q (subst (λ t. KeepsParts b n h t u x c) o (subst (λ h. KeepsParts b n h s u x c) l (subst (λ n. KeepsParts b n g s u x c) j (subst (λ b. KeepsParts b m g s u x c) i k))))))
 
 -- the entry is added
 pub steps_from : (l l0 l1 l2 : Ledger) (p : ℕ) (at : Place) (a : Action) (reply : Reply) → SameLedger l l0 → Comes l0 p at a reply l1 → l2.program ≡ l1.program → l2.procs ≡ l1.procs → l2.heap ≡ l1.heap
-    → l2.rounds ≡ l1.rounds → l2.makings ≡ l1.makings → l2.entries.items ≡ l1.entries.items ++ entry_after p at a reply ∷ [] → Steps l p at a reply l2
-steps_from l l0 l1 l2 p at a reply same c program procs heap rounds makings items =
+    → l2.rounds ≡ l1.rounds → l2.makings ≡ l1.makings → l2.regions ≡ l1.regions → l2.entries.items ≡ l1.entries.items ++ entry_after p at a reply ∷ [] → Steps l p at a reply l2
+steps_from l l0 l1 l2 p at a reply same c program procs heap rounds makings regions items =
     let e = entry_after p at a reply in
     let inner : l1.entries.items ≡ l0.entries.items = ap (λ (k : Ledger). k.entries.items) c.same in
     let grown : l2.entries.items ≡ l0.entries.items ++ e ∷ [] = items ∙ ap (λ xs. xs ++ e ∷ []) inner in
     let history : history_in l2 ≡ e ∷ history_in l0 = ap history_of grown ∙ history_grows l0.entries.items e in
     record {
       answer = (λ j. came_of (program_of (sym same.program j).parts) (history_of (sym same.entries j)) p a) ∙ c.answer;
-      kept = along (program_in l1) (program_in l2) l1.procs l2.procs (e ∷ history_in l0) (history_in l2) (contents l1.heap) (contents l2.heap) l1.rounds l2.rounds l1.makings l2.makings
-          (λ j. program_of (sym program j).parts) (sym procs) (sym history) (ap contents (sym heap)) (sym rounds) (sym makings) c.kept;
+      kept = along (program_in l1) (program_in l2) l1.procs l2.procs (e ∷ history_in l0) (history_in l2) (contents l1.heap) (contents l2.heap) l1.rounds l2.rounds l1.makings l2.makings l1.regions l2.regions
+          (λ j. program_of (sym program j).parts) (sym procs) (sym history) (ap contents (sym heap)) (sym rounds) (sym makings) (sym regions) c.kept;
       entries = grown ∙ ap (λ xs. xs ++ e ∷ []) same.entries;
       program = program ∙ ap (λ (k : Ledger). k.program) c.same ∙ same.program;
       procs = procs ∙ ap (λ (k : Ledger). k.procs) c.same ∙ same.procs;
@@ -123,11 +124,11 @@ waits_before l fuel p at a k inside n d =
     law_of RoundsBalance s es k.laws.balance k.within k.run p has.process at a has.world has.is_next ∙ ap (λ t. departures p es + cond t 1 0) d
 
 pub may_act : (l : Ledger) (fuel p : ℕ) (at : Place) (a : Action) → IsLedger l fuel false → p < l.procs → HasNext (setting_in l fuel) p (entries_of p l.entries.items) (next_of at a)
-    → (is_departure a ≡ true → AllArrived l.procs p l.entries.items) → is_delete a ≡ false → MayAct l p at a
-may_act l fuel p at a k inside n arrived no_delete e f =
+    → (is_departure a ≡ true → AllArrived l.procs p l.entries.items) → MayAct l p at a
+may_act l fuel p at a k inside n arrived e f =
     let es = l.entries.items in
     let s = setting_in l fuel in
-    may_do s es p at a k.within k.laws k.run inside (sym k.faulted_is) (next_act s es p at a e f n) (subst (IsReady s es p) (next_acts at a e f) (ready_when s es p at a arrived)) arrived no_delete
+    may_do s es p at a k.within k.laws k.run inside (sym k.faulted_is) (next_act s es p at a e f n) (subst (IsReady s es p) (next_acts at a e f) (ready_when s es p at a arrived)) arrived
 
 -- a fault ends the run
 abbrev pub is_faulted : Reply → Bool

@@ -1,8 +1,9 @@
--- Each answer costs its process a tick, so no process arrives at more collectives than it has ticks.
+-- Each answer costs its process a tick, so no process does more actions than it has ticks.
 use Rattle.std.proofs.Common.{◌≡◌, ℕ, suc, ◌+◌, ◌<◌, ◌≤◌, nat_lt, not, ◌||◌, Bool, true, false, cond, if◌then◌else◌, List, [], ◌∷◌, length, filter, count_by, Option, None, Some, refl, sym, subst, arith}
 use Rattle.std.proofs.lemmas.List.{length-map}
 use Rattle.std.proofs.lemmas.List.Sums.{sum_by-cons}
 use Rattle.ti_base.specs.declared.place.Place.{Place}
+use Rattle.ti_base.specs.declared.fault.FaultKind.{FaultKind}
 use Rattle.ti_base.specs.declared.fault.FaultKind.TheVariants.{Fuel}
 use Rattle.ti_base.specs.declared.action.Action.{Action}
 use Rattle.ti_base.specs.declared.action.Action.TheVariants as act
@@ -16,7 +17,7 @@ use Rattle.ti_lang.specs.Meaning.Performing.{performed}
 use Rattle.ti_lang.specs.Meaning.Jumps.{has_mark}
 use Rattle.ti_lang.specs.Meaning.Steps.{Step, To, At, Ends, Faults, spends, ticks, asks, answered, most_frames, valued, moves, works, runs, steps, step}
 use Rattle.ti_lang.specs.Meaning.NextStep.{Reaches, here, later, After, none, more}
-use Rattle.ti_lang.specs.Meaning.Histories.{is_end, is_fault, is_arrival, is_answered, entries_of, answers_of, arrivals}
+use Rattle.ti_lang.specs.Meaning.Histories.{is_end, is_fault, is_answered, entries_of, answers_of}
 use Rattle.ti_lang.specs.Meaning.Runs.{World}
 use Rattle.ti_lang.proofs.MeaningLaws.Limits.{within}
 use Rattle.ti_store.proofs.OneMore.{one}
@@ -103,39 +104,40 @@ after_costs p q [] none = subst (λ n. n ≤ p.spent) (sym (none_spent p.spent 0
 after_costs p q (r ∷ rs) (more {q = x} {go = go} a b c) =
     more_spent p.spent x.spent (go r).spent q.spent (length rs) (reach_costs p x a) (subst (Costs x.spent) b (step_costs x) r) (after_costs (go r) q rs c)
 
--- ---- arrivals
+-- ---- actions of a kind
 
-none_more : (n : ℕ) → 0 + n ≤ n
-none_more n = omega arith
+one_most : (t : Bool) (n : ℕ) → one t + n ≤ suc n
+one_most true n = omega arith
+one_most false n = omega arith
 
-one_more : (n : ℕ) → 1 + n ≤ suc n
-one_more n = omega arith
-
-none_above : (n : ℕ) → 0 + n ≤ suc n
-none_above n = omega arith
-
-counted : (e : Entry) (xs : List Entry) → one (is_arrival e.act) + length (filter is_answered xs) ≤ length (filter is_answered (e ∷ xs))
-counted e xs = by e.act
-  where
-    by : (a : Action) → one (is_arrival a) + length (filter is_answered xs) ≤ length (cond (not (is_end a || is_fault a)) (e ∷ filter is_answered xs) (filter is_answered xs))
-    by act.End = none_more (length (filter is_answered xs))
-    by (act.Fault kind) = none_more (length (filter is_answered xs))
-    by (act.Arrive kind arg given) = one_more (length (filter is_answered xs))
-    by _ = none_above (length (filter is_answered xs))
+none_more : (t : Bool) (n : ℕ) → t ≡ false → one t + n ≤ n
+none_more true n e = cc
+none_more false n e = omega arith
 
 added : (a b c d : ℕ) → b ≤ c → a + c ≤ d → a + b ≤ d
 added a b c d h k = omega arith
 
-arrivals_answered : (xs : List Entry) → count_by (λ (e : Entry). is_arrival e.act) xs ≤ length (filter is_answered xs)
-arrivals_answered [] = same_least 0
-arrivals_answered (e ∷ xs) =
-    subst (λ n. n ≤ length (filter is_answered (e ∷ xs))) (sym (sum_by-cons (λ (x : Entry). cond (is_arrival x.act) 1 0) e xs))
-    (added (one (is_arrival e.act)) (count_by (λ (e : Entry). is_arrival e.act) xs) (length (filter is_answered xs)) (length (filter is_answered (e ∷ xs))) (arrivals_answered xs) (counted e xs))
-
 few : (a m n b c d : ℕ) → a ≤ n → m ≡ n → b + m ≤ c → c ≤ d → a ≤ d
 few a m n b c d h k l o = omega arith
 
-pub arrivals_few : (s : Setting) (es : List Entry) (i : ℕ) (p : Process) → World s es i p → arrivals i es ≤ s.fuel
-arrivals_few s es i p world =
-    few (arrivals i es) (length (answers_of i es)) (length (filter is_answered (entries_of i es))) (begin s i).spent p.spent s.fuel (arrivals_answered (entries_of i es))
-    (length-map (filter is_answered (entries_of i es)) (λ (e : Entry). e.answer)) (after_costs (begin s i) p (answers_of i es) world) (within s i (answers_of i es) p world).0
+-- a kind to which no end and no fault belongs
+module _ (f : Action → Bool) (ends : f act.End ≡ false) (faults : (kind : FaultKind) → f (act.Fault kind) ≡ false) where
+  counted : (e : Entry) (xs : List Entry) → one (f e.act) + length (filter is_answered xs) ≤ length (filter is_answered (e ∷ xs))
+  counted e xs = by e.act
+    where
+      by : (a : Action) → one (f a) + length (filter is_answered xs) ≤ length (cond (not (is_end a || is_fault a)) (e ∷ filter is_answered xs) (filter is_answered xs))
+      by act.End = none_more (f act.End) (length (filter is_answered xs)) ends
+      by (act.Fault kind) = none_more (f (act.Fault kind)) (length (filter is_answered xs)) (faults kind)
+      by a = one_most (f a) (length (filter is_answered xs))
+
+  all_answered : (xs : List Entry) → count_by (λ (e : Entry). f e.act) xs ≤ length (filter is_answered xs)
+  all_answered [] = same_least 0
+  all_answered (e ∷ xs) =
+      subst (λ n. n ≤ length (filter is_answered (e ∷ xs))) (sym (sum_by-cons (λ (x : Entry). cond (f x.act) 1 0) e xs))
+      (added (one (f e.act)) (count_by (λ (e : Entry). f e.act) xs) (length (filter is_answered xs)) (length (filter is_answered (e ∷ xs))) (all_answered xs) (counted e xs))
+
+  -- there are no more of them than ticks
+  pub actions_few : (s : Setting) (es : List Entry) (i : ℕ) (p : Process) → World s es i p → count_by (λ (e : Entry). f e.act) (entries_of i es) ≤ s.fuel
+  actions_few s es i p world =
+      few (count_by (λ (e : Entry). f e.act) (entries_of i es)) (length (answers_of i es)) (length (filter is_answered (entries_of i es))) (begin s i).spent p.spent s.fuel (all_answered (entries_of i es))
+      (length-map (filter is_answered (entries_of i es)) (λ (e : Entry). e.answer)) (after_costs (begin s i) p (answers_of i es) world) (within s i (answers_of i es) p world).0

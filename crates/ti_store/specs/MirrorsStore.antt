@@ -9,6 +9,8 @@ use Rattle.ti_align.specs.Stopping.{RoundsBalance, NoneImpossible}
 use Rattle.ti_align.specs.Fitting.{FieldsFit}
 use Rattle.ti_align.specs.Typed.{RunTyped}
 use Rattle.ti_align.specs.Formed.{ActionsFormed}
+use Rattle.ti_align.specs.Heap.{FieldsStorable}
+use Rattle.ti_align.specs.Dangling.{NothingDangles}
 use Rattle.ti_store.specs.declared.ledger.Ledger.{Ledger}
 use Rattle.ti_store.specs.declared.store.Store.TheInside.{Inside}
 use Rattle.ti_store.specs.Conditions.{IsWithin}
@@ -23,6 +25,8 @@ pub record KeepsLaws (program : NumberedProgram) : Type 0 where
   pub typed : OfEveryRun RunTyped program
   pub formed : OfEveryRun ActionsFormed program
   pub fields : FieldsFit program
+  pub storable : FieldsStorable program
+  pub dangles : OfEveryRun NothingDangles program
 
 -- what contracts see
 abbrev pub state_of : Ledger → ℕ → Bool → StoreState

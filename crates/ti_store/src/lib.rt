@@ -1,7 +1,8 @@
-//! The history of a run, with the heap and the rounds that it makes.
+//! The history of a run, with the heap, the rounds and the regions that it makes.
 #![tactic(auto)]
 
 mod act_err;
+mod deletes;
 mod ledger;
 mod makers;
 mod makings;

@@ -4,7 +4,6 @@ ghost use Rattle.std.specs.Prelude.{◌≡◌, ◌<◌, [], false, true, IfOk, I
 ghost use Rattle.ti_lang.specs.Program.Views.{program_of};
 ghost use Rattle.ti_lang.specs.Meaning.Runs.{IsRun};
 ghost use Rattle.ti_eval.specs.Forms.{IsFormedAnswer};
-ghost use Rattle.ti_align.specs.Stopping.{is_delete};
 ghost use Rattle.ti_store.specs.Conditions.{IsWithin};
 ghost use Rattle.ti_store.specs.Stores.{setting_of, IsNextOf, IsDone, IsRefused};
 
@@ -14,14 +13,16 @@ use crate::makings::Makings;
 use std::alloc::Global;
 use std::marker::Model;
 use ti_align::{
-    actions_formed, arrivals_agree, fields_fit, none_impossible, rounds_balance, run_typed,
+    actions_formed, arrivals_agree, fields_fit, fields_storable, none_impossible, nothing_dangles,
+    rounds_balance, run_typed,
 };
 use ti_base::{Action, Answer, Entry, Memory, Place};
 use ti_heap::Heap;
+use ti_region::Regions;
 use ti_rounds::Rounds;
 use ti_rules::Checked;
 
-/// The history of a run, with the heap and the rounds that it makes.
+/// The history of a run, with the heap, the rounds and the regions that it makes.
 ///
 /// Contracts see the program, the number of processes, the fuel of each, the entries so far, and whether
 /// want of memory halted the store. The entries are always a run of the program.
@@ -66,10 +67,13 @@ impl Store {
         run_typed(c);
         actions_formed(c);
         fields_fit(c);
+        fields_storable(c);
+        nothing_dangles(c);
         let program = c.program.copy(alloc)?;
         let heap = Heap::new(alloc, procs)?;
         let rounds = Rounds::new(alloc, procs)?;
         let makings = Makings::new(alloc, procs)?;
+        let regions = Regions::new(alloc);
         let ledger = Ledger {
             program,
             procs,
@@ -77,6 +81,7 @@ impl Store {
             heap,
             rounds,
             makings,
+            regions,
         };
         Ok(Store {
             ledger,
@@ -86,8 +91,7 @@ impl Store {
         })
     }
 
-    /// The process does what it has next: an action, its end or a fault of its own. It deletes no shared
-    /// region.
+    /// The process does what it has next: an action, its end or a fault of its own.
     ///
     /// Its entry is added, with its answer or as the fault that comes of it. `Halted` comes exactly where
     /// the history ends with a fault or the store was halted; else `NotYet` exactly where this is a departure
@@ -97,7 +101,6 @@ impl Store {
     pub fn act(&mut self, alloc: Global, p: u32, place: Place, a: Action) -> Result<Answer, ActErr>
         requires process { p < self.old.procs }
         requires next { IsNextOf self.old p place a }
-        requires keeps_regions { is_delete a ≡ false }
         ensures ok { IfOk result (λ answer. IsDone self.old p place a answer self.new) }
         ensures form { IfOk result IsFormedAnswer }
         ensures err { IfErr result (λ why. IsRefused self.old p place a why self.new) }
@@ -151,6 +154,7 @@ impl Store {
             heap: _,
             rounds: _,
             makings: _,
+            regions: _,
         } = ledger;
         entries
     }

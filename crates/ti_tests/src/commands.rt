@@ -676,9 +676,9 @@ fn calls_may_fail(rt: HostRuntime) -> Result<(), Fail> {
 fn examples_are_run(rt: HostRuntime) -> Result<(), Fail> {
     for row in EXAMPLES {
         let end = End {
-            status: 0,
+            status: row.status,
             out: row.out,
-            err: "",
+            err: row.err,
         };
         let text = String::from_str(rt.alloc(), row.text)?;
         let holds = leaves(&rt, "--procs 2 a.ti", text, NONE_FAILS, end)?;

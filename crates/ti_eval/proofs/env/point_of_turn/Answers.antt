@@ -7,8 +7,7 @@ use Rattle.ti_eval.proofs.env.point_of_turn.Goals as goal
 
 pub returns-then-variable-number-clause-value : goal.returns-then-variable-number-clause-value
 returns-then-variable-number-clause-value c = λ site body.
-    ap (λ p. Plain (Pt p)) c.point.ensures.value
-    ∙ turn_found site body c.args.levels.now c.loop-n.n c.index-levels-n.result c.args.number c.in-Turn.variable c.in-Turn.domain c.in-Turn.point (omega (arith, c.loop-n-test.true))
+    turn_found site body c.args.levels.now c.loop-n.n c.index-levels-n.result c.args.number c.in-Turn.variable c.in-Turn.domain c.in-Turn.at (omega (arith, c.loop-n-test.true))
     (omega (arith, c.loop-n.invariant.within)) (ap (λ (l : Level). l.todo) (sym c.index-levels-n.is) ∙ c.in-Turn.is) c.if-variable-number.true c.loop-n.invariant.same
 
 pub returns-clause-value : goal.returns-clause-value

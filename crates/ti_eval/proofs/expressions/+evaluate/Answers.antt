@@ -26,36 +26,36 @@ use Rattle.ti_eval.specs.Envs.{env_of}
 use Rattle.ti_eval.proofs.Evaluating.{behind, all_stop, all_next, numbers_stopped, numbers_next, bounds_stopped, bounds_next}
 use Rattle.ti_eval.proofs.expressions.+evaluate.Goals as goal
 
-pub evaluate-returns-in-Point : goal.evaluate-returns-in-Point
-evaluate-returns-in-Point t c =
+pub evaluated-returns-in-Point : goal.evaluated-returns-in-Point
+evaluated-returns-in-Point t c =
     let E = env_of c.args.env.now in
     let b = seen_numbered_point c.args.e.now c.in-Point.field-0 c.in-Point.parts c.in-Point.is in
     subst (λ (y : NumberedExp). Comes c.point_from.result (eval E y c.args.answers.now))
     (ap (λ (ys : List Expr). x.Point c.in-Point.field-0 (numbered_exps (map expression_of ys))) c.deref.ensures.value ∙ sym b)
     (c.point_from.ensures _ c.evaluate_numbers.ensures)
 
-pub evaluate-returns-in-Rect : goal.evaluate-returns-in-Rect
-evaluate-returns-in-Rect t c =
+pub evaluated-returns-in-Rect : goal.evaluated-returns-in-Rect
+evaluated-returns-in-Rect t c =
     let E = env_of c.args.env.now in
     let b = seen_numbered_rect c.args.e.now c.in-Rect.place c.in-Rect.ranges c.in-Rect.is in
     subst (λ (y : NumberedExp). Comes c.rect_from.result (eval E y c.args.answers.now))
     (ap (λ (ys : List Range). x.Rect c.in-Rect.place (numbered_ranges (map bound_of ys))) c.deref-in-Rect.ensures.value ∙ sym b)
     (c.rect_from.ensures _ c.evaluate_ranges.ensures)
 
-pub evaluate-returns-in-Unary : goal.evaluate-returns-in-Unary
-evaluate-returns-in-Unary t c =
+pub evaluated-returns-in-Unary : goal.evaluated-returns-in-Unary
+evaluated-returns-in-Unary t c =
     let E = env_of c.args.env.now in
     subst (λ (y : NumberedExp). Comes c.alone_from.result (eval E y c.args.answers.now))
     (ap (λ (z : Expr). x.Unary c.in-Unary.place c.in-Unary.operator (expression_of z)) c.deref-in-Unary.ensures ∙ sym (ap expression_of c.in-Unary.is))
-    (c.alone_from.ensures _ c.evaluate.ensures)
+    (c.alone_from.ensures _ c.evaluated.ensures)
 
-pub evaluate-returns-in-Cast : goal.evaluate-returns-in-Cast
-evaluate-returns-in-Cast t c =
+pub evaluated-returns-in-Cast : goal.evaluated-returns-in-Cast
+evaluated-returns-in-Cast t c =
     let E = env_of c.args.env.now in
     subst (λ (y : NumberedExp). Comes c.cast_from.result (eval E y c.args.answers.now))
     (ap (λ (z : Expr). x.Cast c.in-Cast.place (type_use_of c.deref-in-Cast-2.result.now) (expression_of z)) c.deref-in-Cast.ensures
     ∙ ap (λ (u : TypeUse). x.Cast c.in-Cast.place (type_use_of u) (expression_of c.in-Cast.operand.value)) c.deref-in-Cast-2.ensures ∙ sym (ap expression_of c.in-Cast.is))
-    (c.cast_from.ensures _ c.evaluate-got-in-Cast.ensures)
+    (c.cast_from.ensures _ c.evaluated-got-in-Cast.ensures)
 
 pub with_arguments-returns-in-Ok : goal.with_arguments-returns-in-Ok
 with_arguments-returns-in-Ok t c type through m p =
@@ -65,28 +65,28 @@ with_arguments-returns-in-Ok t c type through m p =
     subst (λ (g : Got Held). Comes c.member_from.result (followed g (λ h r. followed (eval_all E xs r) (λ hs. member c.args.at type (option_map built_in_of c.args.called) through h hs)))) (sym e)
     (c.member_from.ensures type through (eval_all E xs c.in-Ok.answers.now) c.evaluate_all.ensures)
 
-pub evaluate-returns-in-Select : goal.evaluate-returns-in-Select
-evaluate-returns-in-Select t c =
+pub evaluated-returns-in-Select : goal.evaluated-returns-in-Select
+evaluated-returns-in-Select t c =
     let E = env_of c.args.env.now in
     let y = expression_of c.in-Select.receiver.value in
     let m = eval E y c.args.answers.now in
     let type = type_of E (x.Select c.in-Select.place y c.in-Select.name) in
     let through = type_of E y in
-    let p : Comes c.evaluate-in-Select.result m = subst (λ (z : Expr). Comes c.evaluate-in-Select.result (eval E (expression_of z) c.args.answers.now)) c.deref-in-Select-2.ensures c.evaluate-in-Select.ensures in
+    let p : Comes c.evaluated-in-Select.result m = subst (λ (z : Expr). Comes c.evaluated-in-Select.result (eval E (expression_of z) c.args.answers.now)) c.deref-in-Select-2.ensures c.evaluated-in-Select.ensures in
     let r = c.selected.ensures type through m p in
     subst (λ (w : NumberedExp). Comes c.selected.result (eval E w c.args.answers.now)) (sym (ap expression_of c.in-Select.is))
     (subst (λ (z : Expr). Comes c.selected.result (followed m (λ h. fetched c.in-Select.place type (Field h through (field_selected E (expression_of z) c.in-Select.name))))) c.deref-in-Select.ensures r)
 
-pub evaluate-returns-in-Binary : goal.evaluate-returns-in-Binary
-evaluate-returns-in-Binary t c =
+pub evaluated-returns-in-Binary : goal.evaluated-returns-in-Binary
+evaluated-returns-in-Binary t c =
     let E = env_of c.args.env.now in
     let m = eval E (expression_of c.in-Binary.left.value) c.args.answers.now in
-    let p : Comes c.evaluate-got.result m = subst (λ (z : Expr). Comes c.evaluate-got.result (eval E (expression_of z) c.args.answers.now)) c.deref-in-Binary.ensures c.evaluate-got.ensures in
+    let p : Comes c.evaluated-got.result m = subst (λ (z : Expr). Comes c.evaluated-got.result (eval E (expression_of z) c.args.answers.now)) c.deref-in-Binary.ensures c.evaluated-got.ensures in
     subst (λ (y : NumberedExp). Comes c.binary.result (eval E y c.args.answers.now)) (sym (ap expression_of c.in-Binary.is))
     (subst (λ (z : Expr). Comes c.binary.result (followed m (λ h. with_right c.in-Binary.place c.in-Binary.operator h (eval E (expression_of z))))) c.deref-in-Binary-2.ensures (c.binary.ensures m p))
 
-pub evaluate-returns-in-Member : goal.evaluate-returns-in-Member
-evaluate-returns-in-Member t c =
+pub evaluated-returns-in-Member : goal.evaluated-returns-in-Member
+evaluated-returns-in-Member t c =
     let E = env_of c.args.env.now in
     let at = c.in-Member.place in
     let name = c.in-Member.name in
@@ -95,7 +95,7 @@ evaluate-returns-in-Member t c =
     let m = eval E y c.args.answers.now in
     let type = type_of E (x.Member at y name xs) in
     let through = type_of E y in
-    let p : Comes c.evaluate-got-in-Member.result m = subst (λ (z : Expr). Comes c.evaluate-got-in-Member.result (eval E (expression_of z) c.args.answers.now)) c.deref-in-Member-2.ensures c.evaluate-got-in-Member.ensures in
+    let p : Comes c.evaluated-got-in-Member.result m = subst (λ (z : Expr). Comes c.evaluated-got-in-Member.result (eval E (expression_of z) c.args.answers.now)) c.deref-in-Member-2.ensures c.evaluated-got-in-Member.ensures in
     let k : option_map built_in_of c.called_member-called.result ≡ member_called E.program (this_of E.method) y name =
     c.called_member-called.ensures ∙ ap (λ (z : Expr). member_called E.program (this_of E.method) (expression_of z) name) c.deref-in-Member.ensures in
     let r = c.with_arguments.ensures type through m p in
@@ -104,8 +104,8 @@ evaluate-returns-in-Member t c =
     (subst (λ (ys : List Expr). Comes c.with_arguments.result (followed m (λ h r. followed (eval_all E (numbered_exps (map expression_of ys)) r) (λ hs. member at type (member_called E.program (this_of E.method) y name) through h hs)))) c.deref-in-Member-3.ensures.value
     (subst (λ (o : Option BuiltIn). Comes c.with_arguments.result (followed m (λ h r. followed (eval_all E (numbered_exps (map expression_of c.deref-in-Member-3.result.now)) r) (λ hs. member at type o through h hs)))) k r))
 
-pub evaluate-returns-in-Index : goal.evaluate-returns-in-Index
-evaluate-returns-in-Index t c =
+pub evaluated-returns-in-Index : goal.evaluated-returns-in-Index
+evaluated-returns-in-Index t c =
     let E = env_of c.args.env.now in
     let at = c.in-Index.place in
     let y = expression_of c.in-Index.receiver.value in
@@ -113,7 +113,7 @@ evaluate-returns-in-Index t c =
     let m = eval E y c.args.answers.now in
     let type = type_of E (x.Index at y xs) in
     let through = type_of E y in
-    let p : Comes c.evaluate-got-in-Index.result m = subst (λ (z : Expr). Comes c.evaluate-got-in-Index.result (eval E (expression_of z) c.args.answers.now)) c.deref-in-Index-2.ensures c.evaluate-got-in-Index.ensures in
+    let p : Comes c.evaluated-got-in-Index.result m = subst (λ (z : Expr). Comes c.evaluated-got-in-Index.result (eval E (expression_of z) c.args.answers.now)) c.deref-in-Index-2.ensures c.evaluated-got-in-Index.ensures in
     let k : c.is_point-is_point.result ≡ is_point (type_of E y) = c.is_point-is_point.ensures ∙ ap (λ (z : Expr). is_point (type_of E (expression_of z))) c.deref-in-Index.ensures in
     let r = c.with_indices.ensures type through m p in
     let b = seen_numbered_index c.args.e.now at c.in-Index.receiver c.in-Index.indices c.in-Index.is in
@@ -186,3 +186,6 @@ range-returns-in-Ok-evaluate-2 t c =
     (subst (λ (g : Got Held). ComesAs bounds_of c.stepped_from.result (followed g (λ a r. followed (eval E high r) (λ b u. followed (eval E step u) (λ k. gives (literal.stepped_bounds a b k)))))) (sym c.in-Ok-evaluate.ensures)
     (subst (λ (g : Got Held). ComesAs bounds_of c.stepped_from.result (followed g (λ b u. followed (eval E step u) (λ k. gives (literal.stepped_bounds c.in-Ok-evaluate.a b k))))) (sym c.in-Ok-evaluate-2.ensures)
     (c.stepped_from.ensures _ c.evaluate-in-Ok-evaluate-2.ensures)))
+
+pub evaluate-returns-in-Some : goal.evaluate-returns-in-Some
+evaluate-returns-in-Some t c = subst (λ (g : Got Held). Comes c.made.result g) (sym (c.in-Some.ensures.value c.args.answers.now)) c.made.ensures

@@ -1,6 +1,6 @@
--- What only clauses see owns nothing, so it may go to another thread.
-use denote.Param.Send.{IsSend, owning_send}
-use Rattle.ti_exec.specs.contracts.past.Past.{the_row, the_type}
+use denote.Param.Send.{IsSend}
+use Rattle.ti_exec.specs.contracts.past.Past.{the_row}
+use Rattle.ti_exec.proofs.Sending.{past_sent}
 
 pub send : IsSend the_row
-send = owning_send the_type tt (λ d. tt) (λ k x w. tt)
+send = past_sent

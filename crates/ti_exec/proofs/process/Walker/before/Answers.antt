@@ -1,6 +1,6 @@
 use Rattle.ti_lang.specs.Program.Views.{program_of}
 use Rattle.ti_exec.proofs.Begun.{decided, undecided, condition_got, goes_before}
-use Rattle.ti_exec.proofs.Works.{step_in}
+use Rattle.ti_exec.proofs.Works.{step_in, of_result}
 use Rattle.ti_exec.proofs.process.Walker.before.Goals as goal
 
 pub returns-in-Ok : goal.returns-in-Ok
@@ -8,8 +8,8 @@ returns-in-Ok c =
     let p = program_of c.args.c.now in
     step_in p _ _ _ _ _ (decided p c.args.self.now c.in-Ok.again c.requires c.in-Ok.ensures) c.turn.ensures
 
-pub returns-in_ok-stops-in-Err : goal.returns-in_ok-stops-in-Err
-returns-in_ok-stops-in-Err c =
+pub returns-in-Err : goal.returns-in-Err
+returns-in-Err c =
     let p = program_of c.args.c.now in
     let w = c.args.self.now in
-    undecided p w _ c.in-Err.stop _ c.requires c.in-Err.ensures (c.in_ok-stops-in-Err.ensures p (condition_got p w) (goes_before p w))
+    of_result c.stops.result _ _ (λ r h. undecided p w _ c.in-Err.stop r c.requires c.in-Err.ensures (h p (condition_got p w) (goes_before p w))) c.stops.ensures

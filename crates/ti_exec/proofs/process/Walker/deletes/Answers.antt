@@ -4,12 +4,12 @@ use Rattle.ti_lang.specs.Meaning.Asking.{ToBeDone}
 use Rattle.ti_lang.specs.Meaning.Processes.{Work, Nowhere}
 use Rattle.ti_lang.specs.Meaning.Steps.{arrives, deleting}
 use Rattle.ti_exec.specs.States.{IsStep, process_of, top_of, below_of, site_of, body_of, rest}
-use Rattle.ti_exec.proofs.Works.{left_inside}
+use Rattle.ti_exec.proofs.Works.{left_inside, of_result}
 use Rattle.ti_exec.proofs.process.Walker.deletes.Goals as goal
 
 pub returns : goal.returns
-returns c = λ p ws.
+returns c = of_result c.arrives.result _ _ (λ t arrived p ws.
     let w = c.args.self.now in
     let left = sym (left_inside (site_of p w.team.procs w.top) (body_of p w.top) (reverse w.top.levels.items)) in
-    let at_count = c.arrives.ensures p _ ToBeDone Nowhere (ap (λ (xs : List Work). top_of p w xs ∷ below_of p w) left) refl in
-    subst (λ (n : ℕ). IsStep p (process_of p w) (arrives (process_of p w) (top_of p w (rest p w.team.procs w.top) ∷ below_of p w) (deleting c.args.at c.args.region) (Count n)) c.arrives.result w) (c.named.ensures p ws) at_count
+    let at_count = arrived p _ ToBeDone Nowhere (ap (λ (xs : List Work). top_of p w xs ∷ below_of p w) left) refl in
+    subst (λ (n : ℕ). IsStep p (process_of p w) (arrives (process_of p w) (top_of p w (rest p w.team.procs w.top) ∷ below_of p w) (deleting c.args.at c.args.region) (Count n)) t w) (c.named.ensures p ws) at_count) c.arrives.ensures

@@ -4,7 +4,7 @@ use Rattle.ti_lang.specs.Meaning.Asking.{ToBeDone}
 use Rattle.ti_lang.specs.Meaning.Processes.{Work, Nowhere}
 use Rattle.ti_exec.specs.declared.process.Turn.TheVariants.{Went}
 use Rattle.ti_exec.specs.States.{top_of, below_of, site_of, body_of, rest}
-use Rattle.ti_exec.proofs.Works.{left_within, moved_as, moved_in}
+use Rattle.ti_exec.proofs.Works.{left_within, moved_as, moved_in, of_result}
 use Rattle.ti_exec.proofs.process.Walker.moves.Goals as goal
 
 pub returns-in-Goes : goal.returns-in-Goes
@@ -29,12 +29,15 @@ returns-in-Meets c =
     let p = program_of c.args.c.now in
     let w = c.args.self.now in
     let left = sym (left_within (site_of p w.team.procs w.top) (body_of p w.top) w.top.levels.items c.in-Meets.todo c.requires) in
-    moved_as p w _ _ _ _ c.in-Meets.is (λ ws. c.arrives.ensures p _ ToBeDone Nowhere (ap (λ (xs : List Work). top_of p w xs ∷ below_of p w) left) refl)
+    moved_in p w _ c.arrives.result _ _ c.in-Meets.is
+    (of_result c.arrives.result _ _ (λ t arrives ws. arrives p _ ToBeDone Nowhere (ap (λ (xs : List Work). top_of p w xs ∷ below_of p w) left) refl) c.arrives.ensures)
 
 pub returns-in-Expects : goal.returns-in-Expects
 returns-in-Expects c =
     let p = program_of c.args.c.now in
-    moved_as p c.args.self.now _ _ _ _ c.in-Expects.is (λ ws. c.arrives-in-Expects.ensures p _ _ _ refl refl)
+    moved_in p c.args.self.now _ c.arrives-in-Expects.result _ _ c.in-Expects.is (of_result c.arrives-in-Expects.result _ _ (λ t arrives ws. arrives p _ _ _ refl refl) c.arrives-in-Expects.ensures)
 
 pub returns-in-Deletes : goal.returns-in-Deletes
-returns-in-Deletes c = moved_as (program_of c.args.c.now) c.args.self.now _ _ _ _ c.in-Deletes.is (c.deletes.ensures (program_of c.args.c.now))
+returns-in-Deletes c =
+    let p = program_of c.args.c.now in
+    moved_in p c.args.self.now _ c.deletes.result _ _ c.in-Deletes.is (of_result c.deletes.result _ _ (λ t deletes. deletes p) c.deletes.ensures)

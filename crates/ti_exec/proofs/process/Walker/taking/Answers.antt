@@ -1,6 +1,7 @@
 use Rattle.ti_lang.specs.Program.Views.{program_of}
 use Rattle.ti_eval.specs.declared.frame.Todo.TheVariants as left
 use Rattle.ti_exec.proofs.Begun.{went_out, take_done, take_went, take_stops}
+use Rattle.ti_exec.proofs.Works.{of_result}
 use Rattle.ti_exec.proofs.process.Walker.taking.Goals as goal
 
 pub returns-then-next-self : goal.returns-then-next-self
@@ -13,7 +14,9 @@ returns-in-Ok c =
     let p = program_of c.args.c.now in
     take_went p c.args.self.now c.done-in-Ok.new.self c.args.grid c.args.next _ _ _ _ c.requires c.if-next-self.false c.stands.ensures c.member_place-at.ensures c.deref.ensures.value c.in-Ok.ensures (c.done-in-Ok.ensures p)
 
-pub returns-in_ok-stops-in-Err : goal.returns-in_ok-stops-in-Err
-returns-in_ok-stops-in-Err c =
+pub returns-in-Err : goal.returns-in-Err
+returns-in-Err c =
     let p = program_of c.args.c.now in
-    take_stops p c.args.self.now _ c.args.grid c.args.next _ _ _ c.in-Err.stop _ c.requires c.if-next-self.false c.stands.ensures c.member_place-at.ensures c.deref.ensures.value c.in-Err.ensures (c.in_ok-stops-in-Err.ensures p)
+    let w = c.args.self.now in
+    of_result c.stops.result _ _
+    (λ r h. take_stops p w _ c.args.grid c.args.next _ _ _ c.in-Err.stop r c.requires c.if-next-self.false c.stands.ensures c.member_place-at.ensures c.deref.ensures.value c.in-Err.ensures (h p)) c.stops.ensures

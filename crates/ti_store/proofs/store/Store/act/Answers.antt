@@ -22,7 +22,7 @@ step-requires-clause-may c =
     let ledger = subst (IsLedger s.ledger s.fuel) c.if-self-2.false c.self.invariant in
     let inside = subst (λ (t : StoreState). c.args.p < t.procs) (sym c.self.view_is) c.requires.process in
     let next = subst (λ (t : StoreState). HasNext (setting_of t) c.args.p (entries_of c.args.p t.entries) (next_of c.args.place c.args.a)) (sym c.self.view_is) c.requires.next in
-    may_act s.ledger s.fuel c.args.p c.args.place c.args.a ledger inside next (c.may_go.ensures.0 c.if-not-may_go.false) c.requires.keeps_regions
+    may_act s.ledger s.fuel c.args.p c.args.place c.args.a ledger inside next (c.may_go.ensures.0 c.if-not-may_go.false)
 
 pub invariant_of-self : goal.invariant_of-self
 invariant_of-self c =

@@ -23,9 +23,11 @@ invariant_of-result c =
         typed = c.run_typed.ensures;
         formed = c.actions_formed.ensures;
         fields = c.fields_fit.ensures;
+        storable = c.fields_storable.ensures;
+        dangles = c.nothing_dangles.ensures;
       });
       run = subst (IsRun s) (sym empty) none;
       faulted_is = sym (ap has_fault empty);
-      kept = subst (λ es. KeepsParts program c.args.procs (history_of es) (contents c.in_ok-heap.heap) c.in_ok-rounds.rounds c.in_ok-makings.makings) (sym empty)
-          (new_parts program c.args.procs (contents c.in_ok-heap.heap) c.in_ok-rounds.rounds c.in_ok-heap.ensures c.in_ok-rounds.ensures c.in_ok-makings.makings c.in_ok-makings.ensures);
+      kept = subst (λ es. KeepsParts program c.args.procs (history_of es) (contents c.in_ok-heap.heap) c.in_ok-rounds.rounds c.in_ok-makings.makings c.new-regions.result) (sym empty)
+          (new_parts program c.args.procs (contents c.in_ok-heap.heap) c.in_ok-rounds.rounds c.in_ok-makings.makings c.new-regions.result c.in_ok-heap.ensures c.in_ok-rounds.ensures c.in_ok-makings.ensures c.new-regions.ensures);
     }

@@ -1,0 +1,273 @@
+-- The slice makes finitely many steps by itself.
+use Rattle.std.proofs.Common.{◌≡◌, ℕ, ◌+◌, ◌-◌, ◌*◌, ◌<◌, ◌≤◌, nat_lt, length, Bool, true, false, if◌then◌else◌, pos, option_map, slice_get, Option, Some, None, List, [], ◌∷◌, ◌++◌, refl, ap, sym, subst, arith, ltb-true}
+use Rattle.ti_base.specs.declared.place.Place.{Place}
+use Rattle.ti_base.specs.declared.fault.FaultKind.TheVariants.{Fuel}
+use Rattle.ti_lang.specs.Program.Types.{ValueType, Class}
+use Rattle.ti_lang.specs.Program.Expressions.{NumberedExp, NumberedExps}
+use Rattle.ti_lang.specs.Program.Expressions as e
+use Rattle.ti_lang.specs.Program.Statements.{NumberedInit, NumberedStm, numbered_stms}
+use Rattle.ti_lang.specs.Program.Statements as s
+use Rattle.ti_lang.specs.Program.Classes.{NumberedMethod, NumberedProgram}
+use Rattle.ti_lang.specs.Program.Scope.{this_of}
+use Rattle.ti_lang.specs.Typing.TextTypes.{type_in_text}
+use Rattle.ti_lang.specs.Typing.BuiltIn.{BuiltIn, Exchange, Delete}
+use Rattle.ti_lang.specs.Typing.Called.{method_behind, member_called}
+use Rattle.ti_lang.specs.Typing.Singleness.{has_single_result}
+use Rattle.ti_lang.specs.Meaning.Held.{Held}
+use Rattle.ti_lang.specs.Meaning.Asking.{Got, Gives, Asks, Fails, gives}
+use Rattle.ti_lang.specs.Meaning.Evaluation.{eval}
+use Rattle.ti_lang.specs.Meaning.Processes.{Variable, Receiver, Nowhere, Declared, Assigned, Updated, Work, Do, End, Before, Behind, Receive, CopyAll, TakeAll, Frame, Wait, Process, frame_of}
+use Rattle.ti_lang.specs.Meaning.Scoping.{Env, env_of}
+use Rattle.ti_lang.specs.Meaning.Calls.{Call, call_of, called}
+use Rattle.ti_lang.specs.Meaning.Moves.{Move, Goes, Turns, Breaks, Continues, Calls, Returns, Meets, Deletes, goes_on, receives}
+use Rattle.ti_lang.specs.Meaning.Statements.{one_more, declared_as, returns}
+use Rattle.ti_lang.specs.Meaning.Jumps.{has_mark, from_mark, past_mark, variables_at_mark}
+use Rattle.ti_lang.specs.Meaning.Steps.{Step, To, Faults, going, handed, ticks, most_frames, valued, moves}
+use Rattle.ti_lang.proofs.MeaningLaws.Sizes.{size, sizes, weight_of, weigh, weigh_all, need, Fits, FitsAll, MethodsFit, OneFits, at_fits, instance_fits, weigh_append, fits_append, weigh_before, fits_before}
+use Rattle.ti_lang.proofs.MeaningLaws.Total.{Fitting, Falls}
+use Rattle.ti_lang.proofs.MeaningLaws.Falling as falling
+use Rattle.ti_lang.proofs.MeaningLaws.Falling.{Giving, then_giving, work_falls}
+use Rattle.ti_align.specs.Slice.{is_single_receiver, work_acts, single_calling, single_value, single_initial, single_member, single_alone, single_return, single_performed, slice_works, slice_runs, slice_steps, slice_step}
+
+-- ---- ticks
+
+by_test : (b : ℕ) (p : Process) (at : Place) (after : Step) (test : Bool) → (test ≡ true → Falls b p after) → Falls b p (if test then after else Faults Fuel at)
+by_test b p at after true h = h refl
+by_test b p at after false h = tt
+
+ticks_fall : (b : ℕ) (p : Process) (at : Place) (after : Step) → (nat_lt p.spent p.setting.fuel ≡ true → Falls b p after) → Falls b p (ticks p at after)
+ticks_fall b p at after h = by_test b p at after (nat_lt p.spent p.setting.fuel) h
+
+if_falls : (b : ℕ) (p : Process) (test : Bool) (x y : Step) → Falls b p x → Falls b p y → Falls b p (if test then x else y)
+if_falls b p true x y h g = h
+if_falls b p false x y h g = g
+
+jump_falls : (b : ℕ) (p : Process) (test : Bool) (x y : Process) → Falls b p (To x) → Falls b p (To y) → Falls b p (To (if test then x else y))
+jump_falls b p true x y h g = h
+jump_falls b p false x y h g = g
+
+tick_pays : (k b w v : ℕ) → v < w + b → k * b + v < (k + 1) * b + w
+tick_pays k b w v h = omega arith
+
+tick_less : (f s b w v : ℕ) → s < f → v < w + b → (f - (s + 1)) * b + v < (f - s) * b + w
+tick_less f s b w v l h =
+    let e : f - s ≡ (f - (s + 1)) + 1 = omega arith in
+    rw e (tick_pays (f - (s + 1)) b w v h)
+
+-- ---- frames
+
+goes_falls : (b : ℕ) (p : Process) (f : Frame) (fs : List Frame) (variables : List Variable) (left : List Work)
+    → p.frames ≡ f ∷ fs → weigh left < weigh f.left + length p.answers → Fits b left → FitsAll b fs → MethodsFit b p.setting.program → Falls b p (To (going p f fs variables left))
+goes_falls b p f fs variables left e l x y m = (omega (arith, ap weigh_all e), ((x, y), m))
+
+handed_weight : (receiver : Receiver) (value : Option Held) (fs : List Frame) → weigh_all (handed receiver value fs) ≤ weigh_all fs + 1
+handed_weight receiver None fs = omega arith
+handed_weight receiver (Some h) [] = omega arith
+handed_weight receiver (Some h) (f ∷ fs) = omega arith
+
+handed_fits : (b : ℕ) (receiver : Receiver) (value : Option Held) (fs : List Frame) → FitsAll b fs → FitsAll b (handed receiver value fs)
+handed_fits b receiver None fs x = x
+handed_fits b receiver (Some h) [] x = x
+handed_fits b receiver (Some h) (f ∷ fs) x = ((omega arith, x.0), x.1)
+
+returns_fall : (b : ℕ) (p : Process) (f : Frame) (fs : List Frame) (left : List Work) (value : Option Held)
+    → p.frames ≡ f ∷ fs → FitsAll b fs → MethodsFit b p.setting.program → Falls b p (moves p f fs left (Returns value))
+returns_fall b p f fs left value e y m = (omega (arith, ap weigh_all e, handed_weight f.receiver value fs), (handed_fits b f.receiver value fs y, m))
+
+-- ---- jumps
+
+mark_weight : (ws : List Work) → weigh (from_mark ws) ≤ weigh ws
+mark_weight [] = omega arith
+mark_weight (Behind loop ∷ ws) = omega arith
+mark_weight (Do x ∷ ws) = omega (arith, mark_weight ws)
+mark_weight (End x ∷ ws) = omega (arith, mark_weight ws)
+mark_weight (Before loop ∷ ws) = omega (arith, mark_weight ws)
+mark_weight (Receive receiver h ∷ ws) = omega (arith, mark_weight ws)
+mark_weight (CopyAll at to from points ∷ ws) = omega (arith, mark_weight ws)
+mark_weight (TakeAll at grid procs ∷ ws) = omega (arith, mark_weight ws)
+
+mark_fits : (b : ℕ) (ws : List Work) → Fits b ws → Fits b (from_mark ws)
+mark_fits b [] f = tt
+mark_fits b (Behind loop ∷ ws) f = f
+mark_fits b (Do x ∷ ws) f = mark_fits b ws f.1
+mark_fits b (End x ∷ ws) f = mark_fits b ws f.1
+mark_fits b (Before loop ∷ ws) f = mark_fits b ws f.1
+mark_fits b (Receive receiver h ∷ ws) f = mark_fits b ws f.1
+mark_fits b (CopyAll at to from points ∷ ws) f = mark_fits b ws f.1
+mark_fits b (TakeAll at grid procs ∷ ws) f = mark_fits b ws f.1
+
+past_weight : (ws : List Work) → weigh (past_mark ws) ≤ weigh ws
+past_weight [] = omega arith
+past_weight (Behind loop ∷ ws) = omega arith
+past_weight (Do x ∷ ws) = omega (arith, past_weight ws)
+past_weight (End x ∷ ws) = omega (arith, past_weight ws)
+past_weight (Before loop ∷ ws) = omega (arith, past_weight ws)
+past_weight (Receive receiver h ∷ ws) = omega (arith, past_weight ws)
+past_weight (CopyAll at to from points ∷ ws) = omega (arith, past_weight ws)
+past_weight (TakeAll at grid procs ∷ ws) = omega (arith, past_weight ws)
+
+past_fits : (b : ℕ) (ws : List Work) → Fits b ws → Fits b (past_mark ws)
+past_fits b [] f = tt
+past_fits b (Behind loop ∷ ws) f = f.1
+past_fits b (Do x ∷ ws) f = past_fits b ws f.1
+past_fits b (End x ∷ ws) f = past_fits b ws f.1
+past_fits b (Before loop ∷ ws) f = past_fits b ws f.1
+past_fits b (Receive receiver h ∷ ws) f = past_fits b ws f.1
+past_fits b (CopyAll at to from points ∷ ws) f = past_fits b ws f.1
+past_fits b (TakeAll at grid procs ∷ ws) f = past_fits b ws f.1
+
+-- ---- moves
+
+moves_fall : (b : ℕ) (p : Process) (f : Frame) (fs : List Frame) (w : Work) (left : List Work) (move : Move)
+    → p.frames ≡ f ∷ fs → f.left ≡ w ∷ left → falling.Falls b (weight_of w + length p.answers) move → Fits b left → FitsAll b fs → MethodsFit b p.setting.program → Falls b p (moves p f fs left move)
+moves_fall b p f fs w left (Goes variables new) e z h x y m =
+    goes_falls b p f fs variables (new ++ left) e (omega (arith, ap weigh z, weigh_append new left, h.0)) (fits_append b new left h.1 x) y m
+moves_fall b p f fs w left (Turns at variables new) e z h x y m =
+    ticks_fall b p at _ (λ t. (
+      tick_less p.setting.fuel p.spent b (weigh_all p.frames + length p.answers) (weigh (new ++ left) + weigh_all fs + 2 + 0) (ltb-true p.spent p.setting.fuel t) (omega (arith, ap weigh_all e, ap weigh z, weigh_append new left, h.0)),
+      ((fits_append b new left h.1 x, y), m),
+    ))
+moves_fall b p f fs w left Breaks e z h x y m =
+    jump_falls b p (has_mark left) _ _
+    (goes_falls b p f fs (variables_at_mark left f.variables) (past_mark left) e (omega (arith, ap weigh z, past_weight left)) (past_fits b left x) y m)
+    (goes_falls b p f fs f.variables left e (omega (arith, ap weigh z)) x y m)
+moves_fall b p f fs w left Continues e z h x y m =
+    jump_falls b p (has_mark left) _ _
+    (goes_falls b p f fs (variables_at_mark left f.variables) (from_mark left) e (omega (arith, ap weigh z, mark_weight left)) (mark_fits b left x) y m)
+    (goes_falls b p f fs f.variables left e (omega (arith, ap weigh z)) x y m)
+moves_fall b p f fs w left (Calls at method this parameters receiver) e z h x y m =
+    ticks_fall b p at _ (λ t. if_falls b p (nat_lt (length (f ∷ fs)) most_frames) _ _ (
+      tick_less p.setting.fuel p.spent b (weigh_all p.frames + length p.answers) (weigh (frame_of method this parameters receiver).left + (weigh left + weigh_all fs + 2) + 2 + 0) (ltb-true p.spent p.setting.fuel t) (omega (arith, ap weigh_all e, ap weigh z, weigh_before (numbered_stms method.body) [], h)),
+      ((fits_before b (numbered_stms method.body) [] (omega arith) tt, (x, y)), m),
+    )
+    tt)
+moves_fall b p f fs w left (Returns value) e z h x y m = returns_fall b p f fs left value e y m
+moves_fall b p f fs w left (Meets wait given behind) e z h x y m = ticks_fall b p wait.place _ (λ t. tt)
+moves_fall b p f fs w left (Deletes at region) e z h x y m = ticks_fall b p at _ (λ t. tt)
+
+valued_falls : (b : ℕ) (p : Process) (k : ℕ) (got : Got Move) (go : Move → Step) → Giving (falling.Falls b k) got → ((move : Move) → falling.Falls b k move → Falls b p (go move)) → Falls b p (valued p got go)
+valued_falls b p k (Gives move rest) go h f = f move h
+valued_falls b p k (Asks request) go h f = ticks_fall b p request.place _ (λ t. tt)
+valued_falls b p k (Fails kind at) go h f = tt
+
+-- ---- calls
+
+abbrev CallFits : ℕ → Option Call → Type 0
+CallFits b None = Unit {0}
+CallFits b (Some c) = sizes (numbered_stms c.method.body) + 3 ≤ b
+
+by_method : (b : ℕ) (at : Place) (object : Option NumberedExp) (args : NumberedExps) (o : Option NumberedMethod) → OneFits b o → CallFits b (option_map (call_of at object args) o)
+by_method b at object args None h = tt
+by_method b at object args (Some m) h = h
+
+behind_fits : (b : ℕ) (p : NumberedProgram) (t : ValueType) (name : ℕ) → MethodsFit b p → OneFits b (method_behind p t name)
+behind_fits b p (Class c is_local) name f = instance_fits b p c name f
+behind_fits b p _ name f = tt
+
+called_fits : (b : ℕ) (env : Env) (x : NumberedExp) → MethodsFit b env.program → CallFits b (called env x)
+called_fits b env (e.Call at method args) f = by_method b at None args (slice_get env.program.methods method) (at_fits b env.program.methods method f)
+called_fits b env (e.OwnCall at method args) f = by_method b at _ args (slice_get env.program.methods method) (at_fits b env.program.methods method f)
+called_fits b env (e.Member at x name args) f =
+    let t = type_in_text env.program (this_of env.method) x in
+    by_method b at (Some x) args (method_behind env.program t name) (behind_fits b env.program t name f)
+called_fits b env _ f = tt
+
+-- ---- what is evaluated from single values
+
+module _ (b k : ℕ) (some : 0 < k) (env : Env) where
+  stays : (variables : List Variable) → falling.Falls b k (Goes variables [])
+  stays variables = (some, tt)
+
+  calling_falls : (receiver : Receiver) (c : Call) → sizes (numbered_stms c.method.body) + 3 ≤ b → Giving (falling.Falls b k) (single_calling env receiver c [])
+  calling_falls receiver c h = search (then_giving, h)
+
+  value_falls : (receiver : Receiver) (x : NumberedExp) (o : Option Call) → CallFits b o → Giving (falling.Falls b k) (single_value env receiver x o [])
+  value_falls receiver x (Some c) h = calling_falls receiver c h
+  value_falls receiver x None h = go (is_single_receiver receiver)
+    where
+      go : (t : Bool) → Giving (falling.Falls b k) ((if t then receives env receiver (eval env x) else goes_on env) [])
+      go true = search (then_giving, stays)
+      go false = (some, tt)
+
+  initial_falls : (receiver : Receiver) (value : NumberedInit) → MethodsFit b env.program → Giving (falling.Falls b k) (single_initial env receiver value [])
+  initial_falls receiver (s.Value x) m = value_falls receiver x (called env x) (called_fits b env x m)
+  initial_falls receiver (s.NewRegion at) m = tt
+  initial_falls receiver (s.NewObject at region class) m = (some, tt)
+  initial_falls receiver (s.NewGrid at region element dims_at dims) m = (some, tt)
+  initial_falls receiver (s.Broadcast at x root) m = search then_giving
+
+  member_falls : (at : Place) (x : NumberedExp) (o : Option BuiltIn) → Giving (falling.Falls b k) (single_member env at x o [])
+  member_falls at x (Some Exchange) = tt
+  member_falls at x (Some Delete) = search then_giving
+  member_falls at x _ = (some, tt)
+
+  alone_falls : (x : NumberedExp) (o : Option Call) → CallFits b o → Giving (falling.Falls b k) (single_alone env x o [])
+  alone_falls x (Some c) h = calling_falls Nowhere c h
+  alone_falls (e.Member at x name args) None h = member_falls at x (member_called env.program (this_of env.method) x name)
+  alone_falls _ None h = (some, tt)
+
+  return_falls : (at : Place) (value : Option NumberedExp) → Giving (falling.Falls b k) (single_return env at value [])
+  return_falls at value = go (has_single_result env.method) value
+    where
+      go : (t : Bool) (value : Option NumberedExp) → Giving (falling.Falls b k) ((if t then returns env at value else gives (Returns None)) [])
+      go true None = tt
+      go true (Some x) = search then_giving
+      go false value = tt
+
+-- ---- work
+
+positive : (x : NumberedStm) → 0 < size x
+positive (s.Block body) = omega arith
+positive (s.If at c x) = omega arith
+positive (s.IfElse at c x y) = omega arith
+positive (s.While at c body) = omega arith
+positive (s.For at first c update body) = omega arith
+positive (s.Foreach at variable domain body) = omega arith
+positive (s.Call x) = omega arith
+positive _ = omega arith
+
+weighs : (w : Work) → 0 < weight_of w
+weighs (Do x) = positive x
+weighs (End x) = omega arith
+weighs (Before loop) = omega arith
+weighs (Behind loop) = omega arith
+weighs (Receive receiver held) = omega arith
+weighs (CopyAll at to from points) = omega arith
+weighs (TakeAll at grid procs) = omega arith
+
+single_falls : (b : ℕ) (env : Env) (w : Work) → MethodsFit b env.program → need w ≤ b → Giving (falling.Falls b (weight_of w + 0)) (single_performed env w [])
+single_falls b env (Do (s.Declare at type variable value)) m n = initial_falls b (1 + 0) (omega arith) env (Declared at (declared_as type variable)) value m
+single_falls b env (Do (s.Assign at target value)) m n = initial_falls b (1 + 0) (omega arith) env (Assigned at target) value m
+single_falls b env (Do (s.Update at op target x)) m n = initial_falls b (1 + 0) (omega arith) env (Updated at op target) (s.Value x) m
+single_falls b env (Do (s.Step at op target)) m n = initial_falls b (1 + 0) (omega arith) env (Updated at (one_more op) target) (s.Value (e.Int at (pos 1))) m
+single_falls b env (Do (s.Call x)) m n = alone_falls b (2 + 0) (omega arith) env x (called env x) (called_fits b env x m)
+single_falls b env (Do (s.Return at value)) m n = return_falls b (1 + 0) (omega arith) env at value
+single_falls b env (Do x) m n = work_falls b env (Do x) [] m n
+single_falls b env w m n = work_falls b env w [] m n
+
+-- ---- steps
+
+plus_none : (a b c : ℕ) → 0 < a → c ≡ a + b → b < c + 0
+plus_none a b c h e = omega (arith, h, e)
+
+no_answers : (p : Process) → p.answers ≡ [] → length p.answers ≡ 0
+no_answers p e = ap length e
+
+works_fall : (b : ℕ) (p : Process) (f : Frame) (fs : List Frame) (ws : List Work) → p.answers ≡ [] → p.frames ≡ f ∷ fs → f.left ≡ ws → Fits b ws → FitsAll b fs → MethodsFit b p.setting.program → Falls b p (slice_works p f fs ws)
+works_fall b p f fs [] a e z x y m = returns_fall b p f fs [] None e y m
+works_fall b p f fs (w ∷ left) a e z x y m =
+    if_falls b p (work_acts p.setting.program f.method left w) _ _
+    (valued_falls b p (weight_of w + 0) (single_performed (env_of p f left) w []) (moves p f fs left) (single_falls b (env_of p f left) w m x.0)
+    (λ move h. moves_fall b p f fs w left move e z (subst (λ n. falling.Falls b (weight_of w + n) move) (sym (no_answers p a)) h) x.1 y m))
+    (goes_falls b p f fs f.variables left e (subst (λ n. weigh left < weigh f.left + n) (sym (no_answers p a)) (plus_none (weight_of w) (weigh left) (weigh f.left) (weighs w) (ap weigh z))) x.1 y m)
+
+runs_fall : (b : ℕ) (p : Process) (fs : List Frame) → p.answers ≡ [] → p.frames ≡ fs → FitsAll b fs → MethodsFit b p.setting.program → Falls b p (slice_runs p fs)
+runs_fall b p [] a e x m = tt
+runs_fall b p (f ∷ fs) a e x m = works_fall b p f fs f.left a e refl x.0 x.1 m
+
+steps_fall : (b : ℕ) (p : Process) (w : Option Wait) → p.answers ≡ [] → Fitting b p → Falls b p (slice_steps p w)
+steps_fall b p None a f = runs_fall b p p.frames a refl f.0 f.1
+steps_fall b p (Some w) a f = ticks_fall b p w.place _ (λ t. tt)
+
+pub slice_falls : (b : ℕ) (p : Process) → p.answers ≡ [] → Fitting b p → Falls b p (slice_step p)
+slice_falls b p a f = steps_fall b p p.wait a f
