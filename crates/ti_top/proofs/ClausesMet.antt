@@ -4,6 +4,7 @@ use Rattle.ti_base.specs.declared.entry.Entry.{Entry}
 use Rattle.ti_io.specs.Source.{IsMissing, SameFiles}
 use Rattle.ti_io.specs.Sink.{SinkState, GrewBy, GrewByFront}
 use Rattle.ti_lang.specs.Program.Classes.{NumberedProgram}
+use Rattle.ti_lang.specs.Meaning.Processes.{Setting}
 use Rattle.ti_lang.specs.Meaning.Runs.{AllEnded, IsRun, IsSolo, IsComplete as IsCompleteRun, none}
 use Rattle.ti_align.specs.Alignment.{IsAligned}
 use Rattle.ti_rules.specs.declared.refusal.Refusal.{Refusal}
@@ -15,21 +16,23 @@ use Rattle.ti_top.specs.declared.ending.Ending.{Ending}
 use Rattle.ti_top.specs.declared.ending.Ending.TheVariants.{Done, Refused, Faulted, NoCommand, CantRead, CantWrite, NoMemory}
 use Rattle.ti_words.specs.declared.job.Job.{Job}
 use Rattle.ti_words.specs.declared.job.Mode.{Mode}
-use Rattle.ti_words.specs.declared.job.Mode.TheVariants.{Run, Check}
-use Rattle.ti_top.specs.Reports.{wanted, output, WroteFew}
+use Rattle.ti_words.specs.declared.job.Mode.TheVariants.{Run, Check, Gen}
+use Rattle.ti_top.specs.Reports.{wanted, output_in, output, WroteFew}
 use Rattle.ti_top.specs.Mirrors.Reading.{ReadsWhole}
 use Rattle.ti_top.specs.Ending.{status_of}
+use Rattle.ti_top.specs.Summary.{summary}
 use Rattle.ti_top.specs.Mirrors.Ended.{Ended}
-use Rattle.ti_top.specs.Run.{fault_entry, EndsWithFault}
-use Rattle.ti_top.specs.Run.{run_of}
-use Rattle.ti_top.specs.Mirrors.Work.{RanNothing, Ran, WasRefused, WasChecked, TextSays, FileSays, WorkSays, work_of, DidNothing}
+use Rattle.ti_top.specs.Run.{HasFile, Runs, run_of, fault_entry, EndsWithFault}
+use Rattle.ti_top.specs.Mirrors.Work.{RanNothing, Ran, WasRefused, WasChecked, RunTextSays, TextSays, FileSays, FileDone, SeedDone, WorkSays, work_of, DidNothing}
 use Rattle.ti_top.specs.Call.{most_read, Call, IsCommand, IsNoCommand, file_in, file_of, SourceRose, ErrRose, Yields, WantsReport}
-use Rattle.ti_top.specs.Clauses.{IsAccepted, IsReadWhole, ReadsText, RefusesExactly, KeepsRun, WhereRun, WritesAll, WritesOutput, IsAlignedRun, EndsRun, NothingFailed, IsComplete, MeetsBesideErr, Says, before_err, Meets}
+use Rattle.ti_top.specs.Clauses.{IsAccepted, IsReadWhole, IsWholeIn, HasText, ReadsText, MakesText, GetsText, RefusesExactly, KeepsRun, WhereRun, WritesAll, WritesOutput, IsAlignedRun, EndsRun, NothingFailed, IsComplete, MeetsBesideErr, Says, before_err, Meets}
 use Rattle.ti_top.proofs.StatusFrom.{StatusFrom, status_from, not_five, is_done, is_faulted, is_no_memory}
 use Rattle.ti_top.proofs.WordsAnswered.{known, not_both, no_command_answers, command_answers}
 use Rattle.ti_top.proofs.TextRead.{EndsAs, read_whole, reads_text}
+use Rattle.ti_top.proofs.TextMade.{makes_text}
 use Rattle.ti_top.proofs.ErrWritten.{writes_err}
 use Rattle.ti_top.proofs.FaultLast.{true_false, fault_is_there, unbegun}
+use Rattle.ti_top.proofs.HaveEnded.{no_summary}
 
 -- a status that neither the ending nor a failed err gives
 never : (before : Ending) (c : Call) (n : ℕ) → StatusFrom before c → (status_of before ≡ n → ⊥) → (5 ≡ n → ⊥) → c.status ≡ n → ⊥
@@ -44,6 +47,12 @@ yields before c (inr cut) f g = g (inr (cut.0, inr cut.1))
 calm : (before : Ending) (c : Call) → StatusFrom before c → (ErrRose c → ⊥) → c.status ≡ status_of before
 calm before c (inl same) h = same
 calm before c (inr cut) h = absurd (h cut.1)
+
+-- of a run that hasn't begun nothing is written
+nothing_of_unbegun : (mode : Mode) (run : Setting) → (IsCompleteRun run [] → ⊥) → output_in mode run [] [] ≡ []
+nothing_of_unbegun Run run cut = refl
+nothing_of_unbegun Check run cut = refl
+nothing_of_unbegun Gen run cut = append-nil (summary run []) ∙ no_summary run [] (λ ended. cut (inr ended))
 
 -- where nothing was run, nothing was written: the text isn't one that is to be run, the status owes no report, and an empty history isn't complete
 output_nothing : (c : Call) → (c.status ≡ 0 → WhereRun c (λ job program. ⊥)) → (c.status ≡ 2 → WhereRun c (λ job program. ⊥)) → (c.status ≡ 6 → WhereRun c (λ job program. IsCompleteRun (run_of program job) [] → ⊥)) → RanNothing c.out c.out_after c.history → WritesOutput c
@@ -60,12 +69,12 @@ output_nothing c not_done not_faulted not_complete x =
       not_whole = λ _ _ _. same;
       no_program = λ _. same;
       checked = λ _ _ _. same;
-      failed = λ _ _ job _ _ program _. ([], (output program c.history (wanted job c.watchers), refl), grew_none);
+      failed = λ _ _ job _ _ program _. ([], (output job program c.history (wanted job c.watchers), refl), grew_none);
       no_memory = λ is _ job command mode program has. record {
         few = [];
         others = wanted job c.watchers;
         first = refl;
-        grew = grew_none ∙ ap (λ h. c.out.taken ++ output program h []) (sym x.no_entry);
+        grew = grew_none ∙ ap (λ t. c.out.taken ++ t) (sym (ap (λ h. output job program h []) x.no_entry ∙ nothing_of_unbegun job.mode (run_of program job) (not_complete is job command mode program has)));
         none_of_cut = λ _. refl;
         not_all = λ complete. absurd (not_complete is job command mode program has (subst (λ h. IsCompleteRun (run_of program job) h) x.no_entry complete));
       };
@@ -127,7 +136,7 @@ not_no_command Read.CantRead before fits is = let x = sym fits ∙ is in cc
 not_no_command Read.NoMemory before fits is = let x = sym fits ∙ is in cc
 
 -- the text is refused
-clauses_refused : (refusal : Refusal) (job : Job) (c : Call) → StatusFrom (Refused refusal) c → IsReadWhole job c → WasRefused c.text c.out c.out_after c.history refusal → Clauses job c
+clauses_refused : (refusal : Refusal) (job : Job) (c : Call) → StatusFrom (Refused refusal) c → HasText job c → WasRefused c.text c.out c.out_after c.history refusal → Clauses job c
 clauses_refused refusal job c from whole refused = let x = refused.nothing in record {
   refusal = record {
     only_where = λ _. (refusal, record { whole = whole; refused = refused.is });
@@ -157,13 +166,19 @@ clauses_refused refusal job c from whole refused = let x = refused.nothing in re
   };
 }
 
+-- where a file is named, the whole text is there only if it was read whole
+was_read : (mode : Mode) (job : Job) (c : Call) → HasFile mode → IsWholeIn mode job c → IsReadWhole job c
+was_read Run job c named whole = whole
+was_read Check job c named whole = whole
+was_read Gen job c named whole = absurd named
+
 -- the file can't be read
-clauses_cant_read : (job : Job) (c : Call) → StatusFrom CantRead c → IsMissing c.source job.file ⊎ SourceRose c → RanNothing c.out c.out_after c.history → Clauses job c
-clauses_cant_read job c from cause x = record {
+clauses_cant_read : (job : Job) (c : Call) → HasFile job.mode → StatusFrom CantRead c → IsMissing c.source job.file ⊎ SourceRose c → RanNothing c.out c.out_after c.history → Clauses job c
+clauses_cant_read job c named from cause x = record {
   refusal = record {
     only_where = λ is. absurd (never CantRead c 1 from (λ e. omega arith) (λ e. omega arith) is);
     everywhere = λ refusal refused. yields CantRead c from
-        (λ same. elim cause [ inl missing ↦ absurd (refused.whole.there missing) | inr rose ↦ inr (inr (same, rose)) ])
+        (λ same. elim cause [ inl missing ↦ absurd ((was_read job.mode job c named refused.whole).there missing) | inr rose ↦ inr (inr (same, rose)) ])
         (λ y. inr (inl y));
     no_history = λ _ _. x.no_entry;
     no_output = λ _ _. ap (λ s. s.taken) x.unwritten;
@@ -182,7 +197,7 @@ clauses_cant_read job c from cause x = record {
     fault_everywhere = λ fault e. absurd (no_fault_of_nothing c fault x e);
     unfinished = λ is. absurd (never CantRead c 6 from (λ e. omega arith) (λ e. omega arith) is);
   };
-  completeness = λ nothing. elim cause [ inl missing ↦ absurd (nothing.there missing) | inr rose ↦ absurd (nothing.source rose) ];
+  completeness = λ nothing. elim cause [ inl missing ↦ absurd (nothing.there named missing) | inr rose ↦ absurd (nothing.source rose) ];
 }
 
 -- out of memory before the run
@@ -236,11 +251,11 @@ done_not_memory before x y = let e = sym x ∙ y in cc
 faulted_not_memory : (before : Ending) (fault : Fault) → before ≡ Faulted fault → before ≡ NoMemory → ⊥
 faulted_not_memory before fault x y = let e = sym x ∙ y in cc
 
-run_or_check : (mode : Mode) → mode ≡ Run → mode ≡ Check → ⊥
-run_or_check mode run check = let e = sym run ∙ check in cc
+run_or_check : (mode : Mode) → Runs mode → mode ≡ Check → ⊥
+run_or_check mode runs check = subst Runs check runs
 
 -- the program was run
-clauses_ran : (before : Ending) (job : Job) (c : Call) → job.mode ≡ Run → IsCommand c job → StatusFrom before c → IsReadWhole job c → Ran job (wanted job c.watchers) c.text c.out c.out_after c.history before → Clauses job c
+clauses_ran : (before : Ending) (job : Job) (c : Call) → Runs job.mode → IsCommand c job → StatusFrom before c → HasText job c → Ran job (wanted job c.watchers) c.text c.out c.out_after c.history before → Clauses job c
 clauses_ran before job c mode command from whole x =
     let says = x.says in
     let only = x.compiled.only in
@@ -268,11 +283,11 @@ clauses_ran before job c mode command from whole x =
         nothing_at_three = λ is. absurd (other 3 (λ e. omega arith) (λ e. omega arith) (λ e. omega arith) (λ e. omega arith) is);
         nothing_at_four = λ is. absurd (other 4 (λ e. omega arith) (λ e. omega arith) (λ e. omega arith) (λ e. omega arith) is);
         no_command = λ none. absurd (not_both c job command none);
-        not_whole = λ j some cut. absurd (cut (subst (λ j. IsReadWhole j c) (job_same c job j command some) whole));
+        not_whole = λ j some cut. absurd (cut (subst (λ j. HasText j c) (job_same c job j command some) whole));
         no_program = λ h. absurd (h x.program x.compiled.has);
         checked = λ j some check. absurd (run_or_check job.mode mode (subst (λ k. k.mode ≡ Check) (job_same c j job some command) check));
-        failed = λ _ told. run_alone (λ j q. GrewByFront c.out c.out_after (output q c.history (wanted j c.watchers))) (says.part told);
-        no_memory = λ is told. run_alone (λ j q. WroteFew (run_of q j) (wanted j c.watchers) c.history c.out c.out_after) (says.few (no_memory_at before c from is) told);
+        failed = λ _ told. run_alone (λ j q. GrewByFront c.out c.out_after (output j q c.history (wanted j c.watchers))) (says.part told);
+        no_memory = λ is told. run_alone (λ j q. WroteFew j.mode (run_of q j) (wanted j c.watchers) c.history c.out c.out_after) (says.few (no_memory_at before c from is) told);
       };
       alignment = record {
         done = λ _ p has. subst IsAligned (sym (only p has)) x.compiled.aligned;
@@ -337,12 +352,12 @@ clauses_ran before job c mode command from whole x =
     run_alone P it j some _ p has = subst (λ k. P k p) (job_same c job j command some) (subst (P job) (sym (x.compiled.only p has)) it)
 
     all : (before ≡ CantWrite → ⊥) → (before ≡ NoMemory → ⊥) → c.out.tells ≡ true → WritesAll c
-    all whole there told = run_alone (λ j q. GrewBy c.out c.out_after (output q c.history (wanted j c.watchers))) (x.says.all whole there told)
+    all whole there told = run_alone (λ j q. GrewBy c.out c.out_after (output j q c.history (wanted j c.watchers))) (x.says.all whole there told)
 
 -- the text was checked, and has a program
-clauses_checked : (job : Job) (c : Call) → IsCommand c job → job.mode ≡ Check → StatusFrom Done c → IsReadWhole job c → WasChecked c.text c.out c.out_after c.history → Clauses job c
+clauses_checked : (job : Job) (c : Call) → IsCommand c job → job.mode ≡ Check → StatusFrom Done c → HasText job c → WasChecked c.text c.out c.out_after c.history → Clauses job c
 clauses_checked job c command mode from whole x =
-    let unrun : (other : Job) → IsCommand c other → other.mode ≡ Run → ⊥ = λ other is run. run_or_check job.mode (subst (λ (k : Job). k.mode ≡ Run) (job_same c other job is command) run) mode in
+    let unrun : (other : Job) → IsCommand c other → Runs other.mode → ⊥ = λ other is runs. run_or_check job.mode (subst (λ (k : Job). Runs k.mode) (job_same c other job is command) runs) mode in
     let unrefused = x.compiled.unrefused in
     let accepted : IsAccepted c.text = (x.program, x.compiled.has) in
     let aligned : (p : NumberedProgram) → HasProgram c.text p → IsAligned p = λ p has. subst IsAligned (sym (x.compiled.only p has)) x.compiled.aligned in
@@ -378,16 +393,20 @@ clauses_checked job c command mode from whole x =
 record Commanded (before : Ending) (job : Job) (c : Call) : Type 0 where
   pub command : IsCommand c job
   pub some : 1 ≤ job.procs
-  pub work : WorkSays job before (work_of c)
+  pub work : WorkSays job.mode job before (work_of job c)
+
+ends_run : (before : Ending) (job : Job) (c : Call) → RunTextSays before job (wanted job c.watchers) c.text c.out c.out_after c.history → EndsAs Read.Whole before
+ends_run Done job c says = (λ e. let x = e in cc, λ e. let x = e in cc)
+ends_run (Refused refusal) job c says = (λ e. let x = e in cc, λ e. let x = e in cc)
+ends_run (Faulted fault) job c says = (λ e. let x = e in cc, λ e. let x = e in cc)
+ends_run NoCommand job c says = absurd says
+ends_run CantRead job c says = absurd says
+ends_run CantWrite job c says = (λ e. let x = e in cc, λ e. let x = e in cc)
+ends_run NoMemory job c says = (λ e. let x = e in cc, λ e. let x = e in cc)
 
 ends_text : (mode : Mode) (before : Ending) (job : Job) (c : Call) → TextSays mode before job (wanted job c.watchers) c.text c.out c.out_after c.history → EndsAs Read.Whole before
-ends_text Run Done job c says = (λ e. let x = e in cc, λ e. let x = e in cc)
-ends_text Run (Refused refusal) job c says = (λ e. let x = e in cc, λ e. let x = e in cc)
-ends_text Run (Faulted fault) job c says = (λ e. let x = e in cc, λ e. let x = e in cc)
-ends_text Run NoCommand job c says = absurd says
-ends_text Run CantRead job c says = absurd says
-ends_text Run CantWrite job c says = (λ e. let x = e in cc, λ e. let x = e in cc)
-ends_text Run NoMemory job c says = (λ e. let x = e in cc, λ e. let x = e in cc)
+ends_text Run before job c says = ends_run before job c says
+ends_text Gen before job c says = ends_run before job c says
 ends_text Check Done job c says = (λ e. let x = e in cc, λ e. let x = e in cc)
 ends_text Check (Refused refusal) job c says = (λ e. let x = e in cc, λ e. let x = e in cc)
 ends_text Check (Faulted fault) job c says = absurd says
@@ -396,13 +415,20 @@ ends_text Check CantRead job c says = absurd says
 ends_text Check CantWrite job c says = absurd says
 ends_text Check NoMemory job c says = (λ e. let x = e in cc, λ e. let x = e in cc)
 
-ends_as : (end : ReadEnd) (before : Ending) (job : Job) (c : Call) → FileSays end before job (work_of c) → EndsAs end before
+ends_as : (end : ReadEnd) (before : Ending) (job : Job) (c : Call) → FileSays end before job (work_of job c) → EndsAs end before
 ends_as Read.Whole before job c says = ends_text job.mode before job c says
 ends_as Read.CantRead before job c says = says.0
 ends_as Read.NoMemory before job c says = says.0
 
--- the clauses and what the ending says, by how the reading ended
+-- the clauses and what the ending says, by how the work went
 pub record Told (before : Ending) (job : Job) (c : Call) : Type 0 where
+  pub text : GetsText job.mode job c
+  pub clauses : Clauses job c
+  pub says : Says c before
+  pub commanded : before ≡ NoCommand → ⊥
+
+-- the clauses beside that on the text, and what the ending says
+record ToldOf (before : Ending) (job : Job) (c : Call) : Type 0 where
   pub clauses : Clauses job c
   pub says : Says c before
 
@@ -410,20 +436,29 @@ pub record Told (before : Ending) (job : Job) (c : Call) : Type 0 where
 each_has : (job : Job) (c : Call) → IsCommand c job → 1 ≤ job.procs → (other : Job) → IsCommand c other → 1 ≤ other.procs
 each_has job c command some other is = subst (λ (j : Job). 1 ≤ j.procs) (job_same c job other command is) some
 
-told_refused : (refusal : Refusal) (job : Job) (c : Call) → IsCommand c job → StatusFrom (Refused refusal) c → IsReadWhole job c → WasRefused c.text c.out c.out_after c.history refusal → Told (Refused refusal) job c
+told_refused : (refusal : Refusal) (job : Job) (c : Call) → IsCommand c job → StatusFrom (Refused refusal) c → HasText job c → WasRefused c.text c.out c.out_after c.history refusal → ToldOf (Refused refusal) job c
 told_refused refusal job c command from whole refused = record { clauses = clauses_refused refusal job c from whole refused; says = (job, command, record { whole = whole; refused = refused.is }) }
 
-told_text : (mode : Mode) (before : Ending) (job : Job) (c : Call) → job.mode ≡ mode → IsCommand c job → 1 ≤ job.procs → IsReadWhole job c
-    → TextSays mode before job (wanted job c.watchers) c.text c.out c.out_after c.history → StatusFrom before c → Told before job c
-told_text Run Done job c mode command some whole says from =
-    record { clauses = clauses_ran Done job c mode command from whole says; says = (job, command, (says.program, says.compiled.has)) }
-told_text Run (Refused refusal) job c mode command some whole says from = told_refused refusal job c command from whole says
-told_text Run (Faulted fault) job c mode command some whole says from = record { clauses = clauses_ran (Faulted fault) job c mode command from whole says; says = (job, command, says.says.faulted fault refl) }
-told_text Run NoCommand job c mode command some whole says from = absurd says
-told_text Run CantRead job c mode command some whole says from = absurd says
-told_text Run CantWrite job c mode command some whole says from = record { clauses = clauses_ran CantWrite job c mode command from whole says; says = (job, command, says.says.rose refl) }
-told_text Run NoMemory job c mode command some whole says from =
-    record { clauses = elim says [ inl nothing ↦ clauses_no_memory job c command (each_has job c command some) from nothing | inr ran ↦ clauses_ran NoMemory job c mode command from whole ran ]; says = tt }
+told_unrun : (job : Job) (c : Call) → IsCommand c job → 1 ≤ job.procs → RanNothing c.out c.out_after c.history → StatusFrom NoMemory c → ToldOf NoMemory job c
+told_unrun job c command some nothing from = record { clauses = clauses_no_memory job c command (each_has job c command some) from nothing; says = tt }
+
+-- the text was to be run
+told_run : (before : Ending) (job : Job) (c : Call) → Runs job.mode → IsCommand c job → 1 ≤ job.procs → HasText job c
+    → RunTextSays before job (wanted job c.watchers) c.text c.out c.out_after c.history → StatusFrom before c → ToldOf before job c
+told_run Done job c runs command some whole says from =
+    record { clauses = clauses_ran Done job c runs command from whole says; says = (job, command, (says.program, says.compiled.has)) }
+told_run (Refused refusal) job c runs command some whole says from = told_refused refusal job c command from whole says
+told_run (Faulted fault) job c runs command some whole says from = record { clauses = clauses_ran (Faulted fault) job c runs command from whole says; says = (job, command, says.says.faulted fault refl) }
+told_run NoCommand job c runs command some whole says from = absurd says
+told_run CantRead job c runs command some whole says from = absurd says
+told_run CantWrite job c runs command some whole says from = record { clauses = clauses_ran CantWrite job c runs command from whole says; says = (job, command, says.says.rose refl) }
+told_run NoMemory job c runs command some whole says from =
+    elim says [ inl nothing ↦ told_unrun job c command some nothing from | inr ran ↦ record { clauses = clauses_ran NoMemory job c runs command from whole ran; says = tt } ]
+
+told_text : (mode : Mode) (before : Ending) (job : Job) (c : Call) → job.mode ≡ mode → IsCommand c job → 1 ≤ job.procs → HasText job c
+    → TextSays mode before job (wanted job c.watchers) c.text c.out c.out_after c.history → StatusFrom before c → ToldOf before job c
+told_text Run before job c mode command some whole says from = told_run before job c (subst Runs (sym mode) tt) command some whole says from
+told_text Gen before job c mode command some whole says from = told_run before job c (subst Runs (sym mode) tt) command some whole says from
 told_text Check Done job c mode command some whole says from =
     record { clauses = clauses_checked job c command mode from whole says; says = (job, command, (says.program, says.compiled.has)) }
 told_text Check (Refused refusal) job c mode command some whole says from = told_refused refusal job c command from whole says
@@ -431,29 +466,77 @@ told_text Check (Faulted fault) job c mode command some whole says from = absurd
 told_text Check NoCommand job c mode command some whole says from = absurd says
 told_text Check CantRead job c mode command some whole says from = absurd says
 told_text Check CantWrite job c mode command some whole says from = absurd says
-told_text Check NoMemory job c mode command some whole says from = record { clauses = clauses_no_memory job c command (each_has job c command some) from says; says = tt }
+told_text Check NoMemory job c mode command some whole says from = told_unrun job c command some says from
 
-told_file : (before : Ending) (end : ReadEnd) (job : Job) (c : Call) → IsCommand c job → 1 ≤ job.procs → ReadsWhole job.file c.source c.source_after c.text end → FileSays end before job (work_of c) → StatusFrom before c → Told before job c
-told_file before Read.Whole job c command some read says from =
-    told_text job.mode before job c refl command some (read_whole before job c read (ends_as Read.Whole before job c says) from) says from
-told_file before Read.CantRead job c command some read says from =
+-- where a file is named, a text that was read whole is whole
+whole_read : (mode : Mode) (job : Job) (c : Call) → HasFile mode → IsReadWhole job c → IsWholeIn mode job c
+whole_read Run job c named whole = whole
+whole_read Check job c named whole = whole
+whole_read Gen job c named whole = absurd named
+
+told_file : (before : Ending) (end : ReadEnd) (job : Job) (c : Call) → HasFile job.mode → IsCommand c job → 1 ≤ job.procs → ReadsWhole job.file c.source c.source_after c.text end → FileSays end before job (work_of job c) → StatusFrom before c → ToldOf before job c
+told_file before Read.Whole job c named command some read says from =
+    told_text job.mode before job c refl command some (whole_read job.mode job c named (read_whole before job c read (ends_as Read.Whole before job c says) from)) says from
+told_file before Read.CantRead job c named command some read says from =
     let cause = read.cause refl in
     let from' = subst (λ b. StatusFrom b c) says.0 from in
-    subst (λ b. Told b job c) (sym says.0) (record { clauses = clauses_cant_read job c from' cause says.1; says = (job, command, cause) })
-told_file before Read.NoMemory job c command some read says from =
-    let from' = subst (λ b. StatusFrom b c) says.0 from in
-    subst (λ b. Told b job c) (sym says.0) (record { clauses = clauses_no_memory job c command (each_has job c command some) from' says.1; says = tt })
+    subst (λ b. ToldOf b job c) (sym says.0) (record { clauses = clauses_cant_read job c named from' cause says.1; says = (job, command, cause) })
+told_file before Read.NoMemory job c named command some read says from =
+    subst (λ b. ToldOf b job c) (sym says.0) (told_unrun job c command some says.1 (subst (λ b. StatusFrom b c) says.0 from))
+
+-- the clause on the text where a file is named
+gets_read : (mode : Mode) (job : Job) (c : Call) → HasFile mode → ReadsText job c → GetsText mode job c
+gets_read Run job c named reads = reads
+gets_read Check job c named reads = reads
+gets_read Gen job c named reads = absurd named
+
+told_read : (before : Ending) (job : Job) (c : Call) → HasFile job.mode → IsCommand c job → 1 ≤ job.procs → FileDone job before (work_of job c) → StatusFrom before c → Told before job c
+told_read before job c named command some work from =
+    let fits = ends_as work.end before job c work.says in
+    let k = told_file before work.end job c named command some work.read work.says from in
+    record {
+      text = gets_read job.mode job c named (reads_text work.end before job c work.read fits from);
+      clauses = k.clauses;
+      says = k.says;
+      commanded = not_no_command work.end before fits;
+    }
+
+told_made : (before : Ending) (job : Job) (c : Call) → job.mode ≡ Gen → IsCommand c job → 1 ≤ job.procs → SeedDone job before (work_of job c) → StatusFrom before c → Told before job c
+told_made before job c gen command some work from = elim work.says [
+  | inl made ↦
+      let fits = ends_text job.mode before job c made.1 in
+      let k = told_text job.mode before job c refl command some (subst (λ m. IsWholeIn m job c) (sym gen) made.0) made.1 from in
+      record {
+        text = subst (λ m. GetsText m job c) (sym gen) (makes_text before job c work.unread (inl made.0) fits.1 from);
+        clauses = k.clauses;
+        says = k.says;
+        commanded = fits.0;
+      }
+  | inr short ↦
+      let k = subst (λ b. ToldOf b job c) (sym short.1) (told_unrun job c command some short.2 (subst (λ b. StatusFrom b c) short.1 from)) in
+      record {
+        text = subst (λ m. GetsText m job c) (sym gen) (makes_text before job c work.unread (inr (short.0, short.1)) (λ e. let x = sym short.1 ∙ e in cc) from);
+        clauses = k.clauses;
+        says = k.says;
+        commanded = λ e. let x = sym short.1 ∙ e in cc;
+      }
+]
+
+told_in : (mode : Mode) (before : Ending) (job : Job) (c : Call) → job.mode ≡ mode → IsCommand c job → 1 ≤ job.procs → WorkSays mode job before (work_of job c) → StatusFrom before c → Told before job c
+told_in Run before job c mode command some work from = told_read before job c (subst HasFile (sym mode) tt) command some work from
+told_in Check before job c mode command some work from = told_read before job c (subst HasFile (sym mode) tt) command some work from
+told_in Gen before job c mode command some work from = told_made before job c mode command some work from
 
 told : (before : Ending) (job : Job) (c : Call) → Commanded before job c → StatusFrom before c → Told before job c
-told before job c x from = told_file before x.work.end job c x.command x.some x.work.read x.work.says from
+told before job c x from = told_in job.mode before job c refl x.command x.some x.work from
 
 beside_command : (before : Ending) (job : Job) (c : Call) → Commanded before job c → StatusFrom before c → MeetsBesideErr c
 beside_command before job c x from =
-    let k = (told before job c x from).clauses in
-    let fits = ends_as x.work.end before job c x.work.says in
+    let t = told before job c x from in
+    let k = t.clauses in
     record {
-      words = command_answers before c job x.command (not_no_command x.work.end before fits) from;
-      text = λ other some. subst (λ j. ReadsText j c) (job_same c job other x.command some) (reads_text x.work.end before job c x.work.read fits from);
+      words = command_answers before c job x.command t.commanded from;
+      text = λ other some. subst (λ (j : Job). GetsText j.mode j c) (job_same c job other x.command some) t.text;
       refusal = λ other some. subst (λ j. RefusesExactly j c) (job_same c job other x.command some) k.refusal;
       run = λ other some. subst (λ j. KeepsRun j c) (job_same c job other x.command some) k.run;
       output = k.output;
@@ -462,7 +545,7 @@ beside_command before job c x from =
     }
 
 -- what was done, and how the line on err was written, meet the clauses
-pub meets_command : (before : Ending) (job : Job) (c : Call) → IsCommand c job → 1 ≤ job.procs → WorkSays job before (work_of c) → Ended before job.file c.err c.err_after c.status → Meets c
+pub meets_command : (before : Ending) (job : Job) (c : Call) → IsCommand c job → 1 ≤ job.procs → WorkSays job.mode job before (work_of job c) → Ended before job.file c.err c.err_after c.status → Meets c
 meets_command before job c command some work written =
     let ended = subst (λ file. Ended before file c.err c.err_after c.status) (sym (ap file_in command)) written in
     let x : Commanded before job c = record { command = command; some = some; work = work } in
@@ -490,6 +573,14 @@ reads_nothing job c x from = record {
   same_files = subst (λ s. SameFiles c.source s) (sym x.source) (record { tells = refl; files = refl });
 }
 
+makes_nothing : (job : Job) (c : Call) → DidNothing c → StatusFrom NoMemory c → MakesText job c
+makes_nothing job c x from = makes_text NoMemory job c x.source (inr (x.text, refl)) (λ e. let y = e in cc) from
+
+gets_nothing : (mode : Mode) (job : Job) (c : Call) → DidNothing c → StatusFrom NoMemory c → GetsText mode job c
+gets_nothing Run job c x from = reads_nothing job c x from
+gets_nothing Check job c x from = reads_nothing job c x from
+gets_nothing Gen job c x from = makes_nothing job c x from
+
 -- it answers as one whose words are a command, and as one whose words are none
 beside_unread : (c : Call) → ((job : Job) → IsCommand c job → 1 ≤ job.procs) → DidNothing c → StatusFrom NoMemory c → MeetsBesideErr c
 beside_unread c some x from = record {
@@ -501,7 +592,7 @@ beside_unread c some x from = record {
     no_text = λ _. x.text;
     no_history = λ _. x.nothing.no_entry;
   };
-  text = λ job _. reads_nothing job c x from;
+  text = λ job _. gets_nothing job.mode job c x from;
   refusal = λ job command. (clauses_no_memory job c command some from x.nothing).refusal;
   run = λ job command. (clauses_no_memory job c command some from x.nothing).run;
   output = output_nothing c (λ is. absurd (never NoMemory c 0 from (λ e. omega arith) (λ e. omega arith) is)) (λ is. absurd (never NoMemory c 2 from (λ e. omega arith) (λ e. omega arith) is)) (λ _ other is _ program _. unbegun (run_of program other) (some other is)) x.nothing;

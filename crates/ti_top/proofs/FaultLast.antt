@@ -1,5 +1,7 @@
--- Where a run has a fault, its last entry is one.
-use Rattle.std.proofs.Common.{◌≡◌, ℕ, ◌≤◌, Bool, true, false, ◌||◌, Some, List, [], ◌∷◌, ◌++◌, inl, inr, arith, refl, sym, ◌∙◌, ap}
+-- Where a run has a fault, its last entry is one, and some process has no end.
+use Rattle.std.proofs.Common.{◌≡◌, ℕ, ◌≤◌, Bool, cond, true, false, ◌||◌, ◌==◌, Some, List, [], ◌∷◌, ◌++◌, inl, inr, arith, refl, sym, ◌∙◌, ap}
+use Rattle.std.specs.List.{list_any}
+use Rattle.std.proofs.lemmas.List.Elements.{filter-append}
 use Rattle.std.proofs.lemmas.List.Folds.{list_any-append}
 use Rattle.std.proofs.lemmas.Option.{same_Some}
 use Rattle.ti_base.specs.declared.place.Place.{Place}
@@ -12,9 +14,9 @@ use Rattle.ti_base.specs.declared.entry.Entry.{Entry}
 use Rattle.ti_base.specs.declared.entry.Next.{Next}
 use Rattle.ti_base.specs.declared.entry.Next.TheVariants as next
 use Rattle.ti_lang.specs.Meaning.Processes.{Setting}
-use Rattle.ti_lang.specs.Meaning.Histories.{history_of, is_fault, has_fault}
+use Rattle.ti_lang.specs.Meaning.Histories.{history_of, is_end, is_fault, entries_of, has_end, has_fault}
 use Rattle.ti_lang.specs.Meaning.HeapAnswers.{Outcome, Answers, Faults, Impossible, heap_answer}
-use Rattle.ti_lang.specs.Meaning.Runs.{entry_with, entry_of, IsRun, none, more, IsComplete}
+use Rattle.ti_lang.specs.Meaning.Runs.{entry_with, entry_of, IsRun, none, more, AllEnded, IsComplete}
 use Rattle.ti_top.specs.declared.fault.Fault.{Fault}
 use Rattle.ti_top.specs.Run.{fault_entry, EndsWithFault}
 
@@ -72,9 +74,34 @@ of_next s es i (next.Act at a) e is h = of_outcome i at a (heap_answer s.program
 of_next s es i (next.End at) e is h = absurd (true_false (sym h ∙ ap (λ (x : Entry). is_fault x.act) (sym (same_Some _ e is))))
 of_next s es i (next.Fault kind at) e is h = (record { kind = kind; proc = i; place = at }, sym (same_Some _ e is))
 
+-- where a run has a fault and goes on after each entry but the last, the last one is it
+last_is : (before es : List Entry) (e : Entry) → has_fault before ≡ false → es ≡ before ++ e ∷ [] → has_fault es ≡ true → is_fault e.act ≡ true
+last_is before es e goes_on split h = sym (only_last (has_fault before) (is_fault e.act) goes_on) ∙ sym (fault_more before e) ∙ ap has_fault (sym split) ∙ h
+
 pub fault_is_last : (s : Setting) (es : List Entry) → IsRun s es → has_fault es ≡ true → (fault : Fault) × EndsWithFault es fault
 fault_is_last s es none h = absurd (true_false (sym h))
 fault_is_last s es (more {es = before} {i = i} {e = e} run take split) h =
-    let last : is_fault e.act ≡ true = sym (only_last (has_fault before) (is_fault e.act) take.goes_on) ∙ sym (fault_more before e) ∙ ap has_fault (sym split) ∙ h in
-    let is : IsFaultEntry e = of_next s before i take.next e take.entry last in
+    let is : IsFaultEntry e = of_next s before i take.next e take.entry (last_is before es e take.goes_on split h) in
     (is.0, record { before = before; last = split ∙ ap (λ x. before ++ x ∷ []) is.1 })
+
+-- a fault ends no process
+still_unended : (i : ℕ) (es : List Entry) (e : Entry) → is_fault e.act ≡ true → has_end i es ≡ false → has_end i (es ++ e ∷ []) ≡ false
+still_unended i es e fault unended =
+    ap (list_any is_its_end) (filter-append (λ (x : Entry). x.proc == i) es (e ∷ [])) ∙ list_any-append is_its_end (entries_of i es) (entries_of i (e ∷ []))
+    ∙ ap (λ (b : Bool). b || has_end i (e ∷ [])) unended ∙ alone (e.proc == i)
+  where
+    is_its_end : Entry → Bool
+    is_its_end x = is_end x.act
+
+    no_end : is_end e.act ≡ false
+    no_end = ap is_end (faulty e.act fault).1
+
+    alone : (own : Bool) → list_any is_its_end (cond own (e ∷ []) []) ≡ false
+    alone true = ap (λ (b : Bool). b || false) no_end
+    alone false = refl
+
+-- where a run has a fault, not all processes have their end
+pub not_all_ended : (s : Setting) (es : List Entry) → IsRun s es → has_fault es ≡ true → AllEnded s es → ⊥
+not_all_ended s es none h ended = true_false (sym h)
+not_all_ended s es (more {es = before} {i = i} {e = e} run take split) h ended =
+    true_false (sym (ended i take.within) ∙ ap (has_end i) split ∙ still_unended i before e (last_is before es e take.goes_on split h) take.unended)

@@ -3,7 +3,7 @@ use Rattle.std.proofs.Common.{◌≡◌, inl, inr, ℕ, ◌≤◌, ◌*◌, nat_
 use Rattle.std.proofs.lemmas.Bool.Decides.{leb_tells}
 use Rattle.std.proofs.lemmas.Option.{same_Some}
 use Rattle.ti_words.specs.Uses.{Word}
-use Rattle.ti_words.specs.Job.{Values, values_in, mode_of, is_number, number_of, number_in, number_up_to, most_fuel, procs_of, workers_of, fuel_of, job_by, job_of}
+use Rattle.ti_words.specs.Job.{Values, values_in, mode_of, file_of, seed_of, is_number, number_of, number_in, number_within, most_fuel, procs_of, workers_of, fuel_of, job_by, job_of}
 use Rattle.ti_words.specs.declared.job.Job.{Job}
 use Rattle.ti_words.specs.declared.job.Mode.{Mode}
 use Rattle.ti_store.specs.Conditions.{IsWithin}
@@ -43,20 +43,20 @@ picked true false c k n e = no_some n e
 picked false b c k n e = no_some n e
 
 -- a number that a word writes
-in_range : (most : ℕ) (word : Word) (n : ℕ) → number_in most word ≡ Some n → (1 ≤ n) × (n ≤ most)
-in_range most word n e =
-    let p = picked (is_number word) (nat_le 1 (number_of word)) (nat_le (number_of word) most) (number_of word) n e in
-    (subst (λ k. 1 ≤ k) p.2 (low 1 (number_of word) p.0), subst (λ k. k ≤ most) p.2 (low (number_of word) most p.1))
+in_range : (least most : ℕ) (word : Word) (n : ℕ) → number_in least most word ≡ Some n → (least ≤ n) × (n ≤ most)
+in_range least most word n e =
+    let p = picked (is_number word) (nat_le least (number_of word)) (nat_le (number_of word) most) (number_of word) n e in
+    (subst (λ k. least ≤ k) p.2 (low least (number_of word) p.0), subst (λ k. k ≤ most) p.2 (low (number_of word) most p.1))
 
 -- or the default
-up_to : (most default : ℕ) (word : Option Word) (n : ℕ) → 1 ≤ default → default ≤ most → number_up_to most default word ≡ Some n → (1 ≤ n) × (n ≤ most)
-up_to most default None n some few e = let same = same_Some default n e in (subst (λ k. 1 ≤ k) same some, subst (λ k. k ≤ most) same few)
-up_to most default (Some word) n some few e = in_range most word n e
+within_range : (least most default : ℕ) (word : Option Word) (n : ℕ) → least ≤ default → default ≤ most → number_within least most default word ≡ Some n → (least ≤ n) × (n ≤ most)
+within_range least most default None n some few e = let same = same_Some default n e in (subst (λ k. least ≤ k) same some, subst (λ k. k ≤ most) same few)
+within_range least most default (Some word) n some few e = in_range least most word n e
 
-fuel_up_to : (procs : ℕ) (values : Values) (n : ℕ) → fuel_of procs values ≡ Some n → (1 ≤ n) × (n ≤ most_fuel)
-fuel_up_to procs values n e =
-    let k = stepped (number_up_to most_fuel 100000 values.fuel) (λ fuel. if nat_le (procs * fuel) most_fuel then Some fuel else None) n e in
-    subst (λ m. (1 ≤ m) × (m ≤ most_fuel)) (kept (nat_le (procs * k.first) most_fuel) k.first k.next) (up_to most_fuel 100000 values.fuel k.first (omega arith) (omega arith) k.is)
+fuel_within : (procs : ℕ) (values : Values) (n : ℕ) → fuel_of procs values ≡ Some n → (1 ≤ n) × (n ≤ most_fuel)
+fuel_within procs values n e =
+    let k = stepped (number_within 1 most_fuel 100000 values.fuel) (λ fuel. if nat_le (procs * fuel) most_fuel then Some fuel else None) n e in
+    subst (λ m. (1 ≤ m) × (m ≤ most_fuel)) (kept (nat_le (procs * k.first) most_fuel) k.first k.next) (within_range 1 most_fuel 100000 values.fuel k.first (omega arith) (omega arith) k.is)
   where
     kept : (test : Bool) (m : ℕ) → (if test then Some m else None) ≡ Some n → m ≡ n
     kept true m h = same_Some m n h
@@ -64,23 +64,37 @@ fuel_up_to procs values n e =
 
 -- ---- jobs
 
-abbrev job_with : Values → Word → Mode → ℕ → ℕ → ℕ → Job
-job_with values file mode procs workers fuel =
-    record { mode = mode; procs = procs; workers = workers; fuel = fuel; trace = values.trace; stats = values.stats; file = file }
+abbrev job_with : Values → Mode → Word → ℕ → ℕ → ℕ → ℕ → Job
+job_with values mode file seed procs workers fuel =
+    record { mode = mode; procs = procs; workers = workers; fuel = fuel; seed = seed; trace = values.trace; stats = values.stats; file = file }
 
-within : (values : Values) (file : Word) (mode : Mode) (procs workers fuel : ℕ) (job : Job) → job_with values file mode procs workers fuel ≡ job → IsWithin procs fuel → IsWithin job.procs job.fuel
-within values file mode procs workers fuel job same is = subst (λ (j : Job). IsWithin j.procs j.fuel) same is
+-- the last steps, of which each takes one more value
+abbrev fueled : Values → Mode → Word → ℕ → ℕ → ℕ → Option Job
+fueled values mode file seed procs workers = option_map (job_with values mode file seed procs workers) (fuel_of procs values)
+
+abbrev manned : Values → Mode → Word → ℕ → ℕ → Option Job
+manned values mode file seed procs = option_and_then (fueled values mode file seed procs) (workers_of procs values)
+
+abbrev seeded : Values → Mode → Word → ℕ → Option Job
+seeded values mode file seed = option_and_then (manned values mode file seed) (procs_of values)
+
+abbrev named : Values → Mode → Word → Option Job
+named values mode file = option_and_then (seeded values mode file) (seed_of mode values.seed)
+
+within : (values : Values) (mode : Mode) (file : Word) (seed procs workers fuel : ℕ) (job : Job) → job_with values mode file seed procs workers fuel ≡ job → IsWithin procs fuel → IsWithin job.procs job.fuel
+within values mode file seed procs workers fuel job same is = subst (λ (j : Job). IsWithin j.procs j.fuel) same is
 
 ranges : (values : Values) (job : Job) → job_by values ≡ Some job → IsWithin job.procs job.fuel
 ranges values job e =
-    let file = stepped values.file (λ file. option_and_then (λ mode. option_and_then (λ procs. option_and_then (λ workers. option_map (job_with values file mode procs workers) (fuel_of procs values)) (workers_of procs values)) (procs_of values)) (mode_of values.mode)) job e in
-    let mode = stepped (mode_of values.mode) (λ mode. option_and_then (λ procs. option_and_then (λ workers. option_map (job_with values file.first mode procs workers) (fuel_of procs values)) (workers_of procs values)) (procs_of values)) job file.next in
-    let procs = stepped (procs_of values) (λ procs. option_and_then (λ workers. option_map (job_with values file.first mode.first procs workers) (fuel_of procs values)) (workers_of procs values)) job mode.next in
-    let workers = stepped (workers_of procs.first values) (λ workers. option_map (job_with values file.first mode.first procs.first workers) (fuel_of procs.first values)) job procs.next in
-    let fuel = mapped (job_with values file.first mode.first procs.first workers.first) (fuel_of procs.first values) job workers.next in
-    let p = up_to 32 1 values.procs procs.first (omega arith) (omega arith) procs.is in
-    let f = fuel_up_to procs.first values fuel.0 fuel.1 in
-    within values file.first mode.first procs.first workers.first fuel.0 job fuel.2 (record { some = p.0; few = p.1; fueled = f.0; limited = f.1 })
+    let mode = stepped (mode_of values.mode) (λ mode. option_and_then (named values mode) (file_of mode values.file)) job e in
+    let file = stepped (file_of mode.first values.file) (named values mode.first) job mode.next in
+    let seed = stepped (seed_of mode.first values.seed) (seeded values mode.first file.first) job file.next in
+    let procs = stepped (procs_of values) (manned values mode.first file.first seed.first) job seed.next in
+    let workers = stepped (workers_of procs.first values) (fueled values mode.first file.first seed.first procs.first) job procs.next in
+    let fuel = mapped (job_with values mode.first file.first seed.first procs.first workers.first) (fuel_of procs.first values) job workers.next in
+    let p = within_range 1 32 1 values.procs procs.first (omega arith) (omega arith) procs.is in
+    let f = fuel_within procs.first values fuel.0 fuel.1 in
+    within values mode.first file.first seed.first procs.first workers.first fuel.0 job fuel.2 (record { some = p.0; few = p.1; fueled = f.0; limited = f.1 })
 
 pub in_ranges : (words : List Word) (job : Job) → job_of words ≡ Some job → IsWithin job.procs job.fuel
 in_ranges words job e = let k = stepped (values_in words) job_by job e in ranges k.first job k.next

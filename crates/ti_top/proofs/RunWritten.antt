@@ -1,32 +1,34 @@
--- The lines of a run, and then the reports on it.
-use Rattle.std.proofs.Common.{◌≡◌, ◌⊎◌, inl, inr, false, List, [], ◌++◌, Ok, Err, arith, refl, sym, ◌∙◌, ap, subst, append_assoc}
+-- The lines of a run or its summary, and then the reports on it.
+use Rattle.std.proofs.Common.{◌≡◌, ◌⊎◌, inl, inr, ℕ, false, List, [], ◌++◌, Ok, Err, arith, refl, sym, ◌∙◌, ap, subst, append_assoc}
 use Rattle.std.proofs.lemmas.List.{append-nil}
 use Rattle.ti_base.specs.declared.entry.Entry.{Entry}
-use Rattle.ti_io.specs.Sink.{SinkState, Writes}
+use Rattle.ti_io.specs.Sink.{SinkState, GrewBy, GrewByFront, Writes}
 use Rattle.ti_io.proofs.Rising.{rose_since}
 use Rattle.ti_lang.specs.Program.Classes.{NumberedProgram}
 use Rattle.ti_lang.specs.Meaning.Processes.{Setting}
-use Rattle.ti_lang.specs.Meaning.Lines.{lines_of}
 use Rattle.ti_lang.specs.Meaning.Histories.{has_fault}
 use Rattle.ti_lang.specs.Meaning.Runs.{IsComplete, IsRun, IsSolo, AllEnded}
 use Rattle.ti_words.specs.declared.job.Job.{Job}
+use Rattle.ti_words.specs.declared.job.Mode.{Mode}
+use Rattle.ti_words.specs.declared.job.Mode.TheVariants.{Run, Check, Gen}
 use Rattle.ti_top.specs.declared.fault.Fault.{Fault}
 use Rattle.ti_top.specs.declared.reports.ReportEnd.{ReportEnd}
 use Rattle.ti_top.specs.declared.reports.ReportEnd.TheVariants as Report
 use Rattle.ti_top.specs.declared.ending.Ending.{Ending}
 use Rattle.ti_top.specs.declared.ending.Ending.TheVariants.{Done, Refused, Faulted, NoCommand, CantRead, CantWrite, NoMemory}
-use Rattle.ti_top.specs.Reports.{Watcher, reports}
-use Rattle.ti_top.specs.Run.{run_of}
+use Rattle.ti_top.specs.Reports.{Watcher, reports, output_in}
+use Rattle.ti_top.specs.Run.{Runs, run_of}
 use Rattle.ti_top.specs.Mirrors.Reporting.{Reported}
 use Rattle.ti_top.specs.Mirrors.RunEnds.{RunEnds}
-use Rattle.ti_top.specs.Mirrors.Work.{ending_after, WroteRun, RunSays}
+use Rattle.ti_top.specs.Mirrors.Work.{ending_after, head_after, ReportsAfter, WroteRun, RunSays}
 use Rattle.ti_top.proofs.FaultLast.{fault_is_there}
+use Rattle.ti_top.proofs.HaveEnded.{summary_is}
 
 -- ---- what was written
 
--- the lines weren't written
-pub wrote_cut : {T E : Type 0} (ended : Ending) (p : NumberedProgram) (ws : List Watcher) (h : List Entry) (s0 s1 : SinkState) (e : E) → Writes {T = T} (lines_of p h) s0 s1 (Err e) → WroteRun ended p ws h s0 s1 CantWrite
-wrote_cut ended p ws h s0 s1 e wrote = record {
+-- the head wasn't written
+pub wrote_cut : {T E : Type 0} (ended : Ending) (head : List ℕ) (ws : List Watcher) (h : List Entry) (s0 s1 : SinkState) (e : E) → Writes {T = T} head s0 s1 (Err e) → WroteRun ended head ws h s0 s1 CantWrite
+wrote_cut ended head ws h s0 s1 e wrote = record {
   never_falls = wrote.never_falls;
   tells = wrote.tells;
   known = inr (inr refl);
@@ -39,28 +41,25 @@ wrote_cut ended p ws h s0 s1 e wrote = record {
   few = λ is. absurd (let x = is in cc);
 }
 
--- the lines of a run that was cut short were written
-wrote_lines : {T E : Type 0} (p : NumberedProgram) (ws : List Watcher) (h : List Entry) (s0 s1 : SinkState) (x : T) → Writes {E = E} (lines_of p h) s0 s1 (Ok x) → WroteRun NoMemory p ws h s0 s1 NoMemory
-wrote_lines p ws h s0 s1 x wrote = record {
+-- the head of a run that was cut short was written
+wrote_head : {T E : Type 0} (head : List ℕ) (ws : List Watcher) (h : List Entry) (s0 s1 : SinkState) (x : T) → Writes {E = E} head s0 s1 (Ok x) → WroteRun NoMemory head ws h s0 s1 NoMemory
+wrote_head head ws h s0 s1 x wrote = record {
   never_falls = wrote.never_falls;
   tells = wrote.tells;
   known = inl refl;
   rose = λ is. absurd (let e = is in cc);
   all = λ _ there. absurd (there refl);
-  part = λ told. (lines_of p h, (reports ws h, refl), wrote.all told);
+  part = λ told. (head, (reports ws h, refl), wrote.all told);
   needed = λ _ whole. absurd (whole refl);
   few = λ _ told. record {
     few = [];
     others = ws;
     first = refl;
-    grew = wrote.all told ∙ ap (λ t. s0.taken ++ t) (sym (append-nil (lines_of p h)));
+    grew = wrote.all told ∙ ap (λ t. s0.taken ++ t) (sym (append-nil head));
     none_of_cut = λ _. refl;
     not_all = λ whole. absurd (whole refl);
   };
 }
-
-pub wrote_cut_short : {T E : Type 0} (ended : Ending) (p : NumberedProgram) (ws : List Watcher) (h : List Entry) (s0 s1 : SinkState) (x : T) → ended ≡ NoMemory → Writes {E = E} (lines_of p h) s0 s1 (Ok x) → WroteRun ended p ws h s0 s1 ended
-wrote_cut_short ended p ws h s0 s1 x is wrote = subst (λ (e : Ending). WroteRun e p ws h s0 s1 e) (sym is) (wrote_lines p ws h s0 s1 x wrote)
 
 -- how the reports ended, by how the work does
 reports_known : (end : ReportEnd) (ended : Ending) → (ending_after end ended ≡ ended) ⊎ (ending_after end ended ≡ NoMemory) ⊎ (ending_after end ended ≡ CantWrite)
@@ -83,17 +82,17 @@ reports_whole Report.Written ended whole there = refl
 reports_whole Report.CantWrite ended whole there = absurd (whole refl)
 reports_whole Report.NoMemory ended whole there = absurd (there refl)
 
--- the lines of one that wasn't were written, and then the reports up to this end
-wrote_reports : {T E : Type 0} (ended : Ending) (end : ReportEnd) (p : NumberedProgram) (ws : List Watcher) (h : List Entry) (s0 s1 s2 : SinkState) (x : T) → (ended ≡ NoMemory → ⊥) → Writes {E = E} (lines_of p h) s0 s1 (Ok x) → Reported ws h s1 s2 end → WroteRun ended p ws h s0 s2 (ending_after end ended)
-wrote_reports ended end p ws h s0 s1 s2 x whole wrote reported = record {
+-- the head of one that wasn't was written, and then the reports up to this end
+wrote_reports : {T E : Type 0} (ended : Ending) (end : ReportEnd) (head : List ℕ) (ws : List Watcher) (h : List Entry) (s0 s1 s2 : SinkState) (x : T) → (ended ≡ NoMemory → ⊥) → Writes {E = E} head s0 s1 (Ok x) → Reported ws h s1 s2 end → WroteRun ended head ws h s0 s2 (ending_after end ended)
+wrote_reports ended end head ws h s0 s1 s2 x whole wrote reported = record {
   never_falls = omega arith;
   tells = reported.tells ∙ wrote.tells;
   known = reports_known end ended;
   rose = λ is written. rose_since s0.faults s1.faults s2.faults wrote.never_falls (reported.rose (reports_cut end ended is written));
-  all = λ uncut there told. reported.all (reports_whole end ended uncut there) (wrote.tells ∙ told) ∙ ap (λ t. t ++ reports ws h) (wrote.all told) ∙ append_assoc s0.taken (lines_of p h) (reports ws h);
+  all = λ uncut there told. reported.all (reports_whole end ended uncut there) (wrote.tells ∙ told) ∙ ap (λ t. t ++ reports ws h) (wrote.all told) ∙ append_assoc s0.taken (head) (reports ws h);
   part = λ told.
       let front = reported.part (wrote.tells ∙ told) in
-      (lines_of p h ++ front.0, (front.1.0, append_assoc (lines_of p h) front.0 front.1.0 ∙ ap (λ t. lines_of p h ++ t) front.1.1), front.2 ∙ ap (λ t. t ++ front.0) (wrote.all told) ∙ append_assoc s0.taken (lines_of p h) front.0);
+      (head ++ front.0, (front.1.0, append_assoc (head) front.0 front.1.0 ∙ ap (λ t. head ++ t) front.1.1), front.2 ∙ ap (λ t. t ++ front.0) (wrote.all told) ∙ append_assoc s0.taken (head) front.0);
   needed = λ is _. reported.needed (reports_short end ended whole is);
   few = λ is told.
       let k = reported.few (reports_short end ended whole is) (wrote.tells ∙ told) in
@@ -101,14 +100,19 @@ wrote_reports ended end p ws h s0 s1 s2 x whole wrote reported = record {
         few = k.few;
         others = k.others;
         first = k.first;
-        grew = k.grew ∙ ap (λ t. t ++ reports k.few h) (wrote.all told) ∙ append_assoc s0.taken (lines_of p h) (reports k.few h);
+        grew = k.grew ∙ ap (λ t. t ++ reports k.few h) (wrote.all told) ∙ append_assoc s0.taken (head) (reports k.few h);
         none_of_cut = λ is. absurd (whole is);
         not_all = λ _. k.missing;
       };
 }
 
-pub wrote_after : {T E : Type 0} (ended ending : Ending) (end : ReportEnd) (p : NumberedProgram) (ws : List Watcher) (h : List Entry) (s0 s1 s2 : SinkState) (x : T) → (ended ≡ NoMemory → ⊥) → ending ≡ ending_after end ended → Writes {E = E} (lines_of p h) s0 s1 (Ok x) → Reported ws h s1 s2 end → WroteRun ended p ws h s0 s2 ending
-wrote_after ended ending end p ws h s0 s1 s2 x whole after wrote reported = subst (λ (e : Ending). WroteRun ended p ws h s0 s2 e) (sym after) (wrote_reports ended end p ws h s0 s1 s2 x whole wrote reported)
+-- the head of a run was written, and the watchers reported on it
+pub wrote_all : {T E : Type 0} (ended ending : Ending) (head : List ℕ) (ws : List Watcher) (h : List Entry) (s0 s1 s2 : SinkState) (x : T) → Writes {E = E} head s0 s1 (Ok x) → ReportsAfter ended ws h s1 s2 ending → WroteRun ended head ws h s0 s2 ending
+wrote_all {E = E} ended ending head ws h s0 s1 s2 x wrote (inl cut) =
+    subst (λ (e : Ending). WroteRun e head ws h s0 s2 ending) (sym cut.0)
+    (subst (λ (e : Ending). WroteRun NoMemory head ws h s0 s2 e) (sym (cut.1 ∙ cut.0)) (wrote_head {E = E} head ws h s0 s2 x (subst (λ (s : SinkState). Writes {E = E} head s0 s (Ok x)) (sym cut.2) wrote)))
+wrote_all {E = E} ended ending head ws h s0 s1 s2 x wrote (inr said) =
+    subst (λ (e : Ending). WroteRun ended head ws h s0 s2 e) (sym said.1.ending_is) (wrote_reports {E = E} ended said.1.end head ws h s0 s1 s2 x said.0 wrote said.1.reported)
 
 -- ---- what it says of the run
 
@@ -141,9 +145,15 @@ run_known CantWrite ending s h ends (inl same) = absurd ends
 run_known NoMemory ending s h ends (inl same) = inr (inr (inl same))
 run_known ended ending s h ends (inr other) = inr (inr other)
 
+-- what is written of a run that ended so
+output_is : (mode : Mode) (ended : Ending) (s : Setting) (h : List Entry) (ws : List Watcher) → Runs mode → IsRun s h → RunEnds s h ended → output_in mode s h ws ≡ head_after mode ended s.program h ++ reports ws h
+output_is Run ended s h ws runs run ends = refl
+output_is Check ended s h ws runs run ends = absurd runs
+output_is Gen ended s h ws runs run ends = ap (λ t. t ++ reports ws h) (summary_is ended s h run ends)
+
 -- the run of a program, and what was written of it
-pub run_says : (ended : Ending) (p : NumberedProgram) (job : Job) (ws : List Watcher) (s0 s1 : SinkState) (h : List Entry) (ending : Ending) → IsRun (run_of p job) h → IsSolo (run_of p job) h → RunEnds (run_of p job) h ended → WroteRun ended p ws h s0 s1 ending → RunSays p job ws s0 s1 h ending
-run_says ended p job ws s0 s1 h ending run solo ends wrote = record {
+pub run_says : (ended : Ending) (p : NumberedProgram) (job : Job) (ws : List Watcher) (s0 s1 : SinkState) (h : List Entry) (ending : Ending) → Runs job.mode → IsRun (run_of p job) h → IsSolo (run_of p job) h → RunEnds (run_of p job) h ended → WroteRun ended (head_after job.mode ended p h) ws h s0 s1 ending → RunSays p job ws s0 s1 h ending
+run_says ended p job ws s0 s1 h ending runs run solo ends wrote = record {
   run = run;
   solo = solo;
   ended = λ is. (done is).0;
@@ -154,15 +164,15 @@ run_says ended p job ws s0 s1 h ending run solo ends wrote = record {
   never_falls = wrote.never_falls;
   tells = wrote.tells;
   rose = λ is. wrote.rose is (λ cut. subst (RunEnds s h) cut ends);
-  all = wrote.all;
-  part = wrote.part;
+  all = λ whole there told. subst (λ t. GrewBy s0 s1 t) (sym (same ws)) (wrote.all whole there told);
+  part = λ told. subst (λ t. GrewByFront s0 s1 t) (sym (same ws)) (wrote.part told);
   few = λ is told.
       let k = wrote.few is told in
       record {
         few = k.few;
         others = k.others;
         first = k.first;
-        grew = k.grew;
+        grew = subst (λ t. GrewBy s0 s1 t) (sym (same k.few)) k.grew;
         none_of_cut = λ cut. k.none_of_cut (run_whole ended s h ends cut);
         not_all = λ complete. k.not_all (λ cut. run_cut ended s h ends cut complete);
       };
@@ -170,6 +180,9 @@ run_says ended p job ws s0 s1 h ending run solo ends wrote = record {
   where
     s : Setting
     s = run_of p job
+
+    same : (few : List Watcher) → output_in job.mode s h few ≡ head_after job.mode ended p h ++ reports few h
+    same few = output_is job.mode ended s h few runs run ends
 
     done : ending ≡ Done → AllEnded s h × (has_fault h ≡ false)
     done is = subst (RunEnds s h) (ending_is ended ending Done wrote.known is (λ e. let x = e in cc) (λ e. let x = e in cc)) ends

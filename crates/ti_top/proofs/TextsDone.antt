@@ -7,13 +7,14 @@ use Rattle.ti_rules.specs.declared.refusal.Refusal.{Refusal}
 use Rattle.ti_rules.specs.RefusalOf.{IsRefusal}
 use Rattle.ti_words.specs.declared.job.Job.{Job}
 use Rattle.ti_words.specs.declared.job.Mode.{Mode}
-use Rattle.ti_words.specs.declared.job.Mode.TheVariants.{Run, Check}
+use Rattle.ti_words.specs.declared.job.Mode.TheVariants.{Run, Check, Gen}
 use Rattle.ti_top.specs.declared.fault.Fault.{Fault}
 use Rattle.ti_top.specs.declared.ending.Ending.{Ending}
 use Rattle.ti_top.specs.declared.ending.Ending.TheVariants.{Done, Refused, Faulted, NoCommand, CantRead, CantWrite, NoMemory}
+use Rattle.ti_top.specs.Run.{Runs}
 use Rattle.ti_top.specs.Reports.{Watcher}
 use Rattle.ti_top.specs.Mirrors.Compiling.{IsCompiled, HasNoProgram}
-use Rattle.ti_top.specs.Mirrors.Work.{RanNothing, RunSays, WasChecked, RunTextSays, TextSays}
+use Rattle.ti_top.specs.Mirrors.Work.{RanNothing, RunSays, WasChecked, RunTextSays, TextSays, Work, FileDone, SeedDone, WorkSays}
 
 -- the endings of a run
 abbrev IsOfRun : Ending → Type 0
@@ -47,19 +48,37 @@ ran_text CantRead p job ws text out after h compiled says = absurd (not_cant_rea
 ran_text CantWrite p job ws text out after h compiled says = record { program = p; compiled = compiled; says = says }
 ran_text NoMemory p job ws text out after h compiled says = inr (record { program = p; compiled = compiled; says = says })
 
+-- the modes that run
+pub run_or_gen : (mode : Mode) → (mode ≡ Run) ⊎ (mode ≡ Gen) → Runs mode
+run_or_gen mode (inl is) = subst Runs (sym is) tt
+run_or_gen mode (inr is) = subst Runs (sym is) tt
+
+-- what was done where a file is named
+pub done_by_file : (mode : Mode) (job : Job) (ending : Ending) (w : Work) → (mode ≡ Run) ⊎ (mode ≡ Check) → FileDone job ending w → WorkSays mode job ending w
+done_by_file mode job ending w (inl is) done = subst (λ (m : Mode). WorkSays m job ending w) (sym is) done
+done_by_file mode job ending w (inr is) done = subst (λ (m : Mode). WorkSays m job ending w) (sym is) done
+
+-- and where none is
+pub done_by_seed : (mode : Mode) (job : Job) (ending : Ending) (w : Work) → mode ≡ Gen → SeedDone job ending w → WorkSays mode job ending w
+done_by_seed mode job ending w is done = subst (λ (m : Mode). WorkSays m job ending w) (sym is) done
+
 -- what a run says is said in its mode
-pub run_in_mode : (mode : Mode) (ending : Ending) (job : Job) (ws : List Watcher) (text : List ℕ) (out after : SinkState) (h : List Entry) → mode ≡ Run → RunTextSays ending job ws text out after h → TextSays mode ending job ws text out after h
-run_in_mode mode ending job ws text out after h is says = subst (λ (m : Mode). TextSays m ending job ws text out after h) (sym is) says
+pub run_in_mode : (mode : Mode) (ending : Ending) (job : Job) (ws : List Watcher) (text : List ℕ) (out after : SinkState) (h : List Entry) → Runs mode → RunTextSays ending job ws text out after h → TextSays mode ending job ws text out after h
+run_in_mode Run ending job ws text out after h runs says = says
+run_in_mode Check ending job ws text out after h runs says = absurd runs
+run_in_mode Gen ending job ws text out after h runs says = says
 
 -- the text has a refusal
 pub refused_text : (mode : Mode) (refusal : Refusal) (job : Job) (ws : List Watcher) (text : List ℕ) (out after : SinkState) (h : List Entry) → IsRefusal text refusal × HasNoProgram text → RanNothing out after h → TextSays mode (Refused refusal) job ws text out after h
 refused_text Run refusal job ws text out after h is nothing = record { is = is.0; no_program = is.1; nothing = nothing }
 refused_text Check refusal job ws text out after h is nothing = record { is = is.0; no_program = is.1; nothing = nothing }
+refused_text Gen refusal job ws text out after h is nothing = record { is = is.0; no_program = is.1; nothing = nothing }
 
 -- memory was wanting before a run
 pub unrun_text : (mode : Mode) (job : Job) (ws : List Watcher) (text : List ℕ) (out after : SinkState) (h : List Entry) → RanNothing out after h → TextSays mode NoMemory job ws text out after h
 unrun_text Run job ws text out after h nothing = inl nothing
 unrun_text Check job ws text out after h nothing = nothing
+unrun_text Gen job ws text out after h nothing = inl nothing
 
 -- the text has a program, and is checked alone
 pub checked_text : (p : NumberedProgram) (text : List ℕ) (out after : SinkState) (h : List Entry) → IsCompiled text p → RanNothing out after h → WasChecked text out after h

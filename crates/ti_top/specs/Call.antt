@@ -25,7 +25,7 @@ pub record Call : Type 0 where
   pub err : SinkState
   pub err_after : SinkState
   pub status : ℕ
-  -- what was read
+  -- what was read, or made
   pub text : List ℕ
   -- the entries of the run
   pub history : List Entry

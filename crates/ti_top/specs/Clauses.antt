@@ -1,5 +1,6 @@
 -- The contract of the command, a record for each of its clauses.
 use Rattle.std.specs.Prelude.{◌≡◌, ◌⊎◌, ℕ, ◌≤◌, true, false, List, [], length, take}
+use Rattle.ti_gen.specs.Source.{source_text}
 use Rattle.ti_io.specs.Source.{SameFiles, IsMissing, Holds}
 use Rattle.ti_io.specs.Sink.{IsFront, GrewBy, GrewByFront}
 use Rattle.ti_lang.specs.Program.Classes.{NumberedProgram}
@@ -8,13 +9,13 @@ use Rattle.ti_align.specs.Alignment.{IsAligned}
 use Rattle.ti_rules.specs.declared.refusal.Refusal.{Refusal}
 use Rattle.ti_rules.specs.RefusalOf.{HasNone, HasProgram, IsRefusal}
 use Rattle.ti_words.specs.declared.job.Job.{Job}
-use Rattle.ti_words.specs.declared.job.Mode.TheVariants.{Run, Check}
+use Rattle.ti_words.specs.declared.job.Mode.{Mode}
+use Rattle.ti_words.specs.declared.job.Mode.TheVariants.{Run, Check, Gen}
 use Rattle.ti_top.specs.declared.fault.Fault.{Fault}
 use Rattle.ti_top.specs.declared.ending.Ending.{Ending}
 use Rattle.ti_top.specs.declared.ending.Ending.TheVariants.{Done, Refused, Faulted, NoCommand, CantRead, CantWrite, NoMemory}
-use Rattle.ti_top.specs.Run.{EndsWithFault}
+use Rattle.ti_top.specs.Run.{HasFile, Runs, run_of, EndsWithFault}
 use Rattle.ti_top.specs.Ending.{status_of, err_line}
-use Rattle.ti_top.specs.Run.{run_of}
 use Rattle.ti_top.specs.Reports.{wanted, output, WroteFew}
 use Rattle.ti_top.specs.Call.{most_read, Call, IsCommand, IsNoCommand, file_of, SourceRose, OutRose, ErrRose, SinkRose, Yields, WantsReport}
 
@@ -36,7 +37,20 @@ pub record IsReadWhole (job : Job) (c : Call) : Type 0 where
   pub untold_at_three : c.source.tells ≡ false → c.status ≡ 3 → ⊥
   pub untold_at_four : c.source.tells ≡ false → c.status ≡ 4 → ⊥
 
--- The text: a front of what the file holds, and the whole with status 0, 1 or 2. Status 4 says that it can't be read.
+-- The text was made: it is that of the seed.
+abbrev pub IsMade : Job → Call → Type 0
+IsMade job c = c.text ≡ source_text job.seed
+
+-- the whole text is there: it was read whole, or in mode gen made
+abbrev pub IsWholeIn : Mode → Job → Call → Type 0
+IsWholeIn Run job c = IsReadWhole job c
+IsWholeIn Check job c = IsReadWhole job c
+IsWholeIn Gen job c = IsMade job c
+
+abbrev pub HasText : Job → Call → Type 0
+HasText job c = IsWholeIn job.mode job c
+
+-- The text where a file is named: a front of what the file holds, and the whole with status 0, 1 or 2. Status 4 says that it can't be read.
 pub record ReadsText (job : Job) (c : Call) : Type 0 where
   pub front : (bytes : List ℕ) → Holds c.source job.file bytes → IsFront c.text bytes
   pub bound : length c.text ≤ most_read
@@ -48,13 +62,25 @@ pub record ReadsText (job : Job) (c : Call) : Type 0 where
   pub missing : IsMissing c.source job.file → (c.status ≡ 4) ⊎ Yields c
   pub same_files : SameFiles c.source c.source_after
 
+-- The text in mode gen, where nothing is read: that of the seed, unless it ran out of memory before.
+pub record MakesText (job : Job) (c : Call) : Type 0 where
+  pub made : IsMade job c ⊎ ((c.text ≡ []) × Yields c)
+  pub source_as_before : c.source_after ≡ c.source
+  pub never_four : c.status ≡ 4 → ⊥
+
+-- the text in a mode
+abbrev pub GetsText : Mode → Job → Call → Type 0
+GetsText Run job c = ReadsText job c
+GetsText Check job c = ReadsText job c
+GetsText Gen job c = MakesText job c
+
 -- the text has a program
 abbrev pub IsAccepted : List ℕ → Type 0
 IsAccepted text = (program : NumberedProgram) × HasProgram text program
 
--- The text was read whole, and this is its refusal.
+-- The whole text is there, and this is its refusal.
 pub record IsRefused (job : Job) (c : Call) (refusal : Refusal) : Type 0 where
-  pub whole : IsReadWhole job c
+  pub whole : HasText job c
   pub refused : IsRefusal c.text refusal
 
 -- The refusal: status 1 says that the text is refused, and then nothing was run and nothing written; with status 0 or 2 it
@@ -78,11 +104,11 @@ pub record KeepsRun (job : Job) (c : Call) : Type 0 where
 
 -- this holds of the job and the program wherever the text is to be run and has one
 abbrev pub WhereRun : Call → (Job → NumberedProgram → Type 0) → Type 0
-WhereRun c P = (job : Job) → IsCommand c job → job.mode ≡ Run → (program : NumberedProgram) → HasProgram c.text program → P job program
+WhereRun c P = (job : Job) → IsCommand c job → Runs job.mode → (program : NumberedProgram) → HasProgram c.text program → P job program
 
--- out grew by the lines of the history and the reports of all wanted watchers
+-- out grew by the lines of the history or the summary of the run, and the reports of all wanted watchers
 abbrev pub WritesAll : Call → Type 0
-WritesAll c = WhereRun c (λ job program. GrewBy c.out c.out_after (output program c.history (wanted job c.watchers)))
+WritesAll c = WhereRun c (λ job program. GrewBy c.out c.out_after (output job program c.history (wanted job c.watchers)))
 
 -- The output: what out has taken in the call.
 pub record WritesOutput (c : Call) : Type 0 where
@@ -92,13 +118,13 @@ pub record WritesOutput (c : Call) : Type 0 where
   pub nothing_at_three : c.status ≡ 3 → c.out_after.taken ≡ c.out.taken
   pub nothing_at_four : c.status ≡ 4 → c.out_after.taken ≡ c.out.taken
   pub no_command : IsNoCommand c → c.out_after.taken ≡ c.out.taken
-  pub not_whole : (job : Job) → IsCommand c job → (IsReadWhole job c → ⊥) → c.out_after.taken ≡ c.out.taken
+  pub not_whole : (job : Job) → IsCommand c job → (HasText job c → ⊥) → c.out_after.taken ≡ c.out.taken
   pub no_program : ((program : NumberedProgram) → HasProgram c.text program → ⊥) → c.out_after.taken ≡ c.out.taken
   pub checked : (job : Job) → IsCommand c job → job.mode ≡ Check → c.out_after.taken ≡ c.out.taken
   -- a write to out or err failed
-  pub failed : c.status ≡ 5 → c.out.tells ≡ true → WhereRun c (λ job program. GrewByFront c.out c.out_after (output program c.history (wanted job c.watchers)))
-  -- the lines of the kept history are written, and whole reports
-  pub no_memory : c.status ≡ 6 → c.out.tells ≡ true → WhereRun c (λ job program. WroteFew (run_of program job) (wanted job c.watchers) c.history c.out c.out_after)
+  pub failed : c.status ≡ 5 → c.out.tells ≡ true → WhereRun c (λ job program. GrewByFront c.out c.out_after (output job program c.history (wanted job c.watchers)))
+  -- the lines of the kept history or its summary are written, and whole reports
+  pub no_memory : c.status ≡ 6 → c.out.tells ≡ true → WhereRun c (λ job program. WroteFew job.mode (run_of program job) (wanted job c.watchers) c.history c.out c.out_after)
 
 -- Alignment: with status 0 or 2 the program of the text is aligned.
 pub record IsAlignedRun (c : Call) : Type 0 where
@@ -108,8 +134,8 @@ pub record IsAlignedRun (c : Call) : Type 0 where
 -- The end: where the text is run, all processes have their end with status 0, and status 2 says that the last entry is a fault,
 -- which the line on err names with its process and place; status 6 never comes with a complete history, unless a watcher is wanted.
 pub record EndsRun (job : Job) (c : Call) : Type 0 where
-  pub ended : c.status ≡ 0 → job.mode ≡ Run → (program : NumberedProgram) → HasProgram c.text program → AllEnded (run_of program job) c.history
-  pub fault_only_where : c.status ≡ 2 → (job.mode ≡ Run) × ((fault : Fault) × EndsWithFault c.history fault)
+  pub ended : c.status ≡ 0 → Runs job.mode → (program : NumberedProgram) → HasProgram c.text program → AllEnded (run_of program job) c.history
+  pub fault_only_where : c.status ≡ 2 → Runs job.mode × ((fault : Fault) × EndsWithFault c.history fault)
   -- a sink may fail, and memory for a wanted report
   pub fault_everywhere : (fault : Fault) → EndsWithFault c.history fault → (c.status ≡ 2) ⊎ (((c.status ≡ 5) × SinkRose c) ⊎ ((c.status ≡ 6) × WantsReport job c))
   pub unfinished : c.status ≡ 6 → (program : NumberedProgram) → HasProgram c.text program → IsCompleteRun (run_of program job) c.history → WantsReport job c
@@ -117,7 +143,7 @@ pub record EndsRun (job : Job) (c : Call) : Type 0 where
 -- What the command promises of everything but its line on err.
 pub record MeetsBesideErr (c : Call) : Type 0 where
   pub words : AnswersWords c
-  pub text : (job : Job) → IsCommand c job → ReadsText job c
+  pub text : (job : Job) → IsCommand c job → GetsText job.mode job c
   pub refusal : (job : Job) → IsCommand c job → RefusesExactly job c
   pub run : (job : Job) → IsCommand c job → KeepsRun job c
   pub output : WritesOutput c
@@ -159,12 +185,12 @@ pub record WritesErr (c : Call) : Type 0 where
   pub five : c.status ≡ 5 → (ErrRose c → ⊥) → c.err.tells ≡ true → GrewBy c.err c.err_after (line c CantWrite)
   pub cut : c.status ≡ 5 → ErrRose c → c.err.tells ≡ true → GrewByFront c.err c.err_after (line c CantWrite) ⊎ TellsFront c
 
--- nothing failed: no count of faults rose, the file is there, and it didn't run out of memory
+-- nothing failed: no count of faults rose, the file is there where one is named, and it didn't run out of memory
 pub record NothingFailed (job : Job) (c : Call) : Type 0 where
   pub source : SourceRose c → ⊥
   pub out : OutRose c → ⊥
   pub err : ErrRose c → ⊥
-  pub there : IsMissing c.source job.file → ⊥
+  pub there : HasFile job.mode → IsMissing c.source job.file → ⊥
   pub memory : c.status ≡ 6 → ⊥
 
 -- Completeness: where nothing failed the text decides, and one without a refusal has a program; where it is to be run, it is run until
@@ -173,7 +199,7 @@ pub record IsComplete (job : Job) (c : Call) : Type 0 where
   pub refused : (refusal : Refusal) → IsRefusal c.text refusal → c.status ≡ 1
   pub accepted : HasNone (IsRefusal c.text) → (c.status ≡ 0) ⊎ (c.status ≡ 2)
   pub program : HasNone (IsRefusal c.text) → IsAccepted c.text
-  pub ended : job.mode ≡ Run → (program : NumberedProgram) → HasProgram c.text program → IsCompleteRun (run_of program job) c.history
+  pub ended : Runs job.mode → (program : NumberedProgram) → HasProgram c.text program → IsCompleteRun (run_of program job) c.history
 
 -- What the command promises.
 pub record Meets (c : Call) : Type 0 where

@@ -4,3 +4,4 @@ pub mod Ending
 pub mod Mirrors
 pub mod Reports
 pub mod Run
+pub mod Summary

@@ -8,6 +8,10 @@ use Rattle.ti_lang.specs.Meaning.Processes.{Setting}
 use Rattle.ti_lang.specs.Meaning.Runs.{IsComplete}
 use Rattle.ti_watch.specs.Reports.{watch_text}
 use Rattle.ti_words.specs.declared.job.Job.{Job}
+use Rattle.ti_words.specs.declared.job.Mode.{Mode}
+use Rattle.ti_words.specs.declared.job.Mode.TheVariants.{Run, Check, Gen}
+use Rattle.ti_top.specs.Run.{run_of}
+use Rattle.ti_top.specs.Summary.{summary}
 
 -- a watcher, by its kind and the entries that it was told before the call
 pub record Watcher : Type 0 where
@@ -34,16 +38,22 @@ report_of history watcher = watch_text watcher.kind (watcher.told ++ history)
 abbrev pub reports : List Watcher → List Entry → List ℕ
 reports watchers history = flat_map (report_of history) watchers
 
--- what is written of a run: the lines of its history, and then the reports of watchers
-abbrev pub output : NumberedProgram → List Entry → List Watcher → List ℕ
-output program history watchers = lines_of program history ++ reports watchers history
+-- what is written in a mode: the lines of the history or the summary of the run, and then the reports of watchers
+abbrev pub output_in : Mode → Setting → List Entry → List Watcher → List ℕ
+output_in Run run history watchers = lines_of run.program history ++ reports watchers history
+output_in Check run history watchers = []
+output_in Gen run history watchers = summary run history ++ reports watchers history
 
--- the lines of a history were written, and the reports of the first few of these watchers
-pub record WroteFew (run : Setting) (watchers : List Watcher) (history : List Entry) (out out_after : SinkState) : Type 0 where
+-- what is written of the run of a program
+abbrev pub output : Job → NumberedProgram → List Entry → List Watcher → List ℕ
+output job program history watchers = output_in job.mode (run_of program job) history watchers
+
+-- the lines of a history or the summary of its run were written, and the reports of the first few of these watchers
+pub record WroteFew (mode : Mode) (run : Setting) (watchers : List Watcher) (history : List Entry) (out out_after : SinkState) : Type 0 where
   pub few : List Watcher
   pub others : List Watcher
   pub first : few ++ others ≡ watchers
-  pub grew : GrewBy out out_after (output run.program history few)
+  pub grew : GrewBy out out_after (output_in mode run history few)
   -- on a run that was cut short nobody reports
   pub none_of_cut : (IsComplete run history → ⊥) → few ≡ []
   -- on a complete run not all do

@@ -18,7 +18,7 @@ pub struct Outcome {
     /// words are no command, 4 the source can't be read, 5 the output can't be written, 6 it ran out of
     /// memory.
     pub status: u8,
-    /// What was read.
+    /// What was read, or in mode gen what was made.
     pub text: Vec<u8>,
     /// The entries of the run, in order.
     pub history: Vec<Entry>,
@@ -42,11 +42,13 @@ impl Outcome {
 /// The command of these words, those after the program's name: reads the file that they name, refuses
 /// its text or runs it, writes the lines of the run to `out` and behind them the reports of the watchers
 /// whose flag is given, and where it can't be done a line to `err`. In mode check it runs nothing and writes
-/// nothing to `out`.
+/// nothing to `out`. In mode gen no file is named: it makes the text from a seed, and in place of the lines
+/// writes one that sums up the run.
 ///
-/// The words are `--mode run` or `--mode check`, `--procs`, `--workers`, `--fuel`, each with a number, and
-/// `--trace` and `--stats`, each at most once, and a file's name; `docs/LANGUAGE.md` says their ranges. What
-/// the call promises is `Meets`, one record of `specs/Clauses.antt` for each clause.
+/// The words are `--mode run`, `--mode check` or `--mode gen`, `--procs`, `--workers`, `--fuel`, each with a
+/// number, and `--trace` and `--stats`, each at most once, and a file's name, or in mode gen `--seed` with a
+/// number; `docs/LANGUAGE.md` says their ranges. What the call promises is `Meets`, one record of
+/// `specs/Clauses.antt` for each clause.
 pub fn titan_top<R: AllocGlobal, S: Source, K: Sink>(
     rt: &R,
     words: &[String],

@@ -9,6 +9,7 @@ mod printing;
 mod reading;
 mod reports;
 mod run_line;
+mod summary;
 mod work;
 
 pub use command::{Outcome, titan_top};

@@ -1,16 +1,20 @@
-// Writing the lines of a run.
+// Writing the lines of a run, or its summary.
 ghost use Rattle.std.specs.Prelude.{◌≡◌, ◌≤◌, ◌++◌, ◌∷◌, [], length};
 ghost use Rattle.ti_io.specs.Sink.{Writes};
 ghost use Rattle.ti_lang.specs.Meaning.Lines.{line_of as line_spec, lines_of, literal_text, printed_text};
 ghost use Rattle.ti_lang.specs.Program.Views.{program_of};
 ghost use Rattle.ti_top.specs.Mirrors.Line.{HasRoom};
+ghost use Rattle.ti_top.specs.Mirrors.Work.{head_after, summary_after};
 
+use crate::ending::Ending;
 use crate::run_line::RunLine;
+use crate::summary::summary_line;
 use ti_base::{Action, Entry, Value};
 use ti_io::{Failed, Sink, write_piece};
 use ti_lang::program::Program;
 use ti_syntax::Spelled;
 use ti_watch::Line;
+use ti_words::Mode;
 
 // What the literal of a print spells.
 fn literal_bytes(literals: &[Spelled], literal: Option<u32>) -> &[u8]
@@ -76,8 +80,8 @@ fn write_entries<K: Sink>(
     Ok(())
 }
 
-/// Writes the lines of a history, each as one piece, and flushes out.
-pub fn write_lines<K: Sink>(
+// Writes the lines of a history, each as one piece, and flushes out.
+fn write_lines<K: Sink>(
     out: &mut K,
     line: &mut RunLine,
     program: &Program,
@@ -88,4 +92,36 @@ pub fn write_lines<K: Sink>(
 {
     write_entries(out, line, program, history)?;
     out.flush()
+}
+
+// Writes the summary of a run that ended so, and flushes out.
+fn write_summary<K: Sink>(out: &mut K, ended: Ending, history: &[Entry]) -> Result<(), Failed>
+    ensures { Writes (summary_after ended history.now) (K.state out.old) (K.state out.new) result }
+{
+    match ended {
+        Ending::Done => {
+            write_piece(out, summary_line(history).as_slice())?;
+            out.flush()
+        }
+        _ => Ok(()),
+    }
+}
+
+/// Writes what stands before the reports on a run that ended so: in mode run its lines, each as one piece, and in mode gen its summary.
+pub fn write_head<K: Sink>(
+    out: &mut K,
+    line: &mut RunLine,
+    mode: Mode,
+    ended: Ending,
+    program: &Program,
+    history: &[Entry],
+) -> Result<(), Failed>
+    requires { HasRoom program.now.parts.literals.items line.old }
+    ensures { Writes (head_after mode ended (program_of program.now.parts) history.now) (K.state out.old) (K.state out.new) result }
+{
+    match mode {
+        Mode::Run => write_lines(out, line, program, history),
+        Mode::Check => Ok(()),
+        Mode::Gen => write_summary(out, ended, history),
+    }
 }

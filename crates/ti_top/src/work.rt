@@ -7,26 +7,27 @@ ghost use Rattle.ti_store.specs.Conditions.{IsWithin};
 ghost use Rattle.ti_top.specs.Mirrors.Compiling.{IsCompiled};
 ghost use Rattle.ti_top.specs.Mirrors.Line.{HasRoom};
 ghost use Rattle.ti_top.specs.Mirrors.RunEnds.{RunEnds};
-ghost use Rattle.ti_top.specs.Mirrors.Work.{ending_after as after_spec, WroteRun, RunSays, RunTextSays, TextSays, WorkSays};
-ghost use Rattle.ti_top.specs.Reports.{Watcher};
+ghost use Rattle.ti_top.specs.Mirrors.Work.{ending_after as after_spec, ReportsAfter, RunSays, RunTextSays, TextSays, SeedSays, FileDone, WorkSays};
+ghost use Rattle.ti_top.specs.Reports.{Watcher, wanted};
+ghost use Rattle.ti_top.specs.Run.{Runs};
 
 use crate::compiling::{CompileErr, compile};
 use crate::ending::Ending;
 use crate::fault::Fault;
-use crate::printing::write_lines;
+use crate::printing::write_head;
 use crate::reading::{ReadEnd, read_whole};
 use crate::reports::{ReportEnd, keep_wanted, write_reports};
 use crate::run_line::RunLine;
 use std::alloc::Global;
 use ti_base::{Entry, Memory};
+use ti_gen::gen_source;
 use ti_io::{Sink, Source};
-use ti_lang::program::Program;
 use ti_rules::Checked;
 use ti_runtime::{How, RunEnd, run};
 use ti_watch::Watch;
 use ti_words::{Job, Mode};
 
-/// How the work ended, what was read, and the entries of the run.
+/// How the work ended, what was read or made, and the entries of the run.
 #[derive(Drop)]
 pub struct Worked {
     pub ending: Ending,
@@ -80,33 +81,24 @@ fn ending_after(reports: ReportEnd, ending: Ending) -> Ending
     }
 }
 
-// Writes the lines of a run, and behind them the reports on it where it wasn't cut short.
-fn write_run<K: Sink>(
+// Writes the reports on a run that ended so, unless it was cut short.
+fn report_after<K: Sink>(
     alloc: Global,
-    program: &Program,
-    line: &mut RunLine,
     ended: Ending,
     history: &[Entry],
     watchers: Vec<Box<dyn Watch>>,
     out: &mut K,
 ) -> Ending
-    requires { HasRoom program.now.parts.literals.items line.old }
-    ensures { WroteRun ended (program_of program.now.parts) (map {B = Watcher} (λ w. record { kind = kind_of w; told = told w }) watchers.items) history.now (K.state out.old) (K.state out.new) result }
+    ensures { ReportsAfter ended (map {B = Watcher} (λ w. record { kind = kind_of w; told = told w }) watchers.items) history.now (K.state out.old) (K.state out.new) result }
 {
-    match write_lines(out, line, program, history) {
-        Ok(()) => match ended {
-            Ending::NoMemory => ended,
-            _ => {
-                let reports = write_reports(alloc, watchers, history, out);
-                ending_after(reports, ended)
-            }
-        },
-        Err(_) => Ending::CantWrite,
+    match ended {
+        Ending::NoMemory => ended,
+        _ => ending_after(write_reports(alloc, watchers, history, out), ended),
     }
 }
 
-// Runs a program, and writes its lines, for which there is room, and the reports on it. Where the run runs out of memory, the lines of
-// the entries so far are written.
+// Runs a program, and writes its lines, for which there is room, or its summary, and the reports on it. Where the run runs out of
+// memory, the lines of the entries so far are written.
 fn run_program<K: Sink>(
     alloc: Global,
     job: &Job,
@@ -116,16 +108,21 @@ fn run_program<K: Sink>(
     out: &mut K,
 ) -> Written
     requires within { IsWithin job.now.procs job.now.fuel }
+    requires mode { Runs job.now.mode }
     requires room { HasRoom checked.now.program.parts.literals.items line.old }
     ensures { RunSays (program_of checked.now.program.parts) job.now (map {B = Watcher} (λ w. record { kind = kind_of w; told = told w }) watchers.items) (K.state out.old) (K.state out.new) result.history.items result.ending }
 {
     let end = run(alloc, checked, job.procs, job.fuel);
     let ended = ending_of(&end);
-    let program = &checked.program;
-    let ending = write_run(alloc, program, line, ended, &end.history, watchers, out);
-    Written {
-        ending,
-        history: end.history,
+    match write_head(out, line, job.mode, ended, &checked.program, &end.history) {
+        Ok(()) => Written {
+            ending: report_after(alloc, ended, &end.history, watchers, out),
+            history: end.history,
+        },
+        Err(_) => Written {
+            ending: Ending::CantWrite,
+            history: end.history,
+        },
     }
 }
 
@@ -137,7 +134,8 @@ fn run_compiled<K: Sink>(
     watchers: Vec<Box<dyn Watch>>,
     out: &mut K,
 ) -> Written
-    requires { IsWithin job.now.procs job.now.fuel }
+    requires within { IsWithin job.now.procs job.now.fuel }
+    requires mode { Runs job.now.mode }
     ensures { (text : List ℕ) → IsCompiled text (program_of checked.now.program.parts) → RunTextSays result.ending job.now (map {B = Watcher} (λ w. record { kind = kind_of w; told = told w }) watchers.items) text (K.state out.old) (K.state out.new) result.history.items }
 {
     match RunLine::with_room(alloc, &checked.program.parts.literals) {
@@ -146,7 +144,7 @@ fn run_compiled<K: Sink>(
     }
 }
 
-// Checks a text that was read whole, and runs it where the job asks for that.
+// Checks a whole text, and runs it where the job asks for that.
 fn do_text<K: Sink>(
     alloc: Global,
     job: &Job,
@@ -160,16 +158,15 @@ fn do_text<K: Sink>(
     match compile(alloc, text) {
         Ok(checked) => match job.mode {
             Mode::Check => Written::nothing(alloc, Ending::Done),
-            Mode::Run => run_compiled(alloc, job, &checked, watchers, out),
+            Mode::Run | Mode::Gen => run_compiled(alloc, job, &checked, watchers, out),
         },
         Err(CompileErr::Refused(refusal)) => Written::nothing(alloc, Ending::Refused(refusal)),
         Err(CompileErr::Memory) => Written::nothing(alloc, Ending::NoMemory),
     }
 }
 
-/// Does what a job asks for: reads its file and checks the text; and where the program is to be run, runs it and writes the lines of
-/// the run and the reports of the watchers whose flag is given. The others are dropped first.
-pub fn work<S: Source, K: Sink>(
+// Reads the file of a job and checks the text, and runs it where the job asks for that.
+fn work_on_file<S: Source, K: Sink>(
     alloc: Global,
     job: &Job,
     source: &mut S,
@@ -177,7 +174,7 @@ pub fn work<S: Source, K: Sink>(
     watchers: Vec<Box<dyn Watch>>,
 ) -> Worked
     requires { IsWithin job.now.procs job.now.fuel }
-    ensures { WorkSays job.now result.ending (record {
+    ensures { FileDone job.now result.ending (record {
       watchers = map {B = Watcher} (λ w. record { kind = kind_of w; told = told w }) watchers.items;
       source = S.state source.old;
       source_after = S.state source.new;
@@ -187,8 +184,6 @@ pub fn work<S: Source, K: Sink>(
       history = result.history.items;
     }) }
 {
-    let mut watchers = watchers;
-    keep_wanted(&mut watchers, job);
     let mut text = Vec::new(alloc);
     let written = match read_whole(source, job.file.as_str(), &mut text) {
         ReadEnd::Whole => do_text(alloc, job, &text, watchers, out),
@@ -199,5 +194,61 @@ pub fn work<S: Source, K: Sink>(
         ending: written.ending,
         text,
         history: written.history,
+    }
+}
+
+// Makes the text of a job's seed and does what is to be done with it.
+fn work_on_seed<K: Sink>(
+    alloc: Global,
+    job: &Job,
+    out: &mut K,
+    watchers: Vec<Box<dyn Watch>>,
+) -> Worked
+    requires { IsWithin job.now.procs job.now.fuel }
+    ensures { SeedSays result.ending job.now (map {B = Watcher} (λ w. record { kind = kind_of w; told = told w }) watchers.items) result.text.items (K.state out.old) (K.state out.new) result.history.items }
+{
+    match gen_source(alloc, job.seed) {
+        Ok(text) => {
+            let written = do_text(alloc, job, &text, watchers, out);
+            Worked {
+                ending: written.ending,
+                text,
+                history: written.history,
+            }
+        }
+        Err(Memory) => Worked {
+            ending: Ending::NoMemory,
+            text: Vec::new(alloc),
+            history: Vec::new(alloc),
+        },
+    }
+}
+
+/// Does what a job asks for: reads its file, or in mode gen makes the text of its seed, and checks the text; and where the program is to
+/// be run, runs it and writes the lines of the run or its summary and the reports of the watchers whose flag is given. The others are
+/// dropped first.
+pub fn work<S: Source, K: Sink>(
+    alloc: Global,
+    job: &Job,
+    source: &mut S,
+    out: &mut K,
+    watchers: Vec<Box<dyn Watch>>,
+) -> Worked
+    requires { IsWithin job.now.procs job.now.fuel }
+    ensures { WorkSays job.now.mode job.now result.ending (record {
+      watchers = wanted job.now (map {B = Watcher} (λ w. record { kind = kind_of w; told = told w }) watchers.items);
+      source = S.state source.old;
+      source_after = S.state source.new;
+      out = K.state out.old;
+      out_after = K.state out.new;
+      text = result.text.items;
+      history = result.history.items;
+    }) }
+{
+    let mut watchers = watchers;
+    keep_wanted(&mut watchers, job);
+    match job.mode {
+        Mode::Run | Mode::Check => work_on_file(alloc, job, source, out, watchers),
+        Mode::Gen => work_on_seed(alloc, job, out, watchers),
     }
 }

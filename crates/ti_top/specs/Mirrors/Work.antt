@@ -1,12 +1,14 @@
 -- Nobody has to believe this: it mirrors code, and only contracts of private functions speak of it.
 -- What was done before the line on err, for each way in which it may end.
 use Rattle.std.specs.Prelude.{◌≡◌, ◌⊎◌, ℕ, ◌≤◌, true, false, List, [], ◌++◌}
+use Rattle.ti_gen.specs.Source.{source_text}
 use Rattle.ti_base.specs.declared.entry.Entry.{Entry}
 use Rattle.ti_io.specs.Faults.{Rose}
 use Rattle.ti_io.specs.Source.{SourceState}
 use Rattle.ti_io.specs.Sink.{SinkState, GrewBy, GrewByFront}
 use Rattle.ti_lang.specs.Program.Classes.{NumberedProgram}
 use Rattle.ti_lang.specs.Meaning.Histories.{has_fault}
+use Rattle.ti_lang.specs.Meaning.Lines.{lines_of}
 use Rattle.ti_lang.specs.Meaning.Runs.{AllEnded, IsComplete, IsRun, IsSolo}
 use Rattle.ti_top.specs.declared.fault.Fault.{Fault}
 use Rattle.ti_top.specs.declared.reading.ReadEnd.{ReadEnd}
@@ -19,14 +21,16 @@ use Rattle.ti_rules.specs.declared.refusal.Refusal.{Refusal}
 use Rattle.ti_rules.specs.RefusalOf.{IsRefusal}
 use Rattle.ti_words.specs.declared.job.Job.{Job}
 use Rattle.ti_words.specs.declared.job.Mode.{Mode}
-use Rattle.ti_words.specs.declared.job.Mode.TheVariants.{Run, Check}
+use Rattle.ti_words.specs.declared.job.Mode.TheVariants.{Run, Check, Gen}
 use Rattle.ti_top.specs.Mirrors.Compiling.{IsCompiled, HasNoProgram}
 use Rattle.ti_top.specs.Call.{Call}
-use Rattle.ti_top.specs.Reports.{Watcher, wanted, output, WroteFew}
+use Rattle.ti_top.specs.Reports.{Watcher, wanted, reports, output, WroteFew}
+use Rattle.ti_top.specs.Summary.{summary_line}
 use Rattle.ti_top.specs.Mirrors.Reading.{ReadsWhole}
+use Rattle.ti_top.specs.Mirrors.Reporting.{Reported}
 use Rattle.ti_top.specs.Run.{run_of, EndsWithFault}
 
--- the watchers handed in, the source and out before and after, what was read, and the entries of the run
+-- the watchers that are wanted, the source and out before and after, what was read or made, and the entries of the run
 pub record Work : Type 0 where
   pub watchers : List Watcher
   pub source : SourceState
@@ -42,32 +46,53 @@ ending_after Report.Written ending = ending
 ending_after Report.CantWrite ending = CantWrite
 ending_after Report.NoMemory ending = NoMemory
 
--- the lines of a run that ended so were written, and the reports of the first few of these watchers: where memory was wanting in the run, of none
-pub record WroteFewOf (ended : Ending) (program : NumberedProgram) (watchers : List Watcher) (history : List Entry) (out out_after : SinkState) : Type 0 where
+-- the summary of a run that ended so
+abbrev pub summary_after : Ending → List Entry → List ℕ
+summary_after Done history = summary_line history
+summary_after ended history = []
+
+-- what is written before the reports on a run that ended so
+abbrev pub head_after : Mode → Ending → NumberedProgram → List Entry → List ℕ
+head_after Run ended program history = lines_of program history
+head_after Check ended program history = []
+head_after Gen ended program history = summary_after ended history
+
+-- these watchers reported on a run that ended so, and the work then ends so; where memory was wanting in the run, none did
+pub record ReportedAfter (ended : Ending) (watchers : List Watcher) (history : List Entry) (out out_after : SinkState) (ending : Ending) : Type 0 where
+  pub end : ReportEnd
+  pub ending_is : ending ≡ ending_after end ended
+  pub reported : Reported watchers history out out_after end
+
+abbrev pub ReportsAfter : Ending → List Watcher → List Entry → SinkState → SinkState → Ending → Type 0
+ReportsAfter ended watchers history out out_after ending =
+    ((ended ≡ NoMemory) × (ending ≡ ended) × (out_after ≡ out)) ⊎ ((ended ≡ NoMemory → ⊥) × ReportedAfter ended watchers history out out_after ending)
+
+-- the head of a run that ended so was written, and the reports of the first few of these watchers: where memory was wanting in the run, of none
+pub record WroteFewOf (ended : Ending) (head : List ℕ) (watchers : List Watcher) (history : List Entry) (out out_after : SinkState) : Type 0 where
   pub few : List Watcher
   pub others : List Watcher
   pub first : few ++ others ≡ watchers
-  pub grew : GrewBy out out_after (output program history few)
+  pub grew : GrewBy out out_after (head ++ reports few history)
   pub none_of_cut : ended ≡ NoMemory → few ≡ []
   pub not_all : (ended ≡ NoMemory → ⊥) → others ≡ [] → ⊥
 
--- the lines of a run that ended so were written, and then the reports of these watchers, up to the first call that failed
-pub record WroteRun (ended : Ending) (program : NumberedProgram) (watchers : List Watcher) (history : List Entry) (out out_after : SinkState) (ending : Ending) : Type 0 where
+-- the head of a run that ended so was written, and then the reports of these watchers, up to the first call that failed
+pub record WroteRun (ended : Ending) (head : List ℕ) (watchers : List Watcher) (history : List Entry) (out out_after : SinkState) (ending : Ending) : Type 0 where
   pub never_falls : out.faults ≤ out_after.faults
   pub tells : out_after.tells ≡ out.tells
   pub known : (ending ≡ ended) ⊎ (ending ≡ NoMemory) ⊎ (ending ≡ CantWrite)
   pub rose : ending ≡ CantWrite → (ended ≡ CantWrite → ⊥) → Rose out.faults out_after.faults
-  pub all : (ending ≡ CantWrite → ⊥) → (ending ≡ NoMemory → ⊥) → out.tells ≡ true → GrewBy out out_after (output program history watchers)
-  pub part : out.tells ≡ true → GrewByFront out out_after (output program history watchers)
+  pub all : (ending ≡ CantWrite → ⊥) → (ending ≡ NoMemory → ⊥) → out.tells ≡ true → GrewBy out out_after (head ++ reports watchers history)
+  pub part : out.tells ≡ true → GrewByFront out out_after (head ++ reports watchers history)
   pub needed : ending ≡ NoMemory → (ended ≡ NoMemory → ⊥) → watchers ≡ [] → ⊥
-  pub few : ending ≡ NoMemory → out.tells ≡ true → WroteFewOf ended program watchers history out out_after
+  pub few : ending ≡ NoMemory → out.tells ≡ true → WroteFewOf ended head watchers history out out_after
 
 -- nothing was run and nothing written
 pub record RanNothing (out out_after : SinkState) (history : List Entry) : Type 0 where
   pub unwritten : out_after ≡ out
   pub no_entry : history ≡ []
 
--- the program was run, and its lines and the reports of these watchers were written up to the first call that failed
+-- the program was run, and what is written of it in the job's mode was written up to the first call that failed
 pub record RunSays (program : NumberedProgram) (job : Job) (watchers : List Watcher) (out out_after : SinkState) (history : List Entry) (ending : Ending) : Type 0 where
   pub run : IsRun (run_of program job) history
   pub solo : IsSolo (run_of program job) history
@@ -79,9 +104,9 @@ pub record RunSays (program : NumberedProgram) (job : Job) (watchers : List Watc
   pub never_falls : out.faults ≤ out_after.faults
   pub tells : out_after.tells ≡ out.tells
   pub rose : ending ≡ CantWrite → Rose out.faults out_after.faults
-  pub all : (ending ≡ CantWrite → ⊥) → (ending ≡ NoMemory → ⊥) → out.tells ≡ true → GrewBy out out_after (output program history watchers)
-  pub part : out.tells ≡ true → GrewByFront out out_after (output program history watchers)
-  pub few : ending ≡ NoMemory → out.tells ≡ true → WroteFew (run_of program job) watchers history out out_after
+  pub all : (ending ≡ CantWrite → ⊥) → (ending ≡ NoMemory → ⊥) → out.tells ≡ true → GrewBy out out_after (output job program history watchers)
+  pub part : out.tells ≡ true → GrewByFront out out_after (output job program history watchers)
+  pub few : ending ≡ NoMemory → out.tells ≡ true → WroteFew job.mode (run_of program job) watchers history out out_after
 
 -- so was the program of the text
 pub record Ran (job : Job) (watchers : List Watcher) (text : List ℕ) (out out_after : SinkState) (history : List Entry) (ending : Ending) : Type 0 where
@@ -101,7 +126,7 @@ pub record WasChecked (text : List ℕ) (out out_after : SinkState) (history : L
   pub compiled : IsCompiled text program
   pub nothing : RanNothing out out_after history
 
--- what became of a text that was read whole and is to be run
+-- what became of a whole text that is to be run
 abbrev pub RunTextSays : Ending → Job → List Watcher → List ℕ → SinkState → SinkState → List Entry → Type 0
 RunTextSays Done job watchers text out out_after history = Ran job watchers text out out_after history Done
 RunTextSays (Refused refusal) job watchers text out out_after history = WasRefused text out out_after history refusal
@@ -118,27 +143,44 @@ CheckTextSays (Refused refusal) text out out_after history = WasRefused text out
 CheckTextSays NoMemory text out out_after history = RanNothing out out_after history
 CheckTextSays ending text out out_after history = ⊥
 
--- what became of a text that was read whole, in a mode
+-- what became of a whole text, in a mode
 abbrev pub TextSays : Mode → Ending → Job → List Watcher → List ℕ → SinkState → SinkState → List Entry → Type 0
 TextSays Run ending job watchers text out out_after history = RunTextSays ending job watchers text out out_after history
 TextSays Check ending job watchers text out out_after history = CheckTextSays ending text out out_after history
+TextSays Gen ending job watchers text out out_after history = RunTextSays ending job watchers text out out_after history
 
 -- what a reading that ended so leads to
 abbrev pub FileSays : ReadEnd → Ending → Job → Work → Type 0
-FileSays Read.Whole ending job w = TextSays job.mode ending job (wanted job w.watchers) w.text w.out w.out_after w.history
+FileSays Read.Whole ending job w = TextSays job.mode ending job w.watchers w.text w.out w.out_after w.history
 FileSays Read.CantRead ending job w = (ending ≡ CantRead) × RanNothing w.out w.out_after w.history
 FileSays Read.NoMemory ending job w = (ending ≡ NoMemory) × RanNothing w.out w.out_after w.history
 
--- what was done for a command
-pub record WorkSays (job : Job) (ending : Ending) (w : Work) : Type 0 where
+-- what was done where a file is named
+pub record FileDone (job : Job) (ending : Ending) (w : Work) : Type 0 where
   pub end : ReadEnd
   pub read : ReadsWhole job.file w.source w.source_after w.text end
   pub says : FileSays end ending job w
 
--- what was done in a call before the line on err
-abbrev pub work_of : Call → Work
-work_of c = record {
-  watchers = c.watchers;
+-- the text of the seed was made, or it ran out of memory before
+abbrev pub SeedSays : Ending → Job → List Watcher → List ℕ → SinkState → SinkState → List Entry → Type 0
+SeedSays ending job watchers text out out_after history =
+    ((text ≡ source_text job.seed) × TextSays job.mode ending job watchers text out out_after history) ⊎ ((text ≡ []) × (ending ≡ NoMemory) × RanNothing out out_after history)
+
+-- what was done where none is
+pub record SeedDone (job : Job) (ending : Ending) (w : Work) : Type 0 where
+  pub unread : w.source_after ≡ w.source
+  pub says : SeedSays ending job w.watchers w.text w.out w.out_after w.history
+
+-- what was done for a command, in a mode
+abbrev pub WorkSays : Mode → Job → Ending → Work → Type 0
+WorkSays Run job ending w = FileDone job ending w
+WorkSays Check job ending w = FileDone job ending w
+WorkSays Gen job ending w = SeedDone job ending w
+
+-- what was done in a call for a job before the line on err
+abbrev pub work_of : Job → Call → Work
+work_of job c = record {
+  watchers = wanted job c.watchers;
   source = c.source;
   source_after = c.source_after;
   out = c.out;
