@@ -189,6 +189,28 @@ const COMMANDS: &[Command] = &[
             err: "a.ti:1:70: N1 an unknown name\n",
         },
     },
+    // the sum is that of a model in another language
+    Command {
+        words: "--mode gen --procs 4",
+        frame: WHOLE,
+        text: "",
+        end: End {
+            status: 0,
+            out: "lines 4 entries 37660 sum 1482994530\n",
+            err: "",
+        },
+    },
+    // no tick is left for the print, which stands behind 8 lines and 200 steps of 4
+    Command {
+        words: "--mode gen --procs 4 --fuel 13413 --workers 1",
+        frame: WHOLE,
+        text: "",
+        end: End {
+            status: 2,
+            out: "",
+            err: "titan: fault fuel in process 0 at 809:5\n",
+        },
+    },
     // a print, an arrival and a departure are three ticks
     Command {
         words: "--fuel 4 a.ti",
@@ -534,6 +556,20 @@ const FAILING: &[Failing] = &[
         end: End {
             status: 5,
             out: "0\n1\n",
+            err: UNWRITTEN,
+        },
+    },
+    // the second piece of the summary; no call of the source is made
+    Failing {
+        words: "--mode gen",
+        fails: Fails {
+            source: &[0],
+            out: &[1],
+            err: &[],
+        },
+        end: End {
+            status: 5,
+            out: "lin",
             err: UNWRITTEN,
         },
     },

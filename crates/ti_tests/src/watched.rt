@@ -29,6 +29,10 @@ const STATS_OF_FAULT: &str =
 const STATS_OF_TWO: &str =
     "stats entries 10\ngetField 0\nputField 0\nnewObj 0\nnewGrid 0\ngetElem 0\nputElem 0\nmakeView 0\ndomainOf 0\nprint 4\narrive 2\ndepart 2\ntake 0\nend 2\nfault 0\n";
 
+/// Those of a generated program, by one process: 200 steps of a loop over 20 elements, two barriers and a look at the neighbour's grid.
+const STATS_OF_GEN: &str =
+    "stats entries 9409\ngetField 0\nputField 0\nnewObj 0\nnewGrid 2\ngetElem 4400\nputElem 4001\nmakeView 0\ndomainOf 201\nprint 1\narrive 401\ndepart 401\ntake 1\nend 1\nfault 0\n";
+
 const NO_MEMORY: &str = "titan: no memory\n";
 
 /// What a watcher was told before the call.
@@ -135,6 +139,15 @@ const WATCHED: &[Watched] = &[
         status: 2,
         out: &["0\n", STATS_OF_FAULT],
         err: "titan: fault fuel in process 0 at 1:89\n",
+    },
+    Watched {
+        words: "--mode gen --seed 7 --stats",
+        text: SHORT,
+        handed: &[Handed::Trace, Handed::Stats],
+        fails: &[],
+        status: 0,
+        out: &["lines 1 entries 9409 sum 2131105368\n", STATS_OF_GEN],
+        err: "",
     },
     // behind the line and its flush, the third write of the report
     Watched {
