@@ -1,5 +1,5 @@
 // Expressions of a statement, and what the rules of single values say of it.
-ghost use Rattle.std.specs.Prelude.{◌≡◌, ◌++◌, map, flat_map, not, false};
+ghost use Rattle.std.specs.Prelude.{◌≡◌, ◌++◌, map, flat_map, not};
 ghost use Rattle.std.specs.Option.{option_map};
 ghost use Rattle.ti_lang.specs.Members.{only_if};
 ghost use Rattle.ti_lang.specs.Program.Expressions.{numbered_ranges};
@@ -9,8 +9,8 @@ ghost use Rattle.ti_lang.specs.Typing.Effects.{jump_acts, return_acts};
 ghost use Rattle.ti_lang.specs.Typing.Expressions.{bounds, range_count, operand_type};
 ghost use Rattle.ti_lang.specs.Typing.Kinds.{is_void};
 ghost use Rattle.ti_lang.specs.Typing.Seen.{seen};
-ghost use Rattle.ti_rules.specs.First.{first_of};
 ghost use Rattle.ti_lang.specs.Typing.Singleness.{is_single_part};
+ghost use Rattle.ti_rules.specs.First.{first_of};
 ghost use Rattle.ti_rules.specs.InitialTypes.{value_type};
 ghost use Rattle.ti_rules.specs.Standing.{singles_in};
 ghost use Rattle.ti_rules.specs.Parts.{parts_of_ranges};
@@ -126,7 +126,7 @@ impl<'a> Site<'a> {
     }
 
     // The same for the rules of single values.
-    fn for_single(self) -> SingleSite<'a>
+    fn single_site(self) -> SingleSite<'a>
         ensures program { single.program_at result ≡ program_at self.entry }
         ensures around { single.around_of result ≡ around_of self.entry }
     {
@@ -143,20 +143,20 @@ impl<'a> Site<'a> {
     pub fn is_single_inside(self, e: &Expr) -> bool
         ensures { result ≡ is_single_part (program_at self.entry) (this_of (around_of self.entry).method) (singles_in (scope_at self.entry)) (expression_of e.now) }
     {
-        self.for_single().is_single_inside(e)
+        self.single_site().is_single_inside(e)
     }
 
     /// Whether a loop has global effects, and a jump out of it one.
     pub fn loop_acts(self, x: &Stmt) -> bool
         ensures { result ≡ jump_acts (return_acts (program_at self.entry) (around_of self.entry).method) (doings_in_loop (program_at self.entry) (around_of self.entry).method (statement_of x.now)) }
     {
-        self.for_single().loop_acts(x)
+        self.single_site().loop_acts(x)
     }
 
     /// What counts of the rules of single values that a statement breaks, apart from those that the statements in it break.
     pub fn single(self, x: &Stmt) -> Option<Refusal>
         ensures { result ≡ first_of (single_refusals_at (program_at self.entry) (around_of self.entry) (statement_of x.now)) }
     {
-        self.for_single().refusal(x)
+        self.single_site().refusal(x)
     }
 }

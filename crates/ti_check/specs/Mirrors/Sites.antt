@@ -1,13 +1,8 @@
 -- Nobody has to believe this: it mirrors code, and only contracts of private functions speak of it.
 -- What clauses see of where a statement stands.
-use Rattle.std.specs.Prelude.{Option, Some, None}
-use Rattle.std.specs.declared.boxed.Box.{Box}
-use Rattle.std.specs.declared.alloc.Global.{Global}
-use Rattle.ti_lang.specs.declared.program.stmts.Stmt.{Stmt}
-use Rattle.ti_lang.specs.Program.Statements.{MaybeNumbered, NoStm, SomeStm}
 use Rattle.ti_lang.specs.Program.Classes.{NumberedProgram}
 use Rattle.ti_lang.specs.Program.Scope.{ScopeContents, contents_of}
-use Rattle.ti_lang.specs.Program.Views.{program_of, statement_of, numbered_method_of}
+use Rattle.ti_lang.specs.Program.Views.{program_of, numbered_method_of}
 use Rattle.ti_rules.specs.Standing.{Around, scope_of}
 use Rattle.ti_check.specs.declared.site.Site.{Site}
 
@@ -22,8 +17,3 @@ around_of s = record { method = numbered_method_of s.method.now; variables = (co
 -- what is in scope there
 abbrev pub scope_at : Site → ScopeContents
 scope_at s = scope_of (around_of s)
-
--- a statement, if there is one
-abbrev pub maybe_in : Option (Box Stmt Global) → MaybeNumbered
-maybe_in None = NoStm
-maybe_in (Some x) = SomeStm (statement_of x.value)

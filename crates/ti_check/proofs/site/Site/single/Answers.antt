@@ -7,4 +7,4 @@ use Rattle.ti_rules.specs.Standing.{Around}
 use Rattle.ti_check.proofs.site.Site.single.Goals as goal
 
 pub returns : goal.returns
-returns c = c.refusal.ensures ∙ ap₂ (λ (p : NumberedProgram) (a : Around). first_of (single_refusals_at p a (statement_of c.args.x.now))) c.for_single.ensures.program c.for_single.ensures.around
+returns c = c.refusal.ensures ∙ ap₂ (λ (p : NumberedProgram) (a : Around). first_of (single_refusals_at p a (statement_of c.args.x.now))) c.single_site.ensures.program c.single_site.ensures.around
