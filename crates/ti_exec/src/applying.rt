@@ -40,8 +40,8 @@ fn left_by(way: Way) -> Left
 }
 
 impl Walker {
-    // The current work is done, and the process goes on so.
-    pub(crate) fn proceeds(&mut self, mode: Mode)
+    /// The current work is done, and the process goes on so.
+    pub fn proceeds(&mut self, mode: Mode)
         ensures { (c : NumberedProgram) → process_of c self.new ≡ going_on c self.old mode [] }
     {
         self.answers.clear();
@@ -63,8 +63,8 @@ impl Walker {
         }
     }
 
-    // The variables change, and this is left of the innermost statement.
-    pub(crate) fn goes_by(&mut self, alloc: Global, way: Way) -> Result<Turn, Memory>
+    /// The variables change, and this is left of the innermost statement.
+    pub fn goes_by(&mut self, alloc: Global, way: Way) -> Result<Turn, Memory>
         requires { 0 < length self.old.top.levels.items }
         ensures { (c : NumberedProgram) → IfOk result (λ t. IsMoved c self.old (move_by (env_in c self.old) (here c self.old.top) way.entry) t self.new) }
     {
@@ -114,9 +114,9 @@ impl Walker {
         Ok(Turn::Went)
     }
 
-    // The innermost call ends, with a value, if it has one.
+    /// The innermost call ends, with a value, if it has one.
     #[tactic(auto, using(crate::proofs::Works::lefts))]
-    pub(crate) fn returns(&mut self, value: Option<Held>) -> Turn
+    pub fn returns(&mut self, value: Option<Held>) -> Turn
         ensures { (c : NumberedProgram) (ws left : List Work) → IsStep c (process_of c self.old) (steps.moves (process_of c self.old) (top_of c self.old ws) (below_of c self.old) left (move.Returns value)) result self.new }
     {
         match self.below.pop() {
@@ -153,9 +153,9 @@ impl Walker {
         self.arrives(alloc, meeting, deposit, Mode::Waits(meeting, Todo::Inside))
     }
 
-    // What the innermost statement comes to is done.
+    /// What the innermost statement comes to is done.
     #[tactic(auto, using(crate::proofs::Works::lefts))]
-    pub(crate) fn moves(&mut self, alloc: Global, c: &Parts, m: Move) -> Result<Turn, Memory>
+    pub fn moves(&mut self, alloc: Global, c: &Parts, m: Move) -> Result<Turn, Memory>
         requires { 0 < length self.old.top.levels.items }
         ensures { IfOk result (λ t. IsMoved (program_of c.now) self.old (move_of (env_in (program_of c.now) self.old) (here (program_of c.now) self.old.top) m.entry) t self.new) }
     {

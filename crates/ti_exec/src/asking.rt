@@ -18,9 +18,9 @@ use ti_eval::Stop;
 use ti_moves::Meeting;
 
 impl Walker {
-    // An action, which costs a tick.
+    /// An action, which costs a tick.
     #[tactic(auto, using(crate::proofs::Asked::asked))]
-    pub(crate) fn asks(
+    pub fn asks(
         &self,
         alloc: Global,
         place: Place,
@@ -40,8 +40,8 @@ impl Walker {
         Ok(Turn::Asks(Box::new(alloc, asking)?))
     }
 
-    // A computation that gives nothing yet.
-    pub(crate) fn stops(&self, alloc: Global, stop: Stop) -> Result<Turn, Memory>
+    /// A computation that gives nothing yet.
+    pub fn stops(&self, alloc: Global, stop: Stop) -> Result<Turn, Memory>
         ensures { IfOk result (λ t. (c : NumberedProgram) (got : Got Move) (go : Move → Step) → Stops stop got → IsStep c (process_of c self.now) (valued (process_of c self.now) got go) t self.now) }
     {
         match stop {
@@ -51,8 +51,8 @@ impl Walker {
         }
     }
 
-    // An arrival at a collective, behind which the process goes on so.
-    pub(crate) fn arrives(
+    /// An arrival at a collective, behind which the process goes on so.
+    pub fn arrives(
         &self,
         alloc: Global,
         meeting: Meeting,

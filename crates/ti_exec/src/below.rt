@@ -11,7 +11,7 @@ use ti_base::Memory;
 
 impl Below {
     /// None.
-    pub(crate) fn none(alloc: Global) -> Below
+    pub fn none(alloc: Global) -> Below
         ensures { result.calls.items ≡ [] }
     {
         Below {
@@ -20,7 +20,7 @@ impl Below {
     }
 
     /// A call goes below the innermost.
-    pub(crate) fn push(&mut self, call: Call) -> Result<(), Memory>
+    pub fn push(&mut self, call: Call) -> Result<(), Memory>
         requires { length self.old.calls.items + 1 < 200 }
         ensures { OnOk result (self.new.calls.items ≡ self.old.calls.items ++ call ∷ []) }
     {
@@ -29,7 +29,7 @@ impl Below {
     }
 
     /// The call right below the innermost, if there is one.
-    pub(crate) fn pop(&mut self) -> Option<Call>
+    pub fn pop(&mut self) -> Option<Call>
         ensures { MatchOption result (self.old.calls.items ≡ []) (λ call. self.old.calls.items ≡ self.new.calls.items ++ call ∷ []) }
     {
         self.calls.pop()
@@ -37,7 +37,7 @@ impl Below {
 
     /// How many variables of these calls name something in a region.
     #[tactic(auto, using(crate::proofs::Few::few))]
-    pub(crate) fn named(&self, region: u32) -> u32
+    pub fn named(&self, region: u32) -> u32
         ensures value { (c : NumberedProgram) (procs : ℕ) → result ≡ named_in region (frames_below c procs (reverse self.now.calls.items)) }
         ensures small { result ≤ 199 * 2 ^ 24 }
     {

@@ -96,7 +96,7 @@ impl Walker {
 
     /// A process before its first step.
     #[tactic(auto, using(crate::proofs::Beginnings::beginnings))]
-    pub(crate) fn begin(alloc: Global, c: &Parts, team: Team, fuel: u32) -> Walker
+    pub fn begin(alloc: Global, c: &Parts, team: Team, fuel: u32) -> Walker
         ensures { process_of (program_of c.now) result ≡ process.begin (record { program = program_of c.now; procs = team.procs; fuel = fuel }) team.number }
     {
         let main = c.main as usize;
@@ -107,7 +107,7 @@ impl Walker {
     }
 
     /// Silent steps, up to what it has next.
-    pub(crate) fn go_on(&mut self, alloc: Global, c: &Parts) -> Result<(Next, State), Memory>
+    pub fn go_on(&mut self, alloc: Global, c: &Parts) -> Result<(Next, State), Memory>
         ensures { IfOk result (λ r. GoesOn (program_of c.now) self.old r.0 r.1 self.new) }
     {
         'steps: loop {
@@ -144,7 +144,7 @@ impl Walker {
     }
 
     /// What the answer to its action makes of it.
-    pub(crate) fn hear(&mut self, pending: Pending, answer: Told)
+    pub fn hear(&mut self, pending: Pending, answer: Told)
         requires room { vec_len self.old.answers < vec_capacity self.old.answers }
         requires tick { self.old.spent < self.old.fuel }
         ensures { (c : NumberedProgram) → process_of c self.new ≡ told c self.old pending answer }

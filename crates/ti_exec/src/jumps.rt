@@ -119,7 +119,7 @@ impl Call {
 impl Walker {
     /// Out of the innermost loop; without one nothing happens.
     #[tactic(auto, using(crate::proofs::Marks::marks))]
-    pub(crate) fn breaks(&mut self, c: &Parts)
+    pub fn breaks(&mut self, c: &Parts)
         requires { 0 < length self.old.top.levels.items }
         ensures { IsMoved (program_of c.now) self.old Breaks Went self.new }
     {
@@ -134,7 +134,7 @@ impl Walker {
 
     /// To the next turn of the innermost loop; without one nothing happens.
     #[tactic(auto, using(crate::proofs::Marks::marks))]
-    pub(crate) fn continues(&mut self, c: &Parts)
+    pub fn continues(&mut self, c: &Parts)
         requires { 0 < length self.old.top.levels.items }
         ensures { IsMoved (program_of c.now) self.old Continues Went self.new }
     {

@@ -17,4 +17,7 @@ mod variables;
 mod walker;
 
 pub use laws::{fitting_is_formed, has_one_next, process_is_sent};
+pub use loops::behind_loop;
+pub use process::{Asking, Below, Call, Mode, Pending, Turn, Variables, Walker};
+pub use steps::end_place;
 pub use tree_proc::TreeProc;

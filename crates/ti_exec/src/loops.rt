@@ -38,7 +38,7 @@ fn member_place(x: Option<&Stmt>) -> Place
 }
 
 /// What is left of a statement behind the turns of a loop.
-pub(crate) fn behind_loop(x: Option<&Stmt>) -> Todo
+pub fn behind_loop(x: Option<&Stmt>) -> Todo
     ensures { (site : Site) → work_of site (stm_seen x.entry) result ≡ end_of_for (stm_seen x.entry) }
 {
     if is_for(x) {
@@ -286,7 +286,7 @@ impl Walker {
 
     /// One step at what is left of a statement that has begun.
     #[tactic(auto, using(crate::proofs::Begun::begun))]
-    pub(crate) fn at_rest(&mut self, alloc: Global, c: &Parts) -> Result<Turn, Memory>
+    pub fn at_rest(&mut self, alloc: Global, c: &Parts) -> Result<Turn, Memory>
         requires inner { 0 < length self.old.top.levels.items }
         requires settled { IsSettled (program_of c.now) self.old }
         requires begun { IsBegun self.old.mode }

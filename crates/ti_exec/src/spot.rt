@@ -10,8 +10,8 @@ use ti_eval::Env;
 use ti_lang::program::Parts;
 
 impl Walker {
-    // Where the innermost statement is evaluated.
-    pub(crate) fn env<'a>(&'a self, c: &'a Parts) -> Env<'a>
+    /// Where the innermost statement is evaluated.
+    pub fn env<'a>(&'a self, c: &'a Parts) -> Env<'a>
         ensures { env_of result ≡ env_in (program_of c.now) self.now }
     {
         Env {

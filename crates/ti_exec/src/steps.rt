@@ -24,9 +24,9 @@ use ti_eval::{Held, Stop, Todo, Told};
 use ti_lang::program::Parts;
 use ti_moves::{Move, Way, received, statement, unasked};
 
-// The place of the brace that closes `main`.
+/// The place of the brace that closes `main`.
 #[tactic(auto, using(crate::proofs::Spots::spots))]
-fn end_place(c: &Parts) -> Place
+pub fn end_place(c: &Parts) -> Place
     ensures { result ≡ end_of (program_of c.now) }
 {
     match c.methods.get(c.main as usize) {
@@ -95,8 +95,8 @@ impl Walker {
         }
     }
 
-    // The step with a value on its way. In the body of a method it goes nowhere.
-    fn receiving(&mut self, alloc: Global, c: &Parts) -> Result<Turn, Memory>
+    /// The step with a value on its way. In the body of a method it goes nowhere.
+    pub fn receiving(&mut self, alloc: Global, c: &Parts) -> Result<Turn, Memory>
         requires { IsReceiving self.old.mode }
         ensures { IfOk result (λ t. IsTurn (program_of c.now) self.old t self.new) }
     {
@@ -113,8 +113,8 @@ impl Walker {
         }
     }
 
-    // The step of a process that waits at a collective.
-    fn leaves(&self, alloc: Global, at: Place) -> Result<Turn, Memory>
+    /// The step of a process that waits at a collective.
+    pub fn leaves(&self, alloc: Global, at: Place) -> Result<Turn, Memory>
         ensures waits { IfOk result (λ r. (c : NumberedProgram) (m : Met) (t : Left) → self.now.mode ≡ Waits m t → m.place ≡ at → IsTurn c self.now r self.now) }
         ensures expects { IfOk result (λ r. (c : NumberedProgram) (m : Met) → self.now.mode ≡ Expects m → m.place ≡ at → IsTurn c self.now r self.now) }
     {

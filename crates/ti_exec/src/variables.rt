@@ -33,7 +33,7 @@ fn lies_in(region: u32, thing: Option<Id>) -> bool
 
 impl Variables {
     /// None.
-    pub(crate) fn none(alloc: Global) -> Variables
+    pub fn none(alloc: Global) -> Variables
         ensures { result.slots.items ≡ [] }
     {
         Variables {
@@ -42,7 +42,7 @@ impl Variables {
     }
 
     /// These, where there is room for them.
-    pub(crate) fn of(slots: Vec<Slot>) -> Result<Variables, Memory>
+    pub fn of(slots: Vec<Slot>) -> Result<Variables, Memory>
         ensures { IfOk result (λ v. v.slots.items ≡ slots.items) }
     {
         if slots.len() > ROOM {
@@ -64,7 +64,7 @@ impl Variables {
 
     /// What becomes of them.
     #[tactic(auto, using(crate::proofs::Few::few))]
-    pub(crate) fn vary(&mut self, by: Change) -> Result<(), Memory>
+    pub fn vary(&mut self, by: Change) -> Result<(), Memory>
         ensures { OnOk result (slots_of self.new.slots.items ≡ changed by.entry (slots_of self.old.slots.items)) }
     {
         match by {
@@ -79,7 +79,7 @@ impl Variables {
 
     /// The same by the way of a statement that asks for no action.
     #[tactic(auto, using(crate::proofs::Few::few))]
-    pub(crate) fn vary_by(&mut self, alloc: Global, by: Way) -> Result<(), Memory>
+    pub fn vary_by(&mut self, alloc: Global, by: Way) -> Result<(), Memory>
         ensures { OnOk result (slots_of self.new.slots.items ≡ changed_by by.entry (slots_of self.old.slots.items)) }
     {
         match by {
@@ -94,7 +94,7 @@ impl Variables {
 
     /// What a block or a `for` declared leaves at its end.
     #[tactic(auto, using(crate::proofs::Few::few))]
-    pub(crate) fn leave(&mut self, x: Option<&Stmt>)
+    pub fn leave(&mut self, x: Option<&Stmt>)
         ensures { slots_of self.new.slots.items ≡ without (declared_in (stm_seen x.entry)) (slots_of self.old.slots.items) }
     {
         leave(&mut self.slots, x);
@@ -118,7 +118,7 @@ impl Variables {
 
 impl Call {
     /// How many of its variables name something in a region; `this` is one.
-    pub(crate) fn named(&self, region: u32) -> u32
+    pub fn named(&self, region: u32) -> u32
         ensures value { result ≡ count_by (λ (x : Variable). lies_in_spec region (thing_of x.held)) (slots_of self.now.variables.slots.items) + (if lies_in_spec region self.now.this then 1 else 0) }
         ensures small { result ≤ 2 ^ 24 }
     {

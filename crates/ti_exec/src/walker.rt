@@ -20,9 +20,9 @@ use ti_lang::program::{Method, Parts, Stmt};
 use ti_moves::{count, statement_at};
 
 impl Call {
-    // Its method.
+    /// Its method.
     #[tactic(auto, using(crate::proofs::Spots::spots))]
-    pub(crate) fn method_in<'c>(&self, c: &'c Parts) -> Option<&'c Method>
+    pub fn method_in<'c>(&self, c: &'c Parts) -> Option<&'c Method>
         ensures { method_seen result ≡ method_at (program_of c.now) self.now.method }
     {
         match c.methods.get(self.method) {
@@ -31,9 +31,9 @@ impl Call {
         }
     }
 
-    // Its innermost statement.
+    /// Its innermost statement.
     #[tactic(auto, using(crate::proofs::Spots::spots))]
-    pub(crate) fn stands<'c>(&self, c: &'c Parts) -> Option<&'c Stmt>
+    pub fn stands<'c>(&self, c: &'c Parts) -> Option<&'c Stmt>
         requires { 0 < length self.now.levels.items }
         ensures { stm_seen result ≡ here (program_of c.now) self.now }
     {
@@ -85,7 +85,7 @@ fn item_next(mode: &Mode) -> Option<usize>
 
 impl Walker {
     /// The current work is done, and this is left of the innermost statement.
-    pub(crate) fn done(&mut self, todo: Todo)
+    pub fn done(&mut self, todo: Todo)
         ensures { (c : NumberedProgram) → process_of c self.new ≡ done_with c self.old (slots_of self.old.top.variables.slots.items) (left_in c self.old.team.procs self.old.top todo) }
     {
         self.proceeds(Mode::Walks(todo));
@@ -93,7 +93,7 @@ impl Walker {
 
     /// The current work is done, a part of the innermost statement comes next, and behind it this is left.
     #[tactic(auto, using(crate::proofs::Works::lefts))]
-    pub(crate) fn enter(&mut self, inner: Part, todo: Todo) -> Result<(), Memory>
+    pub fn enter(&mut self, inner: Part, todo: Todo) -> Result<(), Memory>
         ensures { OnOk result ((c : NumberedProgram) → process_of c self.new ≡ done_with c self.old (slots_of self.old.top.variables.slots.items) (Do (part_of (here c self.old.top) inner) ∷ left_in c self.old.team.procs self.old.top todo)) }
     {
         self.top.levels.push(Level { todo, inner })?;
@@ -141,7 +141,7 @@ impl Walker {
     }
 
     /// Gets to the work at hand, for which nothing changes that the process stands for.
-    pub(crate) fn settle(&mut self, c: &Parts) -> Result<(), Memory>
+    pub fn settle(&mut self, c: &Parts) -> Result<(), Memory>
         ensures same { OnOk result (process_of (program_of c.now) self.new ≡ process_of (program_of c.now) self.old) }
         ensures settled { OnOk result (IsSettled (program_of c.now) self.new) }
     {
