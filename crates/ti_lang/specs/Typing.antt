@@ -8,6 +8,7 @@ pub mod BuiltIn
 pub mod Declared
 pub mod Expressions
 pub mod TextTypes
+pub mod ListedDims
 pub mod Called
 pub mod Singleness
 pub mod Effects

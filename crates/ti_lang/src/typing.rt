@@ -12,4 +12,4 @@ pub use lookup::{
 };
 pub use members::{BuiltIn, built_in};
 pub use seen::{Seen, same_elements};
-pub use text::{called_method, member_called, type_in_text};
+pub use text::{ForeachDims, called_method, dims_of, member_called, type_in_text, type_over};

@@ -1,5 +1,5 @@
 // The type of an expression in the text, whether or not a rule of types is broken in it.
-ghost use Rattle.std.specs.Prelude.{◌≡◌, ℕ, map};
+ghost use Rattle.std.specs.Prelude.{◌≡◌, map, reverse};
 ghost use Rattle.std.specs.Option.{option_map, option_map_or, unwrap_or};
 ghost use Rattle.ti_lang.specs.Program.Types.{Void};
 ghost use Rattle.ti_lang.specs.Program.Expressions.{numbered_exps, numbered_ranges};
@@ -7,7 +7,8 @@ ghost use Rattle.ti_lang.specs.Program.Views.{program_of, expression_of, bound_o
 ghost use Rattle.ti_lang.specs.Typing.Kinds.{dim_of_type};
 ghost use Rattle.ti_lang.specs.Typing.Declared.{result_type};
 ghost use Rattle.ti_lang.specs.Typing.Seen.{seen, built_in_of};
-ghost use Rattle.ti_lang.specs.Typing.TextTypes.{used_type, joined_type, product_type, operator_type, field_seen, element_seen, sliced, how_many, built_in_type, member_seen, dims_of_range, dims_of_ranges, type_in_text};
+ghost use Rattle.ti_lang.specs.Typing.ListedDims.{dims_in};
+ghost use Rattle.ti_lang.specs.Typing.TextTypes.{used_type, joined_type, product_type, operator_type, field_seen, element_seen, sliced, how_many, built_in_type, member_seen, dims_of_range, dims_of_ranges, type_at, type_in_text};
 ghost use Rattle.ti_lang.specs.Typing.Called.{called_method, member_called};
 
 use super::lookup::{
@@ -20,13 +21,33 @@ use ti_syntax::tree::BinaryOperator;
 
 // ---- names
 
-// The declared type of a variable; that of a foreach is a point, of one dimension in the text.
-fn used_type<'p>(variable: &'p Variable) -> Seen<'p>
-    ensures { seen result ≡ used_type (λ (number : ℕ). 1) (variable_of variable.now).number (variable_of variable.now).declared }
+/// The number of dimensions of a foreach variable.
+#[derive(Clone, Copy)]
+pub struct ForeachDims {
+    pub variable: u32,
+    pub dims: usize,
+}
+
+// The number of dimensions of a foreach variable: the last that is listed for it, or 1.
+fn dims_among(dims: &[ForeachDims], variable: u32) -> usize
+    ensures { result ≡ dims_in (reverse dims.now) variable }
+{
+    let mut found = 1;
+    for d in dims {
+        if d.variable == variable {
+            found = d.dims;
+        }
+    }
+    found
+}
+
+// The declared type of a variable; that of a foreach is a point.
+fn used_type<'p>(variable: &'p Variable, dims: &[ForeachDims]) -> Seen<'p>
+    ensures { seen result ≡ used_type (dims_in (reverse dims.now)) (variable_of variable.now).number (variable_of variable.now).declared }
 {
     match &variable.declared {
         Declared::Typed { single: _, ty } => Seen::of(ty, false),
-        Declared::Foreach => Seen::Pt(1),
+        Declared::Foreach => Seen::Pt(dims_among(dims, variable.number)),
     }
 }
 
@@ -147,8 +168,8 @@ fn sliced<'p>(t: Seen<'p>) -> Seen<'p>
     }
 }
 
-// How many dimensions a type has; 1 for one without.
-fn dims_of(t: Seen) -> usize
+/// How many dimensions a type has; 1 for one without.
+pub fn dims_of(t: Seen) -> usize
     ensures { result ≡ dim_of_type (seen t.entry) }
 {
     match t {
@@ -205,35 +226,45 @@ fn how_many(xs: &[Expr]) -> usize
 
 // A range of numbers has one dimension, one of points as many as these.
 #[cycle(text)]
-fn dims_of_range(program: &Parts, this: Option<u32>, range: &Range) -> usize
-    ensures { result ≡ dims_of_range (program_of program.now) this (λ (number : ℕ). 1) (bound_of range.now) }
+fn dims_of_range(program: &Parts, this: Option<u32>, dims: &[ForeachDims], range: &Range) -> usize
+    ensures { result ≡ dims_of_range (program_of program.now) this (dims_in (reverse dims.now)) (bound_of range.now) }
 {
     match range {
-        Range::Plain { low, .. } => dims_of(type_in_text(program, this, low)),
-        Range::Stepped { low, .. } => dims_of(type_in_text(program, this, low)),
+        Range::Plain { low, .. } => dims_of(type_over(program, this, dims, low)),
+        Range::Stepped { low, .. } => dims_of(type_over(program, this, dims, low)),
     }
 }
 
 // The dimensions of a literal with these ranges: a single one tells them itself, several are one each.
 #[cycle(text)]
 #[tactic(auto, using(crate::proofs::RangeDims::range_dims))]
-fn dims_of_ranges(program: &Parts, this: Option<u32>, ranges: &[Range]) -> usize
-    ensures { result ≡ dims_of_ranges (program_of program.now) this (λ (number : ℕ). 1) (numbered_ranges (map bound_of ranges.now)) }
+fn dims_of_ranges(
+    program: &Parts,
+    this: Option<u32>,
+    dims: &[ForeachDims],
+    ranges: &[Range],
+) -> usize
+    ensures { result ≡ dims_of_ranges (program_of program.now) this (dims_in (reverse dims.now)) (numbered_ranges (map bound_of ranges.now)) }
 {
     if ranges.len() == 1 {
-        dims_of_range(program, this, &ranges[0])
+        dims_of_range(program, this, dims, &ranges[0])
     } else {
         ranges.len()
     }
 }
 
-/// The type that an expression has in the text, in a method with `this` of a class, or with none. No
-/// operand is judged: it means nothing where a rule of types is broken. A foreach variable counts as a
-/// point of one dimension: no class, no field, no element and no form of a node hangs on that.
+/// The type that an expression has in a method with `this` of a class, or with none, where foreach
+/// variables have the dimensions that are listed, the last listed of a variable and 1 for one that isn't.
+/// No operand is judged: it means nothing where a rule of types is broken.
 #[cycle(text)]
 #[tactic(auto, using(crate::proofs::ProgramBridges::program_bridges))]
-pub fn type_in_text<'p>(program: &'p Parts, this: Option<u32>, e: &'p Expr) -> Seen<'p>
-    ensures { seen result ≡ type_in_text (program_of program.now) this (expression_of e.now) }
+pub fn type_over<'p>(
+    program: &'p Parts,
+    this: Option<u32>,
+    dims: &[ForeachDims],
+    e: &'p Expr,
+) -> Seen<'p>
+    ensures { seen result ≡ type_at (program_of program.now) this (dims_in (reverse dims.now)) (expression_of e.now) }
 {
     match e {
         Expr::Int(_, _) => Seen::Int,
@@ -241,34 +272,42 @@ pub fn type_in_text<'p>(program: &'p Parts, this: Option<u32>, e: &'p Expr) -> S
         Expr::Truth(_, _) => Seen::Bool,
         Expr::Null(_) => Seen::Null,
         Expr::This(_) => or_void(this_type(this)),
-        Expr::Variable(_, variable) => used_type(variable),
+        Expr::Variable(_, variable) => used_type(variable, dims),
         Expr::OwnField(_, field) => or_void(own_field_type(program, this, *field)),
         Expr::Call { method: number, .. } => result_of(method(program, *number)),
         Expr::OwnCall { method: number, .. } => result_of(method(program, *number)),
         Expr::ThisProc(_) => Seen::Int,
         Expr::NumProcs(_) => Seen::Int,
         Expr::Point(_, parts) => Seen::Pt(how_many(parts)),
-        Expr::Rect(_, ranges) => Seen::Rc(dims_of_ranges(program, this, ranges)),
-        Expr::Unary { operand, .. } => type_in_text(program, this, operand),
+        Expr::Rect(_, ranges) => Seen::Rc(dims_of_ranges(program, this, dims, ranges)),
+        Expr::Unary { operand, .. } => type_over(program, this, dims, operand),
         Expr::Binary {
             operator,
             left,
             right,
             ..
         } => {
-            let first = type_in_text(program, this, left);
-            let second = type_in_text(program, this, right);
+            let first = type_over(program, this, dims, left);
+            let second = type_over(program, this, dims, right);
             operated(*operator, first, second)
         }
         Expr::Cast { to, .. } => Seen::of(&to.ty, false),
         Expr::Select { receiver, name, .. } => {
-            field_seen(program, *name, type_in_text(program, this, receiver))
+            field_seen(program, *name, type_over(program, this, dims, receiver))
         }
         Expr::Member { receiver, name, .. } => {
-            member_seen(program, *name, type_in_text(program, this, receiver))
+            member_seen(program, *name, type_over(program, this, dims, receiver))
         }
-        Expr::Index { receiver, .. } => element_seen(type_in_text(program, this, receiver)),
+        Expr::Index { receiver, .. } => element_seen(type_over(program, this, dims, receiver)),
     }
+}
+
+/// The same where no dimensions of foreach variables are told, so that each counts as a point of one
+/// dimension: no class, no field, no element and no form of a node hangs on that.
+pub fn type_in_text<'p>(program: &'p Parts, this: Option<u32>, e: &'p Expr) -> Seen<'p>
+    ensures { seen result ≡ type_in_text (program_of program.now) this (expression_of e.now) }
+{
+    type_over(program, this, &[], e)
 }
 
 // ---- calls
