@@ -1,5 +1,5 @@
 -- What a departure is answered in a run fits what is wanted there.
-use Rattle.std.proofs.Common.{◌≡◌, ℕ, ◌<◌, ◌≤◌, suc, true, not, ◌||◌, Option, Some, None, List, refl, ap, sym, ◌∙◌, subst}
+use Rattle.std.proofs.Common.{◌≡◌, ℕ, ◌<◌, ◌≤◌, suc, true, Option, Some, None, List, refl, ap, sym, ◌∙◌, subst}
 use Rattle.ti_base.specs.declared.place.Place.{Place}
 use Rattle.ti_base.specs.declared.value.Id.{Id}
 use Rattle.ti_base.specs.declared.value.Value.{Value}
@@ -18,7 +18,7 @@ use Rattle.ti_lang.specs.Meaning.Answers.{IsCount, IsName, HasForm, FitsWanted}
 use Rattle.ti_lang.specs.Meaning.Processes.{Setting, Process}
 use Rattle.ti_lang.specs.Meaning.Steps.{At, step}
 use Rattle.ti_lang.specs.Meaning.NextStep.{Reaches, here}
-use Rattle.ti_lang.specs.Meaning.Histories.{History, history_of, is_end, is_fault, is_answered, arrivals}
+use Rattle.ti_lang.specs.Meaning.Histories.{History, history_of, arrivals}
 use Rattle.ti_lang.specs.Meaning.RoundsOf as rounds
 use Rattle.ti_lang.specs.Meaning.RoundsOf.{arrival_at, last_arrival, makes_region}
 use Rattle.ti_lang.specs.Meaning.HeapOf.{class_of}
@@ -27,7 +27,6 @@ use Rattle.ti_lang.specs.Meaning.Runs.{World, IsRun}
 use Rattle.ti_rules.specs.InitialTypes.{can_broadcast}
 use Rattle.ti_align.specs.Alignment.{most_procs, ArrivalsAgree}
 use Rattle.ti_align.specs.Names.{NamesFit}
-use Rattle.ti_align.specs.Departing.{DeparturesFit}
 use Rattle.ti_align.specs.Things.{Things, IsGridOf, IsOf}
 use Rattle.ti_align.specs.Work.{IsOfRound, WantsOf}
 use Rattle.ti_align.specs.Heap.{Elements, things_of}
@@ -39,9 +38,7 @@ use Rattle.ti_align.proofs.Operating.{some_same}
 use Rattle.ti_align.proofs.Fitting.{FineMethods}
 use Rattle.ti_align.proofs.Given as given_facts
 use Rattle.ti_align.proofs.Arrived.{back, made, made_all}
-use Rattle.ti_align.proofs.Rounds.{RoundAnswer, told_now, acts_as, alike}
-use Rattle.ti_align.proofs.Running.{at_action}
-use Rattle.ti_align.proofs.Acted.{said_by}
+use Rattle.ti_align.proofs.Rounds.{RoundAnswer, told_now, alike}
 use Rattle.ti_align.proofs.Waiting.{waits_there}
 use Rattle.ti_align.proofs.Giving.{given_same}
 use Rattle.ti_align.proofs.Aligning.{way_next}
@@ -57,7 +54,7 @@ plain_same : (x y : Value) → Plain x ≡ Plain y → x ≡ y
 plain_same x y e = cc
 
 -- a value that is there has the form of its type
-form_of : (h : History) (elements : Elements) (i : ℕ) → NamesFit h → (u : ValueType) → can_broadcast u ≡ true → (x : Value) → IsOf (things_of i elements h) (as_global u) (Plain x) → HasForm u x
+pub form_of : (h : History) (elements : Elements) (i : ℕ) → NamesFit h → (u : ValueType) → can_broadcast u ≡ true → (x : Value) → IsOf (things_of i elements h) (as_global u) (Plain x) → HasForm u x
 form_of h elements i n t.Int c x k = subst (HasForm t.Int) (sym (plain_same x _ k.1)) k.2
 form_of h elements i n t.Long c x k = subst (HasForm t.Long) (sym (plain_same x _ k.1)) k.2
 form_of h elements i n t.Boolean c x k = subst (HasForm t.Boolean) (sym (plain_same x (v.Bool k.0) k.1)) tt
@@ -120,18 +117,3 @@ module _ (s : Setting) (fits : ProgramFits s.program) (fine : FineMethods s.prog
       let kind_is : fit.0.kind ≡ told.arrival.kind = sym came.2 ∙ ap (λ (a : rounds.Arrival). a.kind) (some_same came.0 told.arrival (sym came.1 ∙ told.is)) in
       subst (λ y. FitsWanted y r) (sym (wants q fit.0 (asking at act.Depart asked) go fit.2 e))
       (round_fits i fit.0.wanted fit.1 r told.arrival told.is told.arrival.kind refl (subst (λ kind. IsOfRound (GivesLast s es i) kind fit.1) kind_is fit.3) (subst (λ kind. WantsOf kind fit.0.wanted fit.1) kind_is fit.4) told.gives)
-
-  -- so with each departure that a process can take
-  pub departures_fit : DeparturesFit s es
-  departures_fit e t d =
-      let answered : is_answered e ≡ true = ap (λ a. not (is_end a || is_fault a)) d in
-      let a = at_action (step t.is_next.0) e.place e.act (t.is_next.1.stands ∙ ap Some (acts_as s es e.proc t.next e t.entry answered)) in
-      let stands : step t.is_next.0 ≡ At (asking e.place act.Depart a.0) a.1 = subst (λ b. step t.is_next.0 ≡ At (asking e.place b a.0) a.1) d a.2 in
-      record {
-        settled = t.is_next.0;
-        reaches = t.is_next.1.reaches;
-        request = asking e.place act.Depart a.0;
-        go = a.1;
-        stands = stands;
-        fits = departure_fits e.proc t.within t.process t.is_next.0 e.place a.0 a.1 e.answer t.world t.is_next.1.reaches stands (subst (λ b. heap_answer s.program h e.proc b ≡ Answers e.answer) d (said_by s es e t ran));
-      }
