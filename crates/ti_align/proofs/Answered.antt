@@ -1,5 +1,5 @@
 -- What an action is answered in a run fits what is wanted there.
-use Rattle.std.proofs.Common.{◌≡◌, ◌⊎◌, inl, inr, ℕ, ◌≤◌, suc, true, false, Bool, Some, List, [], ◌∷◌, ◌++◌, refl, ap, sym, ◌∙◌, subst}
+use Rattle.std.proofs.Common.{◌≡◌, ◌⊎◌, inl, inr, ℕ, ◌≤◌, true, false, Bool, Some, List, [], ◌∷◌, ◌++◌, refl, ap, sym, ◌∙◌, subst}
 use Rattle.ti_base.specs.declared.action.Action.{Action}
 use Rattle.ti_base.specs.declared.action.Action.TheVariants as act
 use Rattle.ti_base.specs.declared.action.CollKind.TheVariants as coll
@@ -8,7 +8,6 @@ use Rattle.ti_base.specs.declared.entry.Entry.{Entry}
 use Rattle.ti_base.specs.declared.entry.Next.TheVariants as next
 use Rattle.ti_lang.specs.Program.Types.{ValueType}
 use Rattle.ti_lang.specs.Meaning.Asking.{Wanted, ValueOf, told}
-use Rattle.ti_lang.specs.Meaning.Held.{Plain}
 use Rattle.ti_lang.specs.Meaning.Answers.{FitsWanted, FitsAction}
 use Rattle.ti_lang.specs.Meaning.Processes.{Setting, Process}
 use Rattle.ti_lang.specs.Meaning.Steps.{At, step}
@@ -32,16 +31,16 @@ use Rattle.ti_align.proofs.Ways.{Asked, asking}
 use Rattle.ti_align.proofs.Fitting.{FineMethods}
 use Rattle.ti_align.proofs.Given.{Stands, step_fine}
 use Rattle.ti_align.proofs.Given as given_facts
-use Rattle.ti_align.proofs.Arrived.{back, last_kind}
-use Rattle.ti_align.proofs.Rounds.{acts_as, alike}
+use Rattle.ti_align.proofs.Arrived.{last_kind}
+use Rattle.ti_align.proofs.Rounds.{acts_as}
 use Rattle.ti_align.proofs.Acted.{said_by}
-use Rattle.ti_align.proofs.Giving.{given_same}
 use Rattle.ti_align.proofs.Possible.{by_kind}
 use Rattle.ti_align.proofs.Aligning.{way_next, run_before}
 use Rattle.ti_align.proofs.Making.{last_or_before}
 use Rattle.ti_align.proofs.Holding.{valued, given_value, next_fits, run_typed}
 use Rattle.ti_align.proofs.Ranged.{names_fit}
-use Rattle.ti_align.proofs.Departed.{departure_fits}
+use Rattle.ti_align.proofs.Departed.{handed_of, departure_fits}
+use Rattle.ti_align.proofs.Departed as departed
 use Rattle.ti_align.proofs.Told.{done_fits, value_fits, done, arrival_done, heap_told}
 
 module _ (s : Setting) (fits : ProgramFits s.program) (fine : FineMethods s.program s.program.methods) (few : s.procs ≤ most_procs) (fed : s.fuel ≤ 4000000) (agree : (es : List Entry) → IsRun s es → ArrivalsAgree s es) where
@@ -56,17 +55,14 @@ module _ (s : Setting) (fits : ProgramFits s.program) (fine : FineMethods s.prog
     abbrev q : Process
     q = t.is_next.0
 
-    typed : RunTyped s es
-    typed = run_typed s fits fine few agree es ran
+    abbrev typed : RunTyped s es
+    typed = departed.typed s fits fine few fed agree es ran
 
     abbrev w : Things
     w = things_of i typed.fits.elements h
 
     names : NamesFit (e ∷ h)
     names = subst NamesFit (history_grows es e) (names_fit s (es ++ e ∷ []) (run.more ran t refl) few fed (run_typed s fits fine few agree))
-
-    names_before : NamesFit h
-    names_before = names_fit s es ran few fed (run_typed s fits fine few agree)
 
     said : heap_answer s.program h i e.act ≡ Answers e.answer
     said = said_by s es e t ran
@@ -98,16 +94,12 @@ module _ (s : Setting) (fits : ProgramFits s.program) (fine : FineMethods s.prog
         let a = by_kind s es ran (agree es ran) i coll.Exchange acts.0.1 in
         let x = valued (given i who h) e.answer (sym (ap (heap_answer s.program h i) z) ∙ said) in
         let b = given_value (arrival_at who (arrivals i h) h) x.0 x.1 in
-        let n : arrivals i h ≡ suc g.0 = back i es ∙ g.1 in
-        let mine : arrival_at i (suc g.0) h ≡ Some a.1 = subst (λ n. arrival_at i n h ≡ Some a.1) n (subst (λ n. arrival_at i n h ≡ Some a.1) (sym a.2) a.3) in
-        let other : arrival_at who (suc g.0) h ≡ Some b.0 = subst (λ n. arrival_at who n h ≡ Some b.0) n b.1 in
-        let like = alike s es ran (agree es ran) i who g.0 a.1 b.0 mine other in
-        let d = typed.fits.deposits who g.0 b.0 x.0 other (ap hands_in (sym like.0 ∙ a.4)) b.2 in
-        let same : d.0 ≡ type = given_same s fine es ran who i g.0 d.0 type d.1 g.2 in
+        let mine : arrival_at i (arrivals i h) h ≡ Some a.1 = subst (λ n. arrival_at i n h ≡ Some a.1) (sym a.2) a.3 in
+        let value = handed_of s fits fine few fed agree es ran i who a.1 b.0 type x.0 g mine b.1 (ap hands_in a.4) b.2 in
         let st = subst (λ a. SuitsWanted s.program w a wanted) z suits in
         let is_stored : IsStorable type = subst IsStorable (one_value st.0 type (sym st.1 ∙ wants)) st.2 in
-        value_fits h typed.fits.elements who names_before wanted type type e.answer x.0 wants refl is_stored x.2
-        (subst (λ r. IsOf (things_of who typed.fits.elements h) type (told r)) (sym x.2) (subst (λ a. IsOf (things_of who typed.fits.elements h) a (Plain x.0)) same d.2))
+        value_fits h typed.fits.elements who (departed.names s fits fine few fed agree es ran) wanted type type e.answer x.0 wants refl is_stored x.2
+        (subst (λ r. IsOf (things_of who typed.fits.elements h) type (told r)) (sym x.2) value)
       where
         one_value : (a b : ValueType) → ValueOf a ≡ ValueOf b → a ≡ b
         one_value a b z = cc
