@@ -16,7 +16,7 @@ use Rattle.ti_lang.specs.Meaning.Evaluation.{is_own}
 use Rattle.ti_align.specs.Owners.{IsOwnAction}
 use Rattle.ti_align.specs.Things.{Things, seen_by, Grows, IsGridOf, IsPlaced, IsOwn, IsOf}
 use Rattle.ti_align.proofs.Vars.{true_false}
-use Rattle.ti_align.specs.Sound.{IsThere, IsOwnReference, FitsAsked, Sound, value, fault, asks}
+use Rattle.ti_align.specs.Sound.{IsThere, SuitsWanted, IsOwnReference, FitsAsked, Sound, value, fault, asks}
 
 -- ---- what is there grows
 
@@ -122,10 +122,10 @@ module _ (p : NumberedProgram) where
   sound_found P w kind at (Some a) h = value a (h a refl) (λ rest. refl)
 
   -- an action that goes through no reference
-  pub sound_request : (P : Things → Held → Type 0) (w : Things) (at : Place) (a : Action) (wanted : Wanted) → IsThere p w a wanted → ((u : Things) → Grows w u → (r : Answer) → FitsAsked p u a wanted r → P u (told r)) → Sound p P w (asked (request at a wanted))
-  sound_request P w at a wanted i f = asks (request at a wanted) refl (i, λ z. absurd (true_false (sym z))) (λ u g r t. value (told r) (f u g r t) (λ rest. refl))
+  pub sound_request : (P : Things → Held → Type 0) (w : Things) (at : Place) (a : Action) (wanted : Wanted) → IsThere p w a wanted → SuitsWanted p w a wanted → ((u : Things) → Grows w u → (r : Answer) → FitsAsked p u a wanted r → P u (told r)) → Sound p P w (asked (request at a wanted))
+  sound_request P w at a wanted i s f = asks (request at a wanted) refl (i, (λ z. absurd (true_false (sym z))), s) (λ u g r t. value (told r) (f u g r t) (λ rest. refl))
 
-  pub sound_asked : (P : Things → Held → Type 0) (w : Things) (q : Request) → IsThere p w q.action q.wanted × IsOwnAction w.owner q.through q.action → ((u : Things) → Grows w u → (r : Answer) → FitsAsked p u q.action q.wanted r → P u (told r)) → Sound p P w (asked q)
+  pub sound_asked : (P : Things → Held → Type 0) (w : Things) (q : Request) → IsThere p w q.action q.wanted × IsOwnAction w.owner q.through q.action × SuitsWanted p w q.action q.wanted → ((u : Things) → Grows w u → (r : Answer) → FitsAsked p u q.action q.wanted r → P u (told r)) → Sound p P w (asked q)
   sound_asked P w q i f = asks q refl i (λ u g r t. value (told r) (f u g r t) (λ rest. refl))
 
 -- a reference that is needed: it has this type in the text, and what it names is the own one of the process where that is local

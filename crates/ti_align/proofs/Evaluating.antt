@@ -50,7 +50,7 @@ use Rattle.ti_lang.specs.Meaning.Answers.{IsPointOf, IsRectOf}
 use Rattle.ti_lang.specs.Meaning.Scoping.{Env, type_of, field_selected}
 use Rattle.ti_lang.specs.Meaning.Evaluation.{is_own, eval, eval_all, eval_numbers, eval_range, eval_ranges}
 use Rattle.ti_align.specs.Things.{Things, seen_by, Grows, IsGridOf, IsOwn, IsOf, DimsFine}
-use Rattle.ti_align.specs.Sound.{IsOwnReference, Sound, SuitsView, dims_viewed}
+use Rattle.ti_align.specs.Sound.{SameForm, IsOwnReference, Sound, SuitsView, dims_viewed}
 use Rattle.ti_align.specs.Fitting.{EnvFits, FieldsFit, IsWritten, AreWritten, IsRangeWritten, AreRangesWritten}
 use Rattle.ti_align.proofs.Vars.{true_false, and_left, and_right}
 use Rattle.ti_align.proofs.Computing.{grid_stays, of_stays, same_owner, seen_from, own_of, sound_then, weaker, sound_value, sound_guarded, sound_tested, sound_found, sound_asked, Names, names_own, needed_as}
@@ -137,35 +137,58 @@ read_dims false t.Region k = k
 read_dims false t.Null k = k
 read_dims false t.Void k = k
 
+-- what is read has the form of the cell
+pub read_form : (l : Bool) (type : ValueType) → SameForm (read_through l type) type
+read_form true type = refl
+read_form false (t.Class c l) = refl
+read_form false (t.Grid e n l) = refl
+read_form false t.Int = refl
+read_form false t.Long = refl
+read_form false t.Boolean = refl
+read_form false (t.Pt n) = refl
+read_form false (t.Rc n) = refl
+read_form false (t.Dm n) = refl
+read_form false t.Region = refl
+read_form false t.Null = refl
+read_form false t.Void = refl
+
+-- so has what the text says of it
+pub seen_form : (u type : ValueType) (l : Bool) → u ≡ read_through l type → SameForm u type
+seen_form u type l z = ap as_global z ∙ read_form l type
+
+-- grids of some elements and dimensions
+abbrev pub IsGridType : ValueType → Type 0
+IsGridType type = (element : ValueType) × (n : ℕ) × (l : Bool) × (type ≡ t.Grid element n l)
+
 module _ (p : NumberedProgram) where
   -- a field of an object of this class
   pub field_fine : (w : Things) (at : Place) (type through : ValueType) (h : Held) (field class : ℕ) (of : ValueType) → ((id : Id) → thing_of h ≡ Some id → w.class_at id ≡ Some class) → IsOwn w (is_local through) (thing_of h)
-      → field_type p class field ≡ Some of → Sound p (λ u k. IsOf u (read_through (is_local through) of) k) w (fetched at type (Field h through field))
-  field_fine w at type through h field class of k own f =
+      → field_type p class field ≡ Some of → SameForm type of → Sound p (λ u k. IsOf u (read_through (is_local through) of) k) w (fetched at type (Field h through field))
+  field_fine w at type through h field class of k own f same =
       sound_then p (λ u r. Names (λ u id. u.class_at id ≡ Some class) through u r) _ w (needed at through h) _
       (needed_as p w at through h (λ u id. u.class_at id ≡ Some class) k own)
-      (λ u g r z. sound_asked p _ u (request_through r at (act.GetField r.thing field) (ValueOf type)) ((of, (class, z.thing, f)), z.own)
+      (λ u g r z. sound_asked p _ u (request_through r at (act.GetField r.thing field) (ValueOf type)) ((of, (class, z.thing, f)), z.own, (of, type, (class, z.thing, f), refl, same))
       (λ x i answer q. read_of x r.thing.owner (is_local through) of _ (names_own _ through u x r i z) (q of (class, i.classes r.thing class z.thing, f))))
 
   -- an element of a grid of such elements
   pub element_fine : (w : Things) (at : Place) (type through : ValueType) (h : Held) (index : Point) (element : ValueType) (n : ℕ) → ((id : Id) → thing_of h ≡ Some id → IsGridOf w element n id) → IsOwn w (is_local through) (thing_of h)
-      → IsPointOf n index → Sound p (λ u k. IsOf u (read_through (is_local through) element) k) w (fetched at type (Element h through index))
-  element_fine w at type through h index element n k own d =
+      → IsPointOf n index → SameForm type element → Sound p (λ u k. IsOf u (read_through (is_local through) element) k) w (fetched at type (Element h through index))
+  element_fine w at type through h index element n k own d same =
       sound_then p (λ u r. Names (λ u id. IsGridOf u element n id) through u r) _ w (needed at through h) _
       (needed_as p w at through h (λ u id. IsGridOf u element n id) k own)
-      (λ u g r z. sound_asked p _ u (request_through r at (act.GetElem r.thing index) (ValueOf type)) ((element, n, z.thing, d), z.own)
+      (λ u g r z. sound_asked p _ u (request_through r at (act.GetElem r.thing index) (ValueOf type)) ((element, n, z.thing, d), z.own, (element, type, n, z.thing, refl, same))
       (λ x i answer q. read_of x r.thing.owner (is_local through) element _ (names_own _ through u x r i z) (q element n (grid_stays u x element n r.thing i z.thing))))
 
-  pub domain_fine : (w : Things) (at : Place) (r : Reference) (element : ValueType) (n : ℕ) → IsGridOf w element n r.thing → IsOwnReference w r → Sound p (λ u k. IsOf u (t.Rc n) k) w (domain_asked at r)
-  domain_fine w at r element n z own =
-      sound_asked p _ w (request_through r at (act.DomainOf r.thing) (ValueOf (t.Rc (dim_of_type r.type)))) ((element, n, z), own) (λ x i answer q. q element n (grid_stays w x element n r.thing i z))
+  pub domain_fine : (w : Things) (at : Place) (r : Reference) (element : ValueType) (n : ℕ) → IsGridOf w element n r.thing → IsOwnReference w r → dim_of_type r.type ≡ n → Sound p (λ u k. IsOf u (t.Rc n) k) w (domain_asked at r)
+  domain_fine w at r element n z own d =
+      sound_asked p _ w (request_through r at (act.DomainOf r.thing) (ValueOf (t.Rc (dim_of_type r.type)))) ((element, n, z), own, (element, n, z, ap (λ m. ValueOf (t.Rc m)) d)) (λ x i answer q. q element n (grid_stays w x element n r.thing i z))
 
   pub viewed_fine : (w : Things) (at : Place) (type : ValueType) (view : ViewHow) (through : ValueType) (h : Held) (element : ValueType) (n : ℕ) → ((id : Id) → thing_of h ≡ Some id → IsGridOf w element n id) → IsOwn w (is_local through) (thing_of h)
-      → SuitsView view n → Sound p (λ u k. IsOf u (t.Grid element (dims_viewed view n) (is_local through)) k) w (viewed at type view through h)
-  viewed_fine w at type view through h element n k own s =
+      → SuitsView view n → IsGridType type → Sound p (λ u k. IsOf u (t.Grid element (dims_viewed view n) (is_local through)) k) w (viewed at type view through h)
+  viewed_fine w at type view through h element n k own s g =
       sound_then p (λ u r. Names (λ u id. IsGridOf u element n id) through u r) _ w (needed at through h) _
       (needed_as p w at through h (λ u id. IsGridOf u element n id) k own)
-      (λ u g r z. sound_asked p _ u (request_through r at (act.MakeView r.thing view) (NewThing type)) ((element, n, z.thing, s), z.own)
+      (λ u o r z. sound_asked p _ u (request_through r at (act.MakeView r.thing view) (NewThing type)) ((element, n, z.thing, s), z.own, (g.0, g.1, g.2, ap NewThing g.3))
       (λ x i answer q. view_of x r.thing.owner (is_local through) element (dims_viewed view n) _ (names_own _ through u x r i z) (q element n (grid_stays u x element n r.thing i z.thing))))
 
 -- what a reference names
@@ -400,49 +423,49 @@ module _ (p : NumberedProgram) (w : Things) where
   int_args (x ∷ y ∷ z ∷ hs) a = absurd a.1.1
 
   -- a view through a reference whose type the text tells
-  view_seen : (at : Place) (wanted : ValueType) (view : ViewHow) (through : ValueType) (h : Held) (x : ValueType) (n : ℕ) (l : Bool) → through ≡ t.Grid x n l → IsOf w (t.Grid x n l) h → SuitsView view n
+  view_seen : (at : Place) (wanted : ValueType) (view : ViewHow) (through : ValueType) (h : Held) (x : ValueType) (n : ℕ) (l : Bool) → through ≡ t.Grid x n l → IsOf w (t.Grid x n l) h → SuitsView view n → IsGridType wanted
       → Sound p (λ u k. IsOf u (t.Grid x (dims_viewed view n) l) k) w (viewed at wanted view through h)
-  view_seen at wanted view through h x n l y k s =
+  view_seen at wanted view through h x n l y k s g =
       subst (λ q. Sound p (λ u k. IsOf u (t.Grid x (dims_viewed view n) l) k) w (viewed at wanted view q h)) (sym y)
-      (viewed_fine p w at wanted view (t.Grid x n l) h x n (grid_in w x n l h k) (own_of w (t.Grid x n l) h k) s)
+      (viewed_fine p w at wanted view (t.Grid x n l) h x n (grid_in w x n l h k) (own_of w (t.Grid x n l) h k) s g)
 
   pub member_fine : (at : Place) (wanted through : ValueType) (b : BuiltIn) (type r : ValueType) (ts : List ValueType) (h : Held) (hs : List Held) → member_type b type ts ≡ Some r → is_void r ≡ false → Seen type through → IsOf w type h → AllOfTypes w ts hs
-      → Sound p (λ u k. IsOf u r k) w (member at wanted (Some b) through h hs)
-  member_fine at wanted through Size (t.Rc n) r [] h hs e z y k a = subst (λ q. Sound p (λ u k. IsOf u q k) w (sized at h)) (some_same t.Int r e) (sized_fine at h n (inl k))
-  member_fine at wanted through Size (t.Dm n) r [] h hs e z y k a = subst (λ q. Sound p (λ u k. IsOf u q k) w (sized at h)) (some_same t.Int r e) (sized_fine at h n (inr k))
-  member_fine at wanted through Min (t.Rc n) r [] h hs e z y k a =
+      → wanted ≡ built_in_type (Some b) through → Sound p (λ u k. IsOf u r k) w (member at wanted (Some b) through h hs)
+  member_fine at wanted through Size (t.Rc n) r [] h hs e z y k a same = subst (λ q. Sound p (λ u k. IsOf u q k) w (sized at h)) (some_same t.Int r e) (sized_fine at h n (inl k))
+  member_fine at wanted through Size (t.Dm n) r [] h hs e z y k a same = subst (λ q. Sound p (λ u k. IsOf u q k) w (sized at h)) (some_same t.Int r e) (sized_fine at h n (inr k))
+  member_fine at wanted through Min (t.Rc n) r [] h hs e z y k a same =
       subst (λ q. Sound p (λ u k. IsOf u q k) w (extreme at h (rect_of h).lo)) (some_same (t.Pt n) r e) (sound_guarded p _ w _ _ at _ ((rect_of h).lo, refl, (rect_is n h k).low))
-  member_fine at wanted through Max (t.Rc n) r [] h hs e z y k a =
+  member_fine at wanted through Max (t.Rc n) r [] h hs e z y k a same =
       subst (λ q. Sound p (λ u k. IsOf u q k) w (extreme at h (rect_of h).hi)) (some_same (t.Pt n) r e) (sound_guarded p _ w _ _ at _ ((rect_of h).hi, refl, (rect_is n h k).high))
-  member_fine at wanted through Contains (t.Rc n) r (t.Pt m ∷ []) h hs e z y k a =
+  member_fine at wanted through Contains (t.Rc n) r (t.Pt m ∷ []) h hs e z y k a same =
       subst (λ q. Sound p (λ u k. IsOf u q k) w (member at wanted (Some Contains) through h hs)) (where_some (n == m) t.Boolean r e).1 (sound_value p _ w _ (_, refl))
-  member_fine at wanted through Contains (t.Dm n) r (t.Pt m ∷ []) h hs e z y k a =
+  member_fine at wanted through Contains (t.Dm n) r (t.Pt m ∷ []) h hs e z y k a same =
       subst (λ q. Sound p (λ u k. IsOf u q k) w (member at wanted (Some Contains) through h hs)) (where_some (n == m) t.Boolean r e).1 (sound_value p _ w _ (_, refl))
-  member_fine at wanted through Domain (t.Grid x n l) r [] h hs e z y k a =
+  member_fine at wanted through Domain (t.Grid x n l) r [] h hs e z y k a same =
       subst (λ q. Sound p (λ u k. IsOf u q k) w (domain_of at through h)) (some_same (t.Rc n) r e)
       (subst (λ q. Sound p (λ u k. IsOf u (t.Rc n) k) w (domain_of at q h)) (sym y)
       (sound_then p (λ u r. Names (λ u id. IsGridOf u x n id) (t.Grid x n l) u r) _ w (needed at (t.Grid x n l) h) _ (needed_as p w at (t.Grid x n l) h (λ u id. IsGridOf u x n id) (grid_in w x n l h k) (own_of w (t.Grid x n l) h k))
-      (λ u g y i. domain_fine p u at y x n i.thing i.own)))
-  member_fine at wanted through Restrict (t.Grid x n l) r (t.Rc m ∷ []) h (c ∷ []) e z y k a =
+      (λ u g y i. domain_fine p u at y x n i.thing i.own (ap dim_of_type i.type))))
+  member_fine at wanted through Restrict (t.Grid x n l) r (t.Rc m ∷ []) h (c ∷ []) e z y k a same =
       let q = where_some (n == m) (t.Grid x n l) r e in
       subst (λ o. Sound p (λ u k. IsOf u o k) w (viewed at wanted (how.Restrict (rect_of c)) through h)) q.1
-      (view_seen at wanted (how.Restrict (rect_of c)) through h x n l y k (subst (λ d. IsRectOf d (rect_of c)) (sym (eqb-true n m q.0)) (rect_is m c a.0)))
-  member_fine at wanted through Translate (t.Grid x n l) r (t.Pt m ∷ []) h (c ∷ []) e z y k a =
+      (view_seen at wanted (how.Restrict (rect_of c)) through h x n l y k (subst (λ d. IsRectOf d (rect_of c)) (sym (eqb-true n m q.0)) (rect_is m c a.0)) (x, n, l, same ∙ y))
+  member_fine at wanted through Translate (t.Grid x n l) r (t.Pt m ∷ []) h (c ∷ []) e z y k a same =
       let q = where_some (n == m) (t.Grid x n l) r e in
       subst (λ o. Sound p (λ u k. IsOf u o k) w (viewed at wanted (how.Translate (point_of c)) through h)) q.1
-      (view_seen at wanted (how.Translate (point_of c)) through h x n l y k (subst (λ d. IsPointOf d (point_of c)) (sym (eqb-true n m q.0)) (point_is m c a.0)))
-  member_fine at wanted through Slice (t.Grid x n l) r (t.Int ∷ t.Int ∷ []) h hs e z y k a =
+      (view_seen at wanted (how.Translate (point_of c)) through h x n l y k (subst (λ d. IsPointOf d (point_of c)) (sym (eqb-true n m q.0)) (point_is m c a.0)) (x, n, l, same ∙ y))
+  member_fine at wanted through Slice (t.Grid x n l) r (t.Int ∷ t.Int ∷ []) h hs e z y k a same =
       let q = where_some (nat_lt 1 n) (t.Grid x (n - 1) l) r e in
       subst (λ o. Sound p (λ u k. IsOf u o k) w (member at wanted (Some Slice) through h hs)) q.1
-      (view_seen at wanted (how.Slice (int_of (slice_index_or hs 0 nothing)) (int_of (slice_index_or hs 1 nothing))) through h x n l y k (let two = int_args hs a in (ltb-true 1 n q.0, two.0, two.1)))
-  member_fine at wanted through Restrict (t.Grid x n l) r (t.Rc m ∷ []) h [] e z y k a = absurd a
-  member_fine at wanted through Restrict (t.Grid x n l) r (t.Rc m ∷ []) h (c ∷ d ∷ hs) e z y k a = absurd a.1
-  member_fine at wanted through Translate (t.Grid x n l) r (t.Pt m ∷ []) h [] e z y k a = absurd a
-  member_fine at wanted through Translate (t.Grid x n l) r (t.Pt m ∷ []) h (c ∷ d ∷ hs) e z y k a = absurd a.1
-  member_fine at wanted through Copy type r (c ∷ []) h hs e z y k a = absurd (true_false (ap is_void (where_some _ t.Void r e).1 ∙ z))
-  member_fine at wanted through Exchange type r (c ∷ []) h hs e z y k a = absurd (true_false (ap is_void (where_some _ t.Void r e).1 ∙ z))
-  member_fine at wanted through Delete t.Region r [] h hs e z y k a = absurd (true_false (ap is_void (some_same t.Void r e) ∙ z))
-  member_fine at wanted through _ type r ts h hs e z y k a = absurd (none_some r e)
+      (view_seen at wanted (how.Slice (int_of (slice_index_or hs 0 nothing)) (int_of (slice_index_or hs 1 nothing))) through h x n l y k (let two = int_args hs a in (ltb-true 1 n q.0, two.0, two.1)) (x, n - 1, l, same ∙ ap sliced y))
+  member_fine at wanted through Restrict (t.Grid x n l) r (t.Rc m ∷ []) h [] e z y k a same = absurd a
+  member_fine at wanted through Restrict (t.Grid x n l) r (t.Rc m ∷ []) h (c ∷ d ∷ hs) e z y k a same = absurd a.1
+  member_fine at wanted through Translate (t.Grid x n l) r (t.Pt m ∷ []) h [] e z y k a same = absurd a
+  member_fine at wanted through Translate (t.Grid x n l) r (t.Pt m ∷ []) h (c ∷ d ∷ hs) e z y k a same = absurd a.1
+  member_fine at wanted through Copy type r (c ∷ []) h hs e z y k a same = absurd (true_false (ap is_void (where_some _ t.Void r e).1 ∙ z))
+  member_fine at wanted through Exchange type r (c ∷ []) h hs e z y k a same = absurd (true_false (ap is_void (where_some _ t.Void r e).1 ∙ z))
+  member_fine at wanted through Delete t.Region r [] h hs e z y k a same = absurd (true_false (ap is_void (some_same t.Void r e) ∙ z))
+  member_fine at wanted through _ type r ts h hs e z y k a same = absurd (none_some r e)
 
 -- ---- expressions
 
@@ -471,9 +494,9 @@ types_stay u w [] (h ∷ hs) g a = absurd a
 types_stay u w (x ∷ xs) [] g a = absurd a
 
 -- an index: a coordinate, or an element of a grid
-indexed_fine : (p : NumberedProgram) (w : Things) (at : Place) (wanted u type r : ValueType) (ts : List ValueType) (h : Held) (zs : List ℤ) → index_type type ts ≡ Some r → Seen type u → DimsFine type → IsOf w type h → Numbers (counts ts) zs
+indexed_fine : (p : NumberedProgram) (w : Things) (at : Place) (wanted u type r : ValueType) (ts : List ValueType) (h : Held) (zs : List ℤ) → index_type type ts ≡ Some r → Seen type u → DimsFine type → IsOf w type h → Numbers (counts ts) zs → wanted ≡ element_seen u
     → Sound p (λ x k. IsOf x r k) w (indexed (is_point u) at wanted u h zs) × DimsFine r × Seen r (element_seen u)
-indexed_fine p w at wanted u (t.Pt n) r (t.Int ∷ []) h zs e i d k l =
+indexed_fine p w at wanted u (t.Pt n) r (t.Int ∷ []) h zs e i d k l same =
     subst (λ q. Sound p (λ x k. IsOf x q k) w (indexed (is_point u) at wanted u h zs) × DimsFine q × Seen q (element_seen u)) (some_same t.Int r e) (
       subst (λ b. Sound p (λ x k. IsOf x t.Int k) w (indexed b at wanted u h zs)) (sym (ap is_point i.1))
           (sound_then p (λ x (y : ℤ). Fits w32 y) _ w (found_or fault.Bounds at (if int_le (pos 1) (slice_index_or zs 0 (pos 0)) then slice_get (coordinates_of (point_of h)) (pred (natural (slice_index_or zs 0 (pos 0)))) else None)) _
@@ -485,7 +508,7 @@ indexed_fine p w at wanted u (t.Pt n) r (t.Int ∷ []) h zs e i d k l =
     coordinate_fits : (b : Bool) (c : ℕ) (y : ℤ) → (if b then slice_get (coordinates_of (point_of h)) c else None) ≡ Some y → Fits w32 y
     coordinate_fits true c y z = get_fits (coordinates_of (point_of h)) c y (coordinates_fit (point_of h) (subst (λ q. IsPointOf n (point_of q)) (sym k.1) k.2).coordinates) z
     coordinate_fits false c y z = absurd (none_some y z)
-indexed_fine p w at wanted u (t.Grid element n l) r ts h zs e i d k c = by (dims_are ts e)
+indexed_fine p w at wanted u (t.Grid element n l) r ts h zs e i d k c same = by (dims_are ts e)
   where
     dims_are : (ts : List ValueType) → index_type (t.Grid element n l) ts ≡ Some r → (counts ts ≡ n) × (read_through l element ≡ r)
     dims_are (t.Pt m ∷ []) e = let q = where_some (n == m) (read_through l element) r e in (plus_zero m ∙ sym (eqb-true n m q.0), q.1)
@@ -499,11 +522,11 @@ indexed_fine p w at wanted u (t.Grid element n l) r ts h zs e i d k c = by (dims
         subst (λ z. Sound p (λ x k. IsOf x z k) w (indexed (is_point u) at wanted u h zs) × DimsFine z × Seen z (element_seen u)) q.1 (
           subst (λ b. Sound p (λ x k. IsOf x (read_through l element) k) w (indexed b at wanted u h zs)) (sym (ap is_point i))
               (subst (λ o. Sound p (λ x k. IsOf x (read_through l element) k) w (indexed false at wanted o h zs)) (sym i)
-              (element_fine p w at wanted (t.Grid element n l) h (point_of_numbers zs) element n (grid_in w element n l h k) (own_of w (t.Grid element n l) h k) (numbers_point zs n (c.0 ∙ q.0) d.0 c.1))),
+              (element_fine p w at wanted (t.Grid element n l) h (point_of_numbers zs) element n (grid_in w element n l h k) (own_of w (t.Grid element n l) h k) (numbers_point zs n (c.0 ∙ q.0) d.0 c.1) (seen_form wanted element l (same ∙ ap element_seen i)))),
           read_dims l element d.1,
           subst (λ z. Seen (read_through l element) (element_seen z)) (sym i) (seen_same (read_through l element)),
         )
-indexed_fine p w at wanted u _ r ts h zs e i d k c = absurd (none_some r e)
+indexed_fine p w at wanted u _ r ts h zs e i d k c same = absurd (none_some r e)
 
 -- `this` has a global type
 pub this_global : (o : Option ℕ) → is_local (option_map_or (λ class. t.Class class false) o t.Void) ≡ false
@@ -751,19 +774,27 @@ member_static _ type u r ts e z d i = absurd (none_some r e)
 
 -- ---- selections
 
+-- the type of a field in the text
+pub select_seen : (p : NumberedProgram) (env : Env) (a : NumberedExp) (name c : ℕ) (l : Bool) (of : ValueType) → type_of env a ≡ t.Class c l → named_field_type p c name ≡ Some of → field_seen p name (type_of env a) ≡ read_through l of
+select_seen p env a name c l of z k = ap (field_seen p name) z ∙ ap (λ o. option_map_or (read_through l) o t.Void) k
+
+pub own_seen : (env : Env) (at : Place) (field c : ℕ) (of : ValueType) → this_of env.method ≡ Some c → field_type env.program c field ≡ Some of → type_of env (e.OwnField at field) ≡ read_through false of
+own_seen env at field c of z k = ap (λ o. unwrap_or (option_map as_global (option_and_then (λ class. field_type env.program class field) o)) t.Void) z ∙ ap (λ o. unwrap_or (option_map as_global o) t.Void) k
+
 selected : (w : Things) (env : Env) → FieldsFit env.program → (at : Place) (a : NumberedExp) (name : ℕ) (type r : ValueType) → select_type env.program type name ≡ Some r → Evaluates w env a type → Evaluates w env (e.Select at a name) r
 selected w env g at a name (t.Class c l) r h k =
     let p = env.program in
     let q = mapped (read_through l) (named_field_type p c name) r h in
     let f = named_field p c name q.0 q.1 in
     let number : field_selected env a name ≡ f.0 = ap (λ u. unwrap_or (option_and_then (field_numbered p name) (class_of_type u)) 0) k.seen ∙ ap (λ o. unwrap_or o 0) f.1 in
+    let seen = select_seen p env a name c l q.0 k.seen q.1 in
     to_type w env (e.Select at a name) (read_through l q.0) r q.2 (record {
       sound = sound_then p (λ u h. IsOf u (t.Class c l) h) _ w (eval env a) _ k.sound (λ u i h y.
           subst (λ m. Sound p (λ u h. IsOf u (read_through l q.0) h) u (fetched at (type_of env (e.Select at a name)) (Field h (type_of env a) m))) (sym number)
           (subst (λ o. Sound p (λ u h. IsOf u (read_through l q.0) h) u (fetched at (type_of env (e.Select at a name)) (Field h o f.0))) (sym k.seen)
-          (field_fine p u at _ (t.Class c l) h f.0 c q.0 (object_of u c l h y) (own_of u (t.Class c l) h y) f.2)));
+          (field_fine p u at _ (t.Class c l) h f.0 c q.0 (object_of u c l h y) (own_of u (t.Class c l) h y) f.2 (seen_form _ q.0 l seen))));
       dims = read_dims l q.0 (g c f.0 q.0 f.2);
-      seen = subst (λ y. Seen (read_through l q.0) y) (sym (ap (field_seen p name) k.seen ∙ ap (λ o. option_map_or (read_through l) o t.Void) q.1)) (seen_same (read_through l q.0));
+      seen = subst (λ y. Seen (read_through l q.0) y) (sym seen) (seen_same (read_through l q.0));
     })
 selected w env g at a name _ r h k = absurd (none_some r h)
 
@@ -801,12 +832,13 @@ module _ (uses : VariableUse → Bool) (s : ScopeContents) where
         let p = env.program in
         let q = mapped as_global (option_and_then (λ c. field_type p c field) s.this_class) type (no_call (plain (option_map as_global (option_and_then (λ c. field_type p c field) s.this_class))) type z).1 in
         let c = and_then (λ c. field_type p c field) s.this_class q.0 q.1 in
+        let seen = own_seen env at field c.0 q.0 (sym f.this_class ∙ c.1) c.2 in
         to_type w env (e.OwnField at field) (as_global q.0) type q.2 (record {
           sound =
               subst (λ b. Sound p (λ u h. IsOf u (read_through b q.0) h) w (eval env (e.OwnField at field))) (this_global (this_of env.method))
-              (field_fine p w at _ (type_of env (e.This at)) (Plain (v.Obj env.this)) field c.0 q.0 (λ id y. f.this c.0 c.1 id y) (λ z. absurd (true_false (sym z ∙ this_global (this_of env.method)))) c.2);
+              (field_fine p w at _ (type_of env (e.This at)) (Plain (v.Obj env.this)) field c.0 q.0 (λ id y. f.this c.0 c.1 id y) (λ z. absurd (true_false (sym z ∙ this_global (this_of env.method)))) c.2 (seen_form _ q.0 false seen));
           dims = read_dims false q.0 (g c.0 field q.0 c.2);
-          seen = subst (λ y. Seen (as_global q.0) y) (sym (ap (λ o. unwrap_or (option_map as_global (option_and_then (λ class. field_type p class field) o)) t.Void) (sym f.this_class ∙ c.1) ∙ ap (λ o. unwrap_or (option_map as_global o) t.Void) c.2)) (seen_same (as_global q.0));
+          seen = subst (λ y. Seen (as_global q.0) y) (sym seen) (seen_same (as_global q.0));
         })
     eval_fine w env f g (e.Call at method args) k type z = absurd (never_called (slice_get env.program.methods method) (operands env.program s args) type z)
     eval_fine w env f g (e.OwnCall at method args) k type z = absurd (never_called (slice_get env.program.methods method) (operands env.program s args) type z)
@@ -874,13 +906,14 @@ module _ (uses : VariableUse → Bool) (s : ScopeContents) where
         let q = member_there p (operand_type p s a) (operands p s args) name type z in
         let r = eval_fine w env f g a k.0 q.0 q.2 in
         let is : member_called p (this_of env.method) a name ≡ Some q.4 = ap (λ b. if b then None else built_in p name) (not_object q.0 (type_of env a) q.7 r.seen) ∙ q.5 in
+        let seen : type_of env (e.Member at a name args) ≡ built_in_type (Some q.4) (type_of env a) = built_in_seen p name (type_of env a) (not_object q.0 (type_of env a) q.7 r.seen) ∙ ap (λ b. built_in_type b (type_of env a)) q.5 in
         record {
           sound = sound_then p (λ u h. IsOf u q.0 h) _ w (eval env a) _ r.sound (λ u i h y.
               sound_then p (λ u hs. AllOfTypes u q.1 hs) _ u (eval_all env args) _ (all_fine u env (env_stays uses s w u env i f) g args k.1 q.1 q.3) (λ x j hs o.
               subst (λ b. Sound p (λ u h. IsOf u type h) x (member at (type_of env (e.Member at a name args)) b (type_of env a) h hs)) (sym is)
-              (member_fine p x at (type_of env (e.Member at a name args)) (type_of env a) q.4 q.0 type q.1 h hs q.6 q.8 r.seen (of_stays u x q.0 h j y) o)));
+              (member_fine p x at (type_of env (e.Member at a name args)) (type_of env a) q.4 q.0 type q.1 h hs q.6 q.8 r.seen (of_stays u x q.0 h j y) o seen)));
           dims = (member_static q.4 q.0 (type_of env a) type q.1 q.6 q.8 r.dims r.seen).0;
-          seen = subst (λ y. Seen type y) (sym (built_in_seen p name (type_of env a) (not_object q.0 (type_of env a) q.7 r.seen) ∙ ap (λ b. built_in_type b (type_of env a)) q.5)) (member_static q.4 q.0 (type_of env a) type q.1 q.6 q.8 r.dims r.seen).1;
+          seen = subst (λ y. Seen type y) (sym seen) (member_static q.4 q.0 (type_of env a) type q.1 q.6 q.8 r.dims r.seen).1;
         }
     eval_fine w env f g (e.Index at a parts) k type z =
         let p = env.program in
@@ -890,7 +923,7 @@ module _ (uses : VariableUse → Bool) (s : ScopeContents) where
         record {
           sound = sound_then p (λ u h. IsOf u q.0 h) _ w (eval env a) _ r.sound (λ u l h y.
               sound_then p (λ u zs. Numbers (counts q.1) zs) _ u (eval_numbers env parts) _ (numbers_fine u env (env_stays uses s w u env l f) g parts k.1 q.1 q.3) (λ x j zs o.
-              (indexed_fine p x at (type_of env (e.Index at a parts)) (type_of env a) q.0 type q.1 h zs q.4 r.seen r.dims (of_stays u x q.0 h j y) o).0));
+              (indexed_fine p x at (type_of env (e.Index at a parts)) (type_of env a) q.0 type q.1 h zs q.4 r.seen r.dims (of_stays u x q.0 h j y) o refl).0));
           dims = i.0;
           seen = i.1;
         }

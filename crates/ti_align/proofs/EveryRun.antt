@@ -19,7 +19,7 @@ use Rattle.ti_align.specs.Literals.{LiteralsFit}
 use Rattle.ti_align.specs.Typed.{RunTyped}
 use Rattle.ti_align.specs.Formed.{ActionsFormed}
 use Rattle.ti_align.specs.Slice.{SliceTells}
-use Rattle.ti_align.specs.Departing.{DeparturesFit}
+use Rattle.ti_align.specs.Answering.{AnswersFit}
 use Rattle.ti_align.specs.Names.{RunNamesFit}
 use Rattle.ti_align.proofs.Telling as telling
 use Rattle.ti_align.proofs.Ranged as ranged
@@ -30,7 +30,7 @@ use Rattle.ti_align.proofs.Programs.{checked_fits}
 use Rattle.ti_align.proofs.Holding as holding
 use Rattle.ti_align.proofs.Stopping as stopping
 use Rattle.ti_align.proofs.Departed.{departure_fits}
-use Rattle.ti_align.proofs.Departed as departed
+use Rattle.ti_align.proofs.Answered as answered
 use Rattle.ti_align.proofs.Checked.{checked_fine}
 
 pub arrivals_agree : (p : NumberedProgram) → IsChecked p → OfEveryRun ArrivalsAgree p
@@ -79,6 +79,6 @@ pub names_fit : (p : NumberedProgram) → IsChecked p → LiteralsFit p → OfEv
 names_fit p c l procs fuel es a b d e w =
     ranged.names_fit (record { program = p; procs = procs; fuel = fuel }) es w b e (λ ds r. run_typed p c l procs fuel ds a b d e r)
 
-pub departures_fit : (p : NumberedProgram) → IsChecked p → LiteralsFit p → OfEveryRun DeparturesFit p
-departures_fit p c l procs fuel es a b d e w =
-    departed.departures_fit (record { program = p; procs = procs; fuel = fuel }) (checked_fits p c l) (checked_fine p c) b e (λ ds r. arrivals_agree p c procs fuel ds a b d e r) es w
+pub answers_fit : (p : NumberedProgram) → IsChecked p → LiteralsFit p → OfEveryRun AnswersFit p
+answers_fit p c l procs fuel es a b d e w =
+    answered.answers_fit (record { program = p; procs = procs; fuel = fuel }) (checked_fits p c l) (checked_fine p c) b e (λ ds r. arrivals_agree p c procs fuel ds a b d e r) es w

@@ -122,19 +122,19 @@ value_fits w a (deposit.Count n) value k z = absurd (none_value value z)
 answer_same : (r x : Answer) → Answers r ≡ Answers x → r ≡ x
 answer_same r x z = cc
 
-impossible : (r : Answer) → Impossible ≡ Answers r → ⊥
+pub impossible : (r : Answer) → Impossible ≡ Answers r → ⊥
 impossible r z = cc
 
 same_type : (o : Option ValueType) (a b : ValueType) → o ≡ Some a → o ≡ Some b → a ≡ b
 same_type o a b x y = cc
 
 -- a value that is answered
-valued : (o : Option Value) (r : Answer) → answers_value o ≡ Answers r → (x : Value) × (o ≡ Some x) × (r ≡ Val x)
+pub valued : (o : Option Value) (r : Answer) → answers_value o ≡ Answers r → (x : Value) × (o ≡ Some x) × (r ≡ Val x)
 valued None r z = absurd (impossible r z)
 valued (Some x) r z = (x, refl, sym (answer_same (Val x) r z))
 
 -- from the arrival of a process in a round
-given_value : (o : Option rounds.Arrival) (x : Value) → option_and_then (λ (a : rounds.Arrival). value_in a.deposit) o ≡ Some x → (a : rounds.Arrival) × (o ≡ Some a) × (value_in a.deposit ≡ Some x)
+pub given_value : (o : Option rounds.Arrival) (x : Value) → option_and_then (λ (a : rounds.Arrival). value_in a.deposit) o ≡ Some x → (a : rounds.Arrival) × (o ≡ Some a) × (value_in a.deposit ≡ Some x)
 given_value (Some a) x z = (a, refl, z)
 given_value None x z = absurd (none_value x z)
   where
@@ -513,15 +513,15 @@ module _ (s : Setting)
 
   -- ---- what is named
 
-  next_fits : (es : List Entry) → IsRun s es → (w : ℕ → Things) → ((i : ℕ) → (w i).owner ≡ i) → ((i : ℕ) (p : Process) → i < s.procs → World s es i p → ProcessFits (w i) (GivesLast s es i) p) → (i : ℕ) (p : Process) (at : Place) (a : Action) → i < s.procs → World s es i p → (n : IsNext p (next.Act at a))
-      → (asked : Asked) × (go : Answer → Process) × (n.0.setting ≡ s) × StepFits (w i) (GivesLast s es i) (GivesLast s es i) n.0 (At (asking at a asked) go)
+  pub next_fits : (es : List Entry) → IsRun s es → (w : ℕ → Things) → ((i : ℕ) → (w i).owner ≡ i) → ((i : ℕ) (p : Process) → i < s.procs → World s es i p → ProcessFits (w i) (GivesLast s es i) p) → (i : ℕ) (p : Process) (at : Place) (a : Action) → i < s.procs → World s es i p → (n : IsNext p (next.Act at a))
+      → (asked : Asked) × (go : Answer → Process) × (n.0.setting ≡ s) × StepFits (w i) (GivesLast s es i) (GivesLast s es i) n.0 (At (asking at a asked) go) × (step n.0 ≡ At (asking at a asked) go)
   next_fits es r w own fit i p at a b x n =
       let q = n.0 in
       let k = way_next s es i p p r x here in
       let stand = given_facts.stands s i p k.0 k.1 in
       let reached = reaches_fits performs (w i) (GivesLast s es i) s i _ p q (own i) (known_of i b) stand n.1.reaches (fit i p b x) in
       let acts = at_action (step q) at a n.1.stands in
-      (acts.0, acts.1, reached.1.0, subst (StepFits (w i) (GivesLast s es i) (GivesLast s es i) q) acts.2 (step_fits performs (w i) (GivesLast s es i) (GivesLast s es i) s i _ q (own i) (known_here performs s i _ q (known_of i b) reached.1) reached.1 reached.0))
+      (acts.0, acts.1, reached.1.0, subst (StepFits (w i) (GivesLast s es i) (GivesLast s es i) q) acts.2 (step_fits performs (w i) (GivesLast s es i) (GivesLast s es i) s i _ q (own i) (known_here performs s i _ q (known_of i b) reached.1) reached.1 reached.0), acts.2)
 
   next_there : (es : List Entry) → IsRun s es → (fit : RunFits s es) → (i : ℕ) (p : Process) (at : Place) (a : Action) → i < s.procs → World s es i p → IsNext p (next.Act at a) → (wanted : Wanted) × IsThere s.program (things_of i fit.elements (history_of es)) a wanted
   next_there es r fit i p at a b x n =

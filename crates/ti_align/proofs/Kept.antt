@@ -172,7 +172,7 @@ module _ (performs : Performs) where
     arrives_fit : (left xs : List Work) → Top w pr f fs left → (wait : Wait) (given : Deposit) (type : ValueType) → WorksFit p f.method (method_scope f.method) w xs → DepositFits w type given → IsOfRound (λ u. given_by pr ≡ Some u) wait.kind type
         → IsAwaited p f.method (s xs) wait.wanted wait.receiver type → WantsOf wait.kind wait.wanted type → TakesOf (taken_behind wait.kind type) xs → StepFits w G H pr (arrives pr (record f { left = xs } ∷ fs) wait given)
     arrives_fit left xs top wait given type k d r a o i =
-        ticks_fit w G H pr wait.place _ (tt, (λ z. absurd (true_false (sym z))), (type, d, r, λ z u g answer. (frames_stay p w u (record f { left = xs } ∷ fs) g (frames_with left top f.variables xs top.variables k), ((type, a, z, o, i), refl))))
+        ticks_fit w G H pr wait.place _ (tt, (λ z. absurd (true_false (sym z))), (type, d, r, λ z u g answer. (frames_stay p w u (record f { left = xs } ∷ fs) g (frames_with left top f.variables xs top.variables k), ((type, a, z, o, i), refl))), refl)
 
     moves_fit : (x : Work) (left : List Work) → Top w pr f fs left → TakesFirst G (x ∷ left) → given_by pr ≡ given_type p (s left) x → (move : Move) → FitsFrame p f left x w move → StepFits w G H pr (moves pr f fs left move)
     moves_fit x left top i e (Goes vs xs) k = both_fit x left top i pr.spent vs xs k.0 k.1 k.2
@@ -208,7 +208,7 @@ module _ (performs : Performs) where
     acts_fit : (q : Request) (a : Action) (go : Answer → Process) → TakenAs G a q.wanted → ((u : Things) → Grows w u → (r : Answer) → FitsAsked p u a q.wanted r → ProcessFits u G (go r)) → ActionFits w G H pr q a go
     acts_fit q (act.Arrive kind arg given) go t k = absurd t
     acts_fit q act.Depart go t k = absurd t
-    acts_fit q (act.Take who) go t k = (t.0, t.2, λ u g r o. k u g r (λ type z. subst (λ y. IsOf u y (told r)) (same t.0 type (sym t.1 ∙ z)) o))
+    acts_fit q (act.Take who) go t k = (t.0, t.2, (λ u g r o. k u g r (λ type z. subst (λ y. IsOf u y (told r)) (same t.0 type (sym t.1 ∙ z)) o)), t.1)
       where
         same : (x y : ValueType) → ValueOf x ≡ ValueOf y → x ≡ y
         same x y z = cc
@@ -241,6 +241,7 @@ module _ (performs : Performs) where
                     next_asked (spends (answered pr r)) x left u pr.wait pr.frames z y e
                         (same_sound p (λ u move. FitsFrame p f left x u move) u (λ rest. m (r ∷ rest)) _ (λ rest. j (r ∷ rest) ∙ ap (performed (env_of pr f left) x) (sym (append_assoc pr.answers (r ∷ []) rest))) (h u g r o)) i,
                   )),
+              there.2,
             ))
 
   -- ---- steps
@@ -289,6 +290,7 @@ module _ (performs : Performs) where
                 (between u G pr (pr.spent + 1) (handed wait.receiver (value_asked wait.wanted r) (f ∷ fs)) (sym g.owner ∙ own) fine (told_fits u f fs wait.receiver wait.wanted i.0 r i.1 o (frames_stay pr.setting.program w u (f ∷ fs) g k))
                 (handed_first G wait.receiver (value_asked wait.wanted r) (f ∷ fs) (taken_first G (taken_behind wait.kind i.0) f.left (λ type q. behind_is G wait.kind i.0 type i.2 q) i.4))),
           ),
+          tt,
         )
 
     steps_fit : (wait : Option Wait) → pr.wait ≡ wait → WaitFine n last wait pr.frames → FramesFit pr.setting.program w pr.frames → NextFits w G pr wait pr.frames → StepFits w G H pr (steps pr wait)

@@ -66,6 +66,8 @@ pub mod Leaving
 pub mod Lasting
 pub mod Holding
 pub mod Departed
+pub mod Told
+pub mod Answered
 pub mod Scoped
 pub mod Found
 pub mod Suited

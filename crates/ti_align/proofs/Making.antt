@@ -38,7 +38,7 @@ pub record MadeNow (q : Process) (e : Entry) (grid : Id) (element : ValueType) :
   pub wants : request.wanted ≡ NewThing (t.Grid element dim here)
 
 -- an entry is the last one, or stands before it
-last_or_before : (before rest es : List Entry) (x e : Entry) → es ++ e ∷ [] ≡ before ++ x ∷ rest → ((before ≡ es) × (x ≡ e)) ⊎ ((more : List Entry) × (es ≡ before ++ x ∷ more))
+pub last_or_before : (before rest es : List Entry) (x e : Entry) → es ++ e ∷ [] ≡ before ++ x ∷ rest → ((before ≡ es) × (x ≡ e)) ⊎ ((more : List Entry) × (es ≡ before ++ x ∷ more))
 last_or_before [] rest [] x e z = inl (refl, cc)
 last_or_before [] rest (d ∷ ds) x e z = inr (ds, ap (λ y. y ∷ ds) (heads d x (ds ++ e ∷ []) rest z))
   where

@@ -12,7 +12,8 @@ use Rattle.ti_lang.specs.Program.Statements.{NumberedStm, MaybeNumbered}
 use Rattle.ti_lang.specs.Program.Statements as st
 use Rattle.ti_lang.specs.Program.Classes.{NumberedProgram}
 use Rattle.ti_lang.specs.Program.Scope.{ScopeContents, this_of}
-use Rattle.ti_lang.specs.Typing.Kinds.{is_local, is_void, is_object, element_of, same_type}
+use Rattle.ti_lang.specs.Typing.Kinds.{is_local, is_void, is_object, element_of, dim_of_type, read_through, same_type}
+use Rattle.ti_lang.specs.Typing.TextTypes.{element_seen}
 use Rattle.ti_lang.specs.Typing.Fits.{fits}
 use Rattle.ti_lang.specs.Typing.BuiltIn.{BuiltIn, Size, Min, Max, Contains, Domain, Restrict, Translate, Slice, Copy, Exchange, Delete, built_in, same_grids, has_local_elements, can_copy, can_exchange, member_type}
 use Rattle.ti_lang.specs.Typing.Declared.{instance_method}
@@ -42,7 +43,7 @@ use Rattle.ti_align.proofs.Vars.{true_false, and_left, and_right}
 use Rattle.ti_align.proofs.Computing.{grows_then, own_stays, grid_stays, of_stays, own_of, sound_then, sound_value, sound_guarded, Names, needed_as}
 use Rattle.ti_align.proofs.Operating.{none_some, some_same, where_some, type_same, Seen, seen_same, converted_fine}
 use Rattle.ti_align.proofs.Forms.{natural_fits, one_fits, natural_from, points_placed, meet_form}
-use Rattle.ti_align.proofs.Evaluating.{and_then, joined_there, one_there, AllOfTypes, domain_fine, grid_in, not_object, eval_fine, all_fine}
+use Rattle.ti_align.proofs.Evaluating.{and_then, joined_there, one_there, AllOfTypes, seen_form, domain_fine, grid_in, not_object, eval_fine, all_fine}
 use Rattle.ti_align.proofs.Storing.{plain_is, variables_stay, without_fits}
 use Rattle.ti_align.proofs.Performed.{Ready, ready_stays, Fine, CalledOr, inner_fine, receives_fine, calling_fine, called_or}
 use Rattle.ti_align.proofs.Working.{points_fit, init_fine, print_fine, return_fine, before_fine, behind_fine, copied_fine, taken_fine, all_fit, none_taken}
@@ -180,8 +181,8 @@ module _ (s : ScopeContents) (env : Env) where
       sound_then p (λ u g. Names (λ u id. IsGridOf u d n id) (first_type env args) u g) _ f (needed at (first_type env args) (slice_index_or hs 0 nothing)) _
       (needed_as p f at (first_type env args) (slice_index_or hs 0 nothing) (λ u id. IsGridOf u d n id) (λ id id_is. subst (λ n. IsGridOf f d n id) n_is (subst (λ d. IsGridOf f d m id) d_is (grid_in f c m i _ from_of id id_is)))
       (λ z. own_of f (t.Grid c m i) _ from_of (sym (ap is_local from_seen) ∙ z))) (λ f2 v2 from z2.
-      sound_then p (λ u h. IsOf u (t.Rc n) h) _ f2 (domain_asked at to) _ (domain_fine p f2 at to d n (grid_stays f f2 d n to.thing v2 z.thing) (own_stays f f2 (is_local to.type) (Some to.thing) v2 z.own)) (λ f3 v3 h3 y3.
-      sound_then p (λ u h. IsOf u (t.Rc n) h) _ f3 (domain_asked at from) _ (domain_fine p f3 at from d n (grid_stays f2 f3 d n from.thing v3 z2.thing) (own_stays f2 f3 (is_local from.type) (Some from.thing) v3 z2.own)) (λ f4 v4 h4 y4.
+      sound_then p (λ u h. IsOf u (t.Rc n) h) _ f2 (domain_asked at to) _ (domain_fine p f2 at to d n (grid_stays f f2 d n to.thing v2 z.thing) (own_stays f f2 (is_local to.type) (Some to.thing) v2 z.own) (ap dim_of_type (z.type ∙ to_seen))) (λ f3 v3 h3 y3.
+      sound_then p (λ u h. IsOf u (t.Rc n) h) _ f3 (domain_asked at from) _ (domain_fine p f3 at from d n (grid_stays f2 f3 d n from.thing v3 z2.thing) (own_stays f2 f3 (is_local from.type) (Some from.thing) v3 z2.own) (ap dim_of_type (z2.type ∙ from_seen) ∙ n_is)) (λ f4 v4 h4 y4.
       let all = grows_then f f3 f4 (grows_then f f2 f3 v2 v3) v4 in
       let from_there = grows_then f2 f3 f4 v3 v4 in
       let from_w = grows_then w b f4 (grows_then w a b g o) (grows_then b f f4 v all) in
@@ -199,6 +200,7 @@ module _ (s : ScopeContents) (env : Env) where
             own_stays f2 f4 (is_local from.type) (Some from.thing) from_there z2.own,
             λ e. own_stays f f4 (is_local to.type) (Some to.thing) all z.own (ap is_local (z.type ∙ to_seen) ∙ (here e).0),
             λ e. own_stays f2 f4 (is_local from.type) (Some from.thing) from_there z2.own (ap is_local (z2.type ∙ from_seen) ∙ (here e).1),
+            seen_form (element_seen from.type) d i (ap element_seen (z2.type ∙ from_seen) ∙ ap (read_through i) d_is),
           ),
           tt,
         ),
@@ -222,7 +224,7 @@ module _ (s : ScopeContents) (env : Env) where
       let grid_of = of_stays a b (t.Grid d n l) h o y in
       sound_then p (λ u g. Names (λ u id. IsGridOf u d n id) (type_of env x) u g) _ b (needed at (type_of env x) h) _
       (needed_as p b at (type_of env x) h (λ u id. IsGridOf u d n id) (grid_in b d n l h grid_of) (λ z. own_of b (t.Grid d n l) h grid_of (sym (ap is_local seen) ∙ z))) (λ f v to z.
-      sound_then p (λ u h. IsOf u (t.Rc n) h) _ f (domain_asked at to) _ (domain_fine p f at to d n z.thing z.own) (λ f2 v2 h2 y2.
+      sound_then p (λ u h. IsOf u (t.Rc n) h) _ f (domain_asked at to) _ (domain_fine p f at to d n z.thing z.own (ap dim_of_type (z.type ∙ seen))) (λ f2 v2 h2 y2.
       let grid = grid_stays f f2 d n to.thing v2 z.thing in
       let of : element_of (type_of env x) ≡ d = ap element_of seen in
       let of_to : element_of to.type ≡ element_of (type_of env x) = ap element_of z.type in

@@ -20,7 +20,7 @@ use Rattle.ti_lang.specs.Meaning.Moves.{Move, Goes, Turns, Breaks, Continues, Ca
 use Rattle.ti_lang.specs.Meaning.Performing.{performed}
 use Rattle.ti_align.specs.Dangling.{used_by}
 use Rattle.ti_align.specs.Things.{Things, seen_by, Grows}
-use Rattle.ti_align.specs.Sound.{IsThere, Sound, value, fault, asks}
+use Rattle.ti_align.specs.Sound.{IsThere, SuitsWanted, Sound, value, fault, asks}
 use Rattle.ti_align.specs.Work.{scope_over, ThisFits, DepositFits, given_type, taken_type, IsOfRound, WorkFits, WorksFit, MoveFits}
 use Rattle.ti_align.specs.Typed.{FrameFits, FramesFit, WorkSound, TakesFirst, WaitFits, NextFits, ProcessFits}
 use Rattle.ti_align.proofs.Computing.{grows_then, grows_for, own_stays, grid_stays, place_stays, of_stays, same_owner}
@@ -53,6 +53,7 @@ module _ (p : NumberedProgram) (m : NumberedMethod) where
     own_stays u w (is_local from.type) (Some from.thing) g k.6,
     own_stays u w (is_local k.0) (Some to.thing) g k.7,
     own_stays u w (is_local k.0) (Some from.thing) g k.8,
+    k.9,
   )
   work_stays s u w (TakeAll at grid procs) g k = (grid_stays u w (element_of grid.type) 1 grid.thing g k.0, k.1, own_stays u w (is_local grid.type) (Some grid.thing) g k.2, k.3)
 
@@ -85,10 +86,16 @@ there_stays p u w (act.MakeView grid how) wanted g k = (k.0, k.1, grid_stays u w
 there_stays p u w (act.DomainOf grid) wanted g k = (k.0, k.1, grid_stays u w k.0 k.1 grid g k.2)
 there_stays p u w _ wanted g k = k
 
+suits_stays : (p : NumberedProgram) (u w : Things) (a : Action) (wanted : Wanted) → Grows u w → SuitsWanted p u a wanted → SuitsWanted p w a wanted
+suits_stays p u w (act.GetField obj field) wanted g k = (k.0, k.1, (k.2.0, g.classes obj k.2.0 k.2.1, k.2.2), k.3, k.4)
+suits_stays p u w (act.GetElem grid at) wanted g k = (k.0, k.1, k.2, grid_stays u w k.0 k.2 grid g k.3, k.4, k.5)
+suits_stays p u w (act.DomainOf grid) wanted g k = (k.0, k.1, grid_stays u w k.0 k.1 grid g k.2, k.3)
+suits_stays p u w _ wanted g k = k
+
 sound_stays : (p : NumberedProgram) {A : Type 0} (P : Things → A → Type 0) (u w : Things) (m : Asking A) → ((a : A) → P u a → P w a) → Grows u w → Sound p P u m → Sound p P w m
 sound_stays p P u w m f g (value a h e) = value a (f a h) e
 sound_stays p P u w m f g (fault kind at e) = fault kind at e
-sound_stays p P u w m f g (asks q z i k) = asks q z (there_stays p u w q.action q.wanted g i.0, λ l. same_owner u.owner w.owner (used_by q.action) g.owner (i.1 l)) (λ x j r t. k x (grows_then u w x g j) r t)
+sound_stays p P u w m f g (asks q z i k) = asks q z (there_stays p u w q.action q.wanted g i.0, (λ l. same_owner u.owner w.owner (used_by q.action) g.owner (i.1 l)), suits_stays p u w q.action q.wanted g i.2) (λ x j r t. k x (grows_then u w x g j) r t)
 
 -- ---- processes
 

@@ -14,6 +14,7 @@ use Rattle.ti_lang.specs.Program.Classes.{NumberedProgram}
 use Rattle.ti_lang.specs.Program.Scope.{ScopeContents, this_of}
 use Rattle.ti_lang.specs.Typing.Kinds.{is_local, as_global, read_through, class_of_type}
 use Rattle.ti_lang.specs.Typing.Fits.{fits}
+use Rattle.ti_lang.specs.Typing.TextTypes.{element_seen}
 use Rattle.ti_lang.specs.Typing.Declared.{variable_type, field_type, field_numbered, named_field_type}
 use Rattle.ti_lang.specs.Typing.Expressions.{plain, operand, all_ints, index_type, select_type, operands, operand_type}
 use Rattle.ti_lang.specs.Meaning.Held.{Held, Plain, thing_of, plain_of}
@@ -30,14 +31,14 @@ use Rattle.ti_rules.specs.Broken.Targets.{is_foreach_use, maybe_local, hidden_fi
 use Rattle.ti_rules.specs.Broken.Statements.{narrows}
 use Rattle.ti_lang.specs.Meaning.Answers.{IsPointOf, HasForm}
 use Rattle.ti_align.specs.Things.{Things, seen_by, Grows, NamesNothing, IsStorable, IsGridOf, IsOwn, IsOf, DimsFine}
-use Rattle.ti_align.specs.Sound.{IsFieldOf, Sound}
+use Rattle.ti_align.specs.Sound.{SameForm, IsFieldOf, Sound}
 use Rattle.ti_align.specs.Fitting.{EnvFits, FieldsFit}
 use Rattle.ti_align.specs.Heap.{FieldsStorable}
 use Rattle.ti_align.specs.Work.{VariablesFit, uses_of, IsTarget, ReceiverFits}
 use Rattle.ti_align.proofs.Vars.{true_false, and_left, and_right}
 use Rattle.ti_align.proofs.Computing.{grows_not, grows_then, own_stays, grid_stays, of_stays, seen_from, own_of, sound_then, sound_value, sound_asked, Names, needed_as}
 use Rattle.ti_align.proofs.Operating.{none_some, some_same, where_some, or_either, type_same, Seen, seen_same, converted_fine, cast_fine, operated_fine}
-use Rattle.ti_align.proofs.Evaluating.{and_then, mapped, both_there, no_call, named_field, this_global, object_of, grid_in, ints_count, counts, Evaluates, env_stays, Numbers, zero_fine, eval_fine, numbers_fine}
+use Rattle.ti_align.proofs.Evaluating.{and_then, mapped, both_there, no_call, named_field, this_global, object_of, grid_in, ints_count, counts, Evaluates, env_stays, Numbers, zero_fine, seen_form, select_seen, own_seen, eval_fine, numbers_fine}
 use Rattle.ti_align.proofs.Forms.{numbers_point}
 
 -- ---- types of parts
@@ -136,25 +137,26 @@ without_fits w xs (y ∷ ys) f = by (not (list_any (λ x. same_variable x y.name
 
 -- ---- targets
 
--- a field or an element of the thing takes values of this type; where these are local references the thing is the own one of the process
-abbrev FieldTakes : NumberedProgram → ValueType → ℕ → Things → Id → Type 0
-FieldTakes p u field w id = IsFieldOf p w id field u × IsOwn w (is_local u) (Some id)
+-- A field or an element of the thing takes values of the second type, and has the first one in the text; where these are local
+-- references the thing is the own one of the process.
+abbrev FieldTakes : NumberedProgram → ValueType → ValueType → ℕ → Things → Id → Type 0
+FieldTakes p a u field w id = IsFieldOf p w id field u × IsOwn w (is_local u) (Some id) × SameForm a u
 
-abbrev ElementTakes : ValueType → Point → Things → Id → Type 0
-ElementTakes u index w id = (n : ℕ) × IsGridOf w u n id × IsPointOf n index × IsOwn w (is_local u) (Some id)
+abbrev ElementTakes : ValueType → ValueType → Point → Things → Id → Type 0
+ElementTakes a u index w id = (n : ℕ) × IsGridOf w u n id × IsPointOf n index × IsOwn w (is_local u) (Some id) × SameForm a u
 
--- a target takes values of this type
-abbrev TargetFits : NumberedProgram → Things → ValueType → Target → Type 0
-TargetFits p w u (InVariable x) = u ≡ declared_type x.declared
-TargetFits p w u (InPart (Field object through field)) = ((id : Id) → thing_of object ≡ Some id → FieldTakes p u field w id) × IsOwn w (is_local through) (thing_of object)
-TargetFits p w u (InPart (Element grid through index)) = ((id : Id) → thing_of grid ≡ Some id → ElementTakes u index w id) × IsOwn w (is_local through) (thing_of grid)
+-- a target takes values of the second type
+abbrev TargetFits : NumberedProgram → Things → ValueType → ValueType → Target → Type 0
+TargetFits p w a u (InVariable x) = u ≡ declared_type x.declared
+TargetFits p w a u (InPart (Field object through field)) = ((id : Id) → thing_of object ≡ Some id → FieldTakes p a u field w id) × IsOwn w (is_local through) (thing_of object)
+TargetFits p w a u (InPart (Element grid through index)) = ((id : Id) → thing_of grid ≡ Some id → ElementTakes a u index w id) × IsOwn w (is_local through) (thing_of grid)
 
-target_stays : (p : NumberedProgram) (u w : Things) (type : ValueType) (x : Target) → Grows u w → TargetFits p u type x → TargetFits p w type x
-target_stays p u w type (InVariable x) g f = f
-target_stays p u w type (InPart (Field object through field)) g f =
-    ((λ id z. let k = f.0 id z in ((k.0.0, g.classes id k.0.0 k.0.1, k.0.2), own_stays u w (is_local type) (Some id) g k.1)), own_stays u w (is_local through) (thing_of object) g f.1)
-target_stays p u w type (InPart (Element grid through index)) g f =
-    ((λ id z. let k = f.0 id z in (k.0, grid_stays u w type k.0 id g k.1, k.2, own_stays u w (is_local type) (Some id) g k.3)), own_stays u w (is_local through) (thing_of grid) g f.1)
+target_stays : (p : NumberedProgram) (u w : Things) (a type : ValueType) (x : Target) → Grows u w → TargetFits p u a type x → TargetFits p w a type x
+target_stays p u w a type (InVariable x) g f = f
+target_stays p u w a type (InPart (Field object through field)) g f =
+    ((λ id z. let k = f.0 id z in ((k.0.0, g.classes id k.0.0 k.0.1, k.0.2), own_stays u w (is_local type) (Some id) g k.1, k.2)), own_stays u w (is_local through) (thing_of object) g f.1)
+target_stays p u w a type (InPart (Element grid through index)) g f =
+    ((λ id z. let k = f.0 id z in (k.0, grid_stays u w type k.0 id g k.1, k.2, own_stays u w (is_local type) (Some id) g k.3, k.4)), own_stays u w (is_local through) (thing_of grid) g f.1)
 
 plainly : (o : Option ValueType) (u : ValueType) → operand (plain o) ≡ Some u → o ≡ Some u
 plainly o u h = (no_call (plain o) u h).1
@@ -171,13 +173,13 @@ module _ (s : ScopeContents) (w : Things) (env : Env) (f : EnvFits (uses_of env.
       by t.Foreach z i = absurd (true_false i)
 
   index_dims : (a u : ValueType) (ts : List ValueType) (h : Held) (zs : List ℤ) (through : ValueType) (x : Things) → index_type a ts ≡ Some u → hidden_element (Some a) ≡ false → Seen a through → DimsFine a → IsOf x a h → Numbers (counts ts) zs
-      → TargetFits p x u (InPart (Element h through (point_of_numbers zs)))
+      → TargetFits p x (element_seen through) u (InPart (Element h through (point_of_numbers zs)))
   index_dims (t.Pt n) u ts h zs through x z o e d k c = ((λ id q. absurd (none_some id (sym (ap thing_of k.1) ∙ q))), λ i. ap (λ o. is_own x.owner (thing_of o)) k.1)
   index_dims (t.Grid a n l) u ts h zs through x z o e d k c =
       let q = by ts z c in
       let own = own_of x (t.Grid a n l) h k in
-      subst (λ b. TargetFits p x b (InPart (Element h through (point_of_numbers zs)))) (sym (read_whole l a o) ∙ q.0)
-      ((λ id i. (n, grid_in x a n l h k id i, q.1, λ j. subst (λ o. is_own x.owner o ≡ true) i (own (reached (is_local a) l o j)))), λ i. own (sym (ap is_local e) ∙ i))
+      subst (λ b. TargetFits p x (element_seen through) b (InPart (Element h through (point_of_numbers zs)))) (sym (read_whole l a o) ∙ q.0)
+      ((λ id i. (n, grid_in x a n l h k id i, q.1, (λ j. subst (λ o. is_own x.owner o ≡ true) i (own (reached (is_local a) l o j))), seen_form (element_seen through) a l (ap element_seen e))), λ i. own (sym (ap is_local e) ∙ i))
     where
       by : (ts : List ValueType) → index_type (t.Grid a n l) ts ≡ Some u → Numbers (counts ts) zs → (read_through l a ≡ u) × IsPointOf n (point_of_numbers zs)
       by (t.Pt m ∷ []) z c =
@@ -191,22 +193,22 @@ module _ (s : ScopeContents) (w : Things) (env : Env) (f : EnvFits (uses_of env.
           (q.1, numbers_point zs n (c.0 ∙ ints_count ts (and_left (all_ints ts) (length ts == n) q.0) ∙ eqb-true (length ts) n (and_right (all_ints ts) (length ts == n) q.0)) d.0 c.1)
   index_dims _ u ts h zs through x z o e d k c = absurd (none_some u z)
 
-  located_fine : (target : NumberedExp) (u : ValueType) → IsTarget p env.method s target u → Sound p (λ x y. TargetFits p x u y) w (located env target)
+  located_fine : (target : NumberedExp) (u : ValueType) → IsTarget p env.method s target u → Sound p (λ x y. TargetFits p x (type_of env target) u y) w (located env target)
   located_fine (e.Variable at x) u k = sound_value p _ w _ (variable_target at x u k)
   located_fine (e.OwnField at field) u k =
       let q = mapped as_global (option_and_then (λ c. field_type p c field) s.this_class) u (plainly _ u k.0.1) in
       let c = and_then (λ c. field_type p c field) s.this_class q.0 q.1 in
       let global : is_local q.0 ≡ false = sym (ap maybe_local q.1) ∙ k.2 in
-      subst (λ b. Sound p (λ x y. TargetFits p x b y) w (located env (e.OwnField at field))) (sym (read_whole false q.0 (ap (λ b. b && true) global)) ∙ q.2)
+      subst (λ b. Sound p (λ x y. TargetFits p x (type_of env (e.OwnField at field)) b y) w (located env (e.OwnField at field))) (sym (read_whole false q.0 (ap (λ b. b && true) global)) ∙ q.2)
       (sound_value p _ w _ (
-        (λ id z. ((c.0, f.this c.0 c.1 id z, c.2), λ i. absurd (true_false (sym i ∙ global)))),
+        (λ id z. ((c.0, f.this c.0 c.1 id z, c.2), (λ i. absurd (true_false (sym i ∙ global))), seen_form _ q.0 false (own_seen env at field c.0 q.0 (sym f.this_class ∙ c.1) c.2))),
         λ i. absurd (true_false (sym i ∙ this_global (this_of env.method))),
       ))
   located_fine (e.Select at a name) u k =
       let q = and_then (λ x. select_type p x name) (operand_type p s a) u (plainly _ u k.0.1) in
       select q.0 q.2 (sym (ap (λ o. hidden_field p o name) q.1) ∙ k.2) (eval_fine (uses_of env.method) s w env f g a k.0.0 q.0 q.1)
     where
-      select : (type : ValueType) → select_type p type name ≡ Some u → hidden_field p (Some type) name ≡ false → Evaluates w env a type → Sound p (λ x y. TargetFits p x u y) w (located env (e.Select at a name))
+      select : (type : ValueType) → select_type p type name ≡ Some u → hidden_field p (Some type) name ≡ false → Evaluates w env a type → Sound p (λ x y. TargetFits p x (type_of env (e.Select at a name)) u y) w (located env (e.Select at a name))
       select (t.Class c l) z o k =
           let q = mapped (read_through l) (named_field_type p c name) u z in
           let i = named_field p c name q.0 q.1 in
@@ -214,9 +216,9 @@ module _ (s : ScopeContents) (w : Things) (env : Env) (f : EnvFits (uses_of env.
           let shown : (is_local q.0 && not l) ≡ false = sym (ap (λ o. maybe_local o && not l) q.1) ∙ o in
           sound_then p (λ x h. IsOf x (t.Class c l) h) _ w (eval env a) _ k.sound (λ x j h y.
           let own = own_of x (t.Class c l) h y in
-          subst (λ m. Sound p (λ x y. TargetFits p x u y) x (gives (InPart (Field h (type_of env a) m)))) (sym number)
-          (sound_value p _ x _ (subst (λ b. TargetFits p x b (InPart (Field h (type_of env a) i.0))) (sym (read_whole l q.0 shown) ∙ q.2)
-          ((λ id r. ((c, object_of x c l h y id r, i.2), λ j. subst (λ o. is_own x.owner o ≡ true) r (own (reached (is_local q.0) l shown j)))), λ j. own (sym (ap is_local k.seen) ∙ j)))))
+          subst (λ m. Sound p (λ x y. TargetFits p x (type_of env (e.Select at a name)) u y) x (gives (InPart (Field h (type_of env a) m)))) (sym number)
+          (sound_value p _ x _ (subst (λ b. TargetFits p x (type_of env (e.Select at a name)) b (InPart (Field h (type_of env a) i.0))) (sym (read_whole l q.0 shown) ∙ q.2)
+          ((λ id r. ((c, object_of x c l h y id r, i.2), (λ j. subst (λ o. is_own x.owner o ≡ true) r (own (reached (is_local q.0) l shown j))), seen_form _ q.0 l (select_seen p env a name c l q.0 k.seen q.1))), λ j. own (sym (ap is_local k.seen) ∙ j)))))
       select _ z o k = absurd (none_some u z)
   located_fine (e.Index at a parts) u k =
       let q = both_there index_type (operand_type p s a) (operands p s parts) u (plainly _ u k.0.1) in
@@ -227,31 +229,31 @@ module _ (s : ScopeContents) (w : Things) (env : Env) (f : EnvFits (uses_of env.
   located_fine _ u k = sound_value p _ w _ ((λ id z. absurd (none_some id z)), λ z. absurd (true_false (sym z)))
 
   -- what a target holds
-  held_fine : (at : Place) (u type : ValueType) (x : Target) → DimsFine u → TargetFits p w u x → VariablesFit w env.variables → Sound p (λ y h. IsOf y u h) w (held_in env at type x)
+  held_fine : (at : Place) (u type : ValueType) (x : Target) → DimsFine u → TargetFits p w type u x → VariablesFit w env.variables → Sound p (λ y h. IsOf y u h) w (held_in env at type x)
   held_fine at u type (InVariable x) d k v = sound_value p _ w _ (subst (λ a. IsOf w a (find_variable x env.variables)) (sym k) (found_fits w x env.variables (subst DimsFine k d) v))
   held_fine at u type (InPart (Field object through field)) d k v =
-      sound_then p (λ x r. Names (FieldTakes p u field) through x r) _ w (needed at through object) _ (needed_as p w at through object (FieldTakes p u field) k.0 k.1) (λ x j r z.
-      sound_asked p _ x (request_through r at (act.GetField r.thing field) (ValueOf type)) ((u, z.thing.0), z.own) (λ y l answer q.
+      sound_then p (λ x r. Names (FieldTakes p type u field) through x r) _ w (needed at through object) _ (needed_as p w at through object (FieldTakes p type u field) k.0 k.1) (λ x j r z.
+      sound_asked p _ x (request_through r at (act.GetField r.thing field) (ValueOf type)) ((u, z.thing.0), z.own, (u, type, z.thing.0, refl, z.thing.2)) (λ y l answer q.
       seen_from (seen_by r.thing.owner y) y.owner u _ (λ i. eqb-true r.thing.owner x.owner (z.thing.1 i) ∙ l.owner) (q u (z.thing.0.0, l.classes r.thing z.thing.0.0 z.thing.0.1, z.thing.0.2))))
   held_fine at u type (InPart (Element grid through index)) d k v =
-      sound_then p (λ x r. Names (ElementTakes u index) through x r) _ w (needed at through grid) _ (needed_as p w at through grid (ElementTakes u index) k.0 k.1) (λ x j r z.
-      sound_asked p _ x (request_through r at (act.GetElem r.thing index) (ValueOf type)) ((u, z.thing.0, z.thing.1, z.thing.2), z.own) (λ y l answer q.
+      sound_then p (λ x r. Names (ElementTakes type u index) through x r) _ w (needed at through grid) _ (needed_as p w at through grid (ElementTakes type u index) k.0 k.1) (λ x j r z.
+      sound_asked p _ x (request_through r at (act.GetElem r.thing index) (ValueOf type)) ((u, z.thing.0, z.thing.1, z.thing.2), z.own, (u, type, z.thing.0, z.thing.1, refl, z.thing.4)) (λ y l answer q.
       seen_from (seen_by r.thing.owner y) y.owner u _ (λ i. eqb-true r.thing.owner x.owner (z.thing.3 i) ∙ l.owner) (q u z.thing.0 (grid_stays x y u z.thing.0 r.thing l z.thing.1))))
 
   -- what a target takes
-  stored_fine : FieldsStorable p → (at : Place) (u : ValueType) (x : Target) (h : Held) → TargetFits p w u x → VariablesFit w env.variables → IsOf w u h → Sound p (λ y vs. VariablesFit y vs) w (stored env at x h)
-  stored_fine d at u (InVariable x) h k v i = sound_value p _ w _ (changed_fits w x h env.variables (subst (λ a. IsOf w a h) k i) v)
-  stored_fine d at u (InPart (Field object through field)) h k v i =
-      sound_then p (λ x r. Names (FieldTakes p u field) through x r) _ w (needed at through object) _ (needed_as p w at through object (FieldTakes p u field) k.0 k.1) (λ x j r z.
+  stored_fine : FieldsStorable p → (at : Place) (type u : ValueType) (x : Target) (h : Held) → TargetFits p w type u x → VariablesFit w env.variables → IsOf w u h → Sound p (λ y vs. VariablesFit y vs) w (stored env at x h)
+  stored_fine d at type u (InVariable x) h k v i = sound_value p _ w _ (changed_fits w x h env.variables (subst (λ a. IsOf w a h) k i) v)
+  stored_fine d at type u (InPart (Field object through field)) h k v i =
+      sound_then p (λ x r. Names (FieldTakes p type u field) through x r) _ w (needed at through object) _ (needed_as p w at through object (FieldTakes p type u field) k.0 k.1) (λ x j r z.
       let held = plain_is x u h (d z.thing.0.0 field u z.thing.0.2) (of_stays w x u h j i) in
       sound_then p (λ y o. Unit {0}) _ x (asked (request_through r at (act.PutField r.thing field (plain_of h)) ToBeDone)) _
-      (sound_asked p _ x (request_through r at (act.PutField r.thing field (plain_of h)) ToBeDone) ((u, z.thing.0, seen_from x r.thing.owner u _ (λ i. sym (eqb-true r.thing.owner x.owner (z.thing.1 i))) held), z.own) (λ y l answer q. tt)) (λ y l o q.
+      (sound_asked p _ x (request_through r at (act.PutField r.thing field (plain_of h)) ToBeDone) ((u, z.thing.0, seen_from x r.thing.owner u _ (λ i. sym (eqb-true r.thing.owner x.owner (z.thing.1 i))) held), z.own, refl) (λ y l answer q. tt)) (λ y l o q.
       sound_value p _ y _ (variables_stay x y env.variables l (variables_stay w x env.variables j v))))
-  stored_fine d at u (InPart (Element grid through index)) h k v i =
-      sound_then p (λ x r. Names (ElementTakes u index) through x r) _ w (needed at through grid) _ (needed_as p w at through grid (ElementTakes u index) k.0 k.1) (λ x j r z.
+  stored_fine d at type u (InPart (Element grid through index)) h k v i =
+      sound_then p (λ x r. Names (ElementTakes type u index) through x r) _ w (needed at through grid) _ (needed_as p w at through grid (ElementTakes type u index) k.0 k.1) (λ x j r z.
       let held = plain_is x u h z.thing.1.4 (of_stays w x u h j i) in
       sound_then p (λ y o. Unit {0}) _ x (asked (request_through r at (act.PutElem r.thing index (plain_of h)) ToBeDone)) _
-      (sound_asked p _ x (request_through r at (act.PutElem r.thing index (plain_of h)) ToBeDone) ((u, z.thing.0, z.thing.1, z.thing.2, seen_from x r.thing.owner u _ (λ i. sym (eqb-true r.thing.owner x.owner (z.thing.3 i))) held), z.own) (λ y l answer q. tt)) (λ y l o q.
+      (sound_asked p _ x (request_through r at (act.PutElem r.thing index (plain_of h)) ToBeDone) ((u, z.thing.0, z.thing.1, z.thing.2, seen_from x r.thing.owner u _ (λ i. sym (eqb-true r.thing.owner x.owner (z.thing.3 i))) held), z.own, refl) (λ y l answer q. tt)) (λ y l o q.
       sound_value p _ y _ (variables_stay x y env.variables l (variables_stay w x env.variables j v))))
 
 grows_two : (u w x : Things) → Grows u w → Grows w x → Grows u x
@@ -286,19 +288,19 @@ into_fine s w env f g d v (Declared at variable) type right k r =
 into_fine s w env f g d v (Assigned at target) type right k r =
     let p = env.program in
     let seen = (eval_fine (uses_of env.method) s w env f g target k.1.0.0 k.0 k.1.0.1).seen in
-    sound_then p (λ x y. TargetFits p x k.0 y) _ w (located env target) _ (located_fine s w env f g target k.0 k.1) (λ x j place y.
+    sound_then p (λ x y. TargetFits p x (type_of env target) k.0 y) _ w (located env target) _ (located_fine s w env f g target k.0 k.1) (λ x j place y.
     sound_then p (λ x h. IsOf x type h) _ x right _ (r x j) (λ z l h o.
     sound_then p (λ x h. IsOf x k.0 h) _ z (converted at (type_of env target) h) _ (converted_fine p z at type k.0 _ h k.2 seen o) (λ a m i q.
     let fits_there = env_stays (uses_of env.method) s w a env (grows_all w x z a j l m) f in
-    stored_fine s a env fits_there g d at k.0 place i (target_stays p x a k.0 place (grows_two x z a l m) y) (variables_stay w a env.variables (grows_all w x z a j l m) v) q)))
+    stored_fine s a env fits_there g d at (type_of env target) k.0 place i (target_stays p x a (type_of env target) k.0 place (grows_two x z a l m) y) (variables_stay w a env.variables (grows_all w x z a j l m) v) q)))
 into_fine s w env f g d v (Updated at op target) type right k r =
     let p = env.program in
     let told = eval_fine (uses_of env.method) s w env f g target k.2.0.0 k.0 k.2.0.1 in
-    sound_then p (λ x y. TargetFits p x k.0 y) _ w (located env target) _ (located_fine s w env f g target k.0 k.2) (λ x j place y.
+    sound_then p (λ x y. TargetFits p x (type_of env target) k.0 y) _ w (located env target) _ (located_fine s w env f g target k.0 k.2) (λ x j place y.
     sound_then p (λ x h. IsOf x k.0 h) _ x (held_in env (place_of_numbered target) (type_of env target) place) _
     (held_fine s x env (env_stays (uses_of env.method) s w x env j f) g (place_of_numbered target) k.0 (type_of env target) place told.dims y (variables_stay w x env.variables j v)) (λ b n old old_is.
     sound_then p (λ x h. IsOf x type h) _ b right _ (r b (grows_two w x b j n)) (λ z l h o.
     sound_then p (λ x h. IsOf x k.1 h) _ z (operated at op old h) _ (operated_fine p z at k.0 type k.1 k.0 type old h (seen_same k.0) (seen_same type) (of_stays b z k.0 old l old_is) o op k.3).0 (λ c m new new_is.
     sound_then p (λ x h. IsOf x k.0 h) _ c (converted at (type_of env target) new) _ (into_fine_update p c at k.1 k.0 _ new k.4 told.seen new_is) (λ a q i i_is.
     let all = grows_two w b a (grows_two w x b j n) (grows_all b z c a l m q) in
-    stored_fine s a env (env_stays (uses_of env.method) s w a env all f) g d at k.0 place i (target_stays p x a k.0 place (grows_two x b a n (grows_all b z c a l m q)) y) (variables_stay w a env.variables all v) i_is)))))
+    stored_fine s a env (env_stays (uses_of env.method) s w a env all f) g d at (type_of env target) k.0 place i (target_stays p x a (type_of env target) k.0 place (grows_two x b a n (grows_all b z c a l m q)) y) (variables_stay w a env.variables all v) i_is)))))

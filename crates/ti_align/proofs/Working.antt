@@ -15,6 +15,7 @@ use Rattle.ti_lang.specs.Program.Statements as st
 use Rattle.ti_lang.specs.Program.Classes.{NumberedProgram}
 use Rattle.ti_lang.specs.Program.Scope.{ScopeContents}
 use Rattle.ti_lang.specs.Typing.Declared.{result_type}
+use Rattle.ti_lang.specs.Typing.TextTypes.{element_seen}
 use Rattle.ti_lang.specs.Typing.Kinds.{is_local, is_void, element_of, as_global, domain_dim}
 use Rattle.ti_lang.specs.Meaning.Held.{Held, Plain, rect_of, region_of, plain_of, points_in, truth_of}
 use Rattle.ti_lang.specs.Meaning.Asking.{ToBeDone, ValueOf, NewThing, request, request_through, Asking, ◌>>=◌, gives, asked}
@@ -116,7 +117,7 @@ module _ (s : ScopeContents) (env : Env) where
   init_fine untaken w r receiver (st.NewObject at region class) type k q =
       made_fine None untaken w r receiver type (new_object env at region class) q (subst (λ y. Sound p (λ u h. IsOf u y h) w (new_object env at region class)) (sym k.0) (
       sound_then p (λ u r. IsPlaced u r) _ w (region_for env region) _ (region_fine w r region k.1) (λ u g i y.
-      sound_request p _ u at (act.NewObj class i) (NewThing (t.Class class true)) (k.2.0, k.2.1, y) (λ x j answer o. o))
+      sound_request p _ u at (act.NewObj class i) (NewThing (t.Class class true)) (k.2.0, k.2.1, y) refl (λ x j answer o. o))
       ))
   init_fine untaken w r receiver (st.NewGrid at region element dims_at dims) type k q =
       made_fine None untaken w r receiver type (new_grid env at region element.type dims_at dims) q (subst (λ y. Sound p (λ u h. IsOf u y h) w (new_grid env at region element.type dims_at dims)) (sym k.1) (
@@ -126,7 +127,7 @@ module _ (s : ScopeContents) (env : Env) where
       let fine = (eval_fine (uses_of env.method) s w env r.fits r.fields (domain_written dims_at dims) k.3.0 (t.Rc k.0) k.3.1).dims in
       sound_request p _ x at (act.NewGrid (zero_of_type element.type) (rect_of h) i) (NewThing (t.Grid element.type (rect_of h).dim true))
       (element.type, k.0, ap (λ n. NewThing (t.Grid element.type n true)) is_rect.dim_is, refl, is_rect, fine, place_stays u x i j y, k.4)
-      (λ z l answer c. c element.type k.0 (ap (λ n. NewThing (t.Grid element.type n true)) is_rect.dim_is))))
+      (element.type, (rect_of h).dim, true, refl) (λ z l answer c. c element.type k.0 (ap (λ n. NewThing (t.Grid element.type n true)) is_rect.dim_is))))
       ))
   init_fine untaken w r receiver (st.Broadcast at x root) type k q =
       sound_then p (λ u h. IsOf u t.Int h) _ w (eval env root) _ (inner_fine s env w r root t.Int k.3.0 k.3.1) (λ u g h y.
@@ -138,7 +139,7 @@ module _ (s : ScopeContents) (env : Env) where
 
   print_done : (handed untaken : Option ValueType) (w : Things) → Ready s w env → (at : Place) (literal : Option ℕ) (value : Option Value) → Fine s env handed untaken w (prints env at literal value)
   print_done handed untaken w r at literal value =
-      sound_then p (λ u h. Unit {0}) _ w (asked (request at (act.Print literal value) ToBeDone)) _ (sound_request p _ w at (act.Print literal value) ToBeDone tt (λ u g answer o. tt)) (λ u g h y. sound_value p _ u _ (variables_stay w u env.variables g r.variables, tt, tt))
+      sound_then p (λ u h. Unit {0}) _ w (asked (request at (act.Print literal value) ToBeDone)) _ (sound_request p _ w at (act.Print literal value) ToBeDone tt refl (λ u g answer o. tt)) (λ u g h y. sound_value p _ u _ (variables_stay w u env.variables g r.variables, tt, tt))
 
   pub print_fine : (handed untaken : Option ValueType) (w : Things) → Ready s w env → (at : Place) (what : NumberedPrint) → PrintFits p env.method s what → Fine s env handed untaken w (printed env at what)
   print_fine handed untaken w r at st.Nothing k = print_done handed untaken w r at None None
@@ -179,12 +180,12 @@ module _ (s : ScopeContents) (env : Env) where
   pub copied_fine : (handed untaken : Option ValueType) (w : Things) → Ready s w env → (at : Place) (to from : _) (points : _) → Work.WorkFits p env.method s w (CopyAll at to from points) → Fine s env handed untaken w (copied env at to from points)
   copied_fine handed untaken w r at to from [] k = sound_value p _ w _ (r.variables, tt, tt)
   copied_fine handed untaken w r at to from (q ∷ qs) k =
-      sound_then p (λ u h. IsOf (seen_by from.thing.owner u) k.0 h) _ w (asked (request_through from at (act.GetElem from.thing q) (ValueOf _))) _
-      (sound_asked p _ w (request_through from at (act.GetElem from.thing q) (ValueOf _)) ((k.0, k.1, k.3, k.4.0), k.6) (λ u g answer o. o k.0 k.1 (grid_stays w u k.0 k.1 from.thing g k.3))) (λ u g h y.
+      sound_then p (λ u h. IsOf (seen_by from.thing.owner u) k.0 h) _ w (asked (request_through from at (act.GetElem from.thing q) (ValueOf (element_seen from.type)))) _
+      (sound_asked p _ w (request_through from at (act.GetElem from.thing q) (ValueOf (element_seen from.type))) ((k.0, k.1, k.3, k.4.0), k.6, (k.0, element_seen from.type, k.1, k.3, refl, k.9)) (λ u g answer o. o k.0 k.1 (grid_stays w u k.0 k.1 from.thing g k.3))) (λ u g h y.
       let copy =
       seen_from (seen_by from.thing.owner u) to.thing.owner k.0 _ (λ z. eqb-true from.thing.owner w.owner (k.8 z) ∙ sym (eqb-true to.thing.owner w.owner (k.7 z))) (plain_is (seen_by from.thing.owner u) k.0 h k.2.4 y) in
       sound_then p (λ u h. Unit {0}) _ u (asked (request_through to at (act.PutElem to.thing q (plain_of h)) ToBeDone)) _
-      (sound_asked p _ u (request_through to at (act.PutElem to.thing q (plain_of h)) ToBeDone) ((k.0, k.1, grid_stays w u k.0 k.1 to.thing g k.2, k.4.0, copy), own_stays w u (is_local to.type) (Some to.thing) g k.5) (λ a i answer o. tt)) (λ a i j o.
+      (sound_asked p _ u (request_through to at (act.PutElem to.thing q (plain_of h)) ToBeDone) ((k.0, k.1, grid_stays w u k.0 k.1 to.thing g k.2, k.4.0, copy), own_stays w u (is_local to.type) (Some to.thing) g k.5, refl) (λ a i answer o. tt)) (λ a i j o.
       let all = grows_then w u a g i in
       sound_value p _ a _ (
         variables_stay w a env.variables all r.variables,
@@ -199,6 +200,7 @@ module _ (s : ScopeContents) (env : Env) where
             own_stays w a (is_local from.type) (Some from.thing) all k.6,
             own_stays w a (is_local k.0) (Some to.thing) all k.7,
             own_stays w a (is_local k.0) (Some from.thing) all k.8,
+            k.9,
           ),
           tt,
         ),
@@ -209,9 +211,9 @@ module _ (s : ScopeContents) (env : Env) where
   taken_fine handed w r at grid [] k = sound_value p _ w _ (r.variables, tt, tt)
   taken_fine handed w r at grid (i ∷ is) k =
       let a = element_of grid.type in
-      sound_then p (λ u h. IsOf u a h) _ w (asked (request at (act.Take i) (ValueOf a))) _ (sound_request p _ w at (act.Take i) (ValueOf a) tt (λ u g answer o. o a refl)) (λ u g h y.
+      sound_then p (λ u h. IsOf u a h) _ w (asked (request at (act.Take i) (ValueOf a))) _ (sound_request p _ w at (act.Take i) (ValueOf a) tt (a, refl, k.0.4) (λ u g answer o. o a refl)) (λ u g h y.
       sound_then p (λ u h. Unit {0}) _ u (asked (request_through grid at (act.PutElem grid.thing (element_at i) (plain_of h)) ToBeDone)) _
-      (sound_asked p _ u (request_through grid at (act.PutElem grid.thing (element_at i) (plain_of h)) ToBeDone) ((a, 1, grid_stays w u a 1 grid.thing g k.0, element_point i k.1.0, seen_from u grid.thing.owner a _ (λ z. absurd (true_false (sym z ∙ k.3))) (plain_is u a h k.0.4 y)), own_stays w u (is_local grid.type) (Some grid.thing) g k.2) (λ b j answer o. tt)) (λ b j z o.
+      (sound_asked p _ u (request_through grid at (act.PutElem grid.thing (element_at i) (plain_of h)) ToBeDone) ((a, 1, grid_stays w u a 1 grid.thing g k.0, element_point i k.1.0, seen_from u grid.thing.owner a _ (λ z. absurd (true_false (sym z ∙ k.3))) (plain_is u a h k.0.4 y)), own_stays w u (is_local grid.type) (Some grid.thing) g k.2, refl) (λ b j answer o. tt)) (λ b j z o.
       let all = grows_then w u b g j in
       sound_value p _ b _ (variables_stay w b env.variables all r.variables, ((grid_stays w b a 1 grid.thing all k.0, k.1.1, own_stays w b (is_local grid.type) (Some grid.thing) all k.2, k.3), tt), (refl, tt))))
 

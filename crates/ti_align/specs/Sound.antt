@@ -1,5 +1,5 @@
 -- Computations that ask only for what is there, and come to what they should, whatever fitting answers they get.
-use Rattle.std.specs.Prelude.{◌≡◌, ℕ, ◌<◌, ◌-◌, true, List, [], ◌∷◌, Some}
+use Rattle.std.specs.Prelude.{◌≡◌, ℕ, ◌<◌, ◌-◌, Bool, true, List, [], ◌∷◌, Some}
 use Rattle.std.specs.Int.{w32}
 use Rattle.ti_base.specs.declared.place.Place.{Place}
 use Rattle.ti_base.specs.declared.value.Id.{Id}
@@ -15,12 +15,12 @@ use Rattle.ti_base.specs.Points.{IsDim}
 use Rattle.ti_lang.specs.Program.Types.{ValueType}
 use Rattle.ti_lang.specs.Program.Types as t
 use Rattle.ti_lang.specs.Program.Classes.{NumberedProgram}
-use Rattle.ti_lang.specs.Typing.Kinds.{is_local}
+use Rattle.ti_lang.specs.Typing.Kinds.{is_local, as_global}
 use Rattle.ti_lang.specs.Typing.Declared.{field_type}
 use Rattle.ti_lang.specs.Meaning.Held.{Plain}
 use Rattle.ti_lang.specs.Meaning.Zeros.{zeros_of_class, zero_of_type}
 use Rattle.ti_lang.specs.Meaning.Answers.{IsPointOf, IsRectOf}
-use Rattle.ti_lang.specs.Meaning.Asking.{Wanted, ValueOf, NewThing, Reference, Request, Asking, Gives, Asks, Fails, told}
+use Rattle.ti_lang.specs.Meaning.Asking.{Wanted, ToBeDone, ValueOf, NewThing, Reference, Request, Asking, Gives, Asks, Fails, told}
 use Rattle.ti_align.specs.Things.{Things, seen_by, Grows, IsStorable, IsGridOf, IsPlaced, IsOwn, IsOf}
 use Rattle.ti_align.specs.Owners.{IsOwnAction}
 
@@ -54,6 +54,27 @@ IsThere p w (act.MakeView grid how) wanted = (element : ValueType) × (n : ℕ) 
 IsThere p w (act.DomainOf grid) wanted = (element : ValueType) × (n : ℕ) × IsGridOf w element n grid
 IsThere p w a wanted = Unit {0}
 
+-- two types whose values have one form: they are the same, but for whether they are local
+abbrev pub SameForm : ValueType → ValueType → Type 0
+SameForm a b = as_global a ≡ as_global b
+
+-- a new grid is wanted, of some elements and dimensions
+abbrev pub WantsGrid : Wanted → Type 0
+WantsGrid wanted = (element : ValueType) × (n : ℕ) × (is_local : Bool) × (wanted ≡ NewThing (t.Grid element n is_local))
+
+-- What is wanted is what the action gives: a value in the form of the cell that is read, a domain of the dimensions of the grid, a new
+-- object or grid, a value that an element may have, and else nothing. What a departure gives is told by its round.
+abbrev pub SuitsWanted : NumberedProgram → Things → Action → Wanted → Type 0
+SuitsWanted p w (act.GetField obj field) wanted = (type : ValueType) × (u : ValueType) × IsFieldOf p w obj field type × (wanted ≡ ValueOf u) × SameForm u type
+SuitsWanted p w (act.GetElem grid at) wanted = (element : ValueType) × (u : ValueType) × (n : ℕ) × IsGridOf w element n grid × (wanted ≡ ValueOf u) × SameForm u element
+SuitsWanted p w (act.DomainOf grid) wanted = (element : ValueType) × (n : ℕ) × IsGridOf w element n grid × (wanted ≡ ValueOf (t.Rc n))
+SuitsWanted p w (act.NewObj class region) wanted = wanted ≡ NewThing (t.Class class true)
+SuitsWanted p w (act.NewGrid zero domain region) wanted = WantsGrid wanted
+SuitsWanted p w (act.MakeView grid how) wanted = WantsGrid wanted
+SuitsWanted p w (act.Take who) wanted = (type : ValueType) × (wanted ≡ ValueOf type) × IsStorable type
+SuitsWanted p w act.Depart wanted = Unit {0}
+SuitsWanted p w a wanted = wanted ≡ ToBeDone
+
 -- what the reference names lies in the memory of the process, where the reference is local
 abbrev pub IsOwnReference : Things → Reference → Type 0
 IsOwnReference w r = IsOwn w (is_local r.type) (Some r.thing)
@@ -74,9 +95,10 @@ FitsAsked p w a wanted r = Unit {0}
 -- ---- computations
 
 -- The computation comes to what the fact holds of, or to a fault, or asks for what is there, and through a local reference for what is
--- there in the memory of its process; and where the answer fits, in whatever is there by then, so does what is left of it.
+-- there in the memory of its process, and wants of it what it gives; and where the answer fits, in whatever is there by then, so does
+-- what is left of it.
 pub data Sound (p : NumberedProgram) {A : Type 0} (P : Things → A → Type 0) : Things → Asking A → Type 0 where
   value : {w : Things} {m : Asking A} (a : A) → P w a → ((rest : List Answer) → m rest ≡ Gives a rest) → Sound p P w m
   fault : {w : Things} {m : Asking A} (kind : FaultKind) (at : Place) → ((rest : List Answer) → m rest ≡ Fails kind at) → Sound p P w m
-  asks : {w : Things} {m : Asking A} (q : Request) → m [] ≡ Asks q → IsThere p w q.action q.wanted × IsOwnAction w.owner q.through q.action
+  asks : {w : Things} {m : Asking A} (q : Request) → m [] ≡ Asks q → IsThere p w q.action q.wanted × IsOwnAction w.owner q.through q.action × SuitsWanted p w q.action q.wanted
       → ((u : Things) → Grows w u → (r : Answer) → FitsAsked p u q.action q.wanted r → Sound p P u (λ rest. m (r ∷ rest))) → Sound p P w m

@@ -20,6 +20,7 @@ use Rattle.ti_lang.specs.Program.Classes.{NumberedMethod, NumberedProgram}
 use Rattle.ti_lang.specs.Program.Scope.{ScopeContents, this_of, method_scope}
 use Rattle.ti_lang.specs.Typing.Declared.{in_scope, result_type}
 use Rattle.ti_lang.specs.Typing.Kinds.{is_local, is_void, element_of, as_global, domain_dim}
+use Rattle.ti_lang.specs.Typing.TextTypes.{element_seen}
 use Rattle.ti_lang.specs.Typing.Fits.{fits}
 use Rattle.ti_lang.specs.Typing.Operators.{binary_type}
 use Rattle.ti_lang.specs.Typing.Expressions.{typed, operand_type}
@@ -36,7 +37,7 @@ use Rattle.ti_rules.specs.Standing.{variables_inside}
 use Rattle.ti_rules.specs.Broken.Targets.{is_foreach_variable, is_hidden_local}
 use Rattle.ti_rules.specs.Broken.Statements.{narrows}
 use Rattle.ti_align.specs.Things.{Things, ArePoints, IsStorable, IsGridOf, IsPlaced, IsOwn, IsOf}
-use Rattle.ti_align.specs.Sound.{IsOwnReference}
+use Rattle.ti_align.specs.Sound.{SameForm, IsOwnReference}
 use Rattle.ti_align.specs.Fitting.{IsWritten, AreWritten}
 
 -- ---- variables
@@ -269,6 +270,7 @@ module _ (p : NumberedProgram) (m : NumberedMethod) where
   WorkFits s w (CopyAll at to from points) =
       (element : ValueType) × (n : ℕ) × IsGridOf w element n to.thing × IsGridOf w element n from.thing × ArePoints n points
       × IsOwnReference w to × IsOwnReference w from × IsOwn w (is_local element) (Some to.thing) × IsOwn w (is_local element) (Some from.thing)
+      × SameForm (element_seen from.type) element
   WorkFits s w (TakeAll at grid procs) =
       IsGridOf w (element_of grid.type) 1 grid.thing × AreCounted procs × IsOwnReference w grid × (is_local (element_of grid.type) ≡ false)
 

@@ -1,8 +1,8 @@
-// Laws of every run on the names of things and regions, and on what departures are answered.
+// Laws of every run on the names of things and regions, and on what actions are answered.
 ghost use Rattle.std.specs.Prelude.{◌≡◌};
 ghost use Rattle.ti_lang.specs.Program.Views.{program_of};
 ghost use Rattle.ti_align.specs.Alignment.{OfEveryRun};
-ghost use Rattle.ti_align.specs.Departing.{DeparturesFit};
+ghost use Rattle.ti_align.specs.Answering.{AnswersFit};
 ghost use Rattle.ti_align.specs.Names.{RunNamesFit};
 
 use crate::reading::literals_fit;
@@ -16,10 +16,12 @@ pub fn names_fit(c: &Checked)
     literals_fit(c.program());
 }
 
-/// In every run of a checked program what a process is answered at a departure fits what it wants there: a
-/// value of the type of the broadcast, in the form of the type, or a region, or nothing.
-pub fn departures_fit(c: &Checked)
-    ensures { OfEveryRun DeparturesFit (program_of c.now.program.parts) }
+/// In every run of a checked program what a process is answered fits what it wants: where it reads a field,
+/// an element, a domain or what another process handed in, a value in the form of the type that the text
+/// tells, with numbers and names within their ranges; where it makes a thing or a region, the name of one;
+/// and else nothing.
+pub fn answers_fit(c: &Checked)
+    ensures { OfEveryRun AnswersFit (program_of c.now.program.parts) }
 {
     literals_fit(c.program());
 }
