@@ -1,0 +1,2 @@
+pub mod Dimming
+pub mod Ranging

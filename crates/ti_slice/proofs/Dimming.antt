@@ -1,0 +1,139 @@
+-- The dimensions of the foreach loops around a statement.
+use Rattle.std.proofs.Common.{◌≡◌, ◌∙◌, ap, refl, sym, ℕ, zero, suc, ◌==◌, if◌then◌else◌, ◌+◌, ◌<◌, ◌≤◌, List, [], ◌∷◌, ◌++◌, take, reverse, length, map, drop, get_or, Option, add-one, arith}
+use Rattle.std.proofs.Math.Seq.{take-suc}
+use Rattle.std.proofs.lemmas.List.{reverse-append, length-reverse, length-take-le}
+use Rattle.std.specs.declared.alloc.Global.{Global}
+use Rattle.std.specs.declared.boxed.Box.{Box}
+use Rattle.ti_lang.specs.declared.typing.text.ForeachDims.{ForeachDims}
+use Rattle.ti_lang.specs.Program.Statements.{NumberedStm, NumberedStms}
+use Rattle.ti_lang.specs.Program.Statements as s
+use Rattle.ti_lang.specs.Program.Classes.{NumberedProgram}
+use Rattle.ti_lang.specs.Typing.Kinds.{dim_of_type}
+use Rattle.ti_lang.specs.Typing.TextTypes.{type_at}
+use Rattle.ti_lang.specs.Typing.ListedDims.{dims_in}
+use Rattle.ti_lang.specs.Meaning.Held.{Held}
+use Rattle.ti_lang.specs.Meaning.Processes.{Work, Do, End}
+use Rattle.ti_lang.specs.Meaning.Turns.{dims_at}
+use Rattle.ti_eval.specs.declared.frame.Spot.{Spot}
+use Rattle.ti_eval.specs.declared.frame.Todo.{Todo}
+use Rattle.ti_eval.specs.declared.frame.Todo.TheVariants as todo
+use Rattle.ti_eval.specs.declared.frame.Level.{Level}
+use Rattle.ti_eval.specs.Places.{list_of, inside}
+use Rattle.ti_eval.specs.Frames.{Site, work_of, work_of_body, left_of, rest_of, list_in, domain_in, end_of_for}
+
+module _ (program : NumberedProgram) (this : Option ℕ) where
+  -- the dimensions where this is left of a statement, from those around it
+  abbrev pub dims_behind : NumberedStm → Todo → (ℕ → ℕ) → ℕ → ℕ
+  dims_behind x (todo.Turn variable domain at) dims number = if variable == number then dim_of_type (type_at program this dims (domain_in x)) else dims number
+  dims_behind x t dims number = dims number
+
+  none_in : (xs : List NumberedStm) (ws : List Work) → dims_at program this (map Do xs ++ ws) ≡ dims_at program this ws
+  none_in [] ws = refl
+  none_in (x ∷ xs) ws = none_in xs ws
+
+  none_alone : (xs : List NumberedStm) → dims_at program this (map Do xs) ≡ (λ number. 1)
+  none_alone [] = refl
+  none_alone (x ∷ xs) = none_alone xs
+
+  none_in_list : (xs : List NumberedStm) (x : NumberedStm) (ws : List Work) → dims_at program this ((map Do xs ++ End x ∷ []) ++ ws) ≡ dims_at program this ws
+  none_in_list [] x ws = refl
+  none_in_list (y ∷ xs) x ws = none_in_list xs x ws
+
+  none_at_end : (x : NumberedStm) (ws : List Work) → dims_at program this (end_of_for x ++ ws) ≡ dims_at program this ws
+  none_at_end (s.For at first c update body) ws = refl
+  none_at_end s.Empty ws = refl
+  none_at_end (s.Declare at type variable value) ws = refl
+  none_at_end (s.Assign at target value) ws = refl
+  none_at_end (s.Update at op target y) ws = refl
+  none_at_end (s.Step at op target) ws = refl
+  none_at_end (s.Call y) ws = refl
+  none_at_end (s.Print at what) ws = refl
+  none_at_end (s.Barrier at) ws = refl
+  none_at_end (s.If at e y) ws = refl
+  none_at_end (s.IfElse at e y z) ws = refl
+  none_at_end (s.While at e body) ws = refl
+  none_at_end (s.Foreach at variable domain body) ws = refl
+  none_at_end (s.Block body) ws = refl
+  none_at_end (s.Break at) ws = refl
+  none_at_end (s.Continue at) ws = refl
+  none_at_end (s.Return at value) ws = refl
+
+  dims_left : (site : Site) (x : NumberedStm) (t : Todo) (ws : List Work) → dims_at program this (work_of site x t ++ ws) ≡ dims_behind x t (dims_at program this ws)
+  dims_left site x todo.Here ws = refl
+  dims_left site x todo.Inside ws = refl
+  dims_left site x (todo.From n) ws = none_in_list (drop n (list_in x)) x ws
+  dims_left site x todo.Ending ws = refl
+  dims_left site x todo.Before ws = none_at_end x ws
+  dims_left site x todo.Behind ws = none_at_end x ws
+  dims_left site x (todo.Each variable domain last) ws = refl
+  dims_left site x (todo.Turn variable domain at) ws = refl
+  dims_left site x (todo.Copying copy last) ws = refl
+  dims_left site x (todo.Taking grid next) ws = refl
+
+  dims_of_body : (body : NumberedStms) (t : Todo) → dims_at program this (work_of_body body t) ≡ (λ number. 1)
+  dims_of_body body (todo.From n) = none_alone (drop n (list_of body))
+  dims_of_body body todo.Here = refl
+  dims_of_body body todo.Inside = refl
+  dims_of_body body todo.Ending = refl
+  dims_of_body body todo.Before = refl
+  dims_of_body body todo.Behind = refl
+  dims_of_body body (todo.Each variable domain last) = refl
+  dims_of_body body (todo.Turn variable domain at) = refl
+  dims_of_body body (todo.Copying copy last) = refl
+  dims_of_body body (todo.Taking grid next) = refl
+
+  -- the dimensions around the innermost of these levels, the outermost first
+  abbrev pub dims_rest : Site → NumberedStms → List Level → ℕ → ℕ
+  dims_rest site body ls = dims_at program this (rest_of site body (reverse ls))
+
+  left_is : (site : Site) (body : NumberedStms) (l : Level) (ls : List Level) → 0 < length ls
+      → dims_at program this (rest_of site body (l ∷ ls)) ≡ dims_behind (inside body ls) l.todo (dims_at program this (rest_of site body ls))
+  left_is site body l [] h = absurd (omega arith)
+  left_is site body l (k ∷ ks) h = dims_left site (inside body (k ∷ ks)) l.todo (left_of site body ks k.todo)
+
+  -- one level more, which isn't the outermost
+  one_level : (site : Site) (body : NumberedStms) (xs : List Level) (m : ℕ) (d : Level) → m < length xs → 0 < m
+      → dims_rest site body (take (m + 1) xs) ≡ dims_behind (inside body (reverse (take m xs))) (get_or xs m d).todo (dims_rest site body (take m xs))
+  one_level site body xs m d h k =
+      let e : length (reverse (take m xs)) ≡ m = length-reverse (take m xs) ∙ length-take-le m xs (omega arith) in
+      rw (add-one, take-suc xs m d h, reverse-append) (left_is site body (get_or xs m d) (reverse (take m xs)) (omega (arith, e)))
+
+  -- no loop is around the first
+  pub none_first : (site : Site) (body : NumberedStms) (xs : List Level) (n : ℕ) → n ≤ 1 → (λ number. 1) ≡ dims_rest site body (take n xs)
+  none_first site body xs zero h = refl
+  none_first site body [] (suc zero) h = refl
+  none_first site body (x ∷ xs) (suc zero) h = sym (dims_of_body body x.todo)
+  none_first site body xs (suc (suc n)) h = absurd (omega arith)
+
+  -- the turn of a loop
+  pub one_turn : (site : Site) (body : NumberedStms) (xs : List Level) (m : ℕ) (d : Level) (ds : List ForeachDims) (f : ForeachDims) (x : NumberedStm) (domain : Box Held Global) (at : Spot)
+      → m < length xs → 0 < m → (get_or xs m d).todo ≡ todo.Turn f.variable domain at → x ≡ inside body (reverse (take m xs))
+      → f.dims ≡ dim_of_type (type_at program this (dims_in (reverse ds)) (domain_in x)) → dims_in (reverse ds) ≡ dims_rest site body (take m xs)
+      → dims_in (reverse (ds ++ f ∷ [])) ≡ dims_rest site body (take (m + 1) xs)
+  one_turn site body xs m d ds f x domain at h k is here told so =
+      let y : NumberedStm = inside body (reverse (take m xs)) in
+      let counted : f.dims ≡ dim_of_type (type_at program this (dims_rest site body (take m xs)) (domain_in y)) =
+      told ∙ (λ i. dim_of_type (type_at program this (so i) (domain_in (here i)))) in
+      let listed : dims_in (f ∷ reverse ds) ≡ dims_behind y (todo.Turn f.variable domain at) (dims_rest site body (take m xs)) =
+      λ i number. if f.variable == number then counted i else so i number in
+      rw reverse-append
+      (listed ∙ ap (λ t. dims_behind y t (dims_rest site body (take m xs))) (sym is) ∙ sym (one_level site body xs m d h k))
+
+  skips : (t : Todo) → ((variable : ℕ) (domain : Box Held Global) (at : Spot) → t ≡ todo.Turn variable domain at → ⊥) → (x : NumberedStm) (dims : ℕ → ℕ) → dims_behind x t dims ≡ dims
+  skips todo.Here differs x dims = refl
+  skips todo.Inside differs x dims = refl
+  skips (todo.From n) differs x dims = refl
+  skips todo.Ending differs x dims = refl
+  skips todo.Before differs x dims = refl
+  skips todo.Behind differs x dims = refl
+  skips (todo.Each variable domain last) differs x dims = refl
+  skips (todo.Turn variable domain at) differs x dims = absurd (differs variable domain at refl)
+  skips (todo.Copying copy last) differs x dims = refl
+  skips (todo.Taking grid next) differs x dims = refl
+
+  -- what is left is no turn
+  pub no_turn : (site : Site) (body : NumberedStms) (xs : List Level) (m : ℕ) (d : Level) (ds : List ForeachDims) → m < length xs → 0 < m
+      → ((variable : ℕ) (domain : Box Held Global) (at : Spot) → (get_or xs m d).todo ≡ todo.Turn variable domain at → ⊥) → dims_in (reverse ds) ≡ dims_rest site body (take m xs)
+      → dims_in (reverse ds) ≡ dims_rest site body (take (m + 1) xs)
+  no_turn site body xs m d ds h k differs so =
+      so ∙ sym (one_level site body xs m d h k ∙ skips (get_or xs m d).todo differs (inside body (reverse (take m xs))) (dims_rest site body (take m xs)))

@@ -1,0 +1,78 @@
+// Whether an outcome fits the departure at which the slice stands.
+
+ghost use Rattle.std.specs.Prelude.{◌≡◌, ◌↔◌, IsTrue, IfOk};
+ghost use Rattle.ti_lang.specs.Program.Views.{initial_of};
+ghost use Rattle.ti_lang.specs.Typing.Seen.{seen};
+ghost use Rattle.ti_lang.specs.Meaning.Asking.{ToBeDone, ValueOf};
+ghost use Rattle.ti_lang.specs.Meaning.Answers.{FitsWanted};
+ghost use Rattle.ti_eval.specs.Envs.{env_of};
+ghost use Rattle.ti_moves.specs.Receiving.{stm_seen};
+ghost use Rattle.ti_moves.specs.Moves.{type_given, type_received, expected};
+
+use crate::forms::has_form;
+use crate::typed::type_here;
+use std::alloc::Global;
+use ti_base::{Answer, Memory};
+use ti_eval::Env;
+use ti_lang::program::{Init, Stmt};
+use ti_lang::typing::Seen;
+use ti_moves::Meeting;
+
+/// Whether an answer is a value with the form of a type.
+pub fn fits_form(t: Seen, a: &Answer) -> bool
+    ensures { IsTrue result ↔ FitsWanted (ValueOf (seen t.entry)) a.now }
+{
+    match *a {
+        Answer::Done => false,
+        Answer::Val(v) => has_form(t, v),
+    }
+}
+
+/// Whether an answer says no more than that something is done.
+pub fn is_done(a: &Answer) -> bool
+    ensures { IsTrue result ↔ FitsWanted ToBeDone a.now }
+{
+    match a {
+        Answer::Done => true,
+        Answer::Val(_) => false,
+    }
+}
+
+// The type of the value that a right side gets from a collective.
+fn type_given<'a>(alloc: Global, env: &Env<'a>, value: &'a Init) -> Result<Seen<'a>, Memory>
+    ensures { IfOk result (λ t. seen t ≡ type_given (env_of env.now) (initial_of value.now)) }
+{
+    match value {
+        Init::Broadcast { value, .. } => type_here(alloc, env, value),
+        _ => Ok(Seen::Region),
+    }
+}
+
+// The type of the value that a statement waits for at a collective.
+fn type_received<'a>(alloc: Global, env: &Env<'a>, x: Option<&'a Stmt>) -> Result<Seen<'a>, Memory>
+    ensures { IfOk result (λ t. seen t ≡ type_received (env_of env.now) (stm_seen x.entry)) }
+{
+    match x {
+        Some(s) => match s {
+            Stmt::Declare { value, .. } => type_given(alloc, env, value),
+            Stmt::Assign { value, .. } => type_given(alloc, env, value),
+            _ => Ok(Seen::Region),
+        },
+        None => Ok(Seen::Region),
+    }
+}
+
+/// Whether an answer fits the departure from a collective whose value a statement waits for.
+pub fn fits_departure(
+    alloc: Global,
+    env: &Env,
+    x: Option<&Stmt>,
+    meeting: &Meeting,
+    a: &Answer,
+) -> Result<bool, Memory>
+    ensures yes { IfOk result (λ fits. IsTrue fits → FitsWanted (expected (env_of env.now) (stm_seen x.entry) meeting.now).wanted a.now) }
+    ensures no { IfOk result (λ fits. FitsWanted (expected (env_of env.now) (stm_seen x.entry) meeting.now).wanted a.now → IsTrue fits) }
+{
+    let t = type_received(alloc, env, x)?;
+    Ok(fits_form(t, a))
+}

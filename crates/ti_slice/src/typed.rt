@@ -1,0 +1,72 @@
+// The types that expressions have where a call stands, with the dimensions of the foreach loops around.
+
+ghost use Rattle.std.specs.Prelude.{◌≡◌, ◌<◌, IfOk, map, reverse};
+ghost use Rattle.ti_lang.specs.Program.Scope.{this_of};
+ghost use Rattle.ti_lang.specs.Program.Views.{program_of, expression_of, statement_of};
+ghost use Rattle.ti_lang.specs.Typing.Kinds.{dim_of_type};
+ghost use Rattle.ti_lang.specs.Typing.Seen.{seen};
+ghost use Rattle.ti_lang.specs.Typing.ListedDims.{dims_in};
+ghost use Rattle.ti_lang.specs.Typing.TextTypes.{type_at};
+ghost use Rattle.ti_lang.specs.Meaning.Scoping as scoping;
+ghost use Rattle.ti_eval.specs.Envs.{env_of};
+ghost use Rattle.ti_eval.specs.Frames.{method_seen, domain_in};
+ghost use Rattle.ti_moves.specs.Receiving.{stm_seen};
+
+use std::alloc::Global;
+use ti_base::Memory;
+use ti_eval::{Env, Todo, class_of_this};
+use ti_lang::program::{Expr, Method, Stmt};
+use ti_lang::typing::{ForeachDims, Seen, dims_of, type_over};
+use ti_moves::statement_at;
+
+// The statements of a method.
+fn body_of<'a>(method: Option<&'a Method>) -> &'a [Stmt]
+    ensures { map statement_of result.now ≡ (method_seen method.entry).body }
+{
+    match method {
+        Some(m) => &m.body,
+        None => &[],
+    }
+}
+
+// How many dimensions the domain of a `foreach` has, where these are those of the loops around it.
+fn dims_of_domain(env: &Env, dims: &[ForeachDims], x: Option<&Stmt>) -> usize
+    ensures { result ≡ dim_of_type (type_at (program_of env.now.program.now) (this_of (method_seen env.now.method)) (dims_in (reverse dims.now)) (domain_in (stm_seen x.entry))) }
+{
+    match x {
+        Some(s) => match s {
+            Stmt::Foreach { domain, .. } => {
+                dims_of(type_over(env.program, class_of_this(env.method), dims, domain))
+            }
+            _ => 1,
+        },
+        None => 1,
+    }
+}
+
+/// The dimensions of the foreach loops around the innermost statement, the outermost first.
+pub fn dims_around(alloc: Global, env: &Env) -> Result<Vec<ForeachDims>, Memory>
+    ensures { IfOk result (λ dims. dims_in (reverse dims.items) ≡ (env_of env.now).dims) }
+{
+    let body = body_of(env.method);
+    let mut dims = Vec::new(alloc);
+    for n in 1..env.levels.len() {
+        if let Todo::Turn { variable, .. } = &env.levels[n].todo {
+            let x = statement_at(body, &env.levels[..n]);
+            let dim = dims_of_domain(env, &dims, x);
+            dims.push(ForeachDims {
+                variable: *variable,
+                dims: dim,
+            })?;
+        }
+    }
+    Ok(dims)
+}
+
+/// The type that an expression has in the innermost statement.
+pub fn type_here<'a>(alloc: Global, env: &Env<'a>, e: &'a Expr) -> Result<Seen<'a>, Memory>
+    ensures { IfOk result (λ t. seen t ≡ scoping.type_here (env_of env.now) (expression_of e.now)) }
+{
+    let dims = dims_around(alloc, env)?;
+    Ok(type_over(env.program, class_of_this(env.method), &dims, e))
+}
