@@ -46,7 +46,13 @@ impl StatsWatch {
 fn count_of(entries: &[Entry], word: &str) -> usize
     ensures { result ≡ count_by (λ e. bytes_eq (word_of e.act) word.now) entries.now }
 {
-    entries.iter().filter(|e| act_word(e.act) == word).count()
+    let mut count = 0;
+    for e in entries {
+        if act_word(e.act) == word {
+            count += 1;
+        }
+    }
+    count
 }
 
 // A piece of text and a number behind a blank, with the line end.
