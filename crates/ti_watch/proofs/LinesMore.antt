@@ -1,6 +1,7 @@
 -- The reports of one entry more, and of parts that are added one after the other.
 use Rattle.std.proofs.Common.{◌≡◌, ℕ, zero, suc, ◌+◌, ◌<◌, List, [], ◌∷◌, ◌++◌, length, get_or, take, sym, ap, ◌∙◌, append_assoc, arith}
-use Rattle.std.proofs.lemmas.List.{append-nil}
+use Rattle.std.specs.List.{flat_map}
+use Rattle.std.proofs.lemmas.List.{append-nil, take_more, flat_map_more}
 use Rattle.ti_base.specs.declared.entry.Entry.{Entry}
 use Rattle.ti_watch.specs.Reports.{entry_text, lines_from, trace_text}
 
@@ -33,10 +34,18 @@ line_added first middle last line es i e within added is before =
     ∙ append_assoc first (trace_text (take i es)) (entry_text i (get_or es i e))
     ∙ ap (λ lines. first ++ lines) (sym (trace_more es i e within))
 
--- three parts, one after the other
-pub three_parts : (first second third last head number counts : List ℕ) → last ≡ third ++ counts → third ≡ second ++ number → second ≡ first ++ head
-    → last ≡ first ++ (head ++ number ++ counts)
-three_parts first second third last head number counts c b a =
-    c
-    ∙ ap (λ s. s ++ counts) (b ∙ ap (λ s. s ++ number) a)
-    ∙ simp append_assoc
+-- two parts, one after the other
+pub two_parts : (first second third head counts : List ℕ) → third ≡ second ++ counts → second ≡ first ++ head → third ≡ first ++ (head ++ counts)
+two_parts first second third head counts b a =
+    b
+    ∙ ap (λ s. s ++ counts) a
+    ∙ append_assoc first head counts
+
+-- the part of one element more is added
+pub part_added : {X : Type 0} (part : X → List ℕ) (first middle last : List ℕ) (xs : List X) (i : ℕ) (d : X) → i < length xs → last ≡ middle ++ part (get_or xs i d)
+    → middle ≡ first ++ flat_map part (take i xs) → last ≡ first ++ flat_map part (take (i + 1) xs)
+part_added part first middle last xs i d within added before =
+    added
+    ∙ ap (λ s. s ++ part (get_or xs i d)) before
+    ∙ flat_map_more part first (take i xs) (get_or xs i d)
+    ∙ ap (λ ys. first ++ flat_map part ys) (sym (take_more xs i d within))

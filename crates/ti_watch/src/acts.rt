@@ -41,97 +41,88 @@ fn name_bytes(kind: FaultKind) -> &'static [u8]
     fault_name(kind).as_bytes()
 }
 
+// The name of a collective.
+fn collective_name(kind: CollKind) -> &'static [u8]
+    ensures value { result.now ≡ spec.collective_text kind }
+    ensures short { length result.now ≤ 12 }
+{
+    match kind {
+        CollKind::Barrier => b"barrier",
+        CollKind::Broadcast => b"broadcast",
+        CollKind::Exchange => b"exchange",
+        CollKind::MakeRegion => b"makeRegion",
+        CollKind::DeleteRegion => b"deleteRegion",
+    }
+}
+
+// What these write begins with a blank.
 impl Line {
-    // Adds the name of a collective.
-    fn collective(&mut self, kind: CollKind)
-        requires { length self.old + 12 ≤ line_room }
-        ensures text { self.new ≡ self.old ++ spec.collective_text kind }
-        ensures bound { length self.new ≤ length self.old + 12 }
+    // Adds a number behind a piece of text, or `-`.
+    fn optional(&mut self, label: &[u8], number: Option<u32>)
+        requires { length self.old + length label.now + 11 ≤ line_room }
+        ensures text { self.new ≡ self.old ++ codes " " ++ spec.optional (λ n. label.now ++ decimal n) number }
+        ensures bound { length self.new ≤ length self.old + length label.now + 11 }
     {
-        match kind {
-            CollKind::Barrier => self.text(b"barrier"),
-            CollKind::Broadcast => self.text(b"broadcast"),
-            CollKind::Exchange => self.text(b"exchange"),
-            CollKind::MakeRegion => self.text(b"makeRegion"),
-            CollKind::DeleteRegion => self.text(b"deleteRegion"),
+        self.text(b" ");
+        match number {
+            Some(n) => self.labelled(label, n),
+            None => self.text(b"-"),
         }
     }
 
-    // Adds the number of a literal, or `-`.
-    fn literal(&mut self, literal: Option<u32>)
-        requires { length self.old + 11 ≤ line_room }
-        ensures text { self.new ≡ self.old ++ spec.optional spec.literal_text literal }
-        ensures bound { length self.new ≤ length self.old + 11 }
+    // Adds a value.
+    fn operand(&mut self, value: Value)
+        requires { length self.old + 107 ≤ line_room }
+        ensures text { self.new ≡ self.old ++ codes " " ++ text.value_text value }
+        ensures bound { length self.new ≤ length self.old + 107 }
     {
-        match literal {
-            Some(number) => {
-                self.text(b"s");
-                self.number(number);
-            }
-            None => self.text(b"-"),
-        }
+        self.text(b" ");
+        self.value(value);
     }
 
     // Adds a value, or `-`.
     fn printed(&mut self, value: Option<Value>)
-        requires { length self.old + 106 ≤ line_room }
-        ensures text { self.new ≡ self.old ++ spec.optional text.value_text value }
-        ensures bound { length self.new ≤ length self.old + 106 }
+        requires { length self.old + 107 ≤ line_room }
+        ensures text { self.new ≡ self.old ++ codes " " ++ spec.optional text.value_text value }
+        ensures bound { length self.new ≤ length self.old + 107 }
     {
         match value {
-            Some(value) => self.value(value),
-            None => self.text(b"-"),
-        }
-    }
-
-    // Adds the argument of an arrival, or `-`.
-    fn argument(&mut self, arg: Option<u32>)
-        requires { length self.old + 10 ≤ line_room }
-        ensures text { self.new ≡ self.old ++ spec.optional decimal arg }
-        ensures bound { length self.new ≤ length self.old + 10 }
-    {
-        match arg {
-            Some(number) => self.number(number),
-            None => self.text(b"-"),
+            Some(value) => self.operand(value),
+            None => self.text(b" -"),
         }
     }
 
     // Adds what was given at an arrival.
     fn deposit(&mut self, deposit: Deposit)
-        requires { length self.old + 106 ≤ line_room }
-        ensures text { self.new ≡ self.old ++ spec.deposit_text deposit }
-        ensures bound { length self.new ≤ length self.old + 106 }
+        requires { length self.old + 107 ≤ line_room }
+        ensures text { self.new ≡ self.old ++ codes " " ++ spec.deposit_text deposit }
+        ensures bound { length self.new ≤ length self.old + 107 }
     {
         match deposit {
-            Deposit::Nothing => self.text(b"-"),
-            Deposit::One(value) => self.value(value),
-            Deposit::Count(n) => {
-                self.text(b"count:");
-                self.number(n);
-            }
+            Deposit::Nothing => self.text(b" -"),
+            Deposit::One(value) => self.operand(value),
+            Deposit::Count(n) => self.labelled(b" count:", n),
         }
     }
 
     // Adds how a view is made.
     fn view(&mut self, how: ViewHow)
-        requires { length self.old + 115 ≤ line_room }
-        ensures text { self.new ≡ self.old ++ spec.view_text how }
-        ensures bound { length self.new ≤ length self.old + 115 }
+        requires { length self.old + 116 ≤ line_room }
+        ensures text { self.new ≡ self.old ++ codes " " ++ spec.view_text how }
+        ensures bound { length self.new ≤ length self.old + 116 }
     {
         match how {
             ViewHow::Restrict(r) => {
-                self.text(b"restrict ");
+                self.text(b" restrict ");
                 self.domain(&r);
             }
             ViewHow::Translate(by) => {
-                self.text(b"translate ");
+                self.text(b" translate ");
                 self.point(&by);
             }
             ViewHow::Slice(k, j) => {
-                self.text(b"slice ");
-                self.number(k);
-                self.text(b" ");
-                self.number(j);
+                self.labelled(b" slice ", k);
+                self.labelled(b" ", j);
             }
         }
     }
@@ -142,10 +133,8 @@ impl Line {
         ensures text { self.new ≡ self.old ++ spec.field_text obj field }
         ensures bound { length self.new ≤ length self.old + 37 }
     {
-        self.text(b" ");
-        self.object(obj);
-        self.text(b" ");
-        self.number(field);
+        self.id(b" obj", obj);
+        self.labelled(b" ", field);
     }
 
     // Adds an element of a grid.
@@ -154,30 +143,9 @@ impl Line {
         ensures text { self.new ≡ self.old ++ spec.element_text grid at.now }
         ensures bound { length self.new ≤ length self.old + 64 }
     {
-        self.text(b" ");
-        self.grid(grid);
+        self.id(b" grid", grid);
         self.text(b" ");
         self.point(at);
-    }
-
-    // Adds a number behind a blank.
-    fn next_number(&mut self, n: u32)
-        requires { length self.old + 11 ≤ line_room }
-        ensures text { self.new ≡ self.old ++ codes " " ++ decimal n }
-        ensures bound { length self.new ≤ length self.old + 11 }
-    {
-        self.text(b" ");
-        self.number(n);
-    }
-
-    // Adds a value behind a blank.
-    fn next_value(&mut self, value: Value)
-        requires { length self.old + 107 ≤ line_room }
-        ensures text { self.new ≡ self.old ++ codes " " ++ text.value_text value }
-        ensures bound { length self.new ≤ length self.old + 107 }
-    {
-        self.text(b" ");
-        self.value(value);
     }
 
     // Adds what a new grid holds, its domain and its region.
@@ -190,31 +158,7 @@ impl Line {
         self.zero(zero);
         self.text(b" ");
         self.domain(dom);
-        self.next_number(region);
-    }
-
-    // Adds a grid and how it is viewed.
-    fn view_of(&mut self, grid: Id, how: ViewHow)
-        requires { length self.old + 142 ≤ line_room }
-        ensures text { self.new ≡ self.old ++ spec.view_of_text grid how }
-        ensures bound { length self.new ≤ length self.old + 142 }
-    {
-        self.text(b" ");
-        self.grid(grid);
-        self.text(b" ");
-        self.view(how);
-    }
-
-    // Adds what is printed.
-    fn print(&mut self, literal: Option<u32>, value: Option<Value>)
-        requires { length self.old + 119 ≤ line_room }
-        ensures text { self.new ≡ self.old ++ spec.print_text literal value }
-        ensures bound { length self.new ≤ length self.old + 119 }
-    {
-        self.text(b" ");
-        self.literal(literal);
-        self.text(b" ");
-        self.printed(value);
+        self.labelled(b" ", region);
     }
 
     // Adds what is said at an arrival.
@@ -224,10 +168,8 @@ impl Line {
         ensures bound { length self.new ≤ length self.old + 131 }
     {
         self.text(b" ");
-        self.collective(kind);
-        self.text(b" ");
-        self.argument(arg);
-        self.text(b" ");
+        self.text(collective_name(kind));
+        self.optional(b"", arg);
         self.deposit(deposit);
     }
 
@@ -241,27 +183,30 @@ impl Line {
             Action::GetField { obj, field } => self.field(obj, field),
             Action::PutField { obj, field, value } => {
                 self.field(obj, field);
-                self.next_value(value);
+                self.operand(value);
             }
             Action::NewObj { class, region } => {
-                self.next_number(class);
-                self.next_number(region);
+                self.labelled(b" ", class);
+                self.labelled(b" ", region);
             }
             Action::NewGrid { zero, dom, region } => self.new_grid(zero, &dom, region),
             Action::GetElem { grid, at } => self.element(grid, &at),
             Action::PutElem { grid, at, value } => {
                 self.element(grid, &at);
-                self.next_value(value);
+                self.operand(value);
             }
-            Action::MakeView { grid, how } => self.view_of(grid, how),
-            Action::DomainOf { grid } => {
-                self.text(b" ");
-                self.grid(grid);
+            Action::MakeView { grid, how } => {
+                self.id(b" grid", grid);
+                self.view(how);
             }
-            Action::Print { literal, value } => self.print(literal, value),
+            Action::DomainOf { grid } => self.id(b" grid", grid),
+            Action::Print { literal, value } => {
+                self.optional(b"s", literal);
+                self.printed(value);
+            }
             Action::Arrive { kind, arg, deposit } => self.arrival(kind, arg, deposit),
             Action::Depart => {}
-            Action::Take { who } => self.next_number(who),
+            Action::Take { who } => self.labelled(b" ", who),
             Action::End => {}
             Action::Fault { kind } => {
                 self.text(b" ");
@@ -269,7 +214,9 @@ impl Line {
             }
         }
     }
+}
 
+impl Line {
     /// Adds an act.
     pub fn act(&mut self, act: Action)
         requires { length self.old + 179 ≤ line_room }

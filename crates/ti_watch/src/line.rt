@@ -55,4 +55,14 @@ impl Line {
         let mut buffer = Buffer::new();
         self.text(buffer.format(n).as_bytes());
     }
+
+    /// Adds a piece of text, and a whole number behind it.
+    pub fn labelled<I: Integer>(&mut self, label: &[u8], n: I)
+        requires { length self.old + length label.now + I.MAX_STR_LEN ≤ line_room }
+        ensures text { self.new ≡ self.old ++ label.now ++ I.text n }
+        ensures bound { length self.new ≤ length self.old + length label.now + I.MAX_STR_LEN }
+    {
+        self.text(label);
+        self.number(n);
+    }
 }

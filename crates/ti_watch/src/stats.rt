@@ -1,7 +1,6 @@
 // Statistics: how many entries there are of each act.
-ghost use Rattle.std.specs.Prelude.{◌≡◌, ◌+◌, ◌≤◌, [], ◌++◌, length, take, vec_len, count_by, flat_map, bytes_eq, OnOk};
+ghost use Rattle.std.specs.Prelude.{◌≡◌, ◌≤◌, [], ◌++◌, length, take, vec_len, count_by, flat_map, bytes_eq, OnOk};
 ghost use Rattle.ti_watch.specs.Acts.{word_of};
-ghost use Rattle.ti_watch.specs.Lines.{line_room};
 ghost use Rattle.ti_watch.specs.Reports.{number_text, count_text, stats_text};
 
 use crate::Watch;
@@ -47,27 +46,24 @@ impl StatsWatch {
 fn count_of(entries: &[Entry], word: &str) -> usize
     ensures { result ≡ count_by (λ e. bytes_eq (word_of e.act) word.now) entries.now }
 {
-    entries.iter().filter(|e| act_word(e.act) == word).count()
-}
-
-impl Line {
-    // Adds a number behind a blank, with the line end.
-    fn last_number(&mut self, n: usize)
-        requires { length self.old + 22 ≤ line_room }
-        ensures { self.new ≡ self.old ++ number_text n }
-    {
-        self.text(b" ");
-        self.number(n);
-        self.text(b"\n");
+    let mut count = 0;
+    for e in entries {
+        if act_word(e.act) == word {
+            count += 1;
+        }
     }
+    count
 }
 
-// A number behind a blank, with the line end.
-fn number_line(n: usize) -> Line
-    ensures { result ≡ number_text n }
+// A piece of text and a number behind a blank, with the line end.
+fn number_line(label: &[u8], n: usize) -> Line
+    requires { length label.now ≤ 100 }
+    ensures { result ≡ label.now ++ number_text n }
 {
     let mut line = Line::new();
-    line.last_number(n);
+    line.text(label);
+    line.labelled(b" ", n);
+    line.text(b"\n");
     line
 }
 
@@ -77,7 +73,7 @@ fn add_count(entries: &[Entry], word: &str, out: &mut Vec<u8>) -> Result<(), Mem
     ensures kept { take (vec_len out.old) out.new.items ≡ out.old.items }
 {
     out.extend_from_slice(word.as_bytes())?;
-    out.extend_from_slice(number_line(count_of(entries, word)).as_slice())?;
+    out.extend_from_slice(number_line(b"", count_of(entries, word)).as_slice())?;
     Ok(())
 }
 
@@ -97,8 +93,7 @@ fn add_report(entries: &[Entry], out: &mut Vec<u8>) -> Result<(), Memory>
     ensures text { OnOk result (out.new.items ≡ out.old.items ++ stats_text entries.now) }
     ensures kept { take (vec_len out.old) out.new.items ≡ out.old.items }
 {
-    out.extend_from_slice(b"stats entries")?;
-    out.extend_from_slice(number_line(entries.len()).as_slice())?;
+    out.extend_from_slice(number_line(b"stats entries", entries.len()).as_slice())?;
     add_counts(entries, &WORDS, out)
 }
 

@@ -37,16 +37,14 @@ impl TraceWatch {
 
 impl Line {
     // Adds the line of an entry.
-    #[tactic(auto, unfolding(crate::specs::Reports::entry_text))]
     fn entry(&mut self, number: usize, e: &Entry)
         requires { length self.old + 345 ≤ line_room }
         ensures { self.new ≡ self.old ++ entry_text number e.now }
     {
         self.number(number);
-        self.text(b" p");
-        self.number(e.proc);
-        self.text(b" ");
-        self.place(e.place);
+        self.labelled(b" p", e.proc);
+        self.labelled(b" ", e.place.line);
+        self.labelled(b":", e.place.col);
         self.text(b" ");
         self.act(e.act);
         self.text(b" -> ");

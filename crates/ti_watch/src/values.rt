@@ -5,7 +5,7 @@ ghost use Rattle.ti_watch.specs.Lines.{line_room};
 ghost use Rattle.ti_watch.specs.Texts as text;
 
 use crate::line::Line;
-use ti_base::{Id, Place, Point, Rect, Value, Zero};
+use ti_base::{Id, Point, Rect, Value, Zero};
 
 // Whether no point is in the domain.
 fn has_no_points(r: &Rect) -> bool
@@ -15,17 +15,6 @@ fn has_no_points(r: &Rect) -> bool
 }
 
 impl Line {
-    /// Adds a place.
-    pub fn place(&mut self, place: Place)
-        requires { length self.old + 21 ≤ line_room }
-        ensures text { self.new ≡ self.old ++ text.place_text place }
-        ensures bound { length self.new ≤ length self.old + 21 }
-    {
-        self.number(place.line);
-        self.text(b":");
-        self.number(place.col);
-    }
-
     // Adds the coordinates of a point.
     fn coordinates(&mut self, p: &Point)
         requires { length self.old + 35 ≤ line_room }
@@ -39,13 +28,11 @@ impl Line {
         if p.dim == 1 {
             return;
         }
-        self.text(b",");
-        self.number(p.x2);
+        self.labelled(b",", p.x2);
         if p.dim == 2 {
             return;
         }
-        self.text(b",");
-        self.number(p.x3);
+        self.labelled(b",", p.x3);
     }
 
     /// Adds a point.
@@ -59,17 +46,15 @@ impl Line {
         self.text(b"]");
     }
 
-    // Adds a range.
-    fn range(&mut self, low: i32, high: i32, step: u32)
-        requires { length self.old + 34 ≤ line_room }
-        ensures text { self.new ≡ self.old ++ text.range_text (record { low = low; high = high; step = step }) }
-        ensures bound { length self.new ≤ length self.old + 34 }
+    // Adds a piece of text, and a range behind it.
+    fn range(&mut self, label: &[u8], low: i32, high: i32, step: u32)
+        requires { length self.old + length label.now + 34 ≤ line_room }
+        ensures text { self.new ≡ self.old ++ label.now ++ text.range_text (record { low = low; high = high; step = step }) }
+        ensures bound { length self.new ≤ length self.old + length label.now + 34 }
     {
-        self.number(low);
-        self.text(b":");
-        self.number(high);
-        self.text(b":");
-        self.number(step);
+        self.labelled(label, low);
+        self.labelled(b":", high);
+        self.labelled(b":", step);
     }
 
     // Adds the ranges of a domain.
@@ -81,17 +66,15 @@ impl Line {
         if r.dim == 0 {
             return;
         }
-        self.range(r.lo.x1, r.hi.x1, r.step[0]);
+        self.range(b"", r.lo.x1, r.hi.x1, r.step[0]);
         if r.dim == 1 {
             return;
         }
-        self.text(b",");
-        self.range(r.lo.x2, r.hi.x2, r.step[1]);
+        self.range(b",", r.lo.x2, r.hi.x2, r.step[1]);
         if r.dim == 2 {
             return;
         }
-        self.text(b",");
-        self.range(r.lo.x3, r.hi.x3, r.step[2]);
+        self.range(b",", r.lo.x3, r.hi.x3, r.step[2]);
     }
 
     /// Adds a rectangular domain.
@@ -101,8 +84,7 @@ impl Line {
         ensures bound { length self.new ≤ length self.old + 106 }
     {
         if has_no_points(r) {
-            self.text(b"empty");
-            self.number(r.dim);
+            self.labelled(b"empty", r.dim);
             return;
         }
         self.text(b"[");
@@ -110,28 +92,14 @@ impl Line {
         self.text(b"]");
     }
 
-    /// Adds the name of an object.
-    pub fn object(&mut self, id: Id)
-        requires { length self.old + 25 ≤ line_room }
-        ensures text { self.new ≡ self.old ++ text.object_text id }
-        ensures bound { length self.new ≤ length self.old + 25 }
+    /// Adds a piece of text, and the maker of a thing and its serial number behind it.
+    pub fn id(&mut self, label: &[u8], id: Id)
+        requires { length self.old + length label.now + 21 ≤ line_room }
+        ensures text { self.new ≡ self.old ++ label.now ++ text.id_text id }
+        ensures bound { length self.new ≤ length self.old + length label.now + 21 }
     {
-        self.text(b"obj");
-        self.number(id.maker);
-        self.text(b".");
-        self.number(id.serial);
-    }
-
-    /// Adds the name of a grid.
-    pub fn grid(&mut self, id: Id)
-        requires { length self.old + 25 ≤ line_room }
-        ensures text { self.new ≡ self.old ++ text.grid_text id }
-        ensures bound { length self.new ≤ length self.old + 25 }
-    {
-        self.text(b"grid");
-        self.number(id.maker);
-        self.text(b".");
-        self.number(id.serial);
+        self.labelled(label, id.maker);
+        self.labelled(b".", id.serial);
     }
 
     /// Adds a value.
@@ -151,13 +119,10 @@ impl Line {
             Value::Pt(p) => self.point(&p),
             Value::Rc(r) => self.domain(&r),
             Value::Obj(None) => self.text(b"null"),
-            Value::Obj(Some(id)) => self.object(id),
+            Value::Obj(Some(id)) => self.id(b"obj", id),
             Value::Grid(None) => self.text(b"null"),
-            Value::Grid(Some(id)) => self.grid(id),
-            Value::Region(n) => {
-                self.text(b"region");
-                self.number(n);
-            }
+            Value::Grid(Some(id)) => self.id(b"grid", id),
+            Value::Region(n) => self.labelled(b"region", n),
         }
     }
 
@@ -171,14 +136,8 @@ impl Line {
             Zero::Int => self.text(b"int"),
             Zero::Long => self.text(b"long"),
             Zero::Bool => self.text(b"boolean"),
-            Zero::Pt(dim) => {
-                self.text(b"point");
-                self.number(dim);
-            }
-            Zero::Rc(dim) => {
-                self.text(b"rect");
-                self.number(dim);
-            }
+            Zero::Pt(dim) => self.labelled(b"point", dim),
+            Zero::Rc(dim) => self.labelled(b"rect", dim),
             Zero::Obj => self.text(b"object"),
             Zero::Grid => self.text(b"grid"),
         }

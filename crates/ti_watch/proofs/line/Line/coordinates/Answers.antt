@@ -15,13 +15,13 @@ returns-then-p-eq1-clause-text c =
 pub returns-then-p-eq2-clause-text : goal.returns-then-p-eq2-clause-text
 returns-then-p-eq2-clause-text c =
     let p = c.args.p.now in
-    rw (c.number-2.ensures.text, c.text.ensures.text, c.number.ensures.text)
+    rw (c.labelled.ensures.text, c.number.ensures.text)
     (rw (to_z-of_z w32 p.x1 (search rules), to_z-of_z w32 p.x2 (search rules))
     (two_listed c.args.self.now p.dim (signed_decimal p.x1) (signed_decimal p.x2) (signed_decimal p.x3) c.if-p-eq2.true))
 
 pub returns-clause-text : goal.returns-clause-text
 returns-clause-text c =
     let p = c.args.p.now in
-    rw (c.number-3.ensures.text, c.text-2.ensures.text, c.number-2.ensures.text, c.text.ensures.text, c.number.ensures.text)
+    rw (c.labelled-2.ensures.text, c.labelled.ensures.text, c.number.ensures.text)
     (rw (to_z-of_z w32 p.x1 (search rules), to_z-of_z w32 p.x2 (search rules), to_z-of_z w32 p.x3 (search rules))
     (three_listed c.args.self.now p.dim (signed_decimal p.x1) (signed_decimal p.x2) (signed_decimal p.x3) c.if-p-eq0.false c.if-p-eq1.false c.if-p-eq2.false))

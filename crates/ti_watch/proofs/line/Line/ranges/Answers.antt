@@ -1,4 +1,5 @@
 use Rattle.std.proofs.Common.{rules}
+use Rattle.std.proofs.lemmas.List.{append-nil}
 use Rattle.std.proofs.lemmas.Int.{to_z-of_z}
 use Rattle.std.specs.Int.{w32}
 use Rattle.ti_base.specs.Rects.{first_range, second_range, third_range}
@@ -9,14 +10,14 @@ use Rattle.ti_watch.proofs.line.Line.ranges.Goals as goal
 pub returns-then-r-eq2-clause-text : goal.returns-then-r-eq2-clause-text
 returns-then-r-eq2-clause-text c =
     let r = c.args.r.now in
-    rw (c.range-2.ensures.text, c.text.ensures.text, c.range.ensures.text)
+    rw (c.range-2.ensures.text, c.range.ensures.text, append-nil)
     (rw (to_z-of_z w32 r.lo.x1 (search rules), to_z-of_z w32 r.hi.x1 (search rules), to_z-of_z w32 r.lo.x2 (search rules), to_z-of_z w32 r.hi.x2 (search rules))
     (two_listed c.args.self.now r.dim (range_text (first_range r)) (range_text (second_range r)) (range_text (third_range r)) c.if-r-eq2.true))
 
 pub returns-clause-text : goal.returns-clause-text
 returns-clause-text c =
     let r = c.args.r.now in
-    rw (c.range-3.ensures.text, c.text-2.ensures.text, c.range-2.ensures.text, c.text.ensures.text, c.range.ensures.text)
+    rw (c.range-3.ensures.text, c.range-2.ensures.text, c.range.ensures.text, append-nil)
     (rw (
       to_z-of_z w32 r.lo.x1 (search rules),
       to_z-of_z w32 r.hi.x1 (search rules),

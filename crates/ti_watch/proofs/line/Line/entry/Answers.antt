@@ -1,0 +1,19 @@
+use Rattle.std.proofs.Common.{append_assoc}
+use Rattle.ti_watch.specs.Reports.{entry_text}
+use Rattle.ti_watch.proofs.line.Line.entry.Goals as goal
+
+pub returns : goal.returns
+unfolding entry_text
+returns c =
+    rw (
+      c.text-3.ensures.text,
+      c.answer.ensures.text,
+      c.text-2.ensures.text,
+      c.act.ensures.text,
+      c.text.ensures.text,
+      c.labelled-3.ensures.text,
+      c.labelled-2.ensures.text,
+      c.labelled.ensures.text,
+      c.number.ensures.text,
+    )
+    (simp append_assoc)
