@@ -1,2 +1,3 @@
 pub mod Dimming
 pub mod Ranging
+pub mod Effects
