@@ -1,0 +1,3 @@
+pub mod StatedCalls
+pub mod StatedForms
+pub mod StatedNames
