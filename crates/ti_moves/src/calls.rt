@@ -39,9 +39,9 @@ use ti_lang::typing::{Seen as Kind, type_in_text};
 
 // ---- which method
 
-// The method of a number; none stands for one that isn't there.
+/// The method of a number; none stands for one that isn't there.
 #[tactic(auto, using(ti_lang::proofs::Elements::method_lookups))]
-fn method<'p>(program: &'p Parts, number: usize) -> Option<&'p Method>
+pub fn method<'p>(program: &'p Parts, number: usize) -> Option<&'p Method>
     ensures { method_seen result ≡ method_at (program_of program.now) number }
 {
     if number < program.methods.len() {
@@ -115,9 +115,9 @@ fn named_behind<'p>(program: &'p Parts, t: Kind<'p>, name: u32) -> Option<usize>
     }
 }
 
-// The number of the declared method that an expression calls, if it is such a call.
+/// The number of the declared method that an expression calls, if it is such a call.
 #[tactic(auto, using(ti_lang::proofs::ProgramBridges::program_bridges))]
-fn number_called(program: &Parts, this: Option<u32>, e: &Expr) -> Option<usize>
+pub fn number_called(program: &Parts, this: Option<u32>, e: &Expr) -> Option<usize>
     ensures { called_method (program_of program.now) this (expression_of e.now) ≡ option_map (method_at (program_of program.now)) result }
 {
     match e {
@@ -174,8 +174,8 @@ fn slot_from<'a>(
     }
 }
 
-// The parameter of a number, with the value of its argument, made one of its type at once.
-fn argument<'a>(
+/// The parameter of a number, with the value of its argument, made one of its type at once.
+pub fn argument<'a>(
     alloc: Global,
     env: &Env,
     number: usize,

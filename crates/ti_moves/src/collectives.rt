@@ -54,8 +54,8 @@ pub struct Exchange {
 
 // ---- broadcasts
 
-// The number of a process, or else the fault.
-fn root_among<'a>(
+/// The number of a process, or else the fault.
+pub fn root_among<'a>(
     procs: u32,
     at: Place,
     h: &Held,

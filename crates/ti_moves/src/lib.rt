@@ -16,11 +16,13 @@ mod statements;
 mod targets;
 mod ways;
 
+pub use calls::{argument, method, number_called};
+pub use collectives::root_among;
 pub use copies::{copy_element, take_element};
 pub use moves::{Change, Left, Meeting, Move};
 pub use points::next_point;
-pub use receiving::{Receiver, Right, new_slot};
+pub use receiving::{Receiver, Right, new_slot, receiver_at, receives};
 pub use scopes::leave;
 pub use spots::{condition, count, has_update, is_for, loop_place, statement_at};
-pub use statements::{received, statement};
+pub use statements::{delete, goes, received, returns, statement};
 pub use ways::{Way, unasked};

@@ -41,8 +41,8 @@ use ti_eval::{Env, Held, Part, Stop, Todo, Told, called_member, converted, evalu
 use ti_lang::program::{Expr, Init, Printed, ResultType, Stmt, Ty};
 use ti_lang::typing::BuiltIn;
 
-// The statement goes on with what is left of it.
-fn goes<'c>(todo: Todo) -> Move<'c>
+/// The statement goes on with what is left of it.
+pub fn goes<'c>(todo: Todo) -> Move<'c>
     ensures { (env : Where) (x : NumberedStm) → move_of env x result ≡ move.Goes env.variables (work_of (site_in env) x todo) }
 {
     Move::Goes(Change::Same, Left::Of(todo))
@@ -220,8 +220,8 @@ fn exchange<'a, 'c>(
     }
 }
 
-// `r.delete()`
-fn delete<'a, 'c>(
+/// `r.delete()`
+pub fn delete<'a, 'c>(
     alloc: Global,
     env: &Env,
     at: Place,
@@ -357,9 +357,9 @@ fn returned<'a, 'c>(got: Result<(Held, &'a [Told]), Stop>) -> Result<(Move<'c>, 
     }
 }
 
-// `return`, of a value or of none.
+/// `return`, of a value or of none.
 #[tactic(auto, using(ti_eval::proofs::Steps::steps))]
-fn returns<'a, 'c>(
+pub fn returns<'a, 'c>(
     alloc: Global,
     env: &Env,
     at: Place,

@@ -1,1 +1,2 @@
 pub mod FirstWork
+pub mod SingleCalls

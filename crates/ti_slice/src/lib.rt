@@ -4,6 +4,7 @@
 mod acts;
 mod fits;
 mod forms;
+mod stated;
 mod typed;
 
 pub use fits::{fits_departure, fits_form, is_done};
