@@ -4,3 +4,7 @@ pub mod Effects
 pub mod StatedCalls
 pub mod StatedForms
 pub mod StatedNames
+pub mod Paying
+pub mod Coming
+pub mod Stepping
+pub mod Meeting

@@ -1,2 +1,4 @@
 pub mod FirstWork
+pub mod MirrorsAnswer
+pub mod MirrorsStep
 pub mod SingleCalls

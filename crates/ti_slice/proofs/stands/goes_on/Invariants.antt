@@ -1,0 +1,22 @@
+use Rattle.std.proofs.Common.{ℕ, ◌+◌}
+use Rattle.ti_lang.specs.Program.Views.{program_of}
+use Rattle.ti_lang.specs.Meaning.Processes.{Process}
+use Rattle.ti_lang.proofs.MeaningLaws.Sizes.{needs_all, most}
+use Rattle.ti_lang.proofs.MeaningLaws.Total.{Fitting, weight}
+use Rattle.ti_exec.specs.States.{process_of}
+use Rattle.ti_slice.specs.MirrorsAnswer.{IsFree, Leads}
+use Rattle.ti_slice.proofs.stands.goes_on.Given as goal
+
+-- how much a tick pays for
+abbrev pub pays : Process → ℕ
+pays p = needs_all p.frames + most p.setting.program.methods
+
+abbrev pub invariant-steps : goal.invariant-steps
+invariant-steps l = record {
+  free : IsFree (program_of l.c.program.parts) (process_of (program_of l.c.program.parts) l.w);
+  leads : Leads (process_of (program_of l.c.program.parts) l.initial.w) (process_of (program_of l.c.program.parts) l.w);
+  fitting : Fitting (pays (process_of (program_of l.c.program.parts) l.initial.w)) (process_of (program_of l.c.program.parts) l.w);
+}
+
+abbrev pub decreases-steps : goal.decreases-steps
+decreases-steps l = weight (pays (process_of (program_of l.c.program.parts) l.initial.w)) (process_of (program_of l.c.program.parts) l.w)

@@ -1,0 +1,19 @@
+use Rattle.std.proofs.Common.{◌∙◌, sym}
+use Rattle.ti_lang.specs.Program.Views.{program_of}
+use Rattle.ti_exec.specs.States.{IsTurn}
+use Rattle.ti_exec.proofs.Works.{of_result}
+use Rattle.ti_slice.specs.MirrorsStep.{IsSliceTurn}
+use Rattle.ti_slice.proofs.Stepping.{taken, dropped}
+use Rattle.ti_slice.proofs.step.receives.Goals as goal
+
+pub returns-then-receives_single : goal.returns-then-receives_single
+returns-then-receives_single c =
+    let p = program_of c.args.c.now.program.parts in
+    let w = c.args.w.now in
+    let new = c.receiving.new.self in
+    of_result c.receiving.result (λ t. IsTurn p w t new) (λ t. IsSliceTurn p w t new) (λ t h. taken p w new t c.requires.mode (sym c.receives_single.ensures ∙ c.if-receives_single.true) c.requires.new h) c.receiving.ensures
+
+pub returns : goal.returns
+returns c =
+    let p = program_of c.args.c.now.program.parts in
+    dropped p c.args.w.now c.done.new.self c.requires.mode (sym c.receives_single.ensures ∙ c.if-receives_single.false) (c.done.ensures p)

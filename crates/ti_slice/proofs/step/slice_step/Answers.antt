@@ -1,0 +1,17 @@
+use Rattle.std.proofs.Common.{◌∙◌, ap}
+use Rattle.ti_lang.specs.Program.Views.{program_of}
+use Rattle.ti_lang.specs.Meaning.Processes.{Process}
+use Rattle.ti_exec.proofs.Works.{of_result}
+use Rattle.ti_slice.specs.MirrorsStep.{IsSliceTurn}
+use Rattle.ti_slice.proofs.Stepping.{same_slice_turn}
+use Rattle.ti_slice.proofs.step.slice_step.Goals as goal
+
+pub act-requires-clause-new : goal.act-requires-clause-new
+act-requires-clause-new c = ap (λ (p : Process). p.answers) c.in_ok-settle.ensures.same ∙ c.requires
+
+pub returns : goal.returns
+returns c =
+    let p = program_of c.args.c.now.program.parts in
+    let mid = c.settle.new.self in
+    let new = c.act.new.w in
+    of_result c.act.result (λ t. IsSliceTurn p mid t new) (λ t. IsSliceTurn p c.args.w.now t new) (λ t h. same_slice_turn p c.args.w.now mid new t c.in_ok-settle.ensures.same h) c.act.ensures

@@ -1,0 +1,116 @@
+-- Nobody has to believe what stands here: it mirrors the code, and only contracts of private functions speak of it.
+use Rattle.std.specs.Prelude.{◌≡◌, ℕ, ◌+◌, Bool, true, false, List, [], ◌∷◌, ◌++◌, Option, Some, None}
+use Rattle.ti_base.specs.declared.place.Place.{Place}
+use Rattle.ti_base.specs.declared.action.CollKind.{CollKind}
+use Rattle.ti_base.specs.declared.action.Deposit.{Deposit}
+use Rattle.ti_base.specs.declared.action.Action.{Action}
+use Rattle.ti_base.specs.declared.action.Action.TheVariants as act
+use Rattle.ti_base.specs.declared.entry.Answer.{Answer}
+use Rattle.ti_base.specs.declared.entry.Answer.TheVariants.{Done}
+use Rattle.ti_lang.specs.Program.Classes.{NumberedProgram}
+use Rattle.ti_lang.specs.Meaning.Asking.{Wanted, ToBeDone, Request}
+use Rattle.ti_lang.specs.Meaning.Answers.{FitsWanted}
+use Rattle.ti_lang.specs.Meaning.Processes.{Setting, Wait, Process, begin}
+use Rattle.ti_lang.specs.Meaning.Steps.{To, At, Ends, Faults}
+use Rattle.ti_align.specs.declared.slices.SliceStep.{SliceStep}
+use Rattle.ti_align.specs.declared.slices.SliceStep.TheVariants as answer
+use Rattle.ti_align.specs.Slice.{slice_step, deletes_one, judged, deleted_by, Comes}
+use Rattle.ti_exec.specs.declared.process.Mode.{Mode}
+use Rattle.ti_exec.specs.declared.process.Mode.TheVariants as mode
+use Rattle.ti_exec.specs.declared.process.Pending.{Pending}
+use Rattle.ti_exec.specs.declared.process.Walker.{Walker}
+use Rattle.ti_exec.specs.States.{process_of, wait_in, told}
+use Rattle.ti_slice.specs.declared.stands.Stand.{Stand}
+use Rattle.ti_slice.specs.declared.stands.Stand.TheVariants as stand
+use Rattle.ti_slice.specs.declared.answer.Slice.{Slice}
+
+-- ---- where the slice comes
+
+-- the slice comes to this process, which waits nowhere, by steps of its own and by departures, whatever their outcomes
+pub data Free : Setting → Process → Type 0 where
+  begins : {n : Setting} → Free n (begin n 0)
+  goes : {n : Setting} {p q : Process} → Free n p → slice_step p ≡ To q → Free n q
+  leaves : {n : Setting} {p : Process} {request leave : Request} {go back : Answer → Process} {r : Answer} →
+      Free n p → slice_step p ≡ At request go → slice_step (go Done) ≡ At leave back → Free n (back r)
+
+-- so does that of this program, in some setting
+abbrev pub IsFree : NumberedProgram → Process → Type 0
+IsFree c p = (n : Setting) × (n.program ≡ c) × Free n p
+
+-- what the slice comes to from the second process, it comes to from the first
+abbrev pub Leads : Process → Process → Type 0
+Leads p q = (gone : List ℕ) (k : ℕ) (rest : List Answer) (x : SliceStep) → Comes q gone k rest x → Comes p gone k rest x
+
+-- ---- where it stands
+
+abbrev pub IsArrival : Action → Type 0
+IsArrival (act.Arrive kind arg given) = Unit {0}
+IsArrival a = ⊥
+
+-- it stands at its arrival at a collective, which deletes no region that is gone
+pub record Arrives (c : NumberedProgram) (w : Walker) (gone : List ℕ) (kind : CollKind) (arg : Option ℕ) (at : Place) (pending : Pending) : Type 0 where
+  pub request : Request
+  pub go : Answer → Process
+  pub given : Deposit
+  pub is : slice_step (process_of c w) ≡ At request go
+  pub arrival : request.action ≡ act.Arrive kind arg given
+  pub place : request.place ≡ at
+  pub stays : deletes_one gone request.action ≡ false
+  pub goes : (r : Answer) → go r ≡ told c w pending r
+
+-- where the code says that it stands
+abbrev pub IsStand : NumberedProgram → Walker → List ℕ → Stand → Type 0
+IsStand c w gone (stand.Arrives kind arg at pending) = Arrives c w gone kind arg at pending
+IsStand c w gone stand.Ends = (at : Place) × (judged gone (slice_step (process_of c w)) ≡ Ends at)
+IsStand c w gone (stand.Fails kind at) = judged gone (slice_step (process_of c w)) ≡ Faults kind at
+
+-- it goes on by itself, up to where it stands
+pub record GoesOn (c : NumberedProgram) (old : Walker) (gone : List ℕ) (s : Stand) (new : Walker) : Type 0 where
+  pub free : IsFree c (process_of c new)
+  pub leads : Leads (process_of c old) (process_of c new)
+  pub stands : IsStand c new gone s
+
+-- ---- collectives
+
+-- it waits at a collective
+abbrev pub IsWaiting : Mode → Type 0
+IsWaiting (mode.Waits meeting t) = Unit {0}
+IsWaiting (mode.Expects meeting) = Unit {0}
+IsWaiting m = ⊥
+
+-- what a departure asks for
+abbrev pub wanted_of : Option Wait → Wanted
+wanted_of None = ToBeDone
+wanted_of (Some w) = w.wanted
+
+-- whether an outcome fits what is wanted, as the code says it
+abbrev pub Fits : Wanted → Answer → Bool → Type 0
+Fits wanted r true = FitsWanted wanted r
+Fits wanted r false = FitsWanted wanted r → ⊥
+
+-- the regions that are gone behind a collective, as the code says it
+abbrev pub listed : Option ℕ → List ℕ
+listed None = []
+listed (Some r) = r ∷ []
+
+-- it leaves the collective at which it waits, with this outcome
+pub record Leaves (c : NumberedProgram) (old : Slice) (r : Answer) (new : Slice) : Type 0 where
+  pub request : Request
+  pub go : Answer → Process
+  pub is : slice_step (process_of c old.walker) ≡ At request go
+  pub departure : request.action ≡ act.Depart
+  pub fits : FitsWanted request.wanted r
+  pub behind : go r ≡ process_of c new.walker
+  pub gone : new.gone.items ≡ deleted_by (process_of c old.walker).wait ++ old.gone.items
+
+-- whether it leaves it so
+abbrev pub Departs : NumberedProgram → Slice → Answer → Slice → Bool → Type 0
+Departs c old r new true = Leaves c old r new
+Departs c old r new false = (k : ℕ) (rest : List Answer) → Comes (process_of c old.walker) old.gone.items k (r ∷ rest) (answer.Unfit k)
+
+-- whether it comes to its next collective and leaves it so
+abbrev pub Meets : NumberedProgram → Slice → Answer → Slice → Bool → Type 0
+Meets c old r new true =
+    IsFree c (process_of c new.walker)
+    × ((k : ℕ) (rest : List Answer) (x : SliceStep) → Comes (process_of c new.walker) new.gone.items (k + 1) rest x → Comes (process_of c old.walker) old.gone.items k (r ∷ rest) x)
+Meets c old r new false = (k : ℕ) (rest : List Answer) → Comes (process_of c old.walker) old.gone.items k (r ∷ rest) (answer.Unfit k)
