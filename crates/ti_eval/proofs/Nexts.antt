@@ -27,5 +27,3 @@ module _ (r : Rect) (f : IsRect r) where
 
   pub next_formed : (p q : Option Point) → IsNext (IsIn r) p q → IfSome q IsPoint
   next_formed p q n = next.next_point (IsIn r) p q (λ x w. point_in r x f w) n
-
-pub ruleset nexts = (list_of_rect, next_listed, next_formed)

@@ -162,7 +162,10 @@ pub fn plain_from<'a>(
     ensures { (m : Got Seen) → Comes got.entry m → ComesAs bounds_of result (followed m (λ b. gives (literal.plain_bounds a.now b))) }
 {
     match got {
-        Ok((b, answers)) => Ok((plain_bounds(alloc, a, &b)?, answers)),
+        Ok((b, answers)) => match plain_bounds(alloc, a, &b) {
+            Ok(bounds) => Ok((bounds, answers)),
+            Err(_) => Err(Stop::Memory),
+        },
         Err(stop) => Err(stop),
     }
 }
@@ -178,7 +181,10 @@ pub fn stepped_from<'a>(
     ensures { (m : Got Seen) → Comes got.entry m → ComesAs bounds_of result (followed m (λ c. gives (literal.stepped_bounds a.now b.now c))) }
 {
     match got {
-        Ok((c, answers)) => Ok((stepped_bounds(alloc, a, b, &c)?, answers)),
+        Ok((c, answers)) => match stepped_bounds(alloc, a, b, &c) {
+            Ok(bounds) => Ok((bounds, answers)),
+            Err(_) => Err(Stop::Memory),
+        },
         Err(stop) => Err(stop),
     }
 }

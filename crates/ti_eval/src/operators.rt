@@ -3,7 +3,8 @@
 ghost use Rattle.std.specs.Prelude.{◌≡◌, ℤ, option_map};
 ghost use Rattle.std.specs.Int.{Width};
 ghost use Rattle.ti_base.specs.WholeNumbers.{wrap, quotient, remainder};
-ghost use Rattle.ti_syntax.specs.declared.tree.exprs.BinaryOperator.TheVariants.{Equal, NotEqual};
+ghost use Rattle.ti_syntax.specs.declared.tree.exprs.BinaryOperator.TheVariants.{OrElse, AndThen, Equal, NotEqual};
+ghost use Rattle.ti_syntax.specs.declared.tree.exprs.UnaryOperator.TheVariants.{Plus};
 ghost use Rattle.ti_lang.specs.Meaning.Operands as seen;
 ghost use Rattle.ti_lang.specs.Meaning.Operators as ops;
 ghost use Rattle.ti_eval.specs.Comes.{Comes};
@@ -177,12 +178,13 @@ fn shifted(op: Shift, x: &Held, y: &Held) -> Held
     }
 }
 
-/// An operator of one operand.
-pub fn operated_alone(op: UnaryOperator, h: Held) -> Held
-    ensures { result ≡ ops.operated_alone op h }
+// An operator of one operand that changes it.
+fn changed(op: UnaryOperator, h: &Held) -> Held
+    requires { op ≡ Plus → ⊥ }
+    ensures { result ≡ ops.operated_alone op h.now }
 {
     match op {
-        UnaryOperator::Plus => h,
+        UnaryOperator::Plus => unreachable!(),
         UnaryOperator::Not => Held::truth(!h.is_true()),
         UnaryOperator::Minus => match &h.kept {
             Kept::Plain(Value::Int(n)) => Held::plain(Value::Int(int_negated(*n))),
@@ -194,6 +196,16 @@ pub fn operated_alone(op: UnaryOperator, h: Held) -> Held
             Kept::Plain(Value::Long(n)) => Held::plain(Value::Long(long_complement(*n))),
             _ => Held::plain(Value::Int(int_complement(0))),
         },
+    }
+}
+
+/// An operator of one operand.
+pub fn operated_alone(op: UnaryOperator, h: Held) -> Held
+    ensures { result ≡ ops.operated_alone op h }
+{
+    match op {
+        UnaryOperator::Plus => h,
+        _ => changed(op, &h),
     }
 }
 
@@ -231,7 +243,7 @@ fn inequality<'a>(
     }
 }
 
-// An operator of two operands that stay.
+// An operator of two operands that stay; behind `&&` and `||` the right one doesn't.
 fn applied<'a>(
     alloc: Global,
     at: Place,
@@ -240,11 +252,13 @@ fn applied<'a>(
     y: &Held,
     answers: &'a [Told],
 ) -> Result<(Held, &'a [Told]), Stop>
+    requires or_else { op ≡ OrElse → ⊥ }
+    requires and_then { op ≡ AndThen → ⊥ }
     ensures { Comes result (ops.operated at op x.now y.now answers.now) }
 {
     match op {
-        BinaryOperator::OrElse => Ok((y.copy(alloc)?, answers)),
-        BinaryOperator::AndThen => Ok((y.copy(alloc)?, answers)),
+        BinaryOperator::OrElse => unreachable!(),
+        BinaryOperator::AndThen => unreachable!(),
         BinaryOperator::Or => Ok((combined(Bits::Or, x, y), answers)),
         BinaryOperator::Xor => Ok((combined(Bits::Xor, x, y), answers)),
         BinaryOperator::And => Ok((combined(Bits::And, x, y), answers)),

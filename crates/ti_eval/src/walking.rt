@@ -12,7 +12,6 @@ use ti_domain::{Dom, Held as Kept, dom_next_after, dom_pieces};
 use ti_rect::rect_next_after;
 
 // The same of a rectangular domain.
-#[tactic(auto, using(crate::proofs::Nexts::nexts))]
 fn next_in_rect(r: &Rect, p: Option<&Point>) -> Option<Point>
     requires rect { IsRect r.now }
     requires dim { IfSome (option_copied p) (λ q. q.dim ≡ r.now.dim) }

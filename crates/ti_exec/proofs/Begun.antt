@@ -158,6 +158,25 @@ pub left_behind : (c : NumberedProgram) (w : Walker) (t : Todo) → 0 < length w
     → left_in c w.team.procs w.top t ≡ end_of_for (here c w.top) ++ rest c w.team.procs w.top
 left_behind c w t h e = left_here c w t h ∙ ap (λ us. us ++ rest c w.team.procs w.top) e
 
+-- behind the last turn
+pub turn_over : (c : NumberedProgram) (w new : Walker) (x : NumberedStm) (t : Todo) → 0 < length w.top.levels.items → x ≡ here c w.top → ((site : Site) → work_of site x t ≡ end_of_for x)
+    → process_of c new ≡ done_with c w (vars w) (left_in c w.team.procs w.top t) → turning c w false ≡ To (process_of c new)
+turn_over c w new x t h i e n =
+    let l = left_behind c w t h (subst (λ (y : NumberedStm). work_of (site_of c w.team.procs w.top) y t ≡ end_of_for y) i (e (site_of c w.team.procs w.top))) in
+    ap To (sym (n ∙ ap (done_with c w (vars w)) l))
+
+-- a turn for which no tick is left
+pub turn_fails : (c : NumberedProgram) (w : Walker) (x : NumberedStm) (at : Place) → w.fuel ≤ w.spent → x ≡ here c w.top → at ≡ place_of x → turning c w true ≡ Faults Fuel at
+turn_fails c w x at f i a = unticked (walking c w todo.Before) (place_of (here c w.top)) _ f ∙ ap (Faults Fuel) (sym (a ∙ ap place_of i))
+
+-- a turn
+pub turn_begins : (c : NumberedProgram) (w new : Walker) → 0 < length w.top.levels.items → w.spent < w.fuel
+    → process_of c new ≡ done_with c (record w { spent = w.spent + 1 }) (vars w) (Do (part_of (here c w.top) part.Body) ∷ left_in c w.team.procs w.top todo.Behind)
+    → turning c w true ≡ To (process_of c new)
+turn_begins c w new h f n =
+    ticked (walking c w todo.Before) (place_of (here c w.top)) _ f
+    ∙ ap To (sym (n ∙ ap (λ us. done_with c (record w { spent = w.spent + 1 }) (vars w) (Do (part_of (here c w.top) part.Body) ∷ us)) (left_here c w todo.Behind h)))
+
 -- the end of a turn, with its update and without one
 behind_there : (c : NumberedProgram) (w : Walker) (us : List Work) → 0 < length w.top.levels.items → maybe_do (update_in (here c w.top)) ≡ us
     → step (walking c w todo.Behind) ≡ To (done_with c w (vars w) ((us ++ Before (loop_of (here c w.top)) ∷ []) ++ (end_of_for (here c w.top) ++ rest c w.team.procs w.top)))

@@ -61,7 +61,6 @@ impl Walker {
     }
 
     // A turn of a `while` or a `for`, or what comes behind the last one.
-    #[tactic(auto, using(crate::proofs::Begun::begun))]
     fn turn(&mut self, c: &Parts, again: bool) -> Result<Turn, Memory>
         requires { 0 < length self.old.top.levels.items }
         ensures { IfOk result (λ r. IsStep (program_of c.now) (walking (program_of c.now) self.old left.Before) (turning (program_of c.now) self.old again) r self.new) }
