@@ -1,18 +1,16 @@
 -- Where the slice of a checked program comes.
-use Rattle.std.proofs.Common.{◌≡◌, ◌∙◌, ap, sym, refl, subst, ℕ, ◌+◌, ◌<◌, nat_lt, Bool, true, false, ◌⊎◌, inl, inr, if◌then◌else◌, List, [], ◌∷◌, Option, Some, None}
+use Rattle.std.proofs.Common.{◌≡◌, ◌∙◌, ap, sym, refl, subst, ℕ, ◌<◌, nat_lt, Bool, true, false, ◌⊎◌, inl, inr, if◌then◌else◌, [], Some, None}
 use Rattle.ti_base.specs.declared.place.Place.{Place}
 use Rattle.ti_base.specs.declared.fault.FaultKind.TheVariants.{Fuel}
 use Rattle.ti_base.specs.declared.action.Action.{Action}
 use Rattle.ti_base.specs.declared.action.Action.TheVariants as act
-use Rattle.ti_base.specs.declared.action.CollKind.{CollKind}
-use Rattle.ti_base.specs.declared.action.Deposit.{Deposit}
 use Rattle.ti_base.specs.declared.entry.Answer.{Answer}
 use Rattle.ti_base.specs.declared.entry.Answer.TheVariants.{Done}
 use Rattle.ti_lang.specs.Program.Classes.{NumberedProgram}
 use Rattle.ti_lang.specs.Program.Views.{program_of}
 use Rattle.ti_lang.specs.Meaning.Asking.{Request, request}
-use Rattle.ti_lang.specs.Meaning.Processes.{Setting, Wait, Process, begin}
-use Rattle.ti_lang.specs.Meaning.Steps.{Step, To, At, Ends, Faults, spends, handed, value_asked}
+use Rattle.ti_lang.specs.Meaning.Processes.{Setting, Wait, Process}
+use Rattle.ti_lang.specs.Meaning.Steps.{To, At, Faults, spends, handed, value_asked}
 use Rattle.ti_lang.proofs.MeaningLaws.Total.{Fitting, Falls, weight}
 use Rattle.ti_align.specs.Slice.{slice_step, slice_steps}
 use Rattle.ti_align.proofs.Slice.{slice, Silent, Arrival, Departure, State, move_of}

@@ -6,7 +6,7 @@ use Rattle.std.specs.declared.alloc.Global.{Global}
 use Rattle.ti_base.specs.declared.memory.Memory.{Memory}
 use Rattle.ti_base.specs.declared.place.Place.{Place}
 use Rattle.ti_base.specs.declared.fault.FaultKind.{FaultKind}
-use Rattle.ti_base.specs.declared.fault.FaultKind.TheVariants.{Fuel, RegionGone}
+use Rattle.ti_base.specs.declared.fault.FaultKind.TheVariants.{RegionGone}
 use Rattle.ti_base.specs.declared.action.CollKind.{CollKind}
 use Rattle.ti_base.specs.declared.action.Deposit.{Deposit}
 use Rattle.ti_base.specs.declared.action.Action.{Action}
@@ -20,7 +20,7 @@ use Rattle.ti_lang.specs.Meaning.Scoping.{Env}
 use Rattle.ti_lang.specs.Meaning.Asking.{Wanted, ToBeDone, ValueOf, Request, request}
 use Rattle.ti_lang.specs.Meaning.Answers.{FitsWanted}
 use Rattle.ti_lang.specs.Meaning.Processes.{Setting, Wait, Process, Nowhere, begin}
-use Rattle.ti_lang.specs.Meaning.Steps.{Step, To, At, Ends, Faults, spends, answered, handed, value_asked, departs}
+use Rattle.ti_lang.specs.Meaning.Steps.{Step, To, At, Faults, spends, answered, handed, value_asked}
 use Rattle.ti_lang.specs.Meaning.NextStep.{shown}
 use Rattle.ti_align.specs.declared.slices.SliceStep.{SliceStep}
 use Rattle.ti_align.specs.declared.slices.SliceStep.TheVariants as answer
@@ -213,7 +213,7 @@ pub gone_as : (c : NumberedProgram) (old new : Walker) (given gone : List ℕ) (
 gone_as c old new given gone found s e f g = subst (λ (t : Stand). GoesOn c old gone t new) f (subst (λ (rs : List ℕ). GoesOn c old rs found new) e g)
 
 module _ (c : NumberedProgram) (old mid : Slice) (w : Walker) (kind : CollKind) (arg : Option ℕ) (at : Place) (pending : Pending) (g : GoesOn c old.walker old.gone.items (stand.Arrives kind arg at pending) w)
-         (heard : process_of c mid.walker ≡ told c w pending Done) (same : mid.gone.items ≡ old.gone.items) where
+    (heard : process_of c mid.walker ≡ told c w pending Done) (same : mid.gone.items ≡ old.gone.items) where
   a : Arrives c w old.gone.items kind arg at pending
   a = g.stands
 

@@ -7,7 +7,7 @@ use Rattle.ti_lang.specs.Meaning.Asking.{Request, Got, Gives, Asks, Fails}
 use Rattle.ti_lang.specs.Meaning.Processes.{Work, Frame, frame_of, Wait, Process}
 use Rattle.ti_lang.specs.Meaning.Scoping.{env_of}
 use Rattle.ti_lang.specs.Meaning.Moves.{Move, Goes, Turns, Breaks, Continues, Calls, Returns, Meets, Deletes}
-use Rattle.ti_lang.specs.Meaning.Steps.{Step, To, At, Ends, Faults, ticks, asks, spends, going, entering, valued, moves, departs, most_frames}
+use Rattle.ti_lang.specs.Meaning.Steps.{Step, To, At, Faults, ticks, asks, spends, going, entering, valued, moves, most_frames}
 use Rattle.ti_align.specs.Slice.{work_acts, single_performed, slice_works, slice_runs, slice_steps, slice_step}
 
 -- a step at an action is taken where a tick is left

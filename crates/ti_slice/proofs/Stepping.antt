@@ -1,21 +1,20 @@
 -- The steps of the slice over the trees.
-use Rattle.std.proofs.Common.{◌≡◌, ◌∙◌, ap, sym, refl, subst, ℕ, ◌<◌, Bool, true, false, List, [], ◌∷◌, ◌++◌, length, reverse, Option, Some, None, arith}
+use Rattle.std.proofs.Common.{◌≡◌, ◌∙◌, ap, sym, refl, subst, ◌<◌, true, false, List, [], ◌∷◌, ◌++◌, length, reverse, None, arith}
 use Rattle.ti_base.specs.declared.entry.Answer.{Answer}
 use Rattle.ti_lang.specs.Program.Classes.{NumberedProgram}
 use Rattle.ti_lang.specs.Meaning.Held.{Held}
-use Rattle.ti_lang.specs.Meaning.Asking.{ToBeDone}
-use Rattle.ti_lang.specs.Meaning.Processes.{Process, Variable, Nowhere, Work, Do, End, Before, Behind, Receive, CopyAll, TakeAll}
+use Rattle.ti_lang.specs.Meaning.Processes.{Process, Work, Do, End, Receive}
 use Rattle.ti_lang.specs.Meaning.Scoping.{Env, env_of}
 use Rattle.ti_lang.specs.Meaning.Performing.{performed}
 use Rattle.ti_lang.specs.Meaning.Moves.{Returns}
-use Rattle.ti_lang.specs.Meaning.Steps.{Step, To, step, valued, moves, going, departs}
+use Rattle.ti_lang.specs.Meaning.Steps.{Step, To, step, valued, moves}
 use Rattle.ti_align.specs.Slice.{work_acts, is_single_receiver, single_statement, single_performed, slice_works, slice_runs, slice_steps, slice_step}
 use Rattle.ti_align.proofs.Vars.{if_true, if_false}
 use Rattle.ti_eval.specs.declared.frame.Todo.{Todo}
 use Rattle.ti_eval.specs.declared.frame.Todo.TheVariants as todo
 use Rattle.ti_eval.specs.Frames.{slots_of, work_of}
 use Rattle.ti_moves.specs.declared.moves.Meeting.{Meeting}
-use Rattle.ti_moves.specs.Moves.{method_at, wait_of, expected}
+use Rattle.ti_moves.specs.Moves.{method_at}
 use Rattle.ti_moves.specs.Receiving.{receiver_of}
 use Rattle.ti_exec.specs.declared.process.Mode.{Mode}
 use Rattle.ti_exec.specs.declared.process.Mode.TheVariants as mode

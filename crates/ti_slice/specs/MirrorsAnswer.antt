@@ -19,7 +19,7 @@ use Rattle.ti_exec.specs.declared.process.Mode.{Mode}
 use Rattle.ti_exec.specs.declared.process.Mode.TheVariants as mode
 use Rattle.ti_exec.specs.declared.process.Pending.{Pending}
 use Rattle.ti_exec.specs.declared.process.Walker.{Walker}
-use Rattle.ti_exec.specs.States.{process_of, wait_in, told}
+use Rattle.ti_exec.specs.States.{process_of, told}
 use Rattle.ti_slice.specs.declared.stands.Stand.{Stand}
 use Rattle.ti_slice.specs.declared.stands.Stand.TheVariants as stand
 use Rattle.ti_slice.specs.declared.answer.Slice.{Slice}

@@ -1,5 +1,5 @@
 -- Nobody has to believe what stands here: it mirrors the code, and only contracts of private functions speak of it.
-use Rattle.std.specs.Prelude.{◌≡◌, ℕ, true, List, ◌∷◌}
+use Rattle.std.specs.Prelude.{◌≡◌, true, List, ◌∷◌}
 use Rattle.ti_lang.specs.Program.Classes.{NumberedProgram}
 use Rattle.ti_lang.specs.Meaning.Processes.{Work}
 use Rattle.ti_align.specs.Slice.{work_acts, slice_step}

@@ -1,4 +1,4 @@
-use Rattle.std.proofs.Common.{◌≡◌, ◌<◌, ◌≤◌, length, subst, ℕ, [], arith}
+use Rattle.std.proofs.Common.{◌<◌, ◌≤◌, length, subst, ℕ, [], arith}
 use Rattle.ti_lang.specs.Program.Views.{program_of}
 use Rattle.ti_lang.specs.Meaning.Processes.{Setting}
 use Rattle.ti_align.specs.Slice.{Comes, SliceAnswers}

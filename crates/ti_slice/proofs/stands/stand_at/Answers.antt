@@ -1,7 +1,6 @@
-use Rattle.std.proofs.Common.{◌≡◌, ◌∙◌, ap, sym, subst, true, false}
+use Rattle.std.proofs.Common.{◌∙◌, ap, sym, subst}
 use Rattle.ti_base.specs.declared.entry.Next.TheVariants.{Act}
 use Rattle.ti_align.specs.Slice.{slice_step, deletes_one}
-use Rattle.ti_lang.specs.Program.Classes.{NumberedProgram}
 use Rattle.ti_exec.specs.declared.process.Asking.{Asking}
 use Rattle.ti_exec.specs.States.{process_of, told, Stands}
 use Rattle.ti_slice.proofs.Meeting.{stands_gone, stands_there}
