@@ -36,6 +36,8 @@ mod rules_and_faults;
 #[cfg(test)]
 mod sinks_and_sources;
 #[cfg(test)]
+mod slices;
+#[cfg(test)]
 mod texts;
 #[cfg(test)]
 mod tokens;
