@@ -43,6 +43,7 @@ Leads p q = (gone : List ℕ) (k : ℕ) (rest : List Answer) (x : SliceStep) →
 
 -- ---- where it stands
 
+-- the action is an arrival
 abbrev pub IsArrival : Action → Type 0
 IsArrival (act.Arrive kind arg given) = Unit {0}
 IsArrival a = ⊥
