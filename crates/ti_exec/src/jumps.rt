@@ -21,8 +21,8 @@ use ti_eval::{Level, Todo};
 use ti_lang::program::{Parts, Stmt};
 use ti_moves::is_for;
 
-// What is left of a statement begins with the mark of a loop.
-fn is_mark(t: &Todo) -> bool
+/// What is left of a statement begins with the mark of a loop.
+pub fn is_mark(t: &Todo) -> bool
     ensures { result ≡ is_mark_spec t.now }
 {
     match t {

@@ -16,6 +16,7 @@ mod tree_proc;
 mod variables;
 mod walker;
 
+pub use jumps::is_mark;
 pub use laws::{fitting_is_formed, has_one_next, process_is_sent};
 pub use loops::behind_loop;
 pub use process::{Asking, Below, Call, Mode, Pending, Turn, Variables, Walker};

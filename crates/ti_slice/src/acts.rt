@@ -18,7 +18,7 @@ ghost use Rattle.ti_exec.specs.States.{IsAtHand, here, left_in};
 ghost use Rattle.ti_slice.specs.FirstWork.{first_acts};
 
 use ti_eval::{Level, Todo};
-use ti_exec::{Call, behind_loop};
+use ti_exec::{Call, behind_loop, is_mark};
 use ti_lang::program::{Declared, Expr, Method, Program, Stmt};
 use ti_moves::statement_at;
 use ti_rules::Checked;
@@ -66,18 +66,7 @@ fn foreach_acts(p: &Program, m: &Method, x: &Stmt) -> bool
 
 // ---- jumps
 
-// What is left of a statement begins with the mark of a loop.
-fn is_mark(t: &Todo) -> bool
-    ensures { result ≡ is_mark_spec t.now }
-{
-    match t {
-        Todo::Behind => true,
-        Todo::Turn { .. } => true,
-        _ => false,
-    }
-}
-
-// Whether a jump to such a mark has an effect.
+// Whether a jump to the mark with which what is left of a statement begins has an effect.
 fn mark_acts(p: &Program, m: &Method, x: Option<&Stmt>, t: &Todo) -> bool
     requires { is_mark_spec t.now ≡ true }
     ensures { (site : Site) (ws : List Work) → jump_at (program_of p.now.parts) (numbered_method_of m.now) (work_of site (stm_seen x.entry) t.now ++ ws) ≡ Some result }

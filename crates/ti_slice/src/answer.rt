@@ -81,9 +81,7 @@ fn fits(w: &Walker, alloc: Global, c: &Parts, outcome: &Answer) -> Result<bool, 
 {
     match &w.mode {
         Mode::Waits(_, _) => Ok(is_done(outcome)),
-        Mode::Expects(meeting) => {
-            fits_departure(alloc, &w.env(c), waiting(w, c), meeting, outcome)
-        }
+        Mode::Expects(_) => fits_departure(alloc, &w.env(c), waiting(w, c), outcome),
         _ => unreachable!(),
     }
 }

@@ -7,7 +7,7 @@ ghost use Rattle.ti_lang.specs.Meaning.Asking.{ToBeDone, ValueOf};
 ghost use Rattle.ti_lang.specs.Meaning.Answers.{FitsWanted};
 ghost use Rattle.ti_eval.specs.Envs.{env_of};
 ghost use Rattle.ti_moves.specs.Receiving.{stm_seen};
-ghost use Rattle.ti_moves.specs.Moves.{type_given, type_received, expected};
+ghost use Rattle.ti_moves.specs.Moves.{type_given, type_received};
 
 use crate::forms::has_form;
 use crate::typed::type_here;
@@ -16,7 +16,6 @@ use ti_base::{Answer, Memory};
 use ti_eval::Env;
 use ti_lang::program::{Init, Stmt};
 use ti_lang::typing::Seen;
-use ti_moves::Meeting;
 
 /// Whether an answer is a value with the form of a type.
 pub fn fits_form(t: Seen, a: &Answer) -> bool
@@ -67,11 +66,10 @@ pub fn fits_departure(
     alloc: Global,
     env: &Env,
     x: Option<&Stmt>,
-    meeting: &Meeting,
     a: &Answer,
 ) -> Result<bool, Memory>
-    ensures yes { IfOk result (λ fits. IsTrue fits → FitsWanted (expected (env_of env.now) (stm_seen x.entry) meeting.now).wanted a.now) }
-    ensures no { IfOk result (λ fits. FitsWanted (expected (env_of env.now) (stm_seen x.entry) meeting.now).wanted a.now → IsTrue fits) }
+    ensures yes { IfOk result (λ fits. IsTrue fits → FitsWanted (ValueOf (type_received (env_of env.now) (stm_seen x.entry))) a.now) }
+    ensures no { IfOk result (λ fits. FitsWanted (ValueOf (type_received (env_of env.now) (stm_seen x.entry))) a.now → IsTrue fits) }
 {
     let t = type_received(alloc, env, x)?;
     Ok(fits_form(t, a))

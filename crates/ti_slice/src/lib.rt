@@ -11,5 +11,3 @@ mod step;
 mod typed;
 
 pub use answer::slice_next;
-pub use fits::{fits_departure, fits_form, is_done};
-pub use typed::{dims_around, type_here};
