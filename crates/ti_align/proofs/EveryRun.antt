@@ -21,8 +21,10 @@ use Rattle.ti_align.specs.Formed.{ActionsFormed}
 use Rattle.ti_align.specs.Slice.{SliceTells}
 use Rattle.ti_align.specs.Answering.{AnswersFit}
 use Rattle.ti_align.specs.Names.{RunNamesFit}
+use Rattle.ti_align.specs.Placed.{ThingsPlaced}
 use Rattle.ti_align.proofs.Telling as telling
 use Rattle.ti_align.proofs.Ranged as ranged
+use Rattle.ti_align.proofs.Placed as placed
 use Rattle.ti_align.proofs.Formed as formed
 use Rattle.ti_align.proofs.Aligning as aligning
 use Rattle.ti_align.proofs.Rounds.{same_departures}
@@ -78,6 +80,10 @@ slice_tells p c l procs fuel es a b d e w =
 pub names_fit : (p : NumberedProgram) → IsChecked p → LiteralsFit p → OfEveryRun RunNamesFit p
 names_fit p c l procs fuel es a b d e w =
     ranged.names_fit (record { program = p; procs = procs; fuel = fuel }) es w b e (λ ds r. run_typed p c l procs fuel ds a b d e r)
+
+pub regions_named : (p : NumberedProgram) → IsChecked p → LiteralsFit p → OfEveryRun ThingsPlaced p
+regions_named p c l procs fuel es a b d e w =
+    placed.things_placed (record { program = p; procs = procs; fuel = fuel }) es w (run_typed p c l procs fuel es a b d e w)
 
 pub answers_fit : (p : NumberedProgram) → IsChecked p → LiteralsFit p → OfEveryRun AnswersFit p
 answers_fit p c l procs fuel es a b d e w =

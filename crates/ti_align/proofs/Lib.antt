@@ -27,6 +27,7 @@ pub mod Telling
 pub mod OneAnswer
 pub mod Paying
 pub mod Ranged
+pub mod Placed
 pub mod Deciding
 pub mod Finishing
 pub mod SomeAnswer

@@ -93,7 +93,7 @@ viewed_answer true (Some k) f made r e = faulty k r e
 viewed_answer false k f made r e = impossible r e
 
 module _ (program : NumberedProgram) (h : History) (i : ℕ) where
-  object_answer : (class region : ℕ) (r : Answer) → heap_answer program h i (act.NewObj class region) ≡ Answers r → (is_place region h ≡ true) × (r ≡ Val (v.Obj (Some (new_id i region h))))
+  pub object_answer : (class region : ℕ) (r : Answer) → heap_answer program h i (act.NewObj class region) ≡ Answers r → (is_place region h ≡ true) × (r ≡ Val (v.Obj (Some (new_id i region h))))
   object_answer class region r e = by (zeros_of_class program class) e
     where
       by : (o : Option (List Zero)) → where_some o (λ zeros. places region h (makes program h i (act.NewObj class region) (v.Obj (Some (new_id i region h))))) ≡ Answers r
@@ -101,14 +101,14 @@ module _ (program : NumberedProgram) (h : History) (i : ℕ) where
       by None e = impossible r e
       by (Some zeros) e = placed_answer (is_place region h) (is_gone region h) _ (v.Obj (Some (new_id i region h))) r e
 
-  grid_answer : (zero : Zero) (domain : Rect) (region : ℕ) (r : Answer) → heap_answer program h i (act.NewGrid zero domain region) ≡ Answers r → (is_place region h ≡ true) × (r ≡ Val (v.Grid (Some (new_id i region h))))
+  pub grid_answer : (zero : Zero) (domain : Rect) (region : ℕ) (r : Answer) → heap_answer program h i (act.NewGrid zero domain region) ≡ Answers r → (is_place region h ≡ true) × (r ≡ Val (v.Grid (Some (new_id i region h))))
   grid_answer zero domain region r e = by (is_dim domain.dim) e
     where
       by : (b : Bool) → possible_if b (places region h (makes program h i (act.NewGrid zero domain region) (v.Grid (Some (new_id i region h))))) ≡ Answers r → (is_place region h ≡ true) × (r ≡ Val (v.Grid (Some (new_id i region h))))
       by true e = placed_answer (is_place region h) (is_gone region h) _ (v.Grid (Some (new_id i region h))) r e
       by false e = impossible r e
 
-  view_answer : (grid : Id) (how : ViewHow) (r : Answer) → heap_answer program h i (act.MakeView grid how) ≡ Answers r → ((g : Grid) × (grid_of grid h ≡ Some g)) × (r ≡ Val (v.Grid (Some (view_id i grid h))))
+  pub view_answer : (grid : Id) (how : ViewHow) (r : Answer) → heap_answer program h i (act.MakeView grid how) ≡ Answers r → ((g : Grid) × (grid_of grid h ≡ Some g)) × (r ≡ Val (v.Grid (Some (view_id i grid h))))
   view_answer grid how r e = by (grid_of grid h) refl e
     where
       by : (o : Option Grid) → grid_of grid h ≡ o → where_some o (λ (g : Grid). possible_if (suits how g.domain) (views (view_fault how g.domain) (makes program h i (act.MakeView grid how) (v.Grid (Some (view_id i grid h)))))) ≡ Answers r
@@ -118,10 +118,10 @@ module _ (program : NumberedProgram) (h : History) (i : ℕ) where
 
 -- ---- names that are told
 
-object_named : (id made : Id) (r : Answer) → r ≡ Val (v.Obj (Some made)) → is_object id r ≡ true → id ≡ made
+pub object_named : (id made : Id) (r : Answer) → r ≡ Val (v.Obj (Some made)) → is_object id r ≡ true → id ≡ made
 object_named id made r e h = id_same id made (sym (ap (is_object id) e) ∙ h)
 
-grid_named : (id made : Id) (r : Answer) → r ≡ Val (v.Grid (Some made)) → is_grid id r ≡ true → id ≡ made
+pub grid_named : (id made : Id) (r : Answer) → r ≡ Val (v.Grid (Some made)) → is_grid id r ≡ true → id ≡ made
 grid_named id made r e h = id_same id made (sym (ap (is_grid id) e) ∙ h)
 
 none_class : {A : Type 0} (c : ℕ) → ◌≡◌ {A = Option ℕ} None (Some c) → A
@@ -198,7 +198,7 @@ record Ranged (h : History) : Type 0 where
   pub names : NamesFit h
   pub handed : (i n : ℕ) (a : rounds.Arrival) (r : ℕ) → arrival_at i n h ≡ Some a → value_in a.deposit ≡ Some (v.Region r) → IsCount r
 
-or_cases : (a b : Bool) → (a || b) ≡ true → (a ≡ true) ⊎ (b ≡ true)
+pub or_cases : (a b : Bool) → (a || b) ≡ true → (a ≡ true) ⊎ (b ≡ true)
 or_cases true b h = inl refl
 or_cases false b h = inr h
 

@@ -11,6 +11,7 @@ pub mod Heap
 pub mod Work
 pub mod Typed
 pub mod Names
+pub mod Placed
 pub mod Answering
 pub mod Formed
 pub mod Dangling

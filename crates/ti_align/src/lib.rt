@@ -11,6 +11,6 @@ pub use laws::{
     fields_storable, heap_fits, none_after_end, none_impossible, nothing_dangles, owners_kept,
     regions_made, rounds_balance, run_typed, values_have_forms, work_fits,
 };
-pub use names::{answers_fit, names_fit};
+pub use names::{answers_fit, names_fit, regions_named};
 pub use reading::literals_fit;
 pub use slices::{SliceStep, one_slice_answer, slice_tells};

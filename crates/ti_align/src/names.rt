@@ -1,9 +1,10 @@
-// Laws of every run on the names of things and regions, and on what actions are answered.
+// Laws of every run on the names of things, on the regions that they name, and on what actions are answered.
 ghost use Rattle.std.specs.Prelude.{◌≡◌};
 ghost use Rattle.ti_lang.specs.Program.Views.{program_of};
 ghost use Rattle.ti_align.specs.Alignment.{OfEveryRun};
 ghost use Rattle.ti_align.specs.Answering.{AnswersFit};
 ghost use Rattle.ti_align.specs.Names.{RunNamesFit};
+ghost use Rattle.ti_align.specs.Placed.{ThingsPlaced};
 
 use crate::reading::literals_fit;
 use ti_rules::Checked;
@@ -12,6 +13,14 @@ use ti_rules::Checked;
 /// regions that were made.
 pub fn names_fit(c: &Checked)
     ensures { OfEveryRun RunNamesFit (program_of c.now.program.parts) }
+{
+    literals_fit(c.program());
+}
+
+/// In every run of a checked program all things that are there, views among them, lie in no region or in
+/// one that was made, and so will the things that processes make next.
+pub fn regions_named(c: &Checked)
+    ensures { OfEveryRun ThingsPlaced (program_of c.now.program.parts) }
 {
     literals_fit(c.program());
 }
