@@ -20,6 +20,7 @@ use Rattle.ti_base.specs.WholeNumbers.{Fits}
 use Rattle.ti_base.specs.Points.{IsDim, IsPoint, HasCoordinates}
 use Rattle.ti_base.specs.Ranges.{Range, IsRange, natural}
 use Rattle.ti_base.specs.Rects.{IsRect, HasPoints, empty_rect, first_range, second_range, third_range}
+use Rattle.ti_lang.specs.Meaning.Held.{is_dim}
 use Rattle.ti_lang.specs.Program.Types.{ValueType}
 use Rattle.ti_lang.specs.Program.Types as t
 use Rattle.ti_lang.specs.Meaning.Asking.{Wanted, ToBeDone, ValueOf, NewThing}
@@ -51,9 +52,6 @@ in_width_decides : (w : Width) (n : ℤ) → Decides (in_width w n) (Fits w n)
 in_width_decides w n = Decides-and (int_le (neg_ℤ (pos (2 ^ hbits w))) n) (int_lt n (pos (2 ^ hbits w))) (le_decides _ n) (lt_decides n _)
 
 -- ---- points
-
-abbrev is_dim : ℕ → Bool
-is_dim n = nat_le 1 n && nat_le n 3
 
 is_dim_decides : (n : ℕ) → Decides (is_dim n) (IsDim n)
 is_dim_decides n = Decides-and (nat_le 1 n) (nat_le n 3) (nat_le_decides 1 n) (nat_le_decides n 3)

@@ -49,12 +49,13 @@ use Rattle.ti_lang.specs.Meaning.MemberForms.{greatest_size, sized, extreme, mem
 use Rattle.ti_lang.specs.Meaning.Answers.{IsPointOf, IsRectOf}
 use Rattle.ti_lang.specs.Meaning.Scoping.{Env, type_of, field_selected}
 use Rattle.ti_lang.specs.Meaning.Evaluation.{is_own, eval, eval_all, eval_numbers, eval_range, eval_ranges}
+use Rattle.ti_lang.proofs.MeaningLaws.Dims.{dim_is}
 use Rattle.ti_align.specs.Things.{Things, seen_by, Grows, IsGridOf, IsOwn, IsOf, DimsFine}
 use Rattle.ti_align.specs.Sound.{SameForm, IsOwnReference, Sound, SuitsView, dims_viewed}
 use Rattle.ti_align.specs.Fitting.{EnvFits, FieldsFit, IsWritten, AreWritten, IsRangeWritten, AreRangesWritten}
 use Rattle.ti_align.proofs.Vars.{true_false, and_left, and_right}
 use Rattle.ti_align.proofs.Computing.{grid_stays, of_stays, same_owner, seen_from, own_of, sound_then, weaker, sound_value, sound_guarded, sound_tested, sound_found, sound_asked, Names, names_own, needed_as}
-use Rattle.ti_align.proofs.Forms.{zero_fits, long_zero, natural_fits, AllFit, both_fit, get_fits, coordinates_fit, dim_is, numbers_point, origin_point, empty_form, AreOf, bounds_form}
+use Rattle.ti_align.proofs.Forms.{zero_fits, long_zero, natural_fits, AllFit, both_fit, get_fits, coordinates_fit, numbers_point, origin_point, empty_form, AreOf, bounds_form}
 use Rattle.ti_align.proofs.Operating.{none_some, some_same, where_some, Seen, seen_same, type_same, to_global, to_local, global_type, operated_fine, right_fine, alone_fine, cast_fine}
 
 -- ---- what there is

@@ -29,6 +29,7 @@ use Rattle.ti_rect.proofs.ViewLaws.{view_inside}
 use Rattle.ti_lang.specs.Meaning.Held.{is_dim, zero_point}
 use Rattle.ti_lang.specs.Meaning.Literals.{coordinates_of, point_of_numbers, Bounds, is_even, rect_of_bounds}
 use Rattle.ti_lang.specs.Meaning.Answers.{IsPointOf, IsRectOf}
+use Rattle.ti_lang.proofs.MeaningLaws.Dims.{dim_is}
 use Rattle.ti_align.specs.Things.{ArePoints}
 use Rattle.ti_align.specs.Sound.{SuitsView, dims_viewed}
 use Rattle.ti_align.proofs.Vars.{true_false, and_left, and_right}
@@ -140,10 +141,6 @@ listed_fit (x ∷ xs) h = (h x (inl refl), listed_fit xs (λ y m. h y (inr m)))
 
 pub coordinates_fit : (p : Point) → HasCoordinates p → AllFit (coordinates_of p)
 coordinates_fit p f = take_fit p.dim (p.x1 ∷ p.x2 ∷ p.x3 ∷ []) (f.0, (f.1, (f.2, tt)))
-
--- one to three dimensions, as a test
-pub dim_is : (n : ℕ) → IsDim n → is_dim n ≡ true
-dim_is n d = ap₂ (λ a b. a && b) (le-leb 1 n d.0) (le-leb n 3 d.1)
 
 index_behind : (xs : List ℤ) (k : ℕ) → length xs ≤ k → slice_index_or xs k (pos 0) ≡ pos 0
 index_behind [] k h = refl

@@ -9,8 +9,7 @@ use Rattle.ti_lang.specs.Typing.Declared.{in_scope, variable_type, declared_type
 use Rattle.ti_lang.specs.Typing.Kinds.{domain_dim}
 use Rattle.ti_lang.specs.Typing.Singleness.{is_single_part}
 use Rattle.ti_base.specs.declared.value.Value.TheVariants as val
-use Rattle.ti_lang.specs.Meaning.Held.{Plain}
-use Rattle.ti_lang.specs.Meaning.HeapAnswers.{is_dim}
+use Rattle.ti_lang.specs.Meaning.Held.{Plain, is_dim}
 use Rattle.ti_lang.specs.Meaning.Turns.{turns_at, point_at}
 use Rattle.ti_lang.specs.Meaning.Processes.{Process, Frame, While, Foreach, Work, Do, End, Before, Behind, Receive, CopyAll, TakeAll}
 use Rattle.ti_lang.specs.Meaning.Scoping.{Env, env_of, find_variable, value_by}
@@ -21,7 +20,7 @@ use Rattle.ti_align.specs.Sound.{Sound}
 use Rattle.ti_align.specs.Heap.{FieldsStorable}
 use Rattle.ti_lang.specs.Meaning.Performing.{performed}
 use Rattle.ti_lang.specs.Meaning.Scoping as scoping
-use Rattle.ti_align.proofs.Heaping.{dims_are}
+use Rattle.ti_lang.proofs.MeaningLaws.Dims.{dims_are}
 use Rattle.ti_align.proofs.Dimmed.{this_over, text_type}
 use Rattle.ti_align.proofs.Stated.{work_fine}
 use Rattle.ti_align.specs.Work.{VariablesFit, has_dims, may_use, uses_of, scope_over, MethodsFit, ThisFits, HasNumber, given_type, taken_type, WorksFit, MoveFits}

@@ -37,11 +37,11 @@ use Rattle.ti_lang.specs.Meaning.Steps.{Step, To, At, Ends, Faults, ticks, value
 use Rattle.ti_lang.specs.Meaning.RoundsOf.{value_in}
 use Rattle.ti_lang.specs.Meaning.Histories.{is_arrival}
 use Rattle.ti_lang.proofs.MeaningLaws.Falling.{Giving, then_giving, guarded_giving}
+use Rattle.ti_lang.proofs.MeaningLaws.Requests.{Each, Of, FirstTaken, performed_asks}
 use Rattle.ti_align.proofs.Ways.{Asked, asking, Meeting, Came, Left, Way, last_from}
 use Rattle.ti_align.proofs.Ways as way
 use Rattle.ti_align.proofs.Vars.{true_false, and_right}
 use Rattle.ti_align.proofs.Fitting.{giving_followed}
-use Rattle.ti_align.proofs.Asks.{Each, Of, FirstTaken, performed_asks}
 
 -- ---- what is given
 

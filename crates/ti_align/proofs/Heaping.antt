@@ -33,7 +33,8 @@ use Rattle.ti_align.proofs.Computing.{of_stays, grid_stays}
 use Rattle.ti_lang.specs.Meaning.HeapOf.{new_id, view_id, is_object, is_grid, made_by, IsMade, class_made, class_of, grid_made, grid_of, or_else, written_by, written_to, last_written, zero_of, cell_value}
 use Rattle.ti_lang.specs.Meaning.Asking.{Wanted, NewThing, told}
 use Rattle.ti_lang.specs.Meaning.RegionsOf.{is_region, is_made, is_place}
-use Rattle.ti_lang.specs.Meaning.HeapAnswers.{Outcome, Answers, Impossible, where_some, possible_if, faults_if, makes, places, is_dim, at_point, views, heap_answer, IsAnswered, more}
+use Rattle.ti_lang.specs.Meaning.HeapAnswers.{Outcome, Answers, Impossible, where_some, possible_if, faults_if, makes, places, at_point, views, heap_answer, IsAnswered, more}
+use Rattle.ti_lang.proofs.MeaningLaws.Dims.{dim_is}
 use Rattle.ti_lang.proofs.MeaningLaws.Things.{made_once}
 use Rattle.ti_align.specs.Things.{Things, Grows, IsStorable, IsGridOf, IsPlaced, IsOf}
 use Rattle.ti_align.specs.Sound.{SuitsView, dims_viewed, IsFieldOf, IsThere, FitsAsked}
@@ -225,16 +226,6 @@ place_is i elements h r (inr z) = by (r == 0)
     by : (b : Bool) → (b || is_made r h) ≡ true
     by true = refl
     by false = z
-
--- one to three dimensions, as a test
-pub dims_are : (n : ℕ) → is_dim n ≡ true → IsDim n
-dims_are n h =
-    let a : 0 < n = ltb-true 0 n (and_left (nat_lt 0 n) (nat_lt n 4) h) in
-    let b : n < 4 = ltb-true n 4 (and_right (nat_lt 0 n) (nat_lt n 4) h) in
-    (omega (arith, a), omega (arith, b))
-
-pub dim_is : (n : ℕ) → IsDim n → is_dim n ≡ true
-dim_is n d = ap₂ (λ a b. a && b) (lt-ltb 0 n (omega (arith, d))) (lt-ltb n 4 (omega (arith, d)))
 
 module _ (p : NumberedProgram) (elements : Elements) (h : History) (fits : HeapFits p elements h) (store : FieldsStorable p) (i : ℕ) where
   makes_not : (a : Action) (made : Value) → makes p h i a made ≡ Impossible → ⊥

@@ -25,6 +25,7 @@ use Rattle.ti_lang.specs.Meaning.Performing.{performed}
 use Rattle.ti_lang.specs.Meaning.Jumps.{has_mark, from_mark, past_mark, variables_at_mark}
 use Rattle.ti_lang.specs.Meaning.Steps.{Step, To, Faults, spends, ticks, answered, valued, handed, most_frames, named_in, arrives, deleting, value_asked, departs, moves, works, runs, steps, step}
 use Rattle.ti_lang.specs.Meaning.NextStep.{Reaches, here, later}
+use Rattle.ti_lang.proofs.MeaningLaws.Requests.{Of}
 use Rattle.ti_align.specs.Things.{Things, Grows, IsOf}
 use Rattle.ti_align.specs.Sound.{FitsAsked, Sound}
 use Rattle.ti_align.specs.Sound as sound
@@ -34,7 +35,6 @@ use Rattle.ti_align.proofs.Steps.{ActionFits, StepFits}
 use Rattle.ti_align.proofs.Vars.{true_false}
 use Rattle.ti_align.proofs.Computing.{same_sound}
 use Rattle.ti_align.proofs.Operating.{none_some, some_same}
-use Rattle.ti_align.proofs.Asks.{Of}
 use Rattle.ti_align.proofs.Given.{HoldsNothing, LeftFine, AllFree, TopFine, WaitFine, Stands, tail_free, free_mark, free_past, step_fine}
 use Rattle.ti_align.proofs.Staying.{frames_stay}
 use Rattle.ti_align.proofs.Pending.{scope_both, mark_fits, works_both, body_fits, past_fits, from_fits, takes_free, takes_both, taken_first, none_first, body_first, taken_is, behind_is, FirstOf, free_first, handed_first, TakenAs, TakesAs, takes_as}

@@ -20,7 +20,7 @@ use Rattle.ti_lang.specs.Program.Types as t
 use Rattle.ti_lang.specs.Program.Classes.{NumberedProgram}
 use Rattle.ti_lang.specs.Typing.Kinds.{is_local}
 use Rattle.ti_lang.specs.Meaning.Held as held
-use Rattle.ti_lang.specs.Meaning.Held.{Plain}
+use Rattle.ti_lang.specs.Meaning.Held.{Plain, is_dim}
 use Rattle.ti_lang.specs.Meaning.Asking.{Wanted, told}
 use Rattle.ti_lang.specs.Meaning.Processes.{Setting, Process}
 use Rattle.ti_lang.specs.Meaning.Zeros.{zeros_of_class}
@@ -30,7 +30,7 @@ use Rattle.ti_lang.specs.Meaning.RoundsOf.{arrival_at, last_arrival, value_in, i
 use Rattle.ti_lang.specs.Meaning.RegionsOf.{is_gone, is_place}
 use Rattle.ti_lang.specs.Meaning.RegionUse.{names}
 use Rattle.ti_lang.specs.Meaning.HeapOf.{new_id, view_id, is_grid, grid_made, grid_of, last_written, zeros_of, zero_of, cell_value}
-use Rattle.ti_lang.specs.Meaning.HeapAnswers.{Answers, where_some, possible_if, faults_if, makes, places, is_dim, at_point, views, answers_value, heap_answer, IsAnswered, more}
+use Rattle.ti_lang.specs.Meaning.HeapAnswers.{Answers, where_some, possible_if, faults_if, makes, places, at_point, views, answers_value, heap_answer, IsAnswered, more}
 use Rattle.ti_lang.specs.Meaning.HeapAnswers as heap
 use Rattle.ti_lang.specs.Meaning.Runs.{World, CanTake, IsRun}
 use Rattle.ti_lang.proofs.MeaningLaws.Things.{possible_then, some_then}

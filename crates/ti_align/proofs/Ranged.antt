@@ -23,7 +23,7 @@ use Rattle.ti_lang.specs.Program.Types.{ValueType}
 use Rattle.ti_lang.specs.Program.Types as t
 use Rattle.ti_lang.specs.Program.Classes.{NumberedProgram}
 use Rattle.ti_lang.specs.Typing.Kinds.{is_void}
-use Rattle.ti_lang.specs.Meaning.Held.{Plain, Dm}
+use Rattle.ti_lang.specs.Meaning.Held.{Plain, Dm, is_dim}
 use Rattle.ti_lang.specs.Meaning.Answers.{IsCount, IsName}
 use Rattle.ti_lang.specs.Meaning.Processes.{Setting}
 use Rattle.ti_lang.specs.Meaning.Histories.{History, history_of, is_making, is_arrival, is_departure, is_answered, things_made, arrivals}
@@ -32,7 +32,7 @@ use Rattle.ti_lang.specs.Meaning.RoundsOf.{arrival_at, arrival_in, value_in, rou
 use Rattle.ti_lang.specs.Meaning.RegionsOf.{is_region, is_made, is_gone, is_place}
 use Rattle.ti_lang.specs.Meaning.Zeros.{zeros_of_class}
 use Rattle.ti_lang.specs.Meaning.HeapOf.{new_id, view_id, is_object, is_grid, class_made, class_of, grid_made, grid_of}
-use Rattle.ti_lang.specs.Meaning.HeapAnswers.{Outcome, Answers, Impossible, where_some, possible_if, faults_if, makes, places, views, is_dim, heap_answer, IsAnswered}
+use Rattle.ti_lang.specs.Meaning.HeapAnswers.{Outcome, Answers, Impossible, where_some, possible_if, faults_if, makes, places, views, heap_answer, IsAnswered}
 use Rattle.ti_lang.specs.Meaning.HeapAnswers as heap
 use Rattle.ti_lang.specs.Meaning.NextStep.{IsNext}
 use Rattle.ti_lang.specs.Meaning.Runs.{CanTake, IsRun}

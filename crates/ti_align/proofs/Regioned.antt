@@ -39,7 +39,7 @@ use Rattle.ti_align.proofs.Suited.{args_of}
 use Rattle.ti_align.proofs.Suiting.{whole_takes}
 use Rattle.ti_align.proofs.Meant.{storable, formed, among, means, ExpMeant, ExpsMeant, InitMeant, StmMeant, MaybeMeant, StmsMeant, MethodsMeant, FieldsMeant, methods_prop}
 use Rattle.ti_align.proofs.Forming.{Surrounds, field_formed, exp_formed}
-use Rattle.ti_align.proofs.Heaping.{dim_is}
+use Rattle.ti_lang.proofs.MeaningLaws.Dims.{dim_is}
 use Rattle.ti_align.proofs.Written.{surrounds_method, surrounds_inside}
 use Rattle.ti_align.proofs.Numbered.{numbered_methods}
 use Rattle.ti_align.proofs.Programs.{fields_mean, checked_fits}

@@ -30,7 +30,7 @@ use Rattle.ti_align.specs.Work.{IsInner, ReceiverFits, PrintFits, ConditionFits,
 use Rattle.ti_align.proofs.Vars.{true_false}
 use Rattle.ti_align.proofs.Meant.{among, ExpMeant, OptionMeant, PrintMeant, StmMeant, MaybeMeant, StmsMeant, FieldsMeant}
 use Rattle.ti_align.proofs.Forming.{dim_in, Surrounds, exp_formed}
-use Rattle.ti_align.proofs.Heaping.{dims_are}
+use Rattle.ti_lang.proofs.MeaningLaws.Dims.{dims_are}
 use Rattle.ti_align.proofs.Written.{judged_at, both_at, inner_fits, whole_fits, value_fits, init_fits, target_fits, assigned_fits, updated_fits, surrounds_inside, same_step}
 
 -- ---- conditions, prints and results

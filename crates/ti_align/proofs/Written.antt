@@ -21,7 +21,7 @@ use Rattle.ti_lang.specs.Typing.Operators.{binary_type}
 use Rattle.ti_lang.specs.Typing.Declared.{in_scope, variable_type, field_type}
 use Rattle.ti_lang.specs.Typing.Expressions.{plain, operand, both, is_int, all_ints, rect_literal, index_type, select_type, range_count, known, operands, bounds, typed, operand_type}
 use Rattle.ti_lang.specs.Typing.Alike.{one_dim}
-use Rattle.ti_lang.specs.Meaning.HeapAnswers.{is_dim}
+use Rattle.ti_lang.specs.Meaning.Held.{is_dim}
 use Rattle.ti_lang.specs.Meaning.Zeros.{zero_of_type}
 use Rattle.ti_lang.specs.Meaning.Processes.{Assigned, Updated}
 use Rattle.ti_lang.specs.Meaning.Statements.{one_more}
@@ -49,7 +49,7 @@ use Rattle.ti_align.proofs.Operating.{none_some, some_same}
 use Rattle.ti_align.proofs.Evaluating.{and_then, mapped, both_there}
 use Rattle.ti_align.proofs.Meant.{storable, formed, among, means, covers, is_place, ExpMeant, ExpsMeant, RangeMeant, RangesMeant, OptionMeant, DimsMeant, InitMeant, TargetMeant, FieldsMeant}
 use Rattle.ti_align.proofs.Forming.{formed_dims, formed_fine, storable_is, storable_something, Surrounds, variable_formed, field_formed, exp_formed, selected}
-use Rattle.ti_align.proofs.Heaping.{dims_are}
+use Rattle.ti_lang.proofs.MeaningLaws.Dims.{dims_are}
 
 -- ---- lists of refusals
 

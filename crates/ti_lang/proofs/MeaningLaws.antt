@@ -1,3 +1,4 @@
+pub mod Dims
 pub mod Falling
 pub mod Forms
 pub mod Grids

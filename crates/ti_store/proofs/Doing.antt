@@ -40,7 +40,8 @@ use Rattle.ti_lang.specs.Meaning.Histories.{History, is_making, is_arrival, is_d
 use Rattle.ti_lang.specs.Meaning.RoundsOf.{last_arrival, makes_region, rounds_making, is_delete_of}
 use Rattle.ti_lang.specs.Meaning.RegionsOf.{is_gone, is_place}
 use Rattle.ti_lang.specs.Meaning.HeapOf.{new_id, view_id, grid_of, written_by, cell_value, cost_of, cost_of_making, most_cells}
-use Rattle.ti_lang.specs.Meaning.HeapAnswers.{Outcome, Answers, Faults, where_some, possible_if, faults_if, answers_value, makes, places, is_dim, at_point, views, heap_answer}
+use Rattle.ti_lang.specs.Meaning.Held.{is_dim}
+use Rattle.ti_lang.specs.Meaning.HeapAnswers.{Outcome, Answers, Faults, where_some, possible_if, faults_if, answers_value, makes, places, at_point, views, heap_answer}
 use Rattle.ti_align.specs.Formed.{IsFormed, IsFormedView}
 use Rattle.ti_align.specs.Dangling.{Lives}
 use Rattle.ti_store.specs.MirrorsRefs.{IsPlaceIn, NamesPlaced, KeepsRefs}

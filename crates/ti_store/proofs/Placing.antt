@@ -17,12 +17,12 @@ use Rattle.ti_lang.specs.Program.Types.{ValueType}
 use Rattle.ti_lang.specs.Program.Types as t
 use Rattle.ti_lang.specs.Program.Classes.{NumberedProgram}
 use Rattle.ti_lang.specs.Typing.Kinds.{is_void}
-use Rattle.ti_lang.specs.Meaning.Held.{Plain}
+use Rattle.ti_lang.specs.Meaning.Held.{Plain, is_dim}
 use Rattle.ti_lang.specs.Meaning.Zeros.{zeros_of_class}
 use Rattle.ti_lang.specs.Meaning.Histories.{History, is_making}
 use Rattle.ti_lang.specs.Meaning.RegionsOf.{is_made, is_gone, is_place}
 use Rattle.ti_lang.specs.Meaning.HeapOf.{new_id, view_id, is_object, is_grid, class_made, class_of, grid_made, grid_of, cost_of, cost_of_making, most_cells}
-use Rattle.ti_lang.specs.Meaning.HeapAnswers.{Outcome, Answers, where_some, possible_if, faults_if, makes, places, is_dim, views, heap_answer}
+use Rattle.ti_lang.specs.Meaning.HeapAnswers.{Outcome, Answers, where_some, possible_if, faults_if, makes, places, views, heap_answer}
 use Rattle.ti_align.specs.Things.{IsStorable, IsPlaced, IsOf}
 use Rattle.ti_align.specs.Heap.{Elements, things_of}
 use Rattle.ti_store.proofs.Names.{same_name}

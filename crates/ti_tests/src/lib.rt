@@ -18,6 +18,8 @@ mod grammar;
 #[cfg(test)]
 mod heaps;
 #[cfg(test)]
+mod histories;
+#[cfg(test)]
 mod limits;
 #[cfg(test)]
 mod names;

@@ -83,7 +83,8 @@ fits_maybe b (SomeStm x) h = (h, tt)
 
 -- ---- calls
 
-abbrev CallFits : ℕ → Option Call → Type 0
+-- the body of what is called, if something is, is no larger than b
+abbrev pub CallFits : ℕ → Option Call → Type 0
 CallFits b None = Unit {0}
 CallFits b (Some c) = sizes (numbered_stms c.method.body) + 3 ≤ b
 
@@ -96,7 +97,7 @@ behind_fits : (b : ℕ) (p : NumberedProgram) (t : ValueType) (name : ℕ) → M
 behind_fits b p (Class c is_local) name f = instance_fits b p c name f
 behind_fits b p _ name f = tt
 
-called_fits : (b : ℕ) (env : Env) (x : NumberedExp) → MethodsFit b env.program → CallFits b (called env x)
+pub called_fits : (b : ℕ) (env : Env) (x : NumberedExp) → MethodsFit b env.program → CallFits b (called env x)
 called_fits b env (e.Call at method args) f = by_method b at None args (slice_get env.program.methods method) (at_fits b env.program.methods method f)
 called_fits b env (e.OwnCall at method args) f = by_method b at _ args (slice_get env.program.methods method) (at_fits b env.program.methods method f)
 called_fits b env (e.Member at x name args) f =

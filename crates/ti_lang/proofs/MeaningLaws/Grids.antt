@@ -21,7 +21,9 @@ use Rattle.ti_base.specs.Cells.{Grid, whole_grid, cell_of, view, suits, view_fau
 use Rattle.ti_lang.specs.Program.Classes.{NumberedProgram}
 use Rattle.ti_lang.specs.Meaning.Histories.{History, is_making}
 use Rattle.ti_lang.specs.Meaning.HeapOf.{new_id, view_id, is_grid, grid_made, grid_of}
-use Rattle.ti_lang.specs.Meaning.HeapAnswers.{Answers, possible_if, is_dim, views, makes, places, heap_answer, IsAnswered, none, more}
+use Rattle.ti_lang.specs.Meaning.Held.{is_dim}
+use Rattle.ti_lang.specs.Meaning.HeapAnswers.{Answers, possible_if, views, makes, places, heap_answer, IsAnswered, none, more}
+use Rattle.ti_lang.proofs.MeaningLaws.Dims.{dims_are}
 use Rattle.ti_lang.proofs.MeaningLaws.Things.{possible_then, some_then}
 
 -- a grid has a dimension, and different points have different cells
@@ -132,15 +134,12 @@ view_sound (Slice k j) g s e =
 
 -- ---- every grid of an answered history
 
-dims : (d : ℕ) → is_dim d ≡ true → IsDim d
-dims d e = grind (arith, nat_tests)
-
 made_sound : (program : NumberedProgram) (h : History) (i : ℕ) (id : Id) (a : Action) (r : Answer) (g : Grid) → heap_answer program h i a ≡ Answers r
     → ((viewed : Id) (f : Grid) → grid_of viewed h ≡ Some f → IsSound f) → grid_made id a (λ viewed. grid_of viewed h) ≡ Some g → IsSound g
 made_sound program h i id (act.NewGrid element domain region) r g e earlier m =
     let t = possible_then (is_dim domain.dim) (places region h (makes program h i (act.NewGrid element domain region) (v.Grid (Some (new_id i region h))))) r e in
     let same : whole_grid id element domain ≡ g = cc in
-    subst IsSound same (dims domain.dim t.0, λ p q a b c k. k)
+    subst IsSound same (dims_are domain.dim t.0, λ p q a b c k. k)
 made_sound program h i id (act.MakeView viewed how) r g e earlier m =
     let made = makes program h i (act.MakeView viewed how) (v.Grid (Some (view_id i viewed h))) in
     let s = some_then (grid_of viewed h) (λ k. possible_if (suits how k.domain) (views (view_fault how k.domain) made)) r e in

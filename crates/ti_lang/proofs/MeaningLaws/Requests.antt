@@ -1,4 +1,4 @@
--- A fact of every request of every process, from the fact of each kind of request.
+-- A fact of every request of work and of every process, from the fact of each kind of request. Work asks for nothing collective.
 use Rattle.std.proofs.Common.{◌≡◌, ℕ, ℤ, Bool, true, false, if◌then◌else◌, Option, Some, None, List, [], ◌∷◌, slice_index_or, slice_get, length, nat_lt, ◌==◌, int_le, pred, pos, refl, subst}
 use Rattle.std.specs.Int.{Width}
 use Rattle.ti_base.specs.WholeNumbers.{wrap, quotient, remainder}
@@ -54,8 +54,8 @@ use Rattle.ti_lang.specs.Meaning.Performing.{condition, performed}
 use Rattle.ti_lang.specs.Meaning.Steps.{Step, At, most_frames, valued, moves, works, runs, steps, step}
 use Rattle.ti_lang.specs.Meaning.Histories.{is_end, is_fault}
 
--- the fact holds of each kind of request
-pub record Each (Q : Request → Type 0) : Type 0 where
+-- the fact holds of each kind of request that work makes by itself; of a value that is taken, where the process that gave it is one of these
+pub record Each (T : ℕ → Type 0) (Q : Request → Type 0) : Type 0 where
   pub get_field : (r : Reference) (at : Place) (field : ℕ) (type : ValueType) → Q (request_through r at (act.GetField r.thing field) (ValueOf type))
   pub put_field : (r : Reference) (at : Place) (field : ℕ) (value : Value) → Q (request_through r at (act.PutField r.thing field value) ToBeDone)
   pub get_elem : (r : Reference) (at : Place) (index : Point) (type : ValueType) → Q (request_through r at (act.GetElem r.thing index) (ValueOf type))
@@ -65,7 +65,15 @@ pub record Each (Q : Request → Type 0) : Type 0 where
   pub new_object : (at : Place) (class region : ℕ) (type : ValueType) → Q (request at (act.NewObj class region) (NewThing type))
   pub new_grid : (at : Place) (element : Zero) (domain : Rect) (region : ℕ) (type : ValueType) → Q (request at (act.NewGrid element domain region) (NewThing type))
   pub print : (at : Place) (literal : Option ℕ) (value : Option Value) → Q (request at (act.Print literal value) ToBeDone)
-  pub take : (at : Place) (who : ℕ) (type : ValueType) → Q (request at (act.Take who) (ValueOf type))
+  pub take : (at : Place) (who : ℕ) (type : ValueType) → T who → Q (request at (act.Take who) (ValueOf type))
+
+-- any process
+abbrev pub Anyone : ℕ → Type 0
+Anyone who = Unit {0}
+
+-- the fact holds of each kind of request, those at collectives among them
+pub record EachKind (Q : Request → Type 0) : Type 0 where
+  pub alone : Each Anyone Q
   pub arrive : (at : Place) (kind : CollKind) (arg : Option ℕ) (given : Deposit) → Q (request at (act.Arrive kind arg given) ToBeDone)
   pub depart : (at : Place) (wanted : Wanted) → Q (request at act.Depart wanted)
 
@@ -75,12 +83,23 @@ Of Q (Gives a rest) = Unit {0}
 Of Q (Asks request) = Q request
 Of Q (Fails kind at) = Unit {0}
 
+-- the process whose value is taken first is one of these
+abbrev pub FirstTaken : (ℕ → Type 0) → Work → Type 0
+FirstTaken T (TakeAll at grid []) = Unit {0}
+FirstTaken T (TakeAll at grid (i ∷ is)) = T i
+FirstTaken T w = Unit {0}
+
+pub any_first : (w : Work) → FirstTaken Anyone w
+any_first (TakeAll at grid []) = tt
+any_first (TakeAll at grid (i ∷ is)) = tt
+any_first _ = tt
+
 -- the fact of what a step asks
 abbrev pub OfStep : (Request → Type 0) → Step → Type 0
 OfStep Q (At request go) = Q request
 OfStep Q _ = Unit {0}
 
-module _ (Q : Request → Type 0) (each : Each Q) where
+module _ (T : ℕ → Type 0) (Q : Request → Type 0) (each : Each T Q) where
   then_asks : {A B : Type 0} (m : Got A) (go : A → Asking B) → Of Q m → ((a : A) (rest : List Answer) → Of Q (go a rest)) → Of Q (followed m go)
   then_asks (Gives a rest) go h k = k a rest
   then_asks (Asks request) go h k = h
@@ -344,10 +363,10 @@ module _ (Q : Request → Type 0) (each : Each Q) where
   copied_asks env at to from (p ∷ ps) rest =
       then_asks (asked _ rest) _ (asked_asks _ rest (each.get_elem from at p _)) (λ h u. then_asks (asked _ u) _ (asked_asks _ u (each.put_elem to at p _)) (λ d w. tt))
 
-  taken_asks : (env : Env) (at : Place) (grid : Reference) (procs : List ℕ) (rest : List Answer) → Of Q (taken env at grid procs rest)
-  taken_asks env at grid [] rest = tt
-  taken_asks env at grid (i ∷ is) rest =
-      then_asks (asked _ rest) _ (asked_asks _ rest (each.take at i _)) (λ h u. then_asks (asked _ u) _ (asked_asks _ u (each.put_elem grid at _ _)) (λ d w. tt))
+  taken_asks : (env : Env) (at : Place) (grid : Reference) (procs : List ℕ) (rest : List Answer) → FirstTaken T (TakeAll at grid procs) → Of Q (taken env at grid procs rest)
+  taken_asks env at grid [] rest k = tt
+  taken_asks env at grid (i ∷ is) rest k =
+      then_asks (asked _ rest) _ (asked_asks _ rest (each.take at i _ k)) (λ h u. then_asks (asked _ u) _ (asked_asks _ u (each.put_elem grid at _ _)) (λ d w. tt))
 
   deletes_asks : (env : Env) (at : Place) (x : NumberedExp) (rest : List Answer) → Of Q (deletes env at x rest)
   deletes_asks env at x rest = then_asks (eval env x rest) _ (eval_asks env x rest) (λ h u. tt)
@@ -430,19 +449,20 @@ module _ (Q : Request → Type 0) (each : Each Q) where
   condition_asks env None rest = tt
   condition_asks env (Some c) rest = eval_asks env c rest
 
-  performed_asks : (env : Env) (w : Work) (rest : List Answer) → Of Q (performed env w rest)
-  performed_asks env (Do x) rest = statement_asks env x rest
-  performed_asks env (End x) rest = tt
-  performed_asks env (Before (While at c update body)) rest = then_asks (condition env c rest) _ (condition_asks env c rest) (λ h u. tt)
-  performed_asks env (Before (Foreach at variable domain [] body)) rest = tt
-  performed_asks env (Before (Foreach at variable domain (p ∷ ps) body)) rest = tt
-  performed_asks env (Behind loop) rest = tt
-  performed_asks env (Receive receiver h) rest = receives_asks env receiver (gives h) rest (λ u. tt)
-  performed_asks env (CopyAll at to from points) rest = copied_asks env at to from points rest
-  performed_asks env (TakeAll at grid procs) rest = taken_asks env at grid procs rest
+  pub performed_asks : (env : Env) (w : Work) (rest : List Answer) → FirstTaken T w → Of Q (performed env w rest)
+  performed_asks env (Do x) rest first = statement_asks env x rest
+  performed_asks env (End x) rest first = tt
+  performed_asks env (Before (While at c update body)) rest first = then_asks (condition env c rest) _ (condition_asks env c rest) (λ h u. tt)
+  performed_asks env (Before (Foreach at variable domain [] body)) rest first = tt
+  performed_asks env (Before (Foreach at variable domain (p ∷ ps) body)) rest first = tt
+  performed_asks env (Behind loop) rest first = tt
+  performed_asks env (Receive receiver h) rest first = receives_asks env receiver (gives h) rest (λ u. tt)
+  performed_asks env (CopyAll at to from points) rest first = copied_asks env at to from points rest
+  performed_asks env (TakeAll at grid procs) rest first = taken_asks env at grid procs rest first
 
-  -- ---- steps
+-- ---- steps
 
+module _ (Q : Request → Type 0) (each : EachKind Q) where
   if_step : (test : Bool) (x y : Step) → OfStep Q x → OfStep Q y → OfStep Q (if test then x else y)
   if_step true x y h k = h
   if_step false x y h k = k
@@ -465,7 +485,7 @@ module _ (Q : Request → Type 0) (each : Each Q) where
 
   works_ask : (p : Process) (f : Frame) (fs : List Frame) (ws : List Work) → OfStep Q (works p f fs ws)
   works_ask p f fs [] = tt
-  works_ask p f fs (w ∷ left) = valued_asks p (performed (env_of p f left) w p.answers) (moves p f fs left) (performed_asks (env_of p f left) w p.answers) (moves_ask p f fs left)
+  works_ask p f fs (w ∷ left) = valued_asks p (performed (env_of p f left) w p.answers) (moves p f fs left) (performed_asks Anyone Q each.alone (env_of p f left) w p.answers (any_first w)) (moves_ask p f fs left)
 
   steps_ask : (p : Process) (wait : Option Wait) → OfStep Q (steps p wait)
   steps_ask p None = by p.frames
@@ -483,18 +503,20 @@ module _ (Q : Request → Type 0) (each : Each Q) where
 abbrev IsAction : Request → Type 0
 IsAction q = (is_end q.action ≡ false) × (is_fault q.action ≡ false)
 
-actions : Each IsAction
+actions : EachKind IsAction
 actions = record {
-  get_field = λ r at f type. (refl, refl);
-  put_field = λ r at f value. (refl, refl);
-  get_elem = λ r at i type. (refl, refl);
-  put_elem = λ r at i value. (refl, refl);
-  make_view = λ r at view type. (refl, refl);
-  domain = λ r at type. (refl, refl);
-  new_object = λ at c r type. (refl, refl);
-  new_grid = λ at z d r type. (refl, refl);
-  print = λ at l value. (refl, refl);
-  take = λ at who type. (refl, refl);
+  alone = record {
+    get_field = λ r at f type. (refl, refl);
+    put_field = λ r at f value. (refl, refl);
+    get_elem = λ r at i type. (refl, refl);
+    put_elem = λ r at i value. (refl, refl);
+    make_view = λ r at view type. (refl, refl);
+    domain = λ r at type. (refl, refl);
+    new_object = λ at c r type. (refl, refl);
+    new_grid = λ at z d r type. (refl, refl);
+    print = λ at l value. (refl, refl);
+    take = λ at who type k. (refl, refl);
+  };
   arrive = λ at kind arg given. (refl, refl);
   depart = λ at wanted. (refl, refl);
 }

@@ -18,7 +18,7 @@ use Rattle.ti_lang.specs.Typing.Operators.{whole_type, truth_type, point_type, r
 use Rattle.ti_lang.specs.Typing.BuiltIn.{BuiltIn, Size, Min, Max, Contains, Domain, Restrict, Translate, Slice, Copy, Exchange, Delete, built_in, member_type}
 use Rattle.ti_lang.specs.Typing.Expressions.{is_int, both, joined, one, all_ints, point_literal, range_of_points, rect_literal, index_type, select_type, called, member_given, member, range_count, known, operand, operands, bound, bounds, typed}
 use Rattle.ti_lang.specs.Typing.Declared.{declared_type, field_type, named_field_type, instance_method, result_type}
-use Rattle.ti_lang.specs.Typing.TextTypes.{AreDims, used_type, how_many, joined_type, product_type, operator_type, field_seen, element_seen, built_in_type, member_seen, type_at, dims_of_range, dims_of_ranges}
+use Rattle.ti_lang.specs.Typing.TextTypes.{IsDimOf, AreDims, IsRangeDims, AreRangesDims, used_type, how_many, joined_type, product_type, operator_type, field_seen, element_seen, built_in_type, member_seen, type_at, dims_of_range, dims_of_ranges}
 
 some_same : {A : Type 0} (a b : A) → ◌≡◌ {A = Option A} (Some a) (Some b) → a ≡ b
 some_same a b h = cc
@@ -295,10 +295,10 @@ split (Some us) (Some ws) ts h = record { front = us; back = ws; front_is = refl
 
 -- ---- expressions
 
-module _ (program : NumberedProgram) (s : ScopeContents) (dims : ℕ → ℕ) (are : AreDims s dims) where
-  variable_agrees : (number : ℕ) (d : Declaration) (ty : ValueType) → declared_type s number d ≡ Some ty → used_type dims number d ≡ ty
-  variable_agrees number (Typed is_single type) ty h = some_same _ _ h
-  variable_agrees number Foreach ty h = sym (are number ty h)
+module _ (program : NumberedProgram) (s : ScopeContents) (dims : ℕ → ℕ) where
+  variable_agrees : (number : ℕ) (d : Declaration) → IsDimOf s dims number d → (ty : ValueType) → declared_type s number d ≡ Some ty → used_type dims number d ≡ ty
+  variable_agrees number (Typed is_single type) k ty h = some_same _ _ h
+  variable_agrees number Foreach k ty h = sym (k ty h)
 
   operand_of : (x : NumberedExp) → ((ty : ValueType) → typed program s x ≡ Some ty → type_at program s.this_class dims x ≡ ty) → (u : ValueType) → operand (known program s x) ≡ Some u → type_at program s.this_class dims x ≡ u
   operand_of x f u h = f u (operand_some (known program s x).is_call (known program s x).type u h)
@@ -313,73 +313,74 @@ module _ (program : NumberedProgram) (s : ScopeContents) (dims : ℕ → ℕ) (a
   rect_agrees rs ts ty f g false false e d h = no_some ty h
 
   mutual
-    pub agrees : (x : NumberedExp) (ty : ValueType) → typed program s x ≡ Some ty → type_at program s.this_class dims x ≡ ty
-    agrees (e.Int at n) ty h = some_same _ _ h
-    agrees (e.Long at n) ty h = some_same _ _ h
-    agrees (e.Truth at b) ty h = some_same _ _ h
-    agrees (e.Null at) ty h = some_same _ _ h
-    agrees (e.This at) ty h = map_some (λ class. t.Class class false) s.this_class t.Void ty h
-    agrees (e.Variable at v) ty h = variable_agrees v.number v.declared ty h
-    agrees (e.OwnField at field) ty h = unwrapped (option_map as_global (option_and_then (λ class. field_type program class field) s.this_class)) t.Void ty h
-    agrees (e.Call at method args) ty h = call_agrees (slice_get program.methods method) (operands program s args) ty h
-    agrees (e.OwnCall at method args) ty h = call_agrees (slice_get program.methods method) (operands program s args) ty h
-    agrees (e.ThisProc at) ty h = some_same _ _ h
-    agrees (e.NumProcs at) ty h = some_same _ _ h
-    agrees (e.Point at parts) ty h =
+    pub agrees : (x : NumberedExp) → AreDims s dims x → (ty : ValueType) → typed program s x ≡ Some ty → type_at program s.this_class dims x ≡ ty
+    agrees (e.Int at n) are ty h = some_same _ _ h
+    agrees (e.Long at n) are ty h = some_same _ _ h
+    agrees (e.Truth at b) are ty h = some_same _ _ h
+    agrees (e.Null at) are ty h = some_same _ _ h
+    agrees (e.This at) are ty h = map_some (λ class. t.Class class false) s.this_class t.Void ty h
+    agrees (e.Variable at v) are ty h = variable_agrees v.number v.declared are ty h
+    agrees (e.OwnField at field) are ty h = unwrapped (option_map as_global (option_and_then (λ class. field_type program class field) s.this_class)) t.Void ty h
+    agrees (e.Call at method args) are ty h = call_agrees (slice_get program.methods method) (operands program s args) ty h
+    agrees (e.OwnCall at method args) are ty h = call_agrees (slice_get program.methods method) (operands program s args) ty h
+    agrees (e.ThisProc at) are ty h = some_same _ _ h
+    agrees (e.NumProcs at) are ty h = some_same _ _ h
+    agrees (e.Point at parts) are ty h =
         let k = stepped (operands program s parts) point_literal ty h in
         point_agrees k.first ty (how_many parts) (how_many_is program s parts k.first k.is) k.next
-    agrees (e.Rect at ranges) ty h =
+    agrees (e.Rect at ranges) are ty h =
         let k = stepped (bounds program s ranges) (rect_literal (range_count ranges)) ty h in
-        rect_agrees ranges k.first ty (ranges_ints ranges k.first k.is) (ranges_points ranges k.first ty k.is) (all_ints k.first) (range_count ranges == 1) refl refl k.next
-    agrees (e.Unary at o x) ty h =
+        rect_agrees ranges k.first ty (ranges_ints ranges are k.first k.is) (ranges_points ranges are k.first ty k.is) (all_ints k.first) (range_count ranges == 1) refl refl k.next
+    agrees (e.Unary at o x) are ty h =
         let k = stepped (operand (known program s x)) (unary_type o) ty h in
-        operand_of x (agrees x) k.first k.is ∙ unary_agrees o k.first ty k.next
-    agrees (e.Binary at o x y) ty h =
+        operand_of x (agrees x are) k.first k.is ∙ unary_agrees o k.first ty k.next
+    agrees (e.Binary at o x y) are ty h =
         let k = paired (operand (known program s x)) (operand (known program s y)) (binary_type o) ty h in
-        ap (λ u. operator_type o u (type_at program s.this_class dims y)) (operand_of x (agrees x) k.left k.left_is) ∙ (ap (λ u. operator_type o k.left u) (operand_of y (agrees y) k.right k.right_is) ∙ binary_agrees o k.left k.right ty k.next)
-    agrees (e.Cast at to x) ty h =
+        ap (λ u. operator_type o u (type_at program s.this_class dims y)) (operand_of x (agrees x are.0) k.left k.left_is) ∙ (ap (λ u. operator_type o k.left u) (operand_of y (agrees y are.1) k.right k.right_is) ∙ binary_agrees o k.left k.right ty k.next)
+    agrees (e.Cast at to x) are ty h =
         let k = stepped (operand (known program s x)) (λ u. where_true (casts to.type u) to.type) ty h in where_some _ to.type ty k.next
-    agrees (e.Select at x name) ty h =
+    agrees (e.Select at x name) are ty h =
         let k = stepped (operand (known program s x)) (λ u. select_type program u name) ty h in
-        ap (field_seen program name) (operand_of x (agrees x) k.first k.is) ∙ select_agrees program name k.first ty k.next
-    agrees (e.Member at x name args) ty h = by_operands (operand (known program s x)) (operands program s args) (operand_of x (agrees x)) h
+        ap (field_seen program name) (operand_of x (agrees x are) k.first k.is) ∙ select_agrees program name k.first ty k.next
+    agrees (e.Member at x name args) are ty h = by_operands (operand (known program s x)) (operands program s args) (operand_of x (agrees x are)) h
       where
         by_operands : (o : Option ValueType) (ts : Option (List ValueType)) → ((u : ValueType) → o ≡ Some u → type_at program s.this_class dims x ≡ u) → (member program o name ts).type ≡ Some ty → member_seen program name (type_at program s.this_class dims x) ≡ ty
         by_operands None ts f h = no_some ty h
         by_operands (Some u) None f h = no_some ty h
         by_operands (Some u) (Some ts) f h = ap (member_seen program name) (f u refl) ∙ member_agrees program name u ts ty h
-    agrees (e.Index at x parts) ty h =
+    agrees (e.Index at x parts) are ty h =
         let k = paired (operand (known program s x)) (operands program s parts) index_type ty h in
-        ap element_seen (operand_of x (agrees x) k.left k.left_is) ∙ index_agrees k.left k.right ty k.next
+        ap element_seen (operand_of x (agrees x are) k.left k.left_is) ∙ index_agrees k.left k.right ty k.next
 
-    range_ints : (r : NumberedRange) (ts : List ValueType) → bound program s r ≡ Some ts → all_ints ts ≡ true → dims_of_range program s.this_class dims r ≡ 1
-    range_ints (e.Plain low high) ts h z =
-        ap dim_of_type (operand_of low (agrees low) t.Int (low_int (operand (known program s low)) (one (operand (known program s high))) ts h z))
-    range_ints (e.Stepped low high step) ts h z =
-        ap dim_of_type (operand_of low (agrees low) t.Int (low_int (operand (known program s low)) (joined (one (operand (known program s high))) (one (operand (known program s step)))) ts
+    range_ints : (r : NumberedRange) → IsRangeDims s dims r → (ts : List ValueType) → bound program s r ≡ Some ts → all_ints ts ≡ true
+        → dims_of_range program s.this_class dims r ≡ 1
+    range_ints (e.Plain low high) are ts h z =
+        ap dim_of_type (operand_of low (agrees low are) t.Int (low_int (operand (known program s low)) (one (operand (known program s high))) ts h z))
+    range_ints (e.Stepped low high step) are ts h z =
+        ap dim_of_type (operand_of low (agrees low are) t.Int (low_int (operand (known program s low)) (joined (one (operand (known program s high))) (one (operand (known program s step)))) ts
         (flat (operand (known program s low)) (one (operand (known program s high))) (one (operand (known program s step))) ts h) z))
 
-    ranges_ints : (rs : NumberedRanges) (ts : List ValueType) → bounds program s rs ≡ Some ts → all_ints ts ≡ true → dims_of_ranges program s.this_class dims rs ≡ range_count rs
-    ranges_ints e.NoRange ts h z = refl
-    ranges_ints (e.MoreRange r e.NoRange) ts h z =
+    ranges_ints : (rs : NumberedRanges) → AreRangesDims s dims rs → (ts : List ValueType) → bounds program s rs ≡ Some ts → all_ints ts ≡ true → dims_of_ranges program s.this_class dims rs ≡ range_count rs
+    ranges_ints e.NoRange are ts h z = refl
+    ranges_ints (e.MoreRange r e.NoRange) are ts h z =
         let k = split (bound program s r) (Some []) ts h in
         let m = ints_split k.front k.back (subst (λ x. all_ints x ≡ true) (sym k.whole) z) in
-        range_ints r k.front k.front_is m.0
-    ranges_ints (e.MoreRange r (e.MoreRange q rs)) ts h z = refl
+        range_ints r are.0 k.front k.front_is m.0
+    ranges_ints (e.MoreRange r (e.MoreRange q rs)) are ts h z = refl
 
-    range_points : (r : NumberedRange) (ts : List ValueType) (ty : ValueType) → bound program s r ≡ Some ts → range_of_points ts ≡ Some ty → t.Rc (dims_of_range program s.this_class dims r) ≡ ty
-    range_points (e.Plain low high) ts ty h z =
+    range_points : (r : NumberedRange) → IsRangeDims s dims r → (ts : List ValueType) (ty : ValueType) → bound program s r ≡ Some ts → range_of_points ts ≡ Some ty → t.Rc (dims_of_range program s.this_class dims r) ≡ ty
+    range_points (e.Plain low high) are ts ty h z =
         let k = low_point (operand (known program s low)) (one (operand (known program s high))) ts ty h z in
-        ap (λ u. t.Rc (dim_of_type u)) (operand_of low (agrees low) (t.Pt k.dim) k.is) ∙ k.gives
-    range_points (e.Stepped low high step) ts ty h z =
+        ap (λ u. t.Rc (dim_of_type u)) (operand_of low (agrees low are) (t.Pt k.dim) k.is) ∙ k.gives
+    range_points (e.Stepped low high step) are ts ty h z =
         let k = low_point (operand (known program s low)) (joined (one (operand (known program s high))) (one (operand (known program s step)))) ts ty (flat (operand (known program s low)) (one (operand (known program s high))) (one (operand (known program s step))) ts h) z in
-        ap (λ u. t.Rc (dim_of_type u)) (operand_of low (agrees low) (t.Pt k.dim) k.is) ∙ k.gives
+        ap (λ u. t.Rc (dim_of_type u)) (operand_of low (agrees low are) (t.Pt k.dim) k.is) ∙ k.gives
 
-    ranges_points : (rs : NumberedRanges) (ts : List ValueType) (ty : ValueType) → bounds program s rs ≡ Some ts → range_count rs ≡ 1 → range_of_points ts ≡ Some ty → t.Rc (dims_of_ranges program s.this_class dims rs) ≡ ty
-    ranges_points e.NoRange ts ty h n z = absurd (omega (arith, n))
-    ranges_points (e.MoreRange r e.NoRange) ts ty h n z =
+    ranges_points : (rs : NumberedRanges) → AreRangesDims s dims rs → (ts : List ValueType) (ty : ValueType) → bounds program s rs ≡ Some ts → range_count rs ≡ 1 → range_of_points ts ≡ Some ty → t.Rc (dims_of_ranges program s.this_class dims rs) ≡ ty
+    ranges_points e.NoRange are ts ty h n z = absurd (omega (arith, n))
+    ranges_points (e.MoreRange r e.NoRange) are ts ty h n z =
         let k = split (bound program s r) (Some []) ts h in
         let nil : [] ≡ k.back = some_same _ _ k.back_is in
         let same : k.front ≡ ts = sym (append-nil k.front) ∙ (ap (λ x. k.front ++ x) nil ∙ k.whole) in
-        range_points r k.front ty k.front_is (subst (λ x. range_of_points x ≡ Some ty) (sym same) z)
-    ranges_points (e.MoreRange r (e.MoreRange q rs)) ts ty h n z = absurd (omega (arith, n))
+        range_points r are.0 k.front ty k.front_is (subst (λ x. range_of_points x ≡ Some ty) (sym same) z)
+    ranges_points (e.MoreRange r (e.MoreRange q rs)) are ts ty h n z = absurd (omega (arith, n))

@@ -36,10 +36,10 @@ by_test : (b : ℕ) (p : Process) (at : Place) (after : Step) (test : Bool) → 
 by_test b p at after true h = h refl
 by_test b p at after false h = tt
 
-ticks_fall : (b : ℕ) (p : Process) (at : Place) (after : Step) → (nat_lt p.spent p.setting.fuel ≡ true → Falls b p after) → Falls b p (ticks p at after)
+pub ticks_fall : (b : ℕ) (p : Process) (at : Place) (after : Step) → (nat_lt p.spent p.setting.fuel ≡ true → Falls b p after) → Falls b p (ticks p at after)
 ticks_fall b p at after h = by_test b p at after (nat_lt p.spent p.setting.fuel) h
 
-if_falls : (b : ℕ) (p : Process) (test : Bool) (x y : Step) → Falls b p x → Falls b p y → Falls b p (if test then x else y)
+pub if_falls : (b : ℕ) (p : Process) (test : Bool) (x y : Step) → Falls b p x → Falls b p y → Falls b p (if test then x else y)
 if_falls b p true x y h g = h
 if_falls b p false x y h g = g
 
@@ -57,7 +57,7 @@ tick_less f s b w v l h =
 
 -- ---- frames
 
-goes_falls : (b : ℕ) (p : Process) (f : Frame) (fs : List Frame) (variables : List Variable) (left : List Work)
+pub goes_falls : (b : ℕ) (p : Process) (f : Frame) (fs : List Frame) (variables : List Variable) (left : List Work)
     → p.frames ≡ f ∷ fs → weigh left < weigh f.left + length p.answers → Fits b left → FitsAll b fs → MethodsFit b p.setting.program → Falls b p (To (going p f fs variables left))
 goes_falls b p f fs variables left e l x y m = (omega (arith, ap weigh_all e), ((x, y), m))
 
@@ -71,7 +71,7 @@ handed_fits b receiver None fs x = x
 handed_fits b receiver (Some h) [] x = x
 handed_fits b receiver (Some h) (f ∷ fs) x = ((omega arith, x.0), x.1)
 
-returns_fall : (b : ℕ) (p : Process) (f : Frame) (fs : List Frame) (left : List Work) (value : Option Held)
+pub returns_fall : (b : ℕ) (p : Process) (f : Frame) (fs : List Frame) (left : List Work) (value : Option Held)
     → p.frames ≡ f ∷ fs → FitsAll b fs → MethodsFit b p.setting.program → Falls b p (moves p f fs left (Returns value))
 returns_fall b p f fs left value e y m = (omega (arith, ap weigh_all e, handed_weight f.receiver value fs), (handed_fits b f.receiver value fs y, m))
 
@@ -119,7 +119,7 @@ past_fits b (TakeAll at grid procs ∷ ws) f = past_fits b ws f.1
 
 -- ---- moves
 
-moves_fall : (b : ℕ) (p : Process) (f : Frame) (fs : List Frame) (w : Work) (left : List Work) (move : Move)
+pub moves_fall : (b : ℕ) (p : Process) (f : Frame) (fs : List Frame) (w : Work) (left : List Work) (move : Move)
     → p.frames ≡ f ∷ fs → f.left ≡ w ∷ left → falling.Falls b (weight_of w + length p.answers) move → Fits b left → FitsAll b fs → MethodsFit b p.setting.program → Falls b p (moves p f fs left move)
 moves_fall b p f fs w left (Goes variables new) e z h x y m =
     goes_falls b p f fs variables (new ++ left) e (omega (arith, ap weigh z, weigh_append new left, h.0)) (fits_append b new left h.1 x) y m
@@ -146,7 +146,7 @@ moves_fall b p f fs w left (Returns value) e z h x y m = returns_fall b p f fs l
 moves_fall b p f fs w left (Meets wait given behind) e z h x y m = ticks_fall b p wait.place _ (λ t. tt)
 moves_fall b p f fs w left (Deletes at region) e z h x y m = ticks_fall b p at _ (λ t. tt)
 
-valued_falls : (b : ℕ) (p : Process) (k : ℕ) (got : Got Move) (go : Move → Step) → falling.Giving (falling.Falls b k) got
+pub valued_falls : (b : ℕ) (p : Process) (k : ℕ) (got : Got Move) (go : Move → Step) → falling.Giving (falling.Falls b k) got
     → ((move : Move) → falling.Falls b k move → Falls b p (go move)) → Falls b p (valued p got go)
 valued_falls b p k (Gives move rest) go h f = f move h
 valued_falls b p k (Asks request) go h f = ticks_fall b p request.place _ (λ t. tt)

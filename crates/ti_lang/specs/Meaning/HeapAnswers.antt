@@ -18,6 +18,7 @@ use Rattle.ti_lang.specs.Program.Classes.{NumberedProgram}
 use Rattle.ti_lang.specs.Meaning.Histories.{History}
 use Rattle.ti_lang.specs.Meaning.RoundsOf.{round_of, last_arrival, given, was_left, rounds_making}
 use Rattle.ti_lang.specs.Meaning.RegionsOf.{is_made, is_gone, is_place}
+use Rattle.ti_lang.specs.Meaning.Held.{is_dim}
 use Rattle.ti_lang.specs.Meaning.Zeros.{zeros_of_class}
 use Rattle.ti_lang.specs.Meaning.HeapOf.{grid_of, new_id, view_id, cell_value, cost_of, cost_of_making, most_cells}
 use Rattle.ti_lang.specs.Meaning.RegionUse.{is_in_use}
@@ -54,10 +55,6 @@ makes program h i a made = faults_if (nat_lt most_cells (cost_of program i h + c
 -- something is placed in a region, which was made and isn't gone
 abbrev pub places : ℕ → History → Outcome → Outcome
 places region h outcome = possible_if (is_place region h) (faults_if (is_gone region h) fault.RegionGone outcome)
-
--- there are points of this dimension
-abbrev pub is_dim : ℕ → Bool
-is_dim dim = nat_lt 0 dim && nat_lt dim 4
 
 -- a point is used that has the dimension of a grid, and is one of its domain
 abbrev pub at_point : Grid → Point → Outcome → Outcome

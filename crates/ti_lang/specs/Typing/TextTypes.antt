@@ -131,6 +131,30 @@ module _ (program : NumberedProgram) (this : Option ℕ) (dims : ℕ → ℕ) wh
 abbrev pub type_in_text : NumberedProgram → Option ℕ → NumberedExp → ValueType
 type_in_text program this x = type_at program this (λ number. 1) x
 
--- the dimensions are those that a scope says of foreach variables
-abbrev pub AreDims : ScopeContents → (ℕ → ℕ) → Type 0
-AreDims s dims = (number : ℕ) (type : ValueType) → declared_type s number Foreach ≡ Some type → type ≡ t.Pt (dims number)
+-- a foreach variable that is in a scope is a point there, of the dimensions that are told for its number
+abbrev pub IsDimOf : ScopeContents → (ℕ → ℕ) → ℕ → Declaration → Type 0
+IsDimOf s dims number (Typed is_single type) = Unit {0}
+IsDimOf s dims number Foreach = (type : ValueType) → declared_type s number Foreach ≡ Some type → type ≡ t.Pt (dims number)
+
+module _ (s : ScopeContents) (dims : ℕ → ℕ) where
+  abbrev mutual
+    -- the dimensions are those that a scope says of the foreach variables of an expression; on those in arguments, indices, coordinates
+    -- and casts its type doesn't hang
+    pub AreDims : NumberedExp → Type 0
+    AreDims (e.Variable at v) = IsDimOf s dims v.number v.declared
+    AreDims (e.Rect at ranges) = AreRangesDims ranges
+    AreDims (e.Unary at o x) = AreDims x
+    AreDims (e.Binary at o x y) = AreDims x × AreDims y
+    AreDims (e.Select at x name) = AreDims x
+    AreDims (e.Member at x name args) = AreDims x
+    AreDims (e.Index at x parts) = AreDims x
+    AreDims x = Unit {0}
+
+    -- the same of the lower bound of a range, which tells its dimensions
+    pub IsRangeDims : NumberedRange → Type 0
+    IsRangeDims (e.Plain low high) = AreDims low
+    IsRangeDims (e.Stepped low high step) = AreDims low
+
+    pub AreRangesDims : NumberedRanges → Type 0
+    AreRangesDims e.NoRange = Unit {0}
+    AreRangesDims (e.MoreRange r rs) = IsRangeDims r × AreRangesDims rs

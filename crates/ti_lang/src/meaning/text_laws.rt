@@ -19,8 +19,9 @@ pub fn forms_have_no_dimensions()
         → element_seen (type_at program this dims x) ≡ element_seen (type_at program this other x) }
 {}
 
-/// Where the rules give an expression a type, it is the one that it has in the text.
+/// Where the rules give an expression a type in a scope, it is the one that it has in the text, with the
+/// dimensions that the scope says of its foreach variables.
 pub fn types_agree()
-    ensures { (program : NumberedProgram) (s : ScopeContents) (dims : ℕ → ℕ) (x : NumberedExp) (type : ValueType) → AreDims s dims
+    ensures { (program : NumberedProgram) (s : ScopeContents) (dims : ℕ → ℕ) (x : NumberedExp) (type : ValueType) → AreDims s dims x
         → typed program s x ≡ Some type → type_at program s.this_class dims x ≡ type }
 {}

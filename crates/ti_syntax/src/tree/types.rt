@@ -32,27 +32,6 @@ pub enum Base {
     Named(Place, Spelled),
 }
 
-impl Base {
-    ghost use Rattle.std.specs.Prelude.{◌≡◌};
-    ghost use Rattle.ti_syntax.specs.Trees.Types.{place_of_base};
-
-    /// The place of the word or name.
-    pub fn place(&self) -> Place
-        ensures { result ≡ place_of_base self.now }
-    {
-        match self {
-            Base::Int(place) => *place,
-            Base::Long(place) => *place,
-            Base::Boolean(place) => *place,
-            Base::Point(place, _) => *place,
-            Base::RectDomain(place, _) => *place,
-            Base::Domain(place, _) => *place,
-            Base::SharedRegion(place) => *place,
-            Base::Named(place, _) => *place,
-        }
-    }
-}
-
 /// The brackets of a grid with its number of dimensions, and what qualifies the grid.
 #[derive(Debug, Drop)]
 pub struct Brackets {
