@@ -7,14 +7,14 @@ use Rattle.ti_lang.specs.Program.Expressions as e
 use Rattle.ti_lang.specs.Program.Classes.{NumberedMethod, NumberedProgram}
 use Rattle.ti_lang.specs.Program.Scope.{ScopeVariable, ScopeContents, this_of, method_scope}
 use Rattle.ti_lang.specs.Typing.Kinds.{domain_dim, dim_of_type}
-use Rattle.ti_lang.specs.Typing.Declared.{in_scope, declared_type}
+use Rattle.ti_lang.specs.Typing.Declared.{in_scope}
 use Rattle.ti_lang.specs.Typing.Expressions.{known, operand_type}
 use Rattle.ti_lang.specs.Typing.Singleness.{is_single_part}
 use Rattle.ti_lang.specs.Typing.TextTypes.{type_at, IsDimOf, AreDims, IsRangeDims, AreRangesDims}
 use Rattle.ti_lang.specs.Meaning.Processes.{While, Foreach, Work, Do, End, Before, Behind, Receive, CopyAll, TakeAll}
 use Rattle.ti_lang.specs.Meaning.Turns.{dims_at}
 use Rattle.ti_lang.proofs.MeaningLaws.TextAgrees.{agrees}
-use Rattle.ti_rules.specs.Standing.{singles_in, with_point, variables_inside}
+use Rattle.ti_rules.specs.Standing.{singles_in, with_point}
 use Rattle.ti_align.specs.Things.{Things}
 use Rattle.ti_align.specs.Fitting.{IsWritten, IsRangeWritten, AreRangesWritten}
 use Rattle.ti_align.specs.Work.{may_use, uses_of, scope_over, WorksFit}

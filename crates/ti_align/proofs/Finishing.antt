@@ -1,29 +1,23 @@
 -- The slice makes finitely many steps by itself.
-use Rattle.std.proofs.Common.{◌≡◌, ℕ, ◌+◌, ◌-◌, ◌*◌, ◌<◌, ◌≤◌, nat_lt, length, Bool, true, false, if◌then◌else◌, pos, option_map, slice_get, Option, Some, None, List, [], ◌∷◌, ◌++◌, refl, ap, sym, subst, arith, ltb-true}
+use Rattle.std.proofs.Common.{◌≡◌, ℕ, ◌+◌, ◌<◌, ◌≤◌, length, Bool, true, false, if◌then◌else◌, pos, Option, Some, None, List, [], ◌∷◌, refl, ap, sym, subst, arith}
 use Rattle.ti_base.specs.declared.place.Place.{Place}
-use Rattle.ti_base.specs.declared.fault.FaultKind.TheVariants.{Fuel}
-use Rattle.ti_lang.specs.Program.Types.{ValueType, Class}
 use Rattle.ti_lang.specs.Program.Expressions.{NumberedExp, NumberedExps}
 use Rattle.ti_lang.specs.Program.Expressions as e
 use Rattle.ti_lang.specs.Program.Statements.{NumberedInit, NumberedStm, numbered_stms}
 use Rattle.ti_lang.specs.Program.Statements as s
-use Rattle.ti_lang.specs.Program.Classes.{NumberedMethod, NumberedProgram}
 use Rattle.ti_lang.specs.Program.Scope.{this_of}
-use Rattle.ti_lang.specs.Typing.TextTypes.{type_in_text}
 use Rattle.ti_lang.specs.Typing.BuiltIn.{BuiltIn, Exchange, Delete}
-use Rattle.ti_lang.specs.Typing.Called.{method_behind, member_called}
+use Rattle.ti_lang.specs.Typing.Called.{member_called}
 use Rattle.ti_lang.specs.Typing.Singleness.{has_single_result}
-use Rattle.ti_lang.specs.Meaning.Held.{Held}
-use Rattle.ti_lang.specs.Meaning.Asking.{Got, Gives, Asks, Fails, gives}
+use Rattle.ti_lang.specs.Meaning.Asking.{gives}
 use Rattle.ti_lang.specs.Meaning.Evaluation.{eval}
-use Rattle.ti_lang.specs.Meaning.Processes.{Variable, Receiver, Nowhere, Declared, Assigned, Updated, Work, Do, End, Before, Behind, Receive, CopyAll, TakeAll, Frame, Wait, Process, frame_of}
+use Rattle.ti_lang.specs.Meaning.Processes.{Variable, Receiver, Nowhere, Declared, Assigned, Updated, Work, Do, End, Before, Behind, Receive, CopyAll, TakeAll, Frame, Wait, Process}
 use Rattle.ti_lang.specs.Meaning.Scoping.{Env, env_of}
-use Rattle.ti_lang.specs.Meaning.Calls.{Call, call_of, called}
-use Rattle.ti_lang.specs.Meaning.Moves.{Move, Goes, Turns, Breaks, Continues, Calls, Returns, Meets, Deletes, goes_on, receives}
+use Rattle.ti_lang.specs.Meaning.Calls.{Call, called}
+use Rattle.ti_lang.specs.Meaning.Moves.{Goes, Returns, goes_on, receives}
 use Rattle.ti_lang.specs.Meaning.Statements.{one_more, declared_as, returns}
-use Rattle.ti_lang.specs.Meaning.Jumps.{has_mark, from_mark, past_mark, variables_at_mark}
-use Rattle.ti_lang.specs.Meaning.Steps.{Step, To, Faults, going, handed, ticks, most_frames, valued, moves}
-use Rattle.ti_lang.proofs.MeaningLaws.Sizes.{size, sizes, weight_of, weigh, weigh_all, need, Fits, FitsAll, MethodsFit, OneFits, at_fits, instance_fits, weigh_append, fits_append, weigh_before, fits_before}
+use Rattle.ti_lang.specs.Meaning.Steps.{moves}
+use Rattle.ti_lang.proofs.MeaningLaws.Sizes.{size, sizes, weight_of, weigh, need, Fits, FitsAll, MethodsFit}
 use Rattle.ti_lang.proofs.MeaningLaws.Total.{Fitting, Falls, ticks_fall, if_falls, goes_falls, returns_fall, moves_fall, valued_falls}
 use Rattle.ti_lang.proofs.MeaningLaws.Falling as falling
 use Rattle.ti_lang.proofs.MeaningLaws.Falling.{Giving, then_giving, CallFits, called_fits, work_falls}

@@ -3,7 +3,7 @@ use Rattle.std.proofs.Common.{lit<, ◌≡◌, inl, inr, ⊎_elim, ℕ, zero, su
 use Rattle.std.specs.Int.{Width, w32, w64, int_wrap}
 use Rattle.std.specs.Int.RustNames.{int_lt, int_le}
 use Rattle.std.specs.List.{list_all}
-use Rattle.std.proofs.lemmas.Bool.{le-leb, lt-leb, leb-true, lt-ltb}
+use Rattle.std.proofs.lemmas.Bool.{lt-leb, leb-true, lt-ltb}
 use Rattle.std.proofs.lemmas.Int.{ints}
 use Rattle.std.proofs.Math.Nat.{mod-le, div-le_self}
 use Rattle.ti_base.specs.declared.point.Point.{Point}
@@ -26,7 +26,7 @@ use Rattle.ti_rect.proofs.PointLists.{first_step, second_step, third_step, point
 use Rattle.ti_rect.proofs.RectLaws.{point_in}
 use Rattle.ti_rect.proofs.MeetPoints.{of_points, meet_points}
 use Rattle.ti_rect.proofs.ViewLaws.{view_inside}
-use Rattle.ti_lang.specs.Meaning.Held.{is_dim, zero_point}
+use Rattle.ti_lang.specs.Meaning.Held.{zero_point}
 use Rattle.ti_lang.specs.Meaning.Literals.{coordinates_of, point_of_numbers, Bounds, is_even, rect_of_bounds}
 use Rattle.ti_lang.specs.Meaning.Answers.{IsPointOf, IsRectOf}
 use Rattle.ti_lang.proofs.MeaningLaws.Dims.{dim_is}

@@ -1,7 +1,6 @@
 -- The heap keeps to the types: what names things that are there is possible, and is answered as it should.
-use Rattle.std.proofs.Common.{◌≡◌, ℕ, ◌==◌, Bool, true, false, ◌&&◌, ◌||◌, ◌⊎◌, inl, inr, if◌then◌else◌, map, option_map, slice_get, Option, Some, None, List, [], ◌∷◌, refl, ap, ap₂, sym, ◌∙◌, subst, arith, eq-eqb, eqb-true, ltb-true, nat_lt, ◌<◌}
+use Rattle.std.proofs.Common.{◌≡◌, ℕ, ◌==◌, Bool, true, false, ◌&&◌, ◌||◌, ◌⊎◌, inl, inr, if◌then◌else◌, map, option_map, slice_get, Option, Some, None, List, [], ◌∷◌, refl, ap, ap₂, sym, ◌∙◌, subst, eq-eqb, eqb-true}
 use Rattle.std.specs.Option.{option_and_then, option_map_or}
-use Rattle.std.proofs.lemmas.Bool.{lt-ltb}
 use Rattle.std.proofs.lemmas.Option.{slice_get-map}
 use Rattle.ti_base.specs.declared.place.Place.{Place}
 use Rattle.ti_base.specs.declared.point.Point.{Point}

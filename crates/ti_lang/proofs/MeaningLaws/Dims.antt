@@ -1,5 +1,5 @@
 -- One to three dimensions, as a test and as a fact.
-use Rattle.std.proofs.Common.{◌≡◌, ℕ, Bool, true, ◌&&◌, ap₂, arith}
+use Rattle.std.proofs.Common.{◌≡◌, ℕ, true, ◌&&◌, ap₂, arith}
 use Rattle.std.proofs.lemmas.Bool.{le-leb}
 use Rattle.std.proofs.lemmas.Bool.Decides.{nat_tests}
 use Rattle.ti_base.specs.Points.{IsDim}
