@@ -30,9 +30,10 @@ use Rattle.ti_align.proofs.Vars.{true_false}
 use Rattle.ti_align.proofs.Fitting.{FineMethods}
 use Rattle.ti_align.proofs.Passing.{same_arrival, BothArrive, no_end}
 use Rattle.ti_align.proofs.Passing as passing
-use Rattle.ti_align.proofs.Running.{on_way, way_then, reach_way, at_action, Grows, still, acted, grows}
+use Rattle.ti_align.proofs.Running.{on_way, way_then, reach_way, at_action, Grows, still, acted, grows, none_entry}
 use Rattle.ti_align.proofs.Arrived.{last_kind}
 use Rattle.ti_align.proofs.Entries.{departures_both, own, other}
+use Rattle.ti_align.proofs.Operating.{or_either, or_one}
 
 -- what stands before an entry of a run is a run
 pub run_before : (s : Setting) (es before rest : List Entry) (e : Entry) → IsRun s es → es ≡ before ++ e ∷ rest → IsRun s before
@@ -129,30 +130,19 @@ still_ends s es all i o (acted p q at a w go r x y e k l m n u v) =
     let t : Settles p q (next.Act at a) = record { reaches = y; stands = ap shown e } in
     absurd (end_at (step q) o.place at a w go (subst (λ u. step u ≡ Ends o.place) (settled_same p o.settled q _ _ z t) o.stands) e)
 
-or_cases : (a b : Bool) → (a || b) ≡ true → (a ≡ true) ⊎ (b ≡ true)
-or_cases true b h = inl refl
-or_cases false b h = inr h
-
-or_false_right : (a : Bool) → (a || false) ≡ true → a ≡ true
-or_false_right true h = refl
-or_false_right false h = h
-
 end_of_last : (i : ℕ) (e : Entry) → has_end i (e ∷ []) ≡ true → ((e.proc == i) ≡ true) × (is_end e.act ≡ true)
 end_of_last i e h = go (e.proc == i) refl
   where
     go : (b : Bool) → (e.proc == i) ≡ b → ((e.proc == i) ≡ true) × (is_end e.act ≡ true)
-    go true k = (k, or_false_right (is_end e.act) (sym (ap (list_any (λ (e : Entry). is_end e.act)) (own i e k)) ∙ h))
+    go true k = (k, or_one (is_end e.act) (sym (ap (list_any (λ (e : Entry). is_end e.act)) (own i e k)) ∙ h))
     go false k = absurd (true_false (sym h ∙ ap (list_any (λ (e : Entry). is_end e.act)) (other i e k)))
 
 end_cases : (i : ℕ) (es : List Entry) (e : Entry) → has_end i (es ++ e ∷ []) ≡ true → (has_end i es ≡ true) ⊎ (((e.proc == i) ≡ true) × (is_end e.act ≡ true))
-end_cases i es e h = by (or_cases (has_end i es) (has_end i (e ∷ [])) (sym (ap (list_any (λ (e : Entry). is_end e.act)) (filter-append (λ (e : Entry). e.proc == i) es (e ∷ [])) ∙ list_any-append (λ (e : Entry). is_end e.act) (entries_of i es) (entries_of i (e ∷ []))) ∙ h))
+end_cases i es e h = by (or_either (has_end i es) (has_end i (e ∷ [])) (sym (ap (list_any (λ (e : Entry). is_end e.act)) (filter-append (λ (e : Entry). e.proc == i) es (e ∷ [])) ∙ list_any-append (λ (e : Entry). is_end e.act) (entries_of i es) (entries_of i (e ∷ []))) ∙ h))
   where
     by : (has_end i es ≡ true) ⊎ (has_end i (e ∷ []) ≡ true) → (has_end i es ≡ true) ⊎ (((e.proc == i) ≡ true) × (is_end e.act ≡ true))
     by (inl k) = inl k
     by (inr k) = inr (end_of_last i e k)
-
-none_entry : (e : Entry) → ◌≡◌ {A = Option Entry} None (Some e) → ⊥
-none_entry e h = cc
 
 act_of : (d e : Entry) → Some d ≡ Some e → d.act ≡ e.act
 act_of d e h = let k : d ≡ e = cc in ap (λ (x : Entry). x.act) k

@@ -213,7 +213,7 @@ making_both i es ds =
     ap (count_by (λ (e : Entry). makes_region e.act)) (filter-append (λ (e : Entry). e.proc == i) es ds)
     ∙ sum_by-append (λ (e : Entry). cond (makes_region e.act) 1 0) (entries_of i es) (entries_of i ds)
 
-quiet : (a : Action) → is_arrival a ≡ false → makes_region a ≡ false
+pub quiet : (a : Action) → is_arrival a ≡ false → makes_region a ≡ false
 quiet (act.Arrive kind arg given) h = absurd (true_false h)
 quiet _ h = refl
 

@@ -160,10 +160,6 @@ step_such s last q st m k h z =
 
 -- ---- silent steps
 
-pub reaches_keeps : (s : Setting) (p q : Process) → ProgramStands s.program → Keeps s p → Reaches p q → Keeps s q
-reaches_keeps s p q g k here = k
-reaches_keeps s p r g k (later {q = q} e x) = reaches_keeps s q r g (step_keeps s p (To q) g k e) x
-
 pub reaches_hands : (s : Setting) (last : Option CollKind) (p q : Process) → ProgramStands s.program → MethodsAreSuch s.program s.program.methods → Keeps s p → Hands s last p → Reaches p q → Hands s last q
 reaches_hands s last p q g m k h here = h
 reaches_hands s last p r g m k h (later {q = q} e x) = reaches_hands s last q r g m (step_keeps s p (To q) g k e) (step_such s last p (To q) m k h e) x

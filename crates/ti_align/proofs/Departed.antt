@@ -50,7 +50,7 @@ use Rattle.ti_align.proofs.Ranged.{small, region_answered, names_fit}
 
 -- ---- forms
 
-plain_same : (x y : Value) → Plain x ≡ Plain y → x ≡ y
+pub plain_same : (x y : Value) → Plain x ≡ Plain y → x ≡ y
 plain_same x y e = cc
 
 -- a value that is there has the form of its type

@@ -50,6 +50,7 @@ use Rattle.ti_lang.specs.Meaning.Answers.{IsPointOf, IsRectOf}
 use Rattle.ti_lang.specs.Meaning.Scoping.{Env, type_of, field_selected}
 use Rattle.ti_lang.specs.Meaning.Evaluation.{is_own, eval, eval_all, eval_numbers, eval_range, eval_ranges}
 use Rattle.ti_lang.proofs.MeaningLaws.Dims.{dim_is}
+use Rattle.ti_lang.proofs.MeaningLaws.TextAgrees.{how_many_is}
 use Rattle.ti_align.specs.Things.{Things, seen_by, Grows, IsGridOf, IsOwn, IsOf, DimsFine}
 use Rattle.ti_align.specs.Sound.{SameForm, IsOwnReference, Sound, SuitsView, dims_viewed}
 use Rattle.ti_align.specs.Fitting.{EnvFits, FieldsFit, IsWritten, AreWritten, IsRangeWritten, AreRangesWritten}
@@ -295,9 +296,6 @@ all_both test (x ∷ xs) ys h = by (test x) refl h (λ k. all_both test xs ys k)
 -- ---- ranges, by their types
 
 module _ (p : NumberedProgram) (s : ScopeContents) where
-  low_of : NumberedRange → NumberedExp
-  low_of (e.Plain low high) = low
-  low_of (e.Stepped low high step) = low
 
   abbrev maybe_count : Option ValueType → ℕ
   maybe_count None = 0
@@ -488,12 +486,6 @@ env_stays uses s u w env g f = record {
   points = f.points;
 }
 
-pub types_stay : (u w : Things) (ts : List ValueType) (hs : List Held) → Grows u w → AllOfTypes u ts hs → AllOfTypes w ts hs
-types_stay u w [] [] g a = tt
-types_stay u w (x ∷ xs) (h ∷ hs) g a = (of_stays u w x h g a.0, types_stay u w xs hs g a.1)
-types_stay u w [] (h ∷ hs) g a = absurd a
-types_stay u w (x ∷ xs) [] g a = absurd a
-
 -- an index: a coordinate, or an element of a grid
 indexed_fine : (p : NumberedProgram) (w : Things) (at : Place) (wanted u type r : ValueType) (ts : List ValueType) (h : Held) (zs : List ℤ) → index_type type ts ≡ Some r → Seen type u → DimsFine type → IsOf w type h → Numbers (counts ts) zs → wanted ≡ element_seen u
     → Sound p (λ x k. IsOf x r k) w (indexed (is_point u) at wanted u h zs) × DimsFine r × Seen r (element_seen u)
@@ -548,19 +540,6 @@ of_plain a b h = some_same a b (no_call (plain (Some a)) b h).1
 used_seen : (d : Declaration) (s : ScopeContents) (n : ℕ) (type : ValueType) → variable_type s (record { number = n; declared = d }) ≡ Some type → (d ≡ t.Foreach → (m : ℕ) × (type ≡ t.Pt m)) → Seen type (used_type (λ number. 1) n d)
 used_seen (t.Typed l of) s n type z f = subst (λ q. Seen q of) (some_same of type z) (seen_same of)
 used_seen t.Foreach s n type z f = let q = f refl in subst (λ y. Seen y (t.Pt 1)) (sym q.1) (1, refl)
-
-parts_many : (p : NumberedProgram) (s : ScopeContents) (xs : NumberedExps) (ts : List ValueType) → operands p s xs ≡ Some ts → length ts ≡ how_many xs
-parts_many p s e.NoExp ts h = ap length (sym (some_same [] ts h))
-parts_many p s (e.MoreExp x xs) ts h =
-    let j = joined_there (one (operand_type p s x)) (operands p s xs) ts h in
-    let k = one_there (operand_type p s x) j.0 j.2 in
-    ap length (sym j.4 ∙ ap (λ q. q ++ j.1) k.2) ∙ plus (length j.1) (how_many xs) (parts_many p s xs j.1 j.3)
-  where
-    plus : (a b : ℕ) → a ≡ b → suc a ≡ b + 1
-    plus a b h = omega arith
-
-pub seen_object : (type u : ValueType) (c : ℕ) (l : Bool) → type ≡ t.Class c l → Seen type u → u ≡ t.Class c l
-seen_object type u c l z i = subst (λ q. Seen q u) z i
 
 pub never_called : (m : Option _) (o : Option (List ValueType)) (type : ValueType) → operand (called m o) ≡ Some type → ⊥
 never_called m None type h = none_some type h
@@ -847,7 +826,7 @@ module _ (uses : VariableUse → Bool) (s : ScopeContents) where
         let p = env.program in
         let q = and_then point_literal (operands p s parts) type (no_call (plain (option_and_then point_literal (operands p s parts))) type z).1 in
         let i = where_some (all_ints q.0) (t.Pt (length q.0)) type q.2 in
-        let n = parts_many p s parts q.0 q.1 in
+        let n = how_many_is p s parts q.0 q.1 in
         to_type w env (e.Point at parts) (t.Pt (length q.0)) type i.1 (record {
           sound = sound_then p (λ u zs. Numbers (counts q.0) zs) _ w (eval_numbers env parts) _ (numbers_fine w env f g parts k.1 q.0 q.1) (λ u h zs y. sound_value p _ u _ (point_of_numbers zs, refl, numbers_point zs (length q.0) (y.0 ∙ ints_count q.0 i.0) (subst IsDim (sym n) k.0) y.1));
           dims = subst IsDim (sym n) k.0;

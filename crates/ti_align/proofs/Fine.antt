@@ -12,6 +12,7 @@ use Rattle.ti_rules.specs.declared.refusal.Refusal.{Refusal}
 use Rattle.ti_rules.specs.First.{refused_if}
 use Rattle.ti_rules.specs.Standing.{Around, Standing, in_loop, in_foreach, loop_acts, inside, inside_maybe, inside_all}
 use Rattle.ti_rules.specs.SingleRules.{has_effects, is_plain_condition, standing_single_refusals}
+use Rattle.ti_rules.proofs.Sound.Refused.{not_refused}
 use Rattle.ti_align.proofs.Slice.{jump_at, around_at, work_acts, kept_before, kept}
 use Rattle.ti_align.proofs.Vars.{true_false, or_false, or_left, not_false, if_true, if_false}
 
@@ -23,10 +24,6 @@ nothing_in x xs e = cc
 pub none_both : {A : Type 0} → (xs ys : List A) → xs ++ ys ≡ [] → (xs ≡ []) × (ys ≡ [])
 none_both [] ys h = (refl, h)
 none_both (x ∷ xs) ys h = absurd (nothing_in x (xs ++ ys) h)
-
-pub not_refused : (b : Bool) (r : Rule) (at : Place) → refused_if b r at ≡ [] → b ≡ false
-not_refused true r at h = absurd (nothing_in _ [] h)
-not_refused false r at h = refl
 
 -- where the first holds and the second's absence would break a rule, the second holds
 pub kept_rule : (a b : Bool) → (a && not b) ≡ false → a ≡ true → b ≡ true
@@ -43,7 +40,7 @@ plain_rule false b h k = absurd (true_false (sym k))
 abbrev pub refusals_in : NumberedProgram → List Standing → List Refusal
 refusals_in p xs = flat_map (standing_single_refusals p) xs
 
-both_refusals : (p : NumberedProgram) (xs ys : List Standing) → refusals_in p (xs ++ ys) ≡ [] → (refusals_in p xs ≡ []) × (refusals_in p ys ≡ [])
+pub both_refusals : (p : NumberedProgram) (xs ys : List Standing) → refusals_in p (xs ++ ys) ≡ [] → (refusals_in p xs ≡ []) × (refusals_in p ys ≡ [])
 both_refusals p [] ys h = (refl, h)
 both_refusals p (x ∷ xs) ys h =
     let k = none_both (standing_single_refusals p x) (refusals_in p (xs ++ ys)) h in
@@ -59,9 +56,6 @@ FineMaybe p a x = refusals_in p (inside_maybe p a x) ≡ []
 
 abbrev pub FineAll : NumberedProgram → Around → NumberedStms → Type 0
 FineAll p a x = refusals_in p (inside_all p a x) ≡ []
-
-pub fine_both : (p : NumberedProgram) (xs ys : List Standing) → refusals_in p (xs ++ ys) ≡ [] → (refusals_in p xs ≡ []) × (refusals_in p ys ≡ [])
-fine_both p xs ys h = both_refusals p xs ys h
 
 -- the head, and what stands in it
 pub fine_head : (p : NumberedProgram) (x : Standing) (xs : List Standing) → refusals_in p (x ∷ xs) ≡ [] → (standing_single_refusals p x ≡ []) × (refusals_in p xs ≡ [])
@@ -245,7 +239,7 @@ pub before_ok : (p : NumberedProgram) (m : NumberedMethod) (xs : NumberedStms) (
 before_ok p m Nil ws left f d o = o
 before_ok p m (Cons x xs) ws left f d o =
     let a = around_at p m (ws ++ left) in
-    let k = fine_both p (inside p a x) (inside_all p a xs) f in
+    let k = both_refusals p (inside p a x) (inside_all p a xs) f in
     let e = around_before p m xs ws left in
     let both = λ (z : Bool). unwrap_or (jump_at p m (ws ++ left)) z in (
       subst (λ z. Fine p z x) (sym e) k.0,

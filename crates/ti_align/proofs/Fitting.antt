@@ -42,10 +42,11 @@ use Rattle.ti_rules.specs.declared.rule.Rule.TheVariants.{S2, S4}
 use Rattle.ti_rules.specs.First.{refused_if}
 use Rattle.ti_rules.specs.Standing.{Around, scope_of, singles_in, loop_acts, in_loop, in_foreach, inside, inside_all, inside_maybe, stands}
 use Rattle.ti_rules.specs.SingleRules.{has_effects, is_plain_condition, single_refusals_at, initial_refusals, whole_refusals, method_single_refusals}
+use Rattle.ti_rules.proofs.Sound.Refused.{not_refused}
 use Rattle.ti_align.specs.SinglePart.{is_single_declared, singles}
 use Rattle.ti_align.proofs.Slice.{is_single_named, is_single_receiver, jump_at, around_at, work_acts}
 use Rattle.ti_align.proofs.Vars.{true_false, or_false, not_true, singles_drop, put_plain, put_singles, without_singles, without_plain}
-use Rattle.ti_align.proofs.Fine.{none_both, not_refused, kept_rule, plain_rule, refusals_in, fine_both, fine_head, Fine, FineMaybe, together_plain, together_first, together_second, loop_plain, loop_effect, update_effect, Within, body_within, OkWorks, NoneActs, before_ok, before_none}
+use Rattle.ti_align.proofs.Fine.{none_both, kept_rule, plain_rule, refusals_in, fine_head, Fine, FineMaybe, together_plain, together_first, together_second, loop_plain, loop_effect, update_effect, Within, body_within, OkWorks, NoneActs, before_ok, before_none, both_refusals}
 use Rattle.ti_align.proofs.Jumping.{acting_plain, plain_in}
 
 -- ---- methods
@@ -376,7 +377,7 @@ statement_fits q f left (s.If at c x) rest o g i w =
 statement_fits q f left (s.IfElse at c x y) rest o g i w =
     let p = q.setting.program in
     let a = around_at p f.method left in
-    let k = fine_both p (inside p a x) (inside p a y) (rules_of p a (s.IfElse at c x y) (inside p a x ++ inside p a y) i).1 in
+    let k = both_refusals p (inside p a x) (inside p a y) (rules_of p a (s.IfElse at c x y) (inside p a x ++ inside p a y) i).1 in
     let r = return_acts p f.method in
     let j = unwrap_or (jump_at p f.method left) false in
     then_giving _ (eval (env_of q f left) c rest) _ (λ v u. (
@@ -398,8 +399,8 @@ statement_fits q f left (s.For at first c update body) rest o g i w =
     let p = q.setting.program in
     let a = around_at p f.method left in
     let k = rules_of p a (s.For at first c update body) (inside_maybe p a first ++ (inside_maybe p a update ++ inside p (in_loop p a update body) body)) i in
-    let l = fine_both p (inside_maybe p a first) _ k.1 in
-    let n = fine_both p (inside_maybe p a update) _ l.1 in
+    let l = both_refusals p (inside_maybe p a first) _ k.1 in
+    let n = both_refusals p (inside_maybe p a update) _ l.1 in
     let u = none_both (refused_if (loop_acts p f.method update body && is_plain_condition p a c) S2 at) (refused_if (doings_of_maybe p (this_of f.method) update).jumps S2 at) k.0 in
     let r = return_acts p f.method in
     let j = unwrap_or (jump_at p f.method left) false in

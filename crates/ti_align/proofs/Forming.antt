@@ -25,6 +25,7 @@ use Rattle.ti_align.specs.Work.{has_dims}
 use Rattle.ti_align.proofs.Vars.{true_false, and_left, and_right}
 use Rattle.ti_align.proofs.Operating.{none_some, some_same, where_some}
 use Rattle.ti_lang.proofs.MeaningLaws.Dims.{dims_are, dim_is}
+use Rattle.ti_lang.proofs.MeaningLaws.TextAgrees.{how_many_is}
 use Rattle.ti_align.proofs.Evaluating.{never_called, from_or, and_then, mapped, both_there, joined_there, one_there, no_call, named_field, member_there}
 use Rattle.ti_align.proofs.Meant.{storable, formed, among, means, ExpMeant, RangeMeant, RangesMeant, FieldsMeant}
 
@@ -235,16 +236,6 @@ literal_formed n ts r e d a = by (all_ints ts) (n == 1) e
     by false true e = points_formed ts r e a
     by false false e = absurd (none_some r e)
 
-pub operands_many : (p : NumberedProgram) (s : ScopeContents) (xs : NumberedExps) (ts : List ValueType) → operands p s xs ≡ Some ts → length ts ≡ how_many xs
-operands_many p s e.NoExp ts h = ap length (sym (some_same [] ts h))
-operands_many p s (e.MoreExp x xs) ts h =
-    let j = joined_there (one (operand_type p s x)) (operands p s xs) ts h in
-    let k = one_there (operand_type p s x) j.0 j.2 in
-    ap length (sym j.4 ∙ ap (λ q. q ++ j.1) k.2) ∙ plus (length j.1) (how_many xs) (operands_many p s xs j.1 j.3)
-  where
-    plus : (a b : ℕ) → a ≡ b → suc a ≡ b + 1
-    plus a b h = omega arith
-
 -- ---- parts and members
 
 index_formed : (a r : ValueType) (ts : List ValueType) → index_type a ts ≡ Some r → Formed a → Formed r
@@ -342,7 +333,7 @@ module _ (p : NumberedProgram) (fields : FieldsMeant p) (m : NumberedMethod) (s 
     exp_formed (e.Point at parts) k type z =
         let q = and_then point_literal (operands p s parts) type (no_call (plain (option_and_then point_literal (operands p s parts))) type z).1 in
         let i = where_some (all_ints q.0) (t.Pt (length q.0)) type q.2 in
-        subst Formed i.1 (subst (λ n. is_dim n ≡ true) (sym (operands_many p s parts q.0 q.1)) k.0)
+        subst Formed i.1 (subst (λ n. is_dim n ≡ true) (sym (how_many_is p s parts q.0 q.1)) k.0)
     exp_formed (e.Rect at ranges) k type z =
         let q = and_then (rect_literal (range_count ranges)) (bounds p s ranges) type (no_call (plain (option_and_then (rect_literal (range_count ranges)) (bounds p s ranges))) type z).1 in
         literal_formed (range_count ranges) q.0 type q.2 k.0 (bounds_formed ranges k.1 q.0 q.1)

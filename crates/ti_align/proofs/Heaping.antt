@@ -34,7 +34,8 @@ use Rattle.ti_lang.specs.Meaning.Asking.{Wanted, NewThing, told}
 use Rattle.ti_lang.specs.Meaning.RegionsOf.{is_region, is_made, is_place}
 use Rattle.ti_lang.specs.Meaning.HeapAnswers.{Outcome, Answers, Impossible, where_some, possible_if, faults_if, makes, places, at_point, views, heap_answer, IsAnswered, more}
 use Rattle.ti_lang.proofs.MeaningLaws.Dims.{dim_is}
-use Rattle.ti_lang.proofs.MeaningLaws.Things.{made_once}
+use Rattle.ti_lang.proofs.MeaningLaws.Things.{made_once, fault_then, answer_same, views_then, placed}
+use Rattle.ti_lang.proofs.MeaningLaws.NewThings.{grid_then, class_then, same_name}
 use Rattle.ti_align.specs.Things.{Things, Grows, IsStorable, IsGridOf, IsPlaced, IsOf}
 use Rattle.ti_align.specs.Sound.{SuitsView, dims_viewed, IsFieldOf, IsThere, FitsAsked}
 use Rattle.ti_align.specs.Heap.{Elements, things_of, IsBlock, FieldsStorable, HeapFits, is_of_heap, elements_behind, MayHold, KeepsTypes}
@@ -44,17 +45,6 @@ use Rattle.ti_align.proofs.Forms.{zero_fits, long_zero, origin_point, empty_form
 
 -- ---- names
 
-pub id_same : (a b : Id) → same_id a b ≡ true → a ≡ b
-id_same a b h =
-    let three = and_left (a.maker == b.maker && a.serial == b.serial && a.owner == b.owner) (a.region == b.region) h in
-    let two = and_left (a.maker == b.maker && a.serial == b.serial) (a.owner == b.owner) three in
-    let m = eqb-true a.maker b.maker (and_left (a.maker == b.maker) (a.serial == b.serial) two) in
-    let s = eqb-true a.serial b.serial (and_right (a.maker == b.maker) (a.serial == b.serial) two) in
-    let o = eqb-true a.owner b.owner (and_right (a.maker == b.maker && a.serial == b.serial) (a.owner == b.owner) three) in
-    let r = eqb-true a.region b.region (and_right (a.maker == b.maker && a.serial == b.serial && a.owner == b.owner) (a.region == b.region) h) in
-    ap₂ (λ (x y : ℕ). record { maker = x; serial = y; owner = a.owner; region = a.region }) m s
-    ∙ ap₂ (λ (x y : ℕ). record { maker = b.maker; serial = b.serial; owner = x; region = y }) o r
-
 pub same_self : (a : Id) → same_id a a ≡ true
 same_self a =
     ap₂ (λ x y. x && y)
@@ -62,11 +52,11 @@ same_self a =
     (eq-eqb a.region a.region refl)
 
 pub object_is : (id : Id) (r : Answer) → is_object id r ≡ true → r ≡ Val (v.Obj (Some id))
-object_is id (Val (v.Obj (Some made))) h = ap (λ x. Val (v.Obj (Some x))) (sym (id_same id made h))
+object_is id (Val (v.Obj (Some made))) h = ap (λ x. Val (v.Obj (Some x))) (sym (same_name id made h))
 object_is id _ h = absurd (true_false (sym h))
 
 pub grid_is : (id : Id) (r : Answer) → is_grid id r ≡ true → r ≡ Val (v.Grid (Some id))
-grid_is id (Val (v.Grid (Some made))) h = ap (λ x. Val (v.Grid (Some x))) (sym (id_same id made h))
+grid_is id (Val (v.Grid (Some made))) h = ap (λ x. Val (v.Grid (Some x))) (sym (same_name id made h))
 grid_is id _ h = absurd (true_false (sym h))
 
 made_object : (a : Action) (r : Answer) (id : Id) → (is_making a && is_object id r) ≡ true → made_by a r ≡ Some id
@@ -75,35 +65,18 @@ made_object a r id h = ap (made_by a) (object_is id r (and_right (is_making a) _
 made_grid : (a : Action) (r : Answer) (id : Id) → (is_making a && is_grid id r) ≡ true → made_by a r ≡ Some id
 made_grid a r id h = ap (made_by a) (grid_is id r (and_right (is_making a) _ h)) ∙ ap (λ b. if b then Some id else None) (and_left (is_making a) _ h)
 
--- what has a class or is a grid was made
-class_was_made : (id : Id) (h : History) (c : ℕ) → class_of id h ≡ Some c → IsMade id h
-class_was_made id [] c z = absurd (none_some c z)
-class_was_made id (e ∷ h) c z = by (is_making e.act && is_object id e.answer) refl z (λ k. class_was_made id h c k)
-  where
-    by : (b : Bool) → (is_making e.act && is_object id e.answer) ≡ b → (if b then class_made e.act else class_of id h) ≡ Some c → (class_of id h ≡ Some c → IsMade id h) → IsMade id (e ∷ h)
-    by true k y ih = inl (made_object e.act e.answer id k)
-    by false k y ih = inr (ih y)
-
-grid_was_made : (id : Id) (h : History) (g : Grid) → grid_of id h ≡ Some g → IsMade id h
-grid_was_made id [] g z = absurd (none_some g z)
-grid_was_made id (e ∷ h) g z = by (is_making e.act && is_grid id e.answer) refl z (λ k. grid_was_made id h g k)
-  where
-    by : (b : Bool) → (is_making e.act && is_grid id e.answer) ≡ b → (if b then grid_made id e.act (λ viewed. grid_of viewed h) else grid_of id h) ≡ Some g → (grid_of id h ≡ Some g → IsMade id h) → IsMade id (e ∷ h)
-    by true k y ih = inl (made_grid e.act e.answer id k)
-    by false k y ih = inr (ih y)
-
 pub class_stays : (p : NumberedProgram) (h : History) (e : Entry) (id : Id) (c : ℕ) → IsAnswered p (e ∷ h) → class_of id h ≡ Some c → class_of id (e ∷ h) ≡ Some c
 class_stays p h e id c a z = by (is_making e.act && is_object id e.answer) refl
   where
     by : (b : Bool) → (is_making e.act && is_object id e.answer) ≡ b → (if is_making e.act && is_object id e.answer then class_made e.act else class_of id h) ≡ Some c
-    by true k = absurd (made_once p h e id a (made_object e.act e.answer id k) (class_was_made id h c z))
+    by true k = absurd (made_once p h e id a (made_object e.act e.answer id k) (class_then id h c z))
     by false k = if_false _ _ _ k ∙ z
 
 pub grid_of_stays : (p : NumberedProgram) (h : History) (e : Entry) (id : Id) (g : Grid) → IsAnswered p (e ∷ h) → grid_of id h ≡ Some g → grid_of id (e ∷ h) ≡ Some g
 grid_of_stays p h e id g a z = by (is_making e.act && is_grid id e.answer) refl
   where
     by : (b : Bool) → (is_making e.act && is_grid id e.answer) ≡ b → (if is_making e.act && is_grid id e.answer then grid_made id e.act (λ viewed. grid_of viewed h) else grid_of id h) ≡ Some g
-    by true k = absurd (made_once p h e id a (made_grid e.act e.answer id k) (grid_was_made id h g z))
+    by true k = absurd (made_once p h e id a (made_grid e.act e.answer id k) (grid_then id h g z))
     by false k = if_false _ _ _ k ∙ z
 
 -- ---- zeros
@@ -208,7 +181,7 @@ faults_not false kind o n z = n z
 possible_not : (b : Bool) (o : Outcome) → b ≡ true → (o ≡ Impossible → ⊥) → possible_if b o ≡ Impossible → ⊥
 possible_not b o t n z = n (sym (if_true b o Impossible t) ∙ z)
 
-answer_not : (r : Answer) → Answers r ≡ Impossible → ⊥
+pub answer_not : (r : Answer) → Answers r ≡ Impossible → ⊥
 answer_not r z = cc
 
 views_not : (v : Option FaultKind) (o : Outcome) → (o ≡ Impossible → ⊥) → views v o ≡ Impossible → ⊥
@@ -265,8 +238,8 @@ module _ (p : NumberedProgram) (elements : Elements) (h : History) (fits : HeapF
 -- ---- what is kept
 
 pub same_cells : (c o : Cell) → same_cell c o ≡ true → c ≡ o
-same_cells (Field a f) (Field b g) s = ap (λ i. Field i f) (id_same a b (and_left (same_id a b) (f == g) s)) ∙ ap (Field b) (eqb-true f g (and_right (same_id a b) (f == g) s))
-same_cells (Element a q) (Element b r) s = ap (λ i. Element i q) (id_same a b (and_left (same_id a b) _ s)) ∙ ap (Element b) (same_from q r (and_right (same_id a b) _ s))
+same_cells (Field a f) (Field b g) s = ap (λ i. Field i f) (same_name a b (and_left (same_id a b) (f == g) s)) ∙ ap (Field b) (eqb-true f g (and_right (same_id a b) (f == g) s))
+same_cells (Element a q) (Element b r) s = ap (λ i. Element i q) (same_name a b (and_left (same_id a b) _ s)) ∙ ap (Element b) (same_from q r (and_right (same_id a b) _ s))
 same_cells (Field a f) (Element b q) s = absurd (true_false (sym s))
 same_cells (Element a q) (Field b f) s = absurd (true_false (sym s))
 
@@ -342,20 +315,9 @@ abbrev answer_in : Outcome → Answer
 answer_in (Answers r) = r
 answer_in o = Done
 
-pub answer_same : (r s : Answer) → Answers r ≡ Answers s → r ≡ s
-answer_same r s z = ap answer_in z
-
-pub faults_answer : (b : Bool) (kind : FaultKind) (o : Outcome) (r : Answer) → faults_if b kind o ≡ Answers r → o ≡ Answers r
-faults_answer true kind o r z = cc
-faults_answer false kind o r z = z
-
 pub possible_answer : (b : Bool) (o : Outcome) (r : Answer) → possible_if b o ≡ Answers r → o ≡ Answers r
 possible_answer true o r z = z
 possible_answer false o r z = cc
-
-pub views_answer : (v : Option FaultKind) (o : Outcome) (r : Answer) → views v o ≡ Answers r → o ≡ Answers r
-views_answer None o r z = z
-views_answer (Some kind) o r z = cc
 
 pub no_fault : (v : Option FaultKind) (o : Outcome) (r : Answer) → views v o ≡ Answers r → v ≡ None
 no_fault None o r z = refl
@@ -365,10 +327,7 @@ pub some_answer : {A : Type 0} → (o : Option A) (a : A) (go : A → Outcome) (
 some_answer o a go r s z = sym (ap (λ x. where_some x go) s) ∙ z
 
 pub makes_answer : (p : NumberedProgram) (h : History) (i : ℕ) (a : Action) (made : Value) (r : Answer) → makes p h i a made ≡ Answers r → r ≡ Val made
-makes_answer p h i a made r z = answer_same _ _ (sym (faults_answer _ fault.HeapFull _ _ z))
-
-pub places_answer : (region : ℕ) (h : History) (o : Outcome) (r : Answer) → places region h o ≡ Answers r → o ≡ Answers r
-places_answer region h o r z = faults_answer _ fault.RegionGone _ _ (possible_answer _ _ _ z)
+makes_answer p h i a made r z = answer_same _ _ (sym (fault_then _ fault.HeapFull _ _ z))
 
 abbrev element_wanted : Wanted → ValueType
 element_wanted (NewThing (t.Grid element n is_local)) = element
@@ -444,7 +403,7 @@ module _ (p : NumberedProgram) (elements : Elements) (h : History) (answered : I
           by : (b : Bool) → same_id id new ≡ b → (if b then Some element else elements id) ≡ Some type
           by true q =
               let o = fits.blocks id type k in
-              absurd (made_once p h e id a (ap Some (sym (id_same id new q))) (grid_was_made id h o.0 o.1))
+              absurd (made_once p h e id a (ap Some (sym (same_name id new q))) (grid_then id h o.0 o.1))
           by false q = k
 
       may_write_none : (c : Cell) (x : Value) → written_by e.act h ≡ Some (c, x) → HoldsIn p elements h c x
@@ -479,10 +438,10 @@ module _ (p : NumberedProgram) (elements : Elements) (h : History) (answered : I
   )
   behind (act.PutField obj field value) wanted r k said = (kept_same (act.PutField obj field value) wanted r k said, grown_same (act.PutField obj field value) r said, λ q. _)
   behind (act.NewObj class region) wanted r k said =
-      let is : r ≡ Val (v.Obj (Some (new_id i region h))) = makes_answer p h i (act.NewObj class region) (v.Obj (Some (new_id i region h))) r (places_answer region h _ r (some_answer (zeros_of_class p class) k.0 _ r k.1 said)) in
+      let is : r ≡ Val (v.Obj (Some (new_id i region h))) = makes_answer p h i (act.NewObj class region) (v.Obj (Some (new_id i region h))) r (placed region h _ r (some_answer (zeros_of_class p class) k.0 _ r k.1 said)) in
       (kept_same (act.NewObj class region) wanted r k said, grown_same (act.NewObj class region) r said, λ q. subst (λ r. IsOf (things_of i elements (entry (act.NewObj class region) r ∷ h)) (t.Class class true) (told r)) (sym is) (object_fits class region (new_id i region h) refl))
   behind (act.NewGrid first domain region) wanted r k said =
-      let is : r ≡ Val (v.Grid (Some (new_id i region h))) = makes_answer p h i (act.NewGrid first domain region) (v.Grid (Some (new_id i region h))) r (places_answer region h _ r (possible_answer _ _ r said)) in
+      let is : r ≡ Val (v.Grid (Some (new_id i region h))) = makes_answer p h i (act.NewGrid first domain region) (v.Grid (Some (new_id i region h))) r (placed region h _ r (possible_answer _ _ r said)) in
       subst (λ wanted. Behind (act.NewGrid first domain region) wanted r) (sym k.2)
       (subst (λ r. Behind (act.NewGrid first domain region) (NewThing (t.Grid k.0 k.1 true)) r) (sym is)
       (grid_behind k.0 k.1 first domain region (new_id i region h) refl k.3 k.4 k.7 (said ∙ ap Answers is)))
@@ -491,12 +450,12 @@ module _ (p : NumberedProgram) (elements : Elements) (h : History) (answered : I
     grown_same (act.GetElem grid at) r said,
     λ q element n x.
         let v = element_value p elements h fits store element n grid at x in
-        let is : r ≡ Val v.0 = answer_same _ _ (sym (some_answer (cell_value p (cell_of x.0 at) h) v.0 _ _ v.1 (faults_answer _ fault.Bounds _ _ (possible_answer _ _ r (some_answer (grid_of grid h) x.0 _ r x.1 said))))) in
+        let is : r ≡ Val v.0 = answer_same _ _ (sym (some_answer (cell_value p (cell_of x.0 at) h) v.0 _ _ v.1 (fault_then _ fault.Bounds _ _ (possible_answer _ _ r (some_answer (grid_of grid h) x.0 _ r x.1 said))))) in
         of_stays _ _ element _ (grown_in grid.owner (act.GetElem grid at) r said) (subst (λ r. IsOf (things_of grid.owner elements h) element (told r)) (sym is) v.2),
   )
   behind (act.PutElem grid at value) wanted r k said = (kept_same (act.PutElem grid at value) wanted r k said, grown_same (act.PutElem grid at value) r said, λ q. _)
   behind (act.MakeView grid how) wanted r k said =
-      let is : r ≡ Val (v.Grid (Some (view_id i grid h))) = makes_answer p h i (act.MakeView grid how) (v.Grid (Some (view_id i grid h))) r (views_answer _ _ r (possible_answer _ _ r (some_answer (grid_of grid h) k.2.0 _ r k.2.1 said))) in (
+      let is : r ≡ Val (v.Grid (Some (view_id i grid h))) = makes_answer p h i (act.MakeView grid how) (v.Grid (Some (view_id i grid h))) r (views_then _ _ r (possible_answer _ _ r (some_answer (grid_of grid h) k.2.0 _ r k.2.1 said))) in (
         kept_same (act.MakeView grid how) wanted r k said,
         grown_same (act.MakeView grid how) r said,
         λ q element n x.

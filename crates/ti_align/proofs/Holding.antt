@@ -34,6 +34,7 @@ use Rattle.ti_lang.specs.Meaning.Runs.{World, CanTake, IsRun}
 use Rattle.ti_lang.specs.Meaning.Runs as run
 use Rattle.ti_lang.proofs.MeaningLaws.Steps.{after_same}
 use Rattle.ti_lang.proofs.MeaningLaws.Running.{taker, history_grows, run_answered}
+use Rattle.ti_lang.proofs.MeaningLaws.Things.{answer_same}
 use Rattle.ti_align.specs.Alignment.{most_procs, ArrivalsAgree}
 use Rattle.ti_align.specs.Owners.{MadeWith}
 use Rattle.ti_align.specs.Things.{Things, Grows, IsOf}
@@ -52,7 +53,7 @@ use Rattle.ti_align.proofs.Given.{Stands, ActsFine, step_fine}
 use Rattle.ti_align.proofs.Given as given_facts
 use Rattle.ti_align.proofs.Arrived.{is_own, more_own, more_other, back, Comes, before, now, comes, last_kind, made}
 use Rattle.ti_align.proofs.Running.{after_more, at_action}
-use Rattle.ti_align.proofs.Rounds.{RoundAnswer, told_now, acts_as, arrival_is, alike}
+use Rattle.ti_align.proofs.Rounds.{RoundAnswer, told_now, acts_as, arrival_is, alike, impossible}
 use Rattle.ti_align.proofs.Acted.{Acted, still, acted, acted_by, said_by}
 use Rattle.ti_align.proofs.Waiting.{waits_there}
 use Rattle.ti_align.proofs.Counted.{MakesFormed, Counted, none_counted, counted_more}
@@ -118,15 +119,6 @@ value_fits w a (deposit.Count n) value k z = absurd (none_value value z)
     none_value y z = cc
 
 -- ---- one entry more
-
-answer_same : (r x : Answer) → Answers r ≡ Answers x → r ≡ x
-answer_same r x z = cc
-
-pub impossible : (r : Answer) → Impossible ≡ Answers r → ⊥
-impossible r z = cc
-
-same_type : (o : Option ValueType) (a b : ValueType) → o ≡ Some a → o ≡ Some b → a ≡ b
-same_type o a b x y = cc
 
 -- a value that is answered
 pub valued : (o : Option Value) (r : Answer) → answers_value o ≡ Answers r → (x : Value) × (o ≡ Some x) × (r ≡ Val x)

@@ -33,7 +33,8 @@ use Rattle.ti_lang.specs.Meaning.HeapOf.{new_id, view_id, is_grid, grid_made, gr
 use Rattle.ti_lang.specs.Meaning.HeapAnswers.{Answers, where_some, possible_if, faults_if, makes, places, at_point, views, answers_value, heap_answer, IsAnswered, more}
 use Rattle.ti_lang.specs.Meaning.HeapAnswers as heap
 use Rattle.ti_lang.specs.Meaning.Runs.{World, CanTake, IsRun}
-use Rattle.ti_lang.proofs.MeaningLaws.Things.{possible_then, some_then}
+use Rattle.ti_lang.proofs.MeaningLaws.Things.{possible_then, some_then, fault_then, answer_same, views_then, placed}
+use Rattle.ti_lang.proofs.MeaningLaws.NewThings.{same_name}
 use Rattle.ti_align.specs.Alignment.{ArrivalsAgree}
 use Rattle.ti_align.specs.Owners.{MadeWith}
 use Rattle.ti_align.specs.Things.{Things, seen_by, IsGridOf, IsOf}
@@ -44,7 +45,7 @@ use Rattle.ti_align.specs.Dangling.{Lives, IfNamedLives}
 use Rattle.ti_align.proofs.Vars.{true_false, or_false, and_right, not_true}
 use Rattle.ti_align.proofs.Operating.{none_some, some_same}
 use Rattle.ti_align.proofs.Computing.{grows_not, grid_stays}
-use Rattle.ti_align.proofs.Heaping.{id_same, held_in, field_value, makes_answer, places_answer, views_answer, possible_answer, faults_answer, some_answer, answer_same}
+use Rattle.ti_align.proofs.Heaping.{held_in, field_value, makes_answer, possible_answer, some_answer}
 use Rattle.ti_align.proofs.Staying.{stays}
 use Rattle.ti_align.proofs.Arrived.{reached}
 use Rattle.ti_align.proofs.Rounds.{told_now, depart_is}
@@ -149,9 +150,9 @@ block_region p (e ∷ h) (more answered said) id g k = by (is_making e.act && is
     made (act.NewGrid first domain region) q i m f = sym (ap (λ (x : Grid). x.block.region) (some_same (whole_grid id first domain) g m))
     made (act.MakeView viewed how) q i m f =
         let s = some_then (grid_of viewed h) (λ k. possible_if (suits how k.domain) (views (view_fault how k.domain) (makes p h e.proc (act.MakeView viewed how) (v.Grid (Some (view_id e.proc viewed h)))))) e.answer q in
-        let r : e.answer ≡ Val (v.Grid (Some (view_id e.proc viewed h))) = makes_answer p h e.proc (act.MakeView viewed how) _ e.answer (views_answer (view_fault how s.0.domain) _ e.answer (possible_answer (suits how s.0.domain) _ e.answer s.2)) in
+        let r : e.answer ≡ Val (v.Grid (Some (view_id e.proc viewed h))) = makes_answer p h e.proc (act.MakeView viewed how) _ e.answer (views_then (view_fault how s.0.domain) _ e.answer (possible_answer (suits how s.0.domain) _ e.answer s.2)) in
         let same : view how s.0 ≡ g = some_same (view how s.0) g (sym (ap (option_map (view how)) s.1) ∙ m) in
-        sym (ap (λ (x : Grid). x.block.region) same) ∙ f viewed s.0 s.1 ∙ sym (ap (λ (x : Id). x.region) (id_same id (view_id e.proc viewed h) (subst (λ r. is_grid id r ≡ true) r i)))
+        sym (ap (λ (x : Grid). x.block.region) same) ∙ f viewed s.0 s.1 ∙ sym (ap (λ (x : Id). x.region) (same_name id (view_id e.proc viewed h) (subst (λ r. is_grid id r ≡ true) r i)))
     made (act.NewObj class region) q i m f = absurd (none_some g m)
     made (act.GetField obj field) q i m f = absurd (none_some g m)
     made (act.PutField obj field value) q i m f = absurd (none_some g m)
@@ -206,21 +207,21 @@ module _ (p : NumberedProgram) (h later : History) (i : ℕ) (r : Answer) (w u :
       let s = some_answer (grid_of grid h) there.2.0 (λ g. at_point g at (answers_value (cell_value p (cell_of g at) h))) r g q in
       let block : Lives later there.2.0.block = subst (λ n. is_gone n later ≡ false) (sym (block_region p h answered grid there.2.0 g)) (used_lives later w p (act.GetElem grid at) wanted there) in
       of_living later (seen_by grid.owner u) element (told r) (k element n (grid_in element n grid f))
-      (λ v. value_answered (cell_of there.2.0 at) block (faults_answer _ fault.Bounds _ r (possible_answer (at.dim == there.2.0.domain.dim) _ r s)))
+      (λ v. value_answered (cell_of there.2.0 at) block (fault_then _ fault.Bounds _ r (possible_answer (at.dim == there.2.0.domain.dim) _ r s)))
   fits_living gone (act.NewObj class region) wanted is there q k =
       let s = some_then (zeros_of_class p class) (λ zeros. places region h (makes p h i (act.NewObj class region) (v.Obj (Some (new_id i region h))))) r q in
       of_living later u (t.Class class true) (told r) k
-      (λ v. new_lives (act.NewObj class region) (new_id i region h) _ refl (gone region (placed_lives region h _ r s.2)) (places_answer region h _ r s.2))
+      (λ v. new_lives (act.NewObj class region) (new_id i region h) _ refl (gone region (placed_lives region h _ r s.2)) (placed region h _ r s.2))
   fits_living gone (act.NewGrid first domain region) wanted is there q k =
       let s = (possible_then (is_dim domain.dim) (places region h (makes p h i (act.NewGrid first domain region) (v.Grid (Some (new_id i region h))))) r q).1 in
       λ element n m.
       of_living later u (t.Grid element n true) (told r) (k element n m)
-      (λ v. new_lives (act.NewGrid first domain region) (new_id i region h) _ refl (gone region (placed_lives region h _ r s)) (places_answer region h _ r s))
+      (λ v. new_lives (act.NewGrid first domain region) (new_id i region h) _ refl (gone region (placed_lives region h _ r s)) (placed region h _ r s))
   fits_living gone (act.MakeView grid how) wanted is there q k =
       let s = some_then (grid_of grid h) (λ k. possible_if (suits how k.domain) (views (view_fault how k.domain) (makes p h i (act.MakeView grid how) (v.Grid (Some (view_id i grid h)))))) r q in
       λ element n f.
       of_living later (seen_by grid.owner u) (t.Grid element (dims_viewed how n) true) (told r) (k element n (grid_in element n grid f))
-      (λ v. new_lives (act.MakeView grid how) (view_id i grid h) _ refl (used_lives later w p (act.MakeView grid how) wanted there) (views_answer (view_fault how s.0.domain) _ r (possible_answer (suits how s.0.domain) _ r s.2)))
+      (λ v. new_lives (act.MakeView grid how) (view_id i grid h) _ refl (used_lives later w p (act.MakeView grid how) wanted there) (views_then (view_fault how s.0.domain) _ r (possible_answer (suits how s.0.domain) _ r s.2)))
   fits_living gone (act.DomainOf grid) wanted is there q k = λ element n f. k element n (grid_in element n grid f)
   fits_living gone (act.PutField obj field value) wanted is there q k = tt
   fits_living gone (act.PutElem grid at value) wanted is there q k = tt

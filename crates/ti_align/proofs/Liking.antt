@@ -32,11 +32,12 @@ use Rattle.ti_rules.specs.declared.rule.Rule.TheVariants.{S5, S9}
 use Rattle.ti_rules.specs.First.{refused_if}
 use Rattle.ti_rules.specs.Standing.{Around}
 use Rattle.ti_rules.specs.SingleRules.{is_plain_part, argument_refusals, params_refusals, call_refusals, whole_refusals, word_refusals, result_refusals, effect_refusals}
+use Rattle.ti_rules.proofs.Sound.Refused.{not_refused}
 use Rattle.ti_align.specs.SinglePart.{singles}
 use Rattle.ti_align.proofs.Slice.{is_single_receiver, jump_at, single_bound, single_calling}
 use Rattle.ti_align.proofs.Vars.{true_false, if_true, if_false, singles_keep, singles_drop, find_single, put_singles}
 use Rattle.ti_align.proofs.Single.{env_part, Rel, Same, rel_then, converted_same, operated_same, single_same}
-use Rattle.ti_align.proofs.Fine.{none_both, not_refused, kept_rule, NoneActs}
+use Rattle.ti_align.proofs.Fine.{none_both, kept_rule, NoneActs}
 use Rattle.ti_align.proofs.Fitting.{Marked, FineMethod, singles_at, into_plain, giving_followed}
 
 -- ---- combinators

@@ -35,14 +35,16 @@ use Rattle.ti_lang.specs.Meaning.Performing.{condition, declared_in, performed}
 use Rattle.ti_rules.specs.declared.rule.Rule.TheVariants.{S1, S3, S4, S7, S8}
 use Rattle.ti_rules.specs.Standing.{Around, in_foreach, inside}
 use Rattle.ti_rules.specs.SingleRules.{has_effects, is_plain_condition, call_refusals, whole_refusals, is_delete, initial_refusals, return_refusals}
+use Rattle.ti_rules.proofs.Sound.Refused.{not_refused}
 use Rattle.ti_align.specs.SinglePart.{singles}
 use Rattle.ti_align.proofs.Slice.{is_single_receiver, jump_at, around_at, work_acts, exchanging, single_calling, single_value, single_initial, single_member, single_alone, single_return, single_statement, single_performed}
 use Rattle.ti_align.proofs.Vars.{true_false, if_true, if_false, without_singles}
 use Rattle.ti_align.proofs.Single.{env_part, Rel, Same, rel_then, guarded_same, converted_same, single_same}
-use Rattle.ti_align.proofs.Fine.{none_both, not_refused, kept_rule, Fine, OkWorks}
+use Rattle.ti_align.proofs.Fine.{none_both, kept_rule, Fine, OkWorks}
 use Rattle.ti_align.proofs.Fitting.{FineMethod, FineMethods, OneFine, at_fine, behind_fine, singles_at, target_same, value_rule, rules_of}
 use Rattle.ti_align.proofs.Jumping.{acting_true}
 use Rattle.ti_align.proofs.Liking.{rel_skip, Like, receives_single, receives_dropped, called_as, result_single, calling_single}
+use Rattle.ti_align.proofs.Operating.{or_one}
 
 -- the method that is called is one of the program
 pub method_fine : (p : NumberedProgram) (t : Option ℕ) (x : NumberedExp) → FineMethods p p.methods → OneFine p (called_method p t x)
@@ -198,10 +200,6 @@ module _ (q : Process) (f : Frame) (left : List Work) (fine : FineMethods q.sett
 
 -- ---- statements
 
-pub or_plain_true : (b : Bool) → (b || false) ≡ true → b ≡ true
-or_plain_true true h = refl
-or_plain_true false h = h
-
 pub step_true : (t : Bool) → ((t || false) || false) ≡ true → (t || false) ≡ true
 step_true true h = refl
 step_true false h = h
@@ -276,7 +274,7 @@ statement_single q f left (s.Foreach at variable domain body) rest g i h =
     let p = q.setting.program in
     let a = around_at p f.method left in
     let r = (rules_of p a (s.Foreach at variable domain body) (inside p (in_foreach p a variable domain body) body) i).0 in
-    rel_then (Like p f.method left) (eval (env_of q f left) domain) (eval (env_part (env_of q f left)) domain) _ _ rest (single_same (env_of q f left) (singles_at (around_at q.setting.program f.method left)) domain rest (kept_rule _ _ (not_refused _ S3 at r) (or_plain_true _ h))) (λ v u. (_, refl, refl))
+    rel_then (Like p f.method left) (eval (env_of q f left) domain) (eval (env_part (env_of q f left)) domain) _ _ rest (single_same (env_of q f left) (singles_at (around_at q.setting.program f.method left)) domain rest (kept_rule _ _ (not_refused _ S3 at r) (or_one _ h))) (λ v u. (_, refl, refl))
 statement_single q f left (s.Break at) rest g i h = (_, refl, (refl, jump_true (jump_at q.setting.program f.method left) h))
 statement_single q f left (s.Continue at) rest g i h = (_, refl, (refl, jump_true (jump_at q.setting.program f.method left) h))
 statement_single q f left (s.Return at value) rest g i h = return_single q f left at value rest (rules_of q.setting.program (around_at q.setting.program f.method left) (s.Return at value) [] i).0

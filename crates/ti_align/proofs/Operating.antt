@@ -55,7 +55,7 @@ dims_same : (b : Bool) (n : ℕ) (r : ValueType) → option_map t.Dm (if b then 
 dims_same true n r e = refl
 dims_same false n r e = absurd (none_some r e)
 
-or_one : (b : Bool) → (b || false) ≡ true → b ≡ true
+pub or_one : (b : Bool) → (b || false) ≡ true → b ≡ true
 or_one true h = refl
 or_one false h = absurd (true_false (sym h))
 

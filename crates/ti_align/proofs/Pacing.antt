@@ -114,9 +114,6 @@ Reached n F gone p ms q = Ok n q × ((c : ℕ) × Paced n F gone (slice p) ms c 
 less_by : (a b c e : ℕ) → a ≤ b → b + c ≤ e → a + c ≤ e
 less_by a b c e x y = omega (arith, x, y)
 
-same_sum : (a c e : ℕ) → a + c ≤ e → a + c ≤ e
-same_sum a c e x = x
-
 tick_sum : (a b c e : ℕ) → b ≡ a + 1 → b + c ≤ e → a + (c + 1) ≤ e
 tick_sum a b c e x y = omega (arith, x, y)
 

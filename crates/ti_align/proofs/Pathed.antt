@@ -32,11 +32,12 @@ use Rattle.ti_align.specs.Slice.{answers_at_departures, deleted_at}
 use Rattle.ti_align.proofs.Ways.{Asked, Meeting, Came, Left, asking, answers_left}
 use Rattle.ti_align.proofs.FitWays.{FitWay, fit_then, fit_reach, fit_one}
 use Rattle.ti_align.proofs.FitWays as way
-use Rattle.ti_align.proofs.Vars.{true_false, not_true, if_true, if_false}
+use Rattle.ti_align.proofs.Vars.{true_false, not_true, if_true, if_false, or_right, or_left}
 use Rattle.ti_align.proofs.Entries.{departures_both, arrivals_both, own}
-use Rattle.ti_align.proofs.Arrived.{is_own, more_other, at_other, at_last, one_own}
+use Rattle.ti_align.proofs.Arrived.{is_own, more_other, at_other, at_last, one_own, arrival_other, arrival_own}
 use Rattle.ti_align.proofs.Running.{meeting, Grows, still, acted, grows, left_both, after_more}
 use Rattle.ti_align.proofs.Pacing.{deletes_any, Free}
+use Rattle.ti_align.proofs.Rounds.{impossible}
 
 -- ---- what stands at the end of meetings
 
@@ -89,21 +90,13 @@ abbrev pub AllDeleted : Option rounds.Arrival → List ℕ → Type 0
 AllDeleted a [] = Unit {0}
 AllDeleted a (r ∷ rs) = (is_delete_of r a ≡ true) × AllDeleted a rs
 
-or_second : (a b : Bool) → b ≡ true → (a || b) ≡ true
-or_second true b h = refl
-or_second false b h = h
-
-or_first : (a b : Bool) → a ≡ true → (a || b) ≡ true
-or_first true b h = refl
-or_first false b h = absurd (true_false (sym h))
-
 gone_on : (e : Entry) (h : History) (rs : List ℕ) → AllGone h rs → AllGone (e ∷ h) rs
 gone_on e h [] g = tt
-gone_on e h (r ∷ rs) g = (or_second (is_departure e.act && is_delete_of r (last_arrival e.proc h)) (is_gone r h) g.0, gone_on e h rs g.1)
+gone_on e h (r ∷ rs) g = (or_right (is_departure e.act && is_delete_of r (last_arrival e.proc h)) (is_gone r h) g.0, gone_on e h rs g.1)
 
 gone_now : (e : Entry) (h : History) (rs : List ℕ) → is_departure e.act ≡ true → AllDeleted (last_arrival e.proc h) rs → AllGone (e ∷ h) rs
 gone_now e h [] d g = tt
-gone_now e h (r ∷ rs) d g = (or_first (is_departure e.act && is_delete_of r (last_arrival e.proc h)) (is_gone r h) (ap₂ (λ a b. a && b) d g.0), gone_now e h rs d g.1)
+gone_now e h (r ∷ rs) d g = (or_left (is_departure e.act && is_delete_of r (last_arrival e.proc h)) (is_gone r h) (ap₂ (λ a b. a && b) d g.0), gone_now e h rs d g.1)
 
 gone_all : (h : History) (rs qs : List ℕ) → AllGone h rs → AllGone h qs → AllGone h (rs ++ qs)
 gone_all h [] qs f g = g
@@ -116,10 +109,6 @@ deleted_now coll.Barrier arg given = tt
 deleted_now coll.Broadcast arg given = tt
 deleted_now coll.Exchange arg given = tt
 deleted_now coll.MakeRegion arg given = tt
-
--- an arrival that is answered deletes no region that is gone
-impossible : (r : Answer) → Impossible ≡ Answers r → ⊥
-impossible r e = cc
 
 fault : (k : FaultKind) (r : Answer) → heap.Faults k ≡ Answers r → ⊥
 fault k r e = cc
@@ -150,12 +139,6 @@ free_now h coll.Exchange arg r rs e g = none_any ℕ rs
 free_now h coll.MakeRegion arg r rs e g = none_any ℕ rs
 
 -- ---- one entry more
-
-last_still : (i : ℕ) (e : Entry) (h : History) → is_own i e ≡ false → last_arrival i (e ∷ h) ≡ last_arrival i h
-last_still i e h k = at_other i (arrivals i (e ∷ h)) e h k ∙ ap (λ n. arrival_at i n h) (more_other i e h k)
-
-last_new : (i : ℕ) (e : Entry) (h : History) → is_own i e ≡ true → last_arrival i (e ∷ h) ≡ arrival_in e.act
-last_new i e h k = at_last i (arrivals i (e ∷ h)) e h k (eq-eqb _ _ refl)
 
 -- the arrival of a process behind which no departure of it stands
 abbrev pub met_by : Entry → Action → Option SliceStep → Option SliceStep
@@ -227,7 +210,7 @@ still_path s es all j e ms p z k w d o q =
       told = o.told ∙ sym d;
       free = o.free;
       gone = subst (λ h. AllGone h (gone_after [] [] ms)) (sym grown) (gone_on e (history_of es) (gone_after [] [] ms) o.gone);
-      pend = subst (λ h. AllDeleted (last_arrival j h) (pend_after [] ms)) (sym grown) (subst (λ a. AllDeleted a (pend_after [] ms)) (sym (last_still j e (history_of es) none)) o.pend);
+      pend = subst (λ h. AllDeleted (last_arrival j h) (pend_after [] ms)) (sym grown) (subst (λ a. AllDeleted a (pend_after [] ms)) (sym (arrival_other j e (history_of es) none)) o.pend);
       met = o.met ∙ sym (ap (met_in j) grown ∙ met_still j e (history_of es) none (calm es all j e z d));
     }
 
@@ -252,9 +235,9 @@ module _ (s : Setting) (es : List Entry) (j : ℕ) (at : Place) (r : Answer) whe
 
   pend_one : (a : Action) (pend : List ℕ) → AllDeleted (last_arrival j (history_of es)) pend → AllDeleted (last_arrival j (entry a ∷ history_of es)) (pend_after pend (meeting at a r))
   pend_one (act.Arrive kind arg given) pend d =
-      subst (λ x. AllDeleted x (deleted_at kind arg)) (sym (last_new j (entry (act.Arrive kind arg given)) (history_of es) (ap (λ b. b && true) (eq-eqb j j refl)))) (deleted_now kind arg given)
+      subst (λ x. AllDeleted x (deleted_at kind arg)) (sym (arrival_own j (entry (act.Arrive kind arg given)) (history_of es) (ap (λ b. b && true) (eq-eqb j j refl)))) (deleted_now kind arg given)
   pend_one act.Depart pend d = tt
-  pend_one a pend d = subst (λ x. AllDeleted x pend) (sym (last_still j (entry a) (history_of es) (not_own a refl))) d
+  pend_one a pend d = subst (λ x. AllDeleted x pend) (sym (arrival_other j (entry a) (history_of es) (not_own a refl))) d
 
   met_one : (a : Action) (x : Option SliceStep) → met_after x (meeting at a r) ≡ (if j == j then met_by (entry a) a x else x)
   met_one a x = by a ∙ sym (if_true (j == j) _ _ (eq-eqb j j refl))

@@ -16,7 +16,7 @@ use Rattle.ti_lang.specs.Meaning.Jumps.{has_mark}
 use Rattle.ti_lang.specs.Meaning.Steps.{Step, To, At, Faults, spends, ticks, valued, most_frames, moves, works, runs, steps}
 use Rattle.ti_lang.specs.Meaning.NextStep.{Reaches, here, later, After, none, more}
 use Rattle.ti_lang.specs.Meaning.Histories.{history_of, is_answered, entries_of, answers_of}
-use Rattle.ti_lang.specs.Meaning.Runs.{IsRun}
+use Rattle.ti_lang.specs.Meaning.Runs.{World, IsRun}
 use Rattle.ti_lang.proofs.MeaningLaws.Limits as limits
 use Rattle.ti_align.proofs.Vars.{true_false}
 use Rattle.ti_align.proofs.Running.{on_way}
@@ -89,7 +89,7 @@ adds a b c n d h k l = omega (arith, h, k, l)
 plus_none : (a : ℕ) → a + 0 ≤ a
 plus_none a = omega arith
 
-after_pays : (p q : Process) (rs : List Answer) → After p rs q → p.spent + length rs ≤ q.spent
+pub after_pays : (p q : Process) (rs : List Answer) → After p rs q → p.spent + length rs ≤ q.spent
 after_pays p q [] none = plus_none p.spent
 after_pays p q (r ∷ rs) (more {q = x} {go = go} a b c) =
     adds p.spent x.spent (go r).spent (length rs) q.spent (reach_pays p x a) ((subst (Pays x) b (pays_steps x x.wait)) r) (after_pays (go r) q rs c)
@@ -120,13 +120,14 @@ back p i [] = refl
 back p i (e ∷ es) =
     ap (λ x. count_by p (entries_of i x)) (reverse-append (e ∷ []) es) ∙ count_both p i (reverse es) (e ∷ []) ∙ swapped _ _ _ 0 (back p i es) ∙ sym (count_both p i (e ∷ []) es)
 
-bounded : (a b c d : ℕ) → a ≡ b → b ≤ c → 0 + c ≤ d → a ≤ d
+bounded : (a b c d : ℕ) → a ≤ b → 0 + b ≤ c → c ≤ d → a ≤ d
 bounded a b c d h k l = omega (arith, h, k, l)
 
--- in a run no process has done more of a kind than it has ticks
-pub at_most_fuel : (s : Setting) (es : List Entry) → IsRun s es → (i : ℕ) (p : Entry → Bool) → ((e : Entry) → p e ≡ true → is_answered e ≡ true) → count_by p (entries_of i (history_of es)) ≤ s.fuel
-at_most_fuel s es w i p h =
-    let o = on_way s es w i in
-    through _ o.process.spent s.fuel
-    (bounded (count_by p (entries_of i (history_of es))) (count_by p (entries_of i es)) (length (answers_of i es)) o.process.spent (back p i es) (counted p h (entries_of i es)) (after_pays (begin s i) o.process (answers_of i es) o.world))
-    (limits.within s i (answers_of i es) o.process o.world).0
+-- a process has done no more of a kind than it has ticks
+pub no_more_than_fuel : (s : Setting) (es : List Entry) (i : ℕ) (p : Process) → World s es i p → (f : Entry → Bool) → ((e : Entry) → f e ≡ true → is_answered e ≡ true) → count_by f (entries_of i es) ≤ s.fuel
+no_more_than_fuel s es i p w f h =
+    bounded (count_by f (entries_of i es)) (length (answers_of i es)) p.spent s.fuel (counted f h (entries_of i es)) (after_pays (begin s i) p (answers_of i es) w) (limits.within s i (answers_of i es) p w).0
+
+-- nor has one in a run
+pub at_most_fuel : (s : Setting) (es : List Entry) → IsRun s es → (i : ℕ) (f : Entry → Bool) → ((e : Entry) → f e ≡ true → is_answered e ≡ true) → count_by f (entries_of i (history_of es)) ≤ s.fuel
+at_most_fuel s es w i f h = let o = on_way s es w i in subst (λ n. n ≤ s.fuel) (sym (back f i es)) (no_more_than_fuel s es i o.process o.world f h)

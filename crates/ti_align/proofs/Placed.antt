@@ -20,12 +20,12 @@ use Rattle.ti_align.specs.Heap.{Elements, things_of}
 use Rattle.ti_align.specs.Typed.{RunTyped}
 use Rattle.ti_align.specs.Placed.{IsPlacedIn, region_of_making, ThingsPlaced}
 use Rattle.ti_align.proofs.Vars.{and_right}
-use Rattle.ti_align.proofs.Operating.{none_some, some_same}
-use Rattle.ti_align.proofs.Ranged.{object_answer, grid_answer, view_answer, object_named, grid_named, or_cases}
+use Rattle.ti_align.proofs.Operating.{none_some, some_same, or_either}
+use Rattle.ti_align.proofs.Ranged.{object_answer, grid_answer, view_answer, object_named, grid_named}
 
 -- a place for things, by its test
 place_of : (h : History) (r : ℕ) → is_place r h ≡ true → IsPlacedIn h r
-place_of h r z = by (or_cases (r == 0) (is_made r h) z)
+place_of h r z = by (or_either (r == 0) (is_made r h) z)
   where
     by : ((r == 0) ≡ true) ⊎ (is_made r h ≡ true) → IsPlacedIn h r
     by (inl z) = inl (eqb-true r 0 z)

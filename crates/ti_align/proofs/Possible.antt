@@ -36,8 +36,9 @@ use Rattle.ti_align.proofs.Entries.{own, other, arrivals_both}
 use Rattle.ti_align.proofs.Arrived.{more_own, back, Comes, before, now, comes, there, last_kind}
 use Rattle.ti_align.proofs.Running.{at_action}
 use Rattle.ti_align.proofs.Aligning.{way_next}
-use Rattle.ti_align.proofs.Rounds.{acts_as, arrive_answered, arrival_is, left_one, alike}
+use Rattle.ti_align.proofs.Rounds.{acts_as, arrive_answered, arrival_is, left_one, alike, root_same, depart_answered}
 use Rattle.ti_align.proofs.Given.{HasValue, ArrivalFine, step_fine, stands}
+use Rattle.ti_align.proofs.Heaping.{answer_not}
 
 -- ---- what processes have given
 
@@ -105,15 +106,12 @@ departs_is e k = by e.act k
     by act.Depart k = refl
     by _ k = absurd (true_false (sym k))
 
-depart_answered : (e : Entry) → is_departure e.act ≡ true → is_answered e ≡ true
-depart_answered e k = ap (λ (a : Action). is_answered (record e { act = a })) (departs_is e k)
-
 was_ready : (s : Setting) (es : List Entry) (i j : ℕ) (e : Entry) → CanTake s es i e → is_departure e.act ≡ true → j < s.procs → departures i es < arrivals j es
 was_ready s es i j e t k l =
     let n : t.next ≡ next.Act e.place act.Depart = acts_as s es i t.next e t.entry (depart_answered e k) ∙ ap (next.Act e.place) (departs_is e k) in
     subst (IsReady s es i) n t.ready j l
 
-all_came : (s : Setting) (es : List Entry) → IsRun s es → (i j : ℕ) → j < s.procs → departures i es ≤ arrivals j es
+pub all_came : (s : Setting) (es : List Entry) → IsRun s es → (i j : ℕ) → j < s.procs → departures i es ≤ arrivals j es
 all_came s es run.none i j l = zero_least
   where
     zero_least : 0 ≤ 0
@@ -136,19 +134,13 @@ all_came s all (run.more {es = es} {i = p} {e = e} w t y) i j l =
 
 -- ---- outcomes
 
-answered : (r : Answer) → Answers r ≡ Impossible → ⊥
-answered r e = cc
-
 faulted : (k : FaultKind) → Faults k ≡ Impossible → ⊥
 faulted k e = cc
 
 -- a value that was given
 was_given : (h : History) (i who n : ℕ) (b : Arrival) → arrivals i h ≡ n → arrival_at who n h ≡ Some b → HasValue b.deposit → answers_value (given i who h) ≡ Impossible → ⊥
 was_given h i who n b c z v k =
-    answered _ (sym (ap answers_value (ap (λ (o : Option Arrival). option_and_then (λ (a : Arrival). value_in a.deposit) o) (ap (λ m. arrival_at who m h) c ∙ z) ∙ v.1)) ∙ k)
-
-root_same : (a : Option ℕ) (m n : ℕ) → a ≡ Some m → a ≡ Some n → m ≡ n
-root_same a m n x y = cc
+    answer_not _ (sym (ap answers_value (ap (λ (o : Option Arrival). option_and_then (λ (a : Arrival). value_in a.deposit) o) (ap (λ m. arrival_at who m h) c ∙ z) ∙ v.1)) ∙ k)
 
 -- the root's own deposit
 root_value : (procs root : ℕ) (kind : CollKind) (arg : Option ℕ) (d : Deposit) → kind ≡ coll.Broadcast → arg ≡ Some root → ArrivalFine procs root kind arg d → HasValue d
@@ -172,16 +164,16 @@ module _ (s : Setting) (es : List Entry) (w : IsRun s es) (agree : ArrivalsAgree
 
   departs_possible : (i d : ℕ) (kind : CollKind) (arg : Option ℕ) (a : Arrival) → arrival_at i (suc d) (history_of es) ≡ Some a → a.kind ≡ kind → a.arg ≡ arg → arrivals i es ≡ suc d
       → ((j : ℕ) → j < s.procs → d < arrivals j es) → ArrivalFine s.procs i kind arg a.deposit → departs s.program (history_of es) i kind arg ≡ Impossible → ⊥
-  departs_possible i d coll.Barrier arg a z k l c r f o = answered _ o
-  departs_possible i d coll.Exchange arg a z k l c r f o = answered _ o
-  departs_possible i d coll.MakeRegion arg a z k l c r f o = answered _ o
+  departs_possible i d coll.Barrier arg a z k l c r f o = answer_not _ o
+  departs_possible i d coll.Exchange arg a z k l c r f o = answer_not _ o
+  departs_possible i d coll.MakeRegion arg a z k l c r f o = answer_not _ o
   departs_possible i d coll.DeleteRegion arg a z k l c r f o =
       go (not (was_left (arrivals i (history_of es)) (history_of es)) && is_in_use s.program f.0 (arrivals i (history_of es)) (history_of es))
       (sym (ap (leaves_delete s.program (history_of es) (arrivals i (history_of es))) f.1) ∙ o)
     where
       go : (b : Bool) → (if b then Faults RegionInUse else Answers Done) ≡ Impossible → ⊥
       go true x = faulted _ x
-      go false x = answered _ x
+      go false x = answer_not _ x
   departs_possible i d coll.Broadcast arg a z k l c r f o =
       let h = history_of es in
       let root = f.0 in
@@ -243,13 +235,13 @@ module _ (s : Setting) (es : List Entry) (w : IsRun s es) (agree : ArrivalsAgree
   pub never : ThingsThere s es → (i : ℕ) → i < s.procs → (p : Process) → World s es i p → (at : Place) (a : Action) → IsNext p (next.Act at a) → IsReady s es i (next.Act at a) → is_delete a ≡ false → heap_answer s.program (history_of es) i a ≡ Impossible → ⊥
   never there i l p v at act.Depart n r k o = depart_possible i p v at n r o
   never there i l p v at (act.Take who) n r k o = take_possible i who p v at n o
-  never there i l p v at (act.Print literal value) n r k o = answered _ o
-  never there i l p v at act.End n r k o = answered _ o
-  never there i l p v at (act.Fault kind) n r k o = answered _ o
-  never there i l p v at (act.Arrive coll.Barrier arg d) n r k o = answered _ o
-  never there i l p v at (act.Arrive coll.Broadcast arg d) n r k o = answered _ o
-  never there i l p v at (act.Arrive coll.Exchange arg d) n r k o = answered _ o
-  never there i l p v at (act.Arrive coll.MakeRegion arg d) n r k o = answered _ o
+  never there i l p v at (act.Print literal value) n r k o = answer_not _ o
+  never there i l p v at act.End n r k o = answer_not _ o
+  never there i l p v at (act.Fault kind) n r k o = answer_not _ o
+  never there i l p v at (act.Arrive coll.Barrier arg d) n r k o = answer_not _ o
+  never there i l p v at (act.Arrive coll.Broadcast arg d) n r k o = answer_not _ o
+  never there i l p v at (act.Arrive coll.Exchange arg d) n r k o = answer_not _ o
+  never there i l p v at (act.Arrive coll.MakeRegion arg d) n r k o = answer_not _ o
   never there i l p v at (act.Arrive coll.DeleteRegion arg d) n r k o = absurd (true_false k)
   never there i l p v at (act.GetField obj field) n r k o = there i p at (act.GetField obj field) l v n refl o
   never there i l p v at (act.PutField obj field value) n r k o = there i p at (act.PutField obj field value) l v n refl o

@@ -38,16 +38,18 @@ use Rattle.ti_lang.specs.Meaning.NextStep.{IsNext}
 use Rattle.ti_lang.specs.Meaning.Runs.{CanTake, IsRun}
 use Rattle.ti_lang.specs.Meaning.Runs as run
 use Rattle.ti_lang.proofs.MeaningLaws.Running.{history_grows, run_answered, taker}
+use Rattle.ti_lang.proofs.MeaningLaws.Things.{answer_same}
+use Rattle.ti_lang.proofs.MeaningLaws.NewThings.{same_name}
 use Rattle.ti_align.specs.Names.{NamesFit}
 use Rattle.ti_align.specs.Things.{Things, IsPlaced, IsOf}
 use Rattle.ti_align.specs.Typed.{RunTyped}
 use Rattle.ti_align.specs.Heap.{things_of}
 use Rattle.ti_align.specs.Work.{DepositFits}
 use Rattle.ti_align.proofs.Vars.{true_false, and_left, and_right}
-use Rattle.ti_align.proofs.Heaping.{id_same}
 use Rattle.ti_align.proofs.Arrived.{Comes, before, now, comes, made_all}
 use Rattle.ti_align.proofs.Rounds.{Told, RoundAnswer, told_now, acts_as, arrive_answered, arrival_is, said}
 use Rattle.ti_align.proofs.Paying.{at_most_fuel}
+use Rattle.ti_align.proofs.Operating.{or_either}
 
 -- ---- numbers
 
@@ -73,9 +75,6 @@ faulty k r e = absurd (no e)
   where
     no : heap.Faults k ≡ Answers r → ⊥
     no e = cc
-
-answer_same : (r s : Answer) → Answers r ≡ Answers s → r ≡ s
-answer_same r s e = cc
 
 -- what is made where nothing is at fault
 made_answer : (f : Bool) (made : Value) (r : Answer) → faults_if f fault.HeapFull (Answers (Val made)) ≡ Answers r → r ≡ Val made
@@ -119,10 +118,10 @@ module _ (program : NumberedProgram) (h : History) (i : ℕ) where
 -- ---- names that are told
 
 pub object_named : (id made : Id) (r : Answer) → r ≡ Val (v.Obj (Some made)) → is_object id r ≡ true → id ≡ made
-object_named id made r e h = id_same id made (sym (ap (is_object id) e) ∙ h)
+object_named id made r e h = same_name id made (sym (ap (is_object id) e) ∙ h)
 
 pub grid_named : (id made : Id) (r : Answer) → r ≡ Val (v.Grid (Some made)) → is_grid id r ≡ true → id ≡ made
-grid_named id made r e h = id_same id made (sym (ap (is_grid id) e) ∙ h)
+grid_named id made r e h = same_name id made (sym (ap (is_grid id) e) ∙ h)
 
 none_class : {A : Type 0} (c : ℕ) → ◌≡◌ {A = Option ℕ} None (Some c) → A
 none_class c e = absurd (no e)
@@ -198,13 +197,9 @@ record Ranged (h : History) : Type 0 where
   pub names : NamesFit h
   pub handed : (i n : ℕ) (a : rounds.Arrival) (r : ℕ) → arrival_at i n h ≡ Some a → value_in a.deposit ≡ Some (v.Region r) → IsCount r
 
-pub or_cases : (a b : Bool) → (a || b) ≡ true → (a ≡ true) ⊎ (b ≡ true)
-or_cases true b h = inl refl
-or_cases false b h = inr h
-
 -- the region in which a thing is placed
 place_count : (h : History) (r : ℕ) → NamesFit h → is_place r h ≡ true → IsCount r
-place_count h r k e = by (or_cases (r == 0) (is_made r h) e)
+place_count h r k e = by (or_either (r == 0) (is_made r h) e)
   where
     by : ((r == 0) ≡ true) ⊎ (is_made r h ≡ true) → IsCount r
     by (inl z) = zero_count r (eqb-true r 0 z)
@@ -253,7 +248,7 @@ module _ (program : NumberedProgram) (h : History) (e : Entry) (k : Ranged h) (m
   depart_is _ z = absurd (true_false (sym z))
 
   regions_fit : (r : ℕ) → is_made r (e ∷ h) ≡ true → IsCount r
-  regions_fit r z = by (or_cases (is_departure e.act && is_region r e.answer) (is_made r h) z)
+  regions_fit r z = by (or_either (is_departure e.act && is_region r e.answer) (is_made r h) z)
     where
       left : (x : Told h e.proc (arrivals e.proc h) e.answer) (kind : CollKind) → x.arrival.kind ≡ kind → is_region r e.answer ≡ true → RoundAnswer h e.proc (arrivals e.proc h) kind x.arrival.arg e.answer → IsCount r
       left x coll.Broadcast m y g = k.handed g.0 (arrivals e.proc h) g.1 r g.4 (g.5 ∙ ap Some (answered_region r e.answer g.2 g.6 y))
@@ -300,10 +295,7 @@ region_answered e z = by e.act z
     by (act.Arrive kind arg given) z = refl
     by _ z = absurd (true_false (sym z))
 
-none_made : {A : Type 0} (b : Bool) → b ≡ false → b ≡ true → A
-none_made b x y = absurd (true_false (sym y ∙ x))
-
-one_value : (d : Deposit) (x : Value) → value_in d ≡ Some x → d ≡ deposit.One x
+pub one_value : (d : Deposit) (x : Value) → value_in d ≡ Some x → d ≡ deposit.One x
 one_value (deposit.One y) x e = ap deposit.One (same y x e)
   where
     same : (a b : Value) → Some a ≡ Some b → a ≡ b

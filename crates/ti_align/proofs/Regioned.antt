@@ -40,15 +40,12 @@ use Rattle.ti_align.proofs.Suiting.{whole_takes}
 use Rattle.ti_align.proofs.Meant.{storable, formed, among, means, ExpMeant, ExpsMeant, InitMeant, StmMeant, MaybeMeant, StmsMeant, MethodsMeant, FieldsMeant, methods_prop}
 use Rattle.ti_align.proofs.Forming.{Surrounds, field_formed, exp_formed}
 use Rattle.ti_lang.proofs.MeaningLaws.Dims.{dim_is}
-use Rattle.ti_align.proofs.Written.{surrounds_method, surrounds_inside}
+use Rattle.ti_align.proofs.Written.{surrounds_method, surrounds_inside, region_is}
 use Rattle.ti_align.proofs.Numbered.{numbered_methods}
 use Rattle.ti_align.proofs.Programs.{fields_mean, checked_fits}
 use Rattle.ti_align.proofs.Regional.{is_region_exp, IsSuch, ArgsAreSuch, target_type, CallIsSuch, InitIsSuch, DeletesSuch, StmIsSuch, MaybeIsSuch, StmsAreSuch, MethodsAreSuch}
 
 -- ---- types
-
-region_is : (type : ValueType) → is_region type ≡ true → type ≡ t.Region
-region_is type h = type_same type t.Region h
 
 no_regions : NoneOf is_region
 no_regions = record { int = refl; long = refl; truth = refl; point = λ n. refl; rect = λ n. refl; domain = λ n. refl }

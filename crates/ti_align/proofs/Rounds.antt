@@ -26,7 +26,8 @@ use Rattle.ti_lang.specs.Meaning.HeapAnswers.{Outcome, Answers, Faults, Impossib
 use Rattle.ti_lang.specs.Meaning.HeapAnswers as heap
 use Rattle.ti_lang.specs.Meaning.Runs.{World, entry_with, entry_of, CanTake, IsRun}
 use Rattle.ti_lang.specs.Meaning.Runs as run
-use Rattle.ti_lang.proofs.MeaningLaws.Running.{taker, history_grows, run_answered}
+use Rattle.ti_lang.proofs.MeaningLaws.Running.{taker, history_grows, run_answered, some_entry}
+use Rattle.ti_lang.proofs.MeaningLaws.Things.{answer_same}
 use Rattle.ti_align.specs.SinglePart.{single_part}
 use Rattle.ti_align.specs.Alignment.{ArrivesAt, ArrivalsAgree}
 use Rattle.ti_align.specs.Alignment as aligned
@@ -34,7 +35,7 @@ use Rattle.ti_align.proofs.Ways.{Asked, asking, answers_at_departures, waiting, 
 use Rattle.ti_align.proofs.Vars.{true_false, and_left, and_right}
 use Rattle.ti_align.proofs.Fitting.{FineMethods}
 use Rattle.ti_align.proofs.Balance.{step_waits, balanced}
-use Rattle.ti_align.proofs.Running.{at_action}
+use Rattle.ti_align.proofs.Running.{at_action, none_entry}
 use Rattle.ti_align.proofs.Entries.{departures_both, own, other}
 use Rattle.ti_align.proofs.Aligning.{arrivals_agree, way_next}
 use Rattle.ti_align.proofs.Arrived.{more_own, back, Comes, before, now, comes, reached, stays, made, made_stays, made_all, made_same}
@@ -70,10 +71,7 @@ told_more e h i n r t = record {
 
 -- ---- what the heap answers
 
-answer_same : (r t : Answer) → Answers r ≡ Answers t → r ≡ t
-answer_same r t e = cc
-
-impossible : (r : Answer) → Impossible ≡ Answers r → ⊥
+pub impossible : (r : Answer) → Impossible ≡ Answers r → ⊥
 impossible r e = cc
 
 fault : (k : FaultKind) (r : Answer) → Faults k ≡ Answers r → ⊥
@@ -113,12 +111,6 @@ told_now program h i r z = by (last_arrival i h) refl z
     by (Some a) y k = record { arrival = a; is = y; gives = departs_told program h i a.kind a.arg r k }
 
 -- ---- the entry of an action
-
-some_entry : (d e : Entry) → Some d ≡ Some e → d ≡ e
-some_entry d e h = cc
-
-none_entry : (e : Entry) → ◌≡◌ {A = Option Entry} None (Some e) → ⊥
-none_entry e h = cc
 
 unanswered : (d e : Entry) → d ≡ e → is_answered d ≡ false → is_answered e ≡ true → ⊥
 unanswered d e q x y = true_false (sym y ∙ sym (ap is_answered q) ∙ x)
@@ -323,7 +315,7 @@ seen s all (run.more {es = es} {i = p} {e = e} w t y) i k a z =
 
 -- ---- departures of one number
 
-root_same : (a : Option ℕ) (m n : ℕ) → a ≡ Some m → a ≡ Some n → m ≡ n
+pub root_same : (a : Option ℕ) (m n : ℕ) → a ≡ Some m → a ≡ Some n → m ≡ n
 root_same a m n x y = cc
 
 arrival_same : (o : Option Arrival) (a b : Arrival) → o ≡ Some a → o ≡ Some b → a ≡ b

@@ -17,8 +17,8 @@ use Rattle.ti_lang.specs.Meaning.HeapAnswers.{Outcome, Answers, Impossible, heap
 use Rattle.ti_lang.specs.Meaning.HeapAnswers as heap
 use Rattle.ti_lang.specs.Meaning.Runs.{World, entry_with, entry_of, CanTake, IsRun}
 use Rattle.ti_lang.specs.Meaning.Runs as run
-use Rattle.ti_lang.proofs.MeaningLaws.Steps.{after_same}
-use Rattle.ti_lang.proofs.MeaningLaws.Running.{taker, history_grows}
+use Rattle.ti_lang.proofs.MeaningLaws.Steps.{after_same, none_some, some_same}
+use Rattle.ti_lang.proofs.MeaningLaws.Running.{taker, history_grows, some_entry}
 use Rattle.ti_align.proofs.Ways.{Asked, asking, Meeting, Came, Left, Way, comings, answers_left, answers_at_departures, last_from}
 use Rattle.ti_align.proofs.Ways as way
 use Rattle.ti_align.proofs.Vars.{true_false}
@@ -144,17 +144,8 @@ step_on s es all j (acted p q at a w go r x y e k l m n u v) o =
 
 -- ---- runs
 
-some_entry : (d e : Entry) → Some d ≡ Some e → d ≡ e
-some_entry d e h = cc
-
-none_entry : (e : Entry) → ◌≡◌ {A = Option Entry} None (Some e) → ⊥
+pub none_entry : (e : Entry) → ◌≡◌ {A = Option Entry} None (Some e) → ⊥
 none_entry e h = cc
-
-some_next : (m n : Next) → Some m ≡ Some n → m ≡ n
-some_next m n h = cc
-
-none_next : (n : Next) → ◌≡◌ {A = Option Next} None (Some n) → ⊥
-none_next n h = cc
 
 act_same : (a b : Place) (c d : Action) → next.Act a c ≡ next.Act b d → (a ≡ b) × (c ≡ d)
 act_same a b c d h = (cc, cc)
@@ -167,10 +158,10 @@ fault_act k a b c h = cc
 
 -- where an action is next, the step stands at it
 pub at_action : (st : Step) (at : Place) (a : Action) → shown st ≡ Some (next.Act at a) → (w : Asked) × (go : Answer → Process) × (st ≡ At (asking at a w) go)
-at_action (To p) at a h = absurd (none_next _ h)
-at_action (At r go) at a h = let s = act_same r.place at r.action a (some_next _ _ h) in ((r.through, r.wanted), go, ap₂ (λ x y. At (asking x y (r.through, r.wanted)) go) s.0 s.1)
-at_action (Ends place) at a h = absurd (end_act _ _ _ (some_next _ _ h))
-at_action (Faults kind place) at a h = absurd (fault_act _ _ _ _ (some_next _ _ h))
+at_action (To p) at a h = absurd (none_some _ h)
+at_action (At r go) at a h = let s = act_same r.place at r.action a (some_same _ _ h) in ((r.through, r.wanted), go, ap₂ (λ x y. At (asking x y (r.through, r.wanted)) go) s.0 s.1)
+at_action (Ends place) at a h = absurd (end_act _ _ _ (some_same _ _ h))
+at_action (Faults kind place) at a h = absurd (fault_act _ _ _ _ (some_same _ _ h))
 
 -- an entry of another process
 grows_other : (s : Setting) (es : List Entry) (j : ℕ) (e : Entry) → (e.proc == j) ≡ false → Grows s es (es ++ e ∷ []) j

@@ -75,10 +75,6 @@ pub guarded_same : {A : Type 0} (test : Bool) (kind : FaultKind) (at : Place) (a
 guarded_same true kind at a rest = refl
 guarded_same false kind at a rest = tt
 
-found_same : {A : Type 0} (kind : FaultKind) (at : Place) (o : Option A) (rest : List Answer) → Same (found_or kind at o) (found_or kind at o) rest
-found_same kind at None rest = tt
-found_same kind at (Some a) rest = refl
-
 pub domain_same : (at : Place) (h : Held) (rest : List Answer) → Same (to_domain at h) (to_domain at h) rest
 domain_same at (Plain (v.Rc r)) rest = guarded_same _ _ at _ rest
 domain_same at (Plain _) rest = refl

@@ -51,7 +51,7 @@ nil_cons r rs e = absurd (no e)
     no : ◌≡◌ {A = List Answer} [] (r ∷ rs) → ⊥
     no e = cc
 
-heads : (r t : Answer) (rs ts : List Answer) → r ∷ rs ≡ t ∷ ts → (r ≡ t) × (rs ≡ ts)
+pub heads : (r t : Answer) (rs ts : List Answer) → r ∷ rs ≡ t ∷ ts → (r ≡ t) × (rs ≡ ts)
 heads r t rs ts e = (cc, cc)
 
 none_some : {A : Type 0} (z : SliceStep) → ◌≡◌ {A = Option SliceStep} None (Some z) → A

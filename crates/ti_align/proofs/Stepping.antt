@@ -26,12 +26,13 @@ use Rattle.ti_lang.proofs.MeaningLaws.Falling.{Giving}
 use Rattle.ti_rules.specs.declared.rule.Rule.TheVariants.{S6}
 use Rattle.ti_rules.specs.Standing.{standing_in_method}
 use Rattle.ti_rules.specs.SingleRules.{effect_refusals, result_refusals}
+use Rattle.ti_rules.proofs.Sound.Refused.{not_refused}
 use Rattle.ti_align.specs.SinglePart.{singles}
 use Rattle.ti_align.proofs.Slice.{is_single_receiver, jump_at, work_acts, kept, frame_part, frame_parts, State, slice, env_in, single_performed, Silent, Arrival, Departure, Over, spent_by, certain, on, handed_single, arrives_at, callee_part, moves_to, moves_on, moves_in, move_of}
 use Rattle.ti_align.proofs.Slice as sl
 use Rattle.ti_align.proofs.Vars.{true_false, or_false, not_true, not_false, if_true, if_false}
 use Rattle.ti_align.proofs.Single.{env_part}
-use Rattle.ti_align.proofs.Fine.{none_both, not_refused, kept_rule, refusals_in, Deep, OkWorks, Agree, kept_on, kept_out, kept_agrees, kept_append, kept_none, before_ok, before_none}
+use Rattle.ti_align.proofs.Fine.{none_both, kept_rule, refusals_in, Deep, OkWorks, Agree, kept_on, kept_out, kept_agrees, kept_append, kept_none, before_ok, before_none}
 use Rattle.ti_align.proofs.Fitting.{FineMethod, FineMethods, OneFine, at_fine, Fit, work_fits}
 use Rattle.ti_align.proofs.Jumping.{marked, unmarked, ok_mark, ok_past, plain_continue, plain_break, plain_leaves, single_continue, single_break, single_leaves}
 use Rattle.ti_align.proofs.Liking.{Like}

@@ -36,15 +36,17 @@ use Rattle.ti_rules.specs.declared.rule.Rule.TheVariants.{S1, S3, S4, S5, S7, S8
 use Rattle.ti_rules.specs.First.{refused_if}
 use Rattle.ti_rules.specs.Standing.{Around, in_foreach, inside}
 use Rattle.ti_rules.specs.SingleRules.{is_plain_part, is_plain_condition, argument_refusals, params_refusals, call_refusals, whole_refusals, is_delete, initial_refusals, return_refusals}
+use Rattle.ti_rules.proofs.Sound.Refused.{not_refused}
 use Rattle.ti_align.specs.SinglePart.{singles}
 use Rattle.ti_align.proofs.Slice.{is_single_receiver, around_at, work_acts, single_bound, single_calling, single_value, single_initial, single_member, single_alone, single_return, single_performed}
 use Rattle.ti_align.proofs.Vars.{true_false, if_true, if_false, singles_keep}
 use Rattle.ti_align.proofs.Single.{env_part, Sure, Same, guarded_same, converted_same, operated_same, single_same}
-use Rattle.ti_align.proofs.Fine.{none_both, not_refused, kept_rule, OkWorks}
+use Rattle.ti_align.proofs.Fine.{none_both, kept_rule, OkWorks}
 use Rattle.ti_align.proofs.Fitting.{FineMethods, Fit, singles_at, target_same, value_rule, rules_of, work_fits}
 use Rattle.ti_align.proofs.Jumping.{acting_true}
 use Rattle.ti_align.proofs.Liking.{Like, receives_single, CalledAs, called_as, result_single}
-use Rattle.ti_align.proofs.Moving.{method_fine, fine_some, or_true, either, or_plain_true, step_true, not_not, work_single}
+use Rattle.ti_align.proofs.Moving.{method_fine, fine_some, or_true, either, step_true, not_not, work_single}
+use Rattle.ti_align.proofs.Operating.{or_one}
 
 -- ---- computations
 
@@ -177,9 +179,6 @@ module _ (q : Process) (f : Frame) (left : List Work) (ok : OkWorks q.setting.pr
       (bound_of (env_of q f left) (around_at q.setting.program f.method left) m.params v.args [] refl
       (subst (λ y. call_refusals q.setting.program (around_at q.setting.program f.method left) y v.args ≡ []) o (v.arguments (around_at q.setting.program f.method left) refl w)))
       (λ ps u z. ((fine_some q.setting.program _ m o (method_fine q.setting.program _ x fine), g, λ y. absurd (true_false y)), (ap (λ y. Calls v.at m None y r) (sym z), i)))
-
-  none_some : (m : NumberedMethod) → ◌≡◌ {A = Option NumberedMethod} None (Some m) → ⊥
-  none_some m e = cc
 
   called_is : (x : NumberedExp) (v : CalledAs (env_of q f left) x) (o : Option NumberedMethod) → called_method q.setting.program (this_of f.method) x ≡ o → called (env_of q f left) x ≡ option_map (call_of v.at v.object v.args) o
   called_is x v o z = v.is ∙ ap (option_map (call_of v.at v.object v.args)) z
@@ -326,7 +325,7 @@ module _ (q : Process) (f : Frame) (left : List Work) (ok : OkWorks q.setting.pr
       let a = around_at p f.method left in
       let r = (rules_of p a (s.Foreach at variable domain body) (inside p (in_foreach p a variable domain body) body) o.0).0 in
       same_work (Do (s.Foreach at variable domain body)) refl o h
-      (sure_then Any (eval (env_of q f left) domain) (eval (env_part (env_of q f left)) domain) _ [] (part_sure domain [] (kept_rule _ _ (not_refused _ S3 at r) (or_plain_true _ h))) (λ v u. tt))
+      (sure_then Any (eval (env_of q f left) domain) (eval (env_part (env_of q f left)) domain) _ [] (part_sure domain [] (kept_rule _ _ (not_refused _ S3 at r) (or_one _ h))) (λ v u. tt))
   statement_sure (s.Break at) o h = same_work (Do (s.Break at)) refl o h tt
   statement_sure (s.Continue at) o h = same_work (Do (s.Continue at)) refl o h tt
 

@@ -29,13 +29,10 @@ use Rattle.ti_align.proofs.Aligning.{run_before, way_next, ends_at}
 use Rattle.ti_align.proofs.Sliced.{begin_sliced}
 use Rattle.ti_align.proofs.Pacing.{Free, paced}
 use Rattle.ti_align.proofs.Pathed.{met_after, met_in, Suits, on_path}
-use Rattle.ti_align.proofs.Slicing.{Open, Shows, follow, blames_none}
+use Rattle.ti_align.proofs.Slicing.{Open, Shows, follow, blames_none, heads}
 use Rattle.ti_align.proofs.Ticking.{fed}
 
 -- ---- lists
-
-cons_same : (x y : Answer) (xs ys : List Answer) → x ∷ xs ≡ y ∷ ys → (x ≡ y) × (xs ≡ ys)
-cons_same x y xs ys e = (cc, cc)
 
 suc_same : (a b : ℕ) → suc a ≡ suc b → a ≡ b
 suc_same a b e = omega arith
@@ -51,7 +48,7 @@ front_same : (xs ys us vs : List Answer) → xs ++ us ≡ ys ++ vs → length xs
 front_same [] [] us vs e l = refl
 front_same [] (y ∷ ys) us vs e l = absurd (zero_suc (length ys) l)
 front_same (x ∷ xs) [] us vs e l = absurd (suc_zero (length xs) l)
-front_same (x ∷ xs) (y ∷ ys) us vs e l = let k = cons_same x y (xs ++ us) (ys ++ vs) e in ap₂ (λ a b. a ∷ b) k.0 (front_same xs ys us vs k.1 (suc_same _ _ l))
+front_same (x ∷ xs) (y ∷ ys) us vs e l = let k = heads x y (xs ++ us) (ys ++ vs) e in ap₂ (λ a b. a ∷ b) k.0 (front_same xs ys us vs k.1 (suc_same _ _ l))
 
 -- ---- what the slice answers
 

@@ -23,6 +23,7 @@ use Rattle.ti_lang.specs.Meaning.Zeros.{zeros_of_class}
 use Rattle.ti_lang.specs.Meaning.Histories.{History}
 use Rattle.ti_lang.specs.Meaning.HeapOf.{grid_of, new_id, view_id, cell_value}
 use Rattle.ti_lang.specs.Meaning.HeapAnswers.{Answers, at_point, arrives, where_some, heap_answer, IsAnswered}
+use Rattle.ti_lang.proofs.MeaningLaws.Things.{fault_then, answer_same, views_then, placed}
 use Rattle.ti_rules.specs.InitialTypes.{can_broadcast}
 use Rattle.ti_align.specs.Things.{Grows, IsStorable, IsOf}
 use Rattle.ti_align.specs.Sound.{IsThere, SameForm, WantsGrid, SuitsWanted}
@@ -31,9 +32,10 @@ use Rattle.ti_align.specs.Names.{NamesFit}
 use Rattle.ti_align.proofs.Vars.{true_false}
 use Rattle.ti_align.proofs.Operating.{to_global}
 use Rattle.ti_align.proofs.Computing.{grid_stays}
-use Rattle.ti_align.proofs.Heaping.{answer_same, faults_answer, possible_answer, views_answer, some_answer, makes_answer, places_answer, keeps_types}
-use Rattle.ti_align.proofs.Holding.{impossible, valued}
+use Rattle.ti_align.proofs.Heaping.{possible_answer, some_answer, makes_answer, keeps_types}
+use Rattle.ti_align.proofs.Holding.{valued}
 use Rattle.ti_align.proofs.Departed.{form_of}
+use Rattle.ti_align.proofs.Rounds.{impossible}
 
 -- ---- forms
 
@@ -102,11 +104,11 @@ written_done (Some old) r z = done r z
 
 element_done : (o : Option Grid) (at : _) (r : Answer) → where_some o (λ g. at_point g at (Answers Done)) ≡ Answers r → r ≡ Done
 element_done None at r z = absurd (impossible r z)
-element_done (Some g) at r z = done r (faults_answer _ fault.Bounds _ r (possible_answer _ _ r z))
+element_done (Some g) at r z = done r (fault_then _ fault.Bounds _ r (possible_answer _ _ r z))
 
 pub arrival_done : (h : History) (kind : CollKind) (arg : Option ℕ) (r : Answer) → arrives h kind arg ≡ Answers r → r ≡ Done
 arrival_done h coll.DeleteRegion None r z = absurd (impossible r z)
-arrival_done h coll.DeleteRegion (Some region) r z = done r (faults_answer _ fault.RegionGone _ r (possible_answer _ _ r z))
+arrival_done h coll.DeleteRegion (Some region) r z = done r (fault_then _ fault.RegionGone _ r (possible_answer _ _ r z))
 arrival_done h coll.Barrier arg r z = done r z
 arrival_done h coll.Broadcast arg r z = done r z
 arrival_done h coll.Exchange arg r z = done r z
@@ -141,7 +143,7 @@ module _ (p : NumberedProgram) (elements : Elements) (h : History) (told_all : I
   heap_told (act.GetElem grid at) wanted r q k s said n =
       let a = act.GetElem grid at in
       let g = grown a wanted r k said in
-      let x = valued (cell_value p (cell_of s.3.0 at) h) r (faults_answer _ fault.Bounds _ r (possible_answer _ _ r (some_answer (grid_of grid h) s.3.0 _ r s.3.1 said))) in
+      let x = valued (cell_value p (cell_of s.3.0 at) h) r (fault_then _ fault.Bounds _ r (possible_answer _ _ r (some_answer (grid_of grid h) s.3.0 _ r s.3.1 said))) in
       value_fits (behind a r) (after a wanted r) grid.owner n wanted s.1 s.0 r x.0 s.4 s.5 s.3.4 x.2
       ((keeps a wanted k).answered place r refl said s.0 s.2 (grid_stays _ _ s.0 s.2 grid g s.3))
   heap_told (act.DomainOf grid) wanted r q k s said n =
@@ -149,7 +151,7 @@ module _ (p : NumberedProgram) (elements : Elements) (h : History) (told_all : I
       subst (λ y. FitsWanted y r) (sym s.3) (v.Rc s.2.0.domain, z, s.2.2)
   heap_told (act.NewObj class region) wanted r q k s said n =
       let a = act.NewObj class region in
-      let z : r ≡ Val (v.Obj (Some (new_id i region h))) = makes_answer p h i a (v.Obj (Some (new_id i region h))) r (places_answer region h _ r (some_answer (zeros_of_class p class) k.0 _ r k.1 said)) in
+      let z : r ≡ Val (v.Obj (Some (new_id i region h))) = makes_answer p h i a (v.Obj (Some (new_id i region h))) r (placed region h _ r (some_answer (zeros_of_class p class) k.0 _ r k.1 said)) in
       subst (λ y. FitsWanted y r) (sym s) (
         v.Obj (Some (new_id i region h)),
         z,
@@ -159,12 +161,12 @@ module _ (p : NumberedProgram) (elements : Elements) (h : History) (told_all : I
       )
   heap_told (act.NewGrid zero domain region) wanted r q k s said n =
       let a = act.NewGrid zero domain region in
-      let z : r ≡ Val (v.Grid (Some (new_id i region h))) = makes_answer p h i a (v.Grid (Some (new_id i region h))) r (places_answer region h _ r (possible_answer _ _ r said)) in
+      let z : r ≡ Val (v.Grid (Some (new_id i region h))) = makes_answer p h i a (v.Grid (Some (new_id i region h))) r (placed region h _ r (possible_answer _ _ r said)) in
       grid_fits (behind a r) (after a wanted r) i n wanted k.0 k.1 r (new_id i region h) s z ((keeps a wanted k).answered place r refl said k.0 k.1 k.2)
   heap_told (act.MakeView grid how) wanted r q k s said n =
       let a = act.MakeView grid how in
       let g = grown a wanted r k said in
-      let z : r ≡ Val (v.Grid (Some (view_id i grid h))) = makes_answer p h i a (v.Grid (Some (view_id i grid h))) r (views_answer _ _ r (possible_answer _ _ r (some_answer (grid_of grid h) k.2.0 _ r k.2.1 said))) in
+      let z : r ≡ Val (v.Grid (Some (view_id i grid h))) = makes_answer p h i a (v.Grid (Some (view_id i grid h))) r (views_then _ _ r (possible_answer _ _ r (some_answer (grid_of grid h) k.2.0 _ r k.2.1 said))) in
       grid_fits (behind a r) (after a wanted r) grid.owner n wanted k.0 _ r (view_id i grid h) s z ((keeps a wanted k).answered place r refl said k.0 k.1 (grid_stays _ _ k.0 k.1 grid g k.2))
   heap_told (act.PutField obj field value) wanted r q k s said n = done_fits wanted r s (written_done (cell_value p (Field obj field) h) r said)
   heap_told (act.PutElem grid at value) wanted r q k s said n = done_fits wanted r s (element_done (grid_of grid h) at r said)

@@ -144,10 +144,6 @@ pub frames_use : (p : NumberedProgram) (fs : List Frame) → FramesStand p fs �
 frames_use p [] k = tt
 frames_use p (f ∷ fs) k = works_use p f.method k.0.0 k.0.1 f.variables f.left k.0.2 k.0.4
 
--- each variable that a process uses next, which waits nowhere, is found
-pub uses_found : (s : Setting) (i : ℕ) (q : Process) (ms : List Meeting) → ProgramStands s.program → Way (begin s i) ms q → q.wait ≡ None → FramesUse q.frames
-uses_found s i q ms g w z = frames_use s.program q.frames (subst (λ x. WaitStands s.program x q.frames) z (kept s i q ms g w).1)
-
 -- the methods of a checked program stand in their scope
 pub checked_stands : (p : NumberedProgram) → IsChecked p → LiteralsFit p → ProgramStands p
 checked_stands p c l = program_stands p c (checked_fits p c l).methods

@@ -177,7 +177,7 @@ int_is : (r : ValueType) → is_int r ≡ true → r ≡ t.Int
 int_is t.Int h = refl
 int_is _ h = absurd (true_false (sym h))
 
-region_is : (r : ValueType) → is_region r ≡ true → r ≡ t.Region
+pub region_is : (r : ValueType) → is_region r ≡ true → r ≡ t.Region
 region_is t.Region h = refl
 region_is _ h = absurd (true_false (sym h))
 

@@ -36,7 +36,7 @@ seated_more s xs x y seated d i l = by (nat_lt i (length xs)) refl
         let last : length xs ≡ i = omega (arith, ltb-false i (length xs) h, length-append xs (x ∷ [])) in
         subst (Seated s [] i) (sym (get_or_push xs x d i last)) (subst (λ k. Seated s [] k x) last y)
 
-none_below : (P : ℕ → Type 0) (i : ℕ) → i < 0 → P i
+pub none_below : (P : ℕ → Type 0) (i : ℕ) → i < 0 → P i
 none_below P i l = absurd (omega arith)
 
 no_more : (n : ℕ) → 0 ≤ n

@@ -8,6 +8,7 @@ use Rattle.std.proofs.lemmas.List.Folds.{list_any-append}
 use Rattle.ti_base.specs.declared.action.Action.{Action}
 use Rattle.ti_base.specs.declared.entry.Entry.{Entry}
 use Rattle.ti_lang.specs.Meaning.Histories.{is_end, is_fault, is_arrival, is_departure, is_answered, entries_of, answers_of, arrivals, departures, has_end, has_fault}
+use Rattle.ti_align.proofs.Entries.{other}
 
 -- ---- of its own
 
@@ -39,9 +40,6 @@ end_more i es e h =
     ∙ list_any-append (λ (x : Entry). is_end x.act) (entries_of i es) (e ∷ [])
     ∙ or_last (has_end i es) (is_end e.act)
 
-pub fault_more : (es : List Entry) (e : Entry) → has_fault (es ++ e ∷ []) ≡ (has_fault es || is_fault e.act)
-fault_more es e = list_any-append (λ (x : Entry). is_fault x.act) es (e ∷ []) ∙ or_last (has_fault es) (is_fault e.act)
-
 told_more : (i : ℕ) (es : List Entry) (e : Entry) → e.proc ≡ i → answers_of i (es ++ e ∷ []) ≡ answers_of i es ++ map (λ (x : Entry). x.answer) (filter is_answered (e ∷ []))
 told_more i es e h =
     ap (λ xs. map (λ (x : Entry). x.answer) (filter is_answered xs)) (own_more i es e h)
@@ -64,9 +62,6 @@ answers_still i es e h a = told_more i es e h ∙ ap (λ xs. answers_of i es ++ 
 
 -- ---- of another
 
-other_one : (i : ℕ) (e : Entry) → (e.proc == i) ≡ false → entries_of i (e ∷ []) ≡ []
-other_one i e h = rw h refl
-
 pub other_more : (i : ℕ) (es : List Entry) (e : Entry) → (e.proc == i) ≡ false → entries_of i (es ++ e ∷ []) ≡ entries_of i es
 other_more i es e h =
-    filter-append (λ (x : Entry). x.proc == i) es (e ∷ []) ∙ ap (λ xs. entries_of i es ++ xs) (other_one i e h) ∙ append-nil (entries_of i es)
+    filter-append (λ (x : Entry). x.proc == i) es (e ∷ []) ∙ ap (λ xs. entries_of i es ++ xs) (other i e h) ∙ append-nil (entries_of i es)

@@ -20,9 +20,11 @@ use Rattle.ti_lang.proofs.MeaningLaws.Limits.{within}
 use Rattle.ti_lang.proofs.MeaningLaws.Requests.{no_end_asked}
 use Rattle.ti_exec.specs.Standing.{Standing, HasNext, is_act}
 use Rattle.ti_exec.specs.Standing as exec
+use Rattle.ti_align.proofs.Paying.{after_pays}
+use Rattle.ti_align.proofs.Vars.{or_right}
 use Rattle.ti_store.specs.Stores.{StoreState, setting_of, next_of, Becomes, fault_entry, IsDone, IsRefused}
 use Rattle.ti_store.specs.declared.act_err.ActErr.TheVariants as err
-use Rattle.ti_store.proofs.Ticks.{after_costs}
+use Rattle.ti_store.proofs.Running.{next_acts}
 use Rattle.ti_runtime.specs.declared.cursor.Turn.{Turn}
 use Rattle.ti_runtime.specs.declared.cursor.Turn.TheVariants as turn
 use Rattle.ti_runtime.specs.declared.seat.Seat.{Seat}
@@ -49,14 +51,9 @@ acts (At request go) q at a e h =
 acts (Ends place) q at a e h = cc
 acts (Faults kind place) q at a e h = cc
 
-acts_as : (at : Place) (a : Action) → is_end a ≡ false → is_fault a ≡ false → next_of at a ≡ next.Act at a
-acts_as at act.End e f = absurd (true_false e)
-acts_as at (act.Fault kind) e f = absurd (true_false f)
-acts_as at _ e f = refl
-
 -- what the store takes comes back as what is next
 pub next_back : (p : Process) (n : Next) → IsNext p n → next_of (doing_of n).0 (doing_of n).1 ≡ n
-next_back p (next.Act at a) x = let none = acts (step x.0) x.0 at a refl x.1.stands in acts_as at a none.0 none.1
+next_back p (next.Act at a) x = let none = acts (step x.0) x.0 at a refl x.1.stands in next_acts at a none.0 none.1
 next_back p (next.End at) x = refl
 next_back p (next.Fault kind at) x = refl
 
@@ -85,7 +82,7 @@ within_ticks n s f h k = omega arith
 
 -- each answer cost a tick
 answers_few : (s : Setting) (i : ℕ) (rs : List Answer) (p : Process) → After (begin s i) rs p → length rs ≤ s.fuel
-answers_few s i rs p x = within_ticks (length rs) p.spent s.fuel (after_costs (begin s i) p rs x) (within s i rs p x).0
+answers_few s i rs p x = within_ticks (length rs) p.spent s.fuel (after_pays (begin s i) p rs x) (within s i rs p x).0
 
 module _ (s : Setting) (es : List Entry) (i : ℕ) (seat : Seat) (y : Seated s es i seat) where
   -- the process of the seat in the world of the entries
@@ -123,10 +120,6 @@ or_none : (a b : Bool) → b ≡ false → (a || b) ≡ a
 or_none true b h = refl
 or_none false b h = h
 
-or_there : (a b : Bool) → b ≡ true → (a || b) ≡ true
-or_there true b h = refl
-or_there false b h = h
-
 -- ---- the seat behind an answer
 
 module _ (s : Setting) (es : List Entry) (i : ℕ) (old : Seat) (answer : Answer) (y : Seated s es i old) where
@@ -141,7 +134,7 @@ module _ (s : Setting) (es : List Entry) (i : ℕ) (old : Seat) (answer : Answer
     told = y.told ∙ sym (answers_still i es here refl (ap (λ b. not (b || is_fault old.action)) e));
     asks = y.asks;
     next = y.next;
-    ended = end_more i es here refl ∙ or_there (has_end i es) (is_end old.action) e;
+    ended = end_more i es here refl ∙ or_right (has_end i es) (is_end old.action) e;
   }
 
   seated_heard : (new : Seat) → is_end old.action ≡ false → is_fault old.action ≡ false → Hears old answer new → Seated s (es ++ here ∷ []) i new

@@ -12,7 +12,9 @@ use Rattle.ti_lang.specs.Meaning.Runs.{IsSolo, more}
 use Rattle.ti_lang.proofs.MeaningLaws.Running.{taker, solo_run}
 use Rattle.ti_align.specs.Alignment.{OfEveryRun}
 use Rattle.ti_align.specs.Stopping.{RoundsBalance}
+use Rattle.ti_align.proofs.Vars.{or_right}
 use Rattle.ti_store.specs.Conditions.{IsWithin}
+use Rattle.ti_store.proofs.OneMore.{fault_more}
 use Rattle.ti_runtime.specs.declared.cursor.Cursor.{Cursor}
 use Rattle.ti_runtime.specs.declared.cursor.Turn.{Turn}
 use Rattle.ti_runtime.specs.declared.cursor.Turn.TheVariants as turn
@@ -21,8 +23,9 @@ use Rattle.ti_runtime.specs.declared.seat.Stop.{Stop}
 use Rattle.ti_runtime.specs.declared.seat.Stop.TheVariants as stop
 use Rattle.ti_runtime.specs.MirrorsWaiting.{Waits, Rests}
 use Rattle.ti_runtime.specs.MirrorsTeam.{Seated, Takes, steps_left, all_steps_left, GoesOn, StopsAt, TurnLeaves, cursor_after, Points, Stands, StandsOn, Stopped}
-use Rattle.ti_runtime.proofs.Entries.{end_more, other_more, fault_more}
+use Rattle.ti_runtime.proofs.Entries.{end_more, other_more}
 use Rattle.ti_runtime.proofs.Waiting.{rest_takes_none, rests_still, wait_together}
+use Rattle.ti_runtime.proofs.Endings.{none_below}
 
 true_false : true ≡ false → ⊥
 true_false e = cc
@@ -35,10 +38,6 @@ law_of fact s es all w solo = all s.procs s.fuel es w.some w.few w.fueled w.limi
 
 or_false : (a b : Bool) → a ≡ false → b ≡ false → (a || b) ≡ false
 or_false a b x y = rw (x, y) refl
-
-or_right : (a b : Bool) → b ≡ true → (a || b) ≡ true
-or_right true b x = refl
-or_right false b x = x
 
 module _ (s : Setting) (es all : List Entry) (i : ℕ) (t : Takes s es i all) where
   -- it is the solo run still
@@ -105,9 +104,6 @@ below i j l = by (i == j) refl
     by : (b : Bool) → (i == j) ≡ b → (i == j) ≡ false
     by true h = absurd (omega (arith, eqb-true i j h))
     by false h = h
-
-none_below : (P : ℕ → Type 0) (i : ℕ) → i < 0 → P i
-none_below P i l = absurd (omega arith)
 
 at_or_before : (P : ℕ → Type 0) (n : ℕ) → ((i : ℕ) → i < n → P i) → P n → (i : ℕ) → i < n + 1 → P i
 at_or_before P n before here i l = by (nat_lt i n) refl

@@ -15,8 +15,9 @@ use Rattle.ti_lang.specs.Meaning.Histories.{history_of, is_end, is_arrival, is_d
 use Rattle.ti_lang.specs.Meaning.HeapAnswers.{Outcome, Answers, Faults, Impossible, heap_answer}
 use Rattle.ti_lang.specs.Meaning.Runs.{World, IsReady, entry_with, entry_of, CanTake, IsRun, none, more}
 use Rattle.ti_lang.proofs.MeaningLaws.Steps.{next_same}
-use Rattle.ti_lang.proofs.MeaningLaws.Running.{world_same, taker}
+use Rattle.ti_lang.proofs.MeaningLaws.Running.{world_same, taker, some_entry}
 use Rattle.ti_align.specs.Stopping.{RoundsBalance}
+use Rattle.ti_align.proofs.Possible.{all_came}
 use Rattle.ti_runtime.specs.MirrorsWaiting.{Waits, Rests}
 use Rattle.ti_runtime.proofs.Entries.{arrivals_more, departures_more, other_more}
 
@@ -37,24 +38,6 @@ rest_takes_none s es i e (inr w) t = wait_takes_none s es i e w t
 
 -- ---- what an entry says of what was next
 
-some_entry : (d e : Entry) → Some d ≡ Some e → d ≡ e
-some_entry d e h = cc
-
--- a departure is taken where all have arrived
-departs_with : (s : Setting) (es : List Entry) (i : ℕ) (at : Place) (a : Action) → is_departure a ≡ true → IsReady s es i (next.Act at a) → (j : ℕ) → j < s.procs → departures i es < arrivals j es
-departs_with s es i at act.Depart d r = r
-departs_with s es i at _ d r = absurd (true_false (sym d))
-
-departs_when : (s : Setting) (es : List Entry) (i : ℕ) (n : Next) (e : Entry) → entry_of s es i n ≡ Some e → is_departure e.act ≡ true → IsReady s es i n → (j : ℕ) → j < s.procs → departures i es < arrivals j es
-departs_when s es i (next.Act at a) e h d r = by (heap_answer s.program (history_of es) i a) h
-  where
-    by : (o : Outcome) → entry_with i at a o ≡ Some e → (j : ℕ) → j < s.procs → departures i es < arrivals j es
-    by (Answers x) k = departs_with s es i at a (ap (λ (x : Entry). is_departure x.act) (some_entry _ e k) ∙ d) r
-    by (Faults kind) k = absurd (true_false (sym (ap (λ (x : Entry). is_departure x.act) (some_entry _ e k) ∙ d)))
-    by Impossible k = cc
-departs_when s es i (next.End at) e h d r = absurd (true_false (sym (ap (λ (x : Entry). is_departure x.act) (some_entry _ e h) ∙ d)))
-departs_when s es i (next.Fault kind at) e h d r = absurd (true_false (sym (ap (λ (x : Entry). is_departure x.act) (some_entry _ e h) ∙ d)))
-
 -- a process that arrives has left all rounds before
 arrives_with : (m n : ℕ) (a : Action) → is_arrival a ≡ true → m ≡ n + (if is_departure a then 1 else 0) → m ≡ n
 arrives_with m n (act.Arrive kind arg deposit) x e = omega arith
@@ -72,14 +55,6 @@ arrives_when s es i p (next.Fault kind at) e balance w is h x = absurd (true_fal
 
 -- ---- counts as a run grows
 
--- no count falls
-arrivals_kept : (i : ℕ) (es : List Entry) (e : Entry) → arrivals i es ≤ arrivals i (es ++ e ∷ [])
-arrivals_kept i es e = by (e.proc == i) refl
-  where
-    by : (b : Bool) → (e.proc == i) ≡ b → arrivals i es ≤ arrivals i (es ++ e ∷ [])
-    by true h = omega (arith, arrivals_more i es e (eqb-true e.proc i h))
-    by false h = omega (arith, ap (count_by (λ (x : Entry). is_arrival x.act)) (other_more i es e h))
-
 -- only an arrival adds one
 arrivals_same : (i : ℕ) (es : List Entry) (e : Entry) → is_arrival e.act ≡ false → arrivals i (es ++ e ∷ []) ≡ arrivals i es
 arrivals_same i es e a = by (e.proc == i) refl
@@ -87,35 +62,6 @@ arrivals_same i es e a = by (e.proc == i) refl
     by : (b : Bool) → (e.proc == i) ≡ b → arrivals i (es ++ e ∷ []) ≡ arrivals i es
     by true h = omega (arith, arrivals_more i es e (eqb-true e.proc i h), ap {B = ℕ} (λ b. cond b 1 0) a)
     by false h = ap (count_by (λ (x : Entry). is_arrival x.act)) (other_more i es e h)
-
-one_less : (c l a b : ℕ) → c ≡ l + 1 → l < a → a ≤ b → c ≤ b
-one_less c l a b e h k = omega arith
-
-none_less : (c l a b : ℕ) → c ≡ l → l ≤ a → a ≤ b → c ≤ b
-none_less c l a b e h k = omega arith
-
-none_more : (c l t : ℕ) → c ≡ l + t → t ≡ 0 → c ≡ l
-none_more c l t e h = omega arith
-
--- where a process has left some rounds, all have arrived at them
-pub left_by_all : (s : Setting) (es : List Entry) → IsRun s es → (i j : ℕ) → j < s.procs → departures i es ≤ arrivals j es
-left_by_all s es none i j l = omega arith
-left_by_all s all (more {es = es} {i = k} {e = e} run t split) i j l =
-    subst (λ xs. departures i xs ≤ arrivals j xs) (sym split) (by (e.proc == i) (is_departure e.act) refl refl (left_by_all s es run i j l))
-  where
-    kept : arrivals j es ≤ arrivals j (es ++ e ∷ [])
-    kept = arrivals_kept j es e
-
-    by : (b d : Bool) → (e.proc == i) ≡ b → is_departure e.act ≡ d → departures i es ≤ arrivals j es → departures i (es ++ e ∷ []) ≤ arrivals j (es ++ e ∷ [])
-    by true true h d before =
-        let who : e.proc ≡ i = eqb-true e.proc i h in
-        let me : k ≡ i = sym (taker s es k e t) ∙ who in
-        one_less _ (departures i es) (arrivals j es) _ (departures_more i es e who ∙ ap (λ b. departures i es + cond b 1 0) d)
-        (subst (λ m. departures m es < arrivals j es) me (departs_when s es k t.next e t.entry d t.ready j l)) kept
-    by true false h d before =
-        none_less _ (departures i es) (arrivals j es) _
-        (none_more _ (departures i es) (cond (is_departure e.act) 1 0) (departures_more i es e (eqb-true e.proc i h)) (ap {B = ℕ} (λ b. cond b 1 0) d)) before kept
-    by false d h x before = none_less _ (departures i es) (arrivals j es) _ (ap (count_by (λ (x : Entry). is_departure x.act)) (other_more i es e h)) before kept
 
 -- ---- who rests, as the run grows
 
@@ -155,10 +101,10 @@ further a b c h k = omega arith
 -- a process that waits has left as many rounds as one that arrives next
 same_round : (s : Setting) (es : List Entry) (i j : ℕ) → IsRun s es → i < s.procs → arrivals i es ≡ departures i es → Waits s es j → departures j es ≡ departures i es
 same_round s es i j run l balance w =
-    both_ways (departures j es) (departures i es) (arrivals i es) (left_by_all s es run j i l) balance (by (nat_lt (departures j es) (departures i es)) refl)
+    both_ways (departures j es) (departures i es) (arrivals i es) (all_came s es run j i l) balance (by (nat_lt (departures j es) (departures i es)) refl)
   where
     by : (b : Bool) → nat_lt (departures j es) (departures i es) ≡ b → departures i es ≤ departures j es
-    by true h = absurd (w.early (λ k m. further (departures j es) (departures i es) (arrivals k es) (ltb-true (departures j es) (departures i es) h) (left_by_all s es run i k m)))
+    by true h = absurd (w.early (λ k m. further (departures j es) (departures i es) (arrivals k es) (ltb-true (departures j es) (departures i es) h) (all_came s es run i k m)))
     by false h = not_less _ _ h
 
 -- Where process i arrives and all below it rest, those that wait below it are in one round: where one of them waits still, all do.

@@ -27,10 +27,6 @@ module _ (program : NumberedProgram) (this : Option ℕ) where
   dims_behind x (todo.Turn variable domain at) dims number = if variable == number then dim_of_type (type_at program this dims (domain_in x)) else dims number
   dims_behind x t dims number = dims number
 
-  none_in : (xs : List NumberedStm) (ws : List Work) → dims_at program this (map Do xs ++ ws) ≡ dims_at program this ws
-  none_in [] ws = refl
-  none_in (x ∷ xs) ws = none_in xs ws
-
   none_alone : (xs : List NumberedStm) → dims_at program this (map Do xs) ≡ (λ number. 1)
   none_alone [] = refl
   none_alone (x ∷ xs) = none_alone xs

@@ -25,10 +25,13 @@ use Rattle.ti_lang.specs.Meaning.Zeros.{zeros_of_class}
 use Rattle.ti_lang.specs.Meaning.Histories.{History, is_making, entries_of, things_made}
 use Rattle.ti_lang.specs.Meaning.RegionsOf.{is_gone}
 use Rattle.ti_lang.specs.Meaning.HeapOf.{is_object, is_grid, class_of, class_made, grid_of, grid_made, cells_made, cells_of, written_by, written_to, or_else, last_written, zero_of, cell_value, cost_of_making, region_made_in, cost_of}
+use Rattle.ti_lang.proofs.MeaningLaws.NewThings.{same_name}
 use Rattle.ti_align.specs.Dangling.{Lives}
+use Rattle.ti_align.proofs.Heaping.{same_cells}
+use Rattle.ti_align.proofs.Vars.{not_true}
 use Rattle.ti_store.specs.MirrorsHeap.{left_of, made_by, KeepsGrid, IsOneOf, StandsAt, IsKeptCell, KeepsHeap}
 use Rattle.ti_store.proofs.OneMore.{some_same, one, counted_any, counted_own, counted_other}
-use Rattle.ti_store.proofs.Names.{name_self, same_name, not_true, same_place}
+use Rattle.ti_store.proofs.Names.{name_self}
 
 -- ---- names
 
@@ -390,7 +393,7 @@ put_was : (held : heap.Cell → Option Value) (cell : heap.Cell) (v old : Value)
 put_was held cell v old is c x = by (heap.same_cell c cell) refl x
   where
     by : (t : Bool) → heap.same_cell c cell ≡ t → is_some (cond t (Some v) (held c)) ≡ true → is_some (held c) ≡ true
-    by true e x = ap is_some (ap held (same_place c cell e) ∙ is)
+    by true e x = ap is_some (ap held (same_cells c cell e) ∙ is)
     by false e x = x
 
 pub put_field_keeps : (program : NumberedProgram) (procs : ℕ) (e : Entry) (h : History) (s : Contents) (obj : Id) (field : ℕ) (v old : Value) → is_making e.act ≡ false

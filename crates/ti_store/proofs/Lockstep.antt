@@ -20,6 +20,7 @@ use Rattle.ti_lang.specs.Meaning.RegionUse.{is_in_use}
 use Rattle.ti_lang.specs.Meaning.HeapAnswers.{Answers, where_some, possible_if, faults_if, answers_value, leaves_delete, departs, heap_answer}
 use Rattle.ti_store.specs.MirrorsRegions.{IsNumbered, Leaving}
 use Rattle.ti_align.proofs.Arrived.{is_own, Comes, before, now, comes, reached, stays, there}
+use Rattle.ti_align.proofs.Rounds.{arrival_is, depart_is}
 use Rattle.ti_store.proofs.OneMore.{some_same, one, between, counted_any, counted_on}
 
 -- ---- the entries of a history
@@ -217,10 +218,6 @@ left_gone program procs r m q (e ∷ h) a t l k d = by (comes q m e h a k) (λ o
 
 -- ---- arrivals at deletes
 
-pub arrival_is : (a : Action) (x : Arrival) → arrival_in a ≡ Some x → a ≡ act.Arrive x.kind x.arg x.deposit
-arrival_is (act.Arrive kind arg d) x e = ap (λ (y : Arrival). act.Arrive y.kind y.arg y.deposit) (some_same (record { kind = kind; arg = arg; deposit = d }) x e)
-arrival_is _ x e = cc
-
 delete_told : (made gone : Bool) (t : Answer) → possible_if made (faults_if gone RegionGone (Answers Done)) ≡ Answers t → (made ≡ true) × (gone ≡ false)
 delete_told true false t e = (refl, refl)
 delete_told true true t e = cc
@@ -300,9 +297,6 @@ pub gone_made : (program : NumberedProgram) (procs r : ℕ) (h : History) → Ar
 gone_made program procs r h t g = let k = gone_left program procs r h t g in delete_made program procs r k.who k.round h k.arrival t k.here k.delete
 
 -- ---- what is known where a process leaves a delete
-
-not_less : (a b : ℕ) → (a < b → ⊥) → b ≤ a
-not_less a b k = omega (arith, k)
 
 less_from : (a b : ℕ) → (b ≤ a → ⊥) → a < b
 less_from a b k = omega (arith, k)
@@ -421,10 +415,6 @@ given_region h i root r k = by (arrival_at root (round_of i h) h) refl k
         → (a : Arrival) × (arrival_at root (round_of i h) h ≡ Some a) × (value_in a.deposit ≡ Some (v.Region r))
     by None e g = cc
     by (Some a) e g = held a e (value_in a.deposit) refl g
-
-depart_is : (a : Action) → is_departure a ≡ true → a ≡ act.Depart
-depart_is act.Depart k = refl
-depart_is _ k = absurd (true≢false (sym k))
 
 pub numbered : (program : NumberedProgram) (procs r : ℕ) (h : History) → AreTaken program procs h → is_made r h ≡ true → IsNumbered h r
 numbered program procs r [] t m = cc

@@ -23,38 +23,18 @@ use Rattle.ti_lang.specs.Meaning.Histories.{History, is_making}
 use Rattle.ti_lang.specs.Meaning.RegionsOf.{is_made, is_gone, is_place}
 use Rattle.ti_lang.specs.Meaning.HeapOf.{new_id, view_id, is_object, is_grid, class_made, class_of, grid_made, grid_of, cost_of, cost_of_making, most_cells}
 use Rattle.ti_lang.specs.Meaning.HeapAnswers.{Outcome, Answers, where_some, possible_if, faults_if, makes, places, views, heap_answer}
+use Rattle.ti_lang.proofs.MeaningLaws.Things.{fault_then, answer_same, some_then, views_then, made_value, possible_then}
+use Rattle.ti_lang.proofs.MeaningLaws.NewThings.{same_name}
 use Rattle.ti_align.specs.Things.{IsStorable, IsPlaced, IsOf}
 use Rattle.ti_align.specs.Heap.{Elements, things_of}
-use Rattle.ti_store.proofs.Names.{same_name}
+use Rattle.ti_align.proofs.Departed.{plain_same}
 use Rattle.ti_store.proofs.Lockstep.{AreTaken, place_on}
 
 -- ---- answers
 
-answer_same : (r q : Answer) → Answers r ≡ Answers q → r ≡ q
-answer_same r q e = cc
-
-if_answers : (b : Bool) (o : Outcome) (r : Answer) → possible_if b o ≡ Answers r → (b ≡ true) × (o ≡ Answers r)
-if_answers true o r e = (refl, e)
-if_answers false o r e = cc
-
-fault_answers : (b : Bool) (kind : FaultKind) (o : Outcome) (r : Answer) → faults_if b kind o ≡ Answers r → o ≡ Answers r
-fault_answers true kind o r e = cc
-fault_answers false kind o r e = e
-
-some_answers : {A : Type 0} (o : Option A) (go : A → Outcome) (r : Answer) → where_some o go ≡ Answers r → (a : A) × (o ≡ Some a) × (go a ≡ Answers r)
-some_answers None go r e = cc
-some_answers (Some a) go r e = (a, refl, e)
-
-view_answers : (f : Option FaultKind) (o : Outcome) (r : Answer) → views f o ≡ Answers r → o ≡ Answers r
-view_answers None o r e = e
-view_answers (Some kind) o r e = cc
-
-made_answers : (program : NumberedProgram) (h : History) (i : ℕ) (a : Action) (x : Value) (r : Answer) → makes program h i a x ≡ Answers r → Val x ≡ r
-made_answers program h i a x r e = answer_same (Val x) r (fault_answers (nat_lt most_cells (cost_of program i h + cost_of_making program a)) fault.HeapFull (Answers (Val x)) r e)
-
 placed_answers : (region : ℕ) (h : History) (o : Outcome) (r : Answer) → places region h o ≡ Answers r → (is_place region h ≡ true) × (o ≡ Answers r)
 placed_answers region h o r e =
-    let x = if_answers (is_place region h) (faults_if (is_gone region h) fault.RegionGone o) r e in (x.0, fault_answers (is_gone region h) fault.RegionGone o r x.1)
+    let x = possible_then (is_place region h) (faults_if (is_gone region h) fault.RegionGone o) r e in (x.0, fault_then (is_gone region h) fault.RegionGone o r x.1)
 
 -- ---- things
 
@@ -66,9 +46,9 @@ grid_named id made r e k = same_name id made (subst (λ r. is_grid id r ≡ true
 
 new_object : (program : NumberedProgram) (h : History) (i : ℕ) (a : Action) (r : Answer) (id : Id) (c : ℕ) → heap_answer program h i a ≡ Answers r → class_made a ≡ Some c → is_object id r ≡ true → is_place id.region h ≡ true
 new_object program h i (act.NewObj class region) r id c k m n =
-    let x = some_answers (zeros_of_class program class) (λ zeros. places region h (makes program h i (act.NewObj class region) (v.Obj (Some (new_id i region h))))) r k in
+    let x = some_then (zeros_of_class program class) (λ zeros. places region h (makes program h i (act.NewObj class region) (v.Obj (Some (new_id i region h))))) r k in
     let y = placed_answers region h (makes program h i (act.NewObj class region) (v.Obj (Some (new_id i region h)))) r x.2 in
-    let name = object_named id (new_id i region h) r (made_answers program h i (act.NewObj class region) (v.Obj (Some (new_id i region h))) r y.1) n in
+    let name = object_named id (new_id i region h) r (made_value program h i (act.NewObj class region) (v.Obj (Some (new_id i region h))) r y.1) n in
     ap (λ (j : Id). is_place j.region h) name ∙ y.0
 new_object program h i _ r id c k m n = cc
 
@@ -88,16 +68,16 @@ new_grid : (program : NumberedProgram) (h : History) (i : ℕ) (a : Action) (r :
     → grid_made id a (λ viewed. grid_of viewed h) ≡ Some g → is_grid id r ≡ true → is_place id.region h ≡ true
 new_grid program h i (act.NewGrid first domain region) r id g go k m n =
     let made = makes program h i (act.NewGrid first domain region) (v.Grid (Some (new_id i region h))) in
-    let x = if_answers (is_dim domain.dim) (places region h made) r k in
+    let x = possible_then (is_dim domain.dim) (places region h made) r k in
     let y = placed_answers region h made r x.1 in
-    let name = grid_named id (new_id i region h) r (made_answers program h i (act.NewGrid first domain region) (v.Grid (Some (new_id i region h))) r y.1) n in
+    let name = grid_named id (new_id i region h) r (made_value program h i (act.NewGrid first domain region) (v.Grid (Some (new_id i region h))) r y.1) n in
     ap (λ (j : Id). is_place j.region h) name ∙ y.0
 new_grid program h i (act.MakeView viewed how) r id g go k m n =
     let made = makes program h i (act.MakeView viewed how) (v.Grid (Some (view_id i viewed h))) in
     let f = viewed_some how (grid_of viewed h) g m in
-    let x = some_answers (grid_of viewed h) (λ g. possible_if (suits how g.domain) (views (view_fault how g.domain) made)) r k in
-    let y = if_answers (suits how x.0.domain) (views (view_fault how x.0.domain) made) r x.2 in
-    let name = grid_named id (view_id i viewed h) r (made_answers program h i (act.MakeView viewed how) (v.Grid (Some (view_id i viewed h))) r (view_answers (view_fault how x.0.domain) made r y.1)) n in
+    let x = some_then (grid_of viewed h) (λ g. possible_if (suits how g.domain) (views (view_fault how g.domain) made)) r k in
+    let y = possible_then (suits how x.0.domain) (views (view_fault how x.0.domain) made) r x.2 in
+    let name = grid_named id (view_id i viewed h) r (made_value program h i (act.MakeView viewed how) (v.Grid (Some (view_id i viewed h))) r (views_then (view_fault how x.0.domain) made r y.1)) n in
     ap (λ (j : Id). is_place j.region h) name ∙ go viewed f.0 f.1
 new_grid program h i _ r id g go k m n = cc
 
@@ -111,9 +91,6 @@ grid_placed program procs (e ∷ h) id g k is = place_on e h id.region (by (is_m
     by false m go x = go id g x
 
 -- ---- values
-
-plain_same : (x y : Value) → Plain x ≡ Plain y → x ≡ y
-plain_same x y e = cc
 
 none_named : (value other : Value) (id : Id) → value ≡ other → named_by other ≡ None → named_by value ≡ Some id → ⊥
 none_named value other id e n k = let P : None ≡ Some id = sym n ∙ ap named_by (sym e) ∙ k in none_is id P

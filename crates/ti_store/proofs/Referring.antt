@@ -7,17 +7,18 @@ use Rattle.std.proofs.lemmas.Bool.{cases_Bool, cases_eq, ne_eqb, true≢false}
 use Rattle.ti_base.specs.declared.value.Id.{Id}
 use Rattle.ti_base.specs.declared.value.Value.{Value}
 use Rattle.ti_base.specs.Cells.{same_id, named_by}
+use Rattle.ti_lang.proofs.MeaningLaws.NewThings.{same_name}
+use Rattle.ti_align.proofs.Heaping.{same_cells}
+use Rattle.ti_align.proofs.Vars.{not_true}
 use Rattle.ti_region.specs.declared.region.Region.{Region}
 use Rattle.ti_region.specs.Counting.{IsMade, region_at, counted_for, one_less, CanLose, CanGain, after_put}
 use Rattle.ti_heap.specs.Contents.{Cell, cell_at, same_cell, IsAmong, AreApart}
 use Rattle.ti_store.specs.MirrorsRefs.{IsPlaceIn, NamesPlaced, leads, refs_into, KeepsRefs}
 use Rattle.ti_store.proofs.OneMore.{one}
-use Rattle.ti_store.proofs.Names.{name_self, not_true, place_self, same_place, same_name}
+use Rattle.ti_store.proofs.Names.{name_self, place_self}
 use Rattle.ti_store.proofs.Counts.{told, made_on, names_on, size_less, lost, size_put, counted_put as count_put}
 use Rattle.ti_store.proofs.Counting.{counted_alike, counted_some, counted_put}
-
-none_some : {A : Type 0} (a : A) → ◌≡◌ {A = Option A} None (Some a) → ⊥
-none_some a e = cc
+use Rattle.ti_store.proofs.NewThings.{some_is}
 
 some_value : (x y : Value) → Some x ≡ Some y → x ≡ y
 some_value x y e = cc
@@ -113,7 +114,7 @@ module _ (held after : Cell → Option Value) (regions : List Region) (cell : Ce
   put_here = put cell ∙ ap (λ t. cond t (Some value) (held cell)) (place_self cell)
 
   put_other : (c : Cell) → (c ≡ cell → ⊥) → after c ≡ held c
-  put_other c apart = put c ∙ ap (λ t. cond t (Some value) (held c)) (not_true (same_cell c cell) (λ t. apart (same_place c cell t)))
+  put_other c apart = put c ∙ ap (λ t. cond t (Some value) (held c)) (not_true (same_cell c cell) (λ t. apart (same_cells c cell t)))
 
   put_has : (c : Cell) → IsAmong k.cells c ↔ IsSome (after c)
   put_has c = (
@@ -126,7 +127,7 @@ module _ (held after : Cell → Option Value) (regions : List Region) (cell : Ce
       there false x = x
 
       among : (t : Bool) → same_cell c cell ≡ t → is_some (cond t (Some value) (held c)) ≡ true → IsAmong k.cells c
-      among true e x = subst (IsAmong k.cells) (sym (same_place c cell e)) ((k.has cell).1 (ap is_some is))
+      among true e x = subst (IsAmong k.cells) (sym (same_cells c cell e)) ((k.has cell).1 (ap is_some is))
       among false e x = (k.has c).1 x
 
   put_counts : (r : ℕ) → IsMade regions r → (region_at (after_put cell.thing.region before value regions) r).count ≡ refs_into after k.cells r
@@ -224,10 +225,6 @@ some_at : (xs : List Value) (n : ℕ) → n < length xs → is_some (slice_get x
 some_at [] n l = absurd (omega arith)
 some_at (x ∷ xs) zero l = refl
 some_at (x ∷ xs) (suc n) l = some_at xs n (omega arith)
-
-some_is : (o : Option Value) → is_some o ≡ true → (x : Value) × (o ≡ Some x)
-some_is None e = cc
-some_is (Some x) e = (x, refl)
 
 -- a value that names nothing leads nowhere
 leads_nowhere : (q r : ℕ) (x : Value) → named_by x ≡ None → leads q r (Some x) ≡ false

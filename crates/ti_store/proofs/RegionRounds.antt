@@ -13,6 +13,7 @@ use Rattle.ti_base.specs.declared.entry.Answer.{Answer}
 use Rattle.ti_base.specs.declared.entry.Entry.{Entry}
 use Rattle.ti_lang.specs.Meaning.Histories.{History, history_of, is_arrival, entries_of, arrivals}
 use Rattle.ti_lang.specs.Meaning.RoundsOf.{makes_region, rounds_making}
+use Rattle.ti_align.proofs.Arrived.{quiet}
 use Rattle.ti_store.specs.MirrorsRounds.{makings_behind, KeepsMakings}
 use Rattle.ti_store.proofs.OneMore.{one, counted_own, counted_other, counted_back}
 
@@ -27,10 +28,6 @@ pub no_makings : (procs : ℕ) → KeepsMakings procs [] (replicate procs 0)
 no_makings procs = record { count = length-replicate procs 0; each = no_making procs }
 
 -- ---- one entry more
-
-pub makes_none : (a : Action) → is_arrival a ≡ false → makes_region a ≡ false
-makes_none (act.Arrive kind arg given) k = cc
-makes_none _ k = refl
 
 pub still : (i : ℕ) (e : Entry) (h : History) → makes_region e.act ≡ false → rounds_making i (e ∷ h) ≡ rounds_making i h
 still i e h m =

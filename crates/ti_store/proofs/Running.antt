@@ -34,7 +34,7 @@ use Rattle.ti_lang.specs.Meaning.RegionsOf.{is_made, is_gone, is_place}
 use Rattle.ti_lang.specs.Meaning.HeapAnswers.{Outcome, Answers, Faults, Impossible, heap_answer, IsAnswered}
 use Rattle.ti_lang.specs.Meaning.HeapAnswers as heap
 use Rattle.ti_lang.specs.Meaning.Runs.{World, IsReady, entry_with, entry_of, CanTake, IsRun, none, more}
-use Rattle.ti_lang.proofs.MeaningLaws.Running.{history_grows, run_answered, taker}
+use Rattle.ti_lang.proofs.MeaningLaws.Running.{history_grows, run_answered, taker, some_entry}
 use Rattle.ti_align.specs.SinglePart.{SingleFrame, single_part}
 use Rattle.ti_align.specs.Alignment.{Arrival, ArrivesAt, ArrivalsAgree, OfEveryRun}
 use Rattle.ti_align.specs.Stopping.{RoundsBalance, NoneImpossible}
@@ -45,6 +45,8 @@ use Rattle.ti_align.specs.Heap.{Elements, things_of, FieldsStorable}
 use Rattle.ti_align.specs.Typed.{RunTyped}
 use Rattle.ti_align.specs.Formed.{IsFormedAction, ActionsFormed}
 use Rattle.ti_align.specs.Dangling.{NothingDangles}
+use Rattle.ti_align.proofs.Rounds as met
+use Rattle.ti_align.proofs.Rounds.{arrival_is}
 use Rattle.ti_store.specs.Conditions.{IsWithin, HasNext}
 use Rattle.ti_store.specs.Stores.{next_of}
 use Rattle.ti_store.specs.MirrorsRounds.{arrivals_said}
@@ -55,7 +57,7 @@ use Rattle.ti_store.proofs.Ticks.{actions_few}
 use Rattle.ti_store.proofs.RegionRounds.{makings_few}
 use Rattle.ti_store.proofs.Courses.{length_said, heard, heard_at, collective_met, none_beyond}
 use Rattle.ti_store.proofs.Forming.{storable_formed}
-use Rattle.ti_store.proofs.Lockstep.{IsTaken, AreTaken, Agree, arrival_is, delete_some, gone_made, leaving, numbered}
+use Rattle.ti_store.proofs.Lockstep.{IsTaken, AreTaken, Agree, delete_some, gone_made, leaving, numbered}
 use Rattle.ti_store.proofs.Placing.{value_placed, region_placed}
 
 -- ---- one step more
@@ -71,11 +73,6 @@ pub next_acts : (at : Place) (a : Action) → is_end a ≡ false → is_fault a 
 next_acts at act.End e f = cc
 next_acts at (act.Fault kind) e f = cc
 next_acts at _ e f = refl
-
--- a departure needs all to have arrived, and nothing else waits
-pub ready_arrived : (s : Setting) (es : List Entry) (i : ℕ) (at : Place) (a : Action) → IsReady s es i (next_of at a) → is_departure a ≡ true → AllArrived s.procs i es
-ready_arrived s es i at act.Depart h d = h
-ready_arrived s es i at _ h d = cc
 
 pub ready_when : (s : Setting) (es : List Entry) (i : ℕ) (at : Place) (a : Action) → (is_departure a ≡ true → AllArrived s.procs i es) → IsReady s es i (next_of at a)
 ready_when s es i at act.Depart h = h refl
@@ -118,9 +115,6 @@ arrival_with said single = record { place = said.1; kind = said.0; arg = said.2;
 
 false_true : false ≡ true → ⊥
 false_true e = cc
-
-some_entry : (d e : Entry) → Some d ≡ Some e → d ≡ e
-some_entry d e h = cc
 
 -- what comes of an action is that action, or a fault
 module _ (f : Action → Bool) (ends : f act.End ≡ false) (faults : (kind : FaultKind) → f (act.Fault kind) ≡ false) where
@@ -276,9 +270,6 @@ run_agrees s es run agree i j m a b x y =
 
 -- ---- what is known of the entries
 
-entry_said : (program : NumberedProgram) (h : History) (e : Entry) → IsAnswered program (e ∷ h) → heap_answer program h e.proc e.act ≡ Answers e.answer
-entry_said program h e (heap.more w k) = k
-
 no_more : (a b : ℕ) → a ≡ b + 0 → a ≡ b
 no_more a b k = omega arith
 
@@ -305,7 +296,7 @@ entry_taken s es i e w all run t =
     let leaves : is_departure e.act ≡ true → IsNext t.process (next.Act e.place e.act) = λ k. subst (IsNext t.process) (came_next is_departure refl (λ kind. refl) s es i t.next e t.entry k) t.is_next in
     record {
       who = subst (λ j. j < s.procs) (sym who) t.within;
-      said = entry_said s.program h e (subst (IsAnswered s.program) (history_grows es e) (run_answered s (es ++ e ∷ []) (more run t refl)));
+      said = met.said s.program h e (subst (IsAnswered s.program) (history_grows es e) (run_answered s (es ++ e ∷ []) (more run t refl)));
       arrives = λ k.
           subst (λ j. arrivals j h ≡ departures j h) (sym who)
           (counted_back is_arrival i es ∙ no_more (arrivals i es) (departures i es) (balance k ∙ ap (λ b. departures i es + cond b 1 0) (arrival_no_departure e.act k)) ∙ sym (counted_back is_departure i es));

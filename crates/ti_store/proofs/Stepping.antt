@@ -36,13 +36,6 @@ use Rattle.ti_store.proofs.Forming.{answer_formed}
 
 -- ---- what comes of it
 
-came_acts : (program : NumberedProgram) (h : History) (p : ℕ) (a : Action) → is_fault a ≡ false → came_of program h p a ≡ heap_answer program h p a
-came_acts program h p (act.Fault kind) f = cc
-came_acts program h p a f = refl
-
-pub comes_from : (l l' : Ledger) (p : ℕ) (at : Place) (a : Action) (reply : Reply) → is_fault a ≡ false → Does l p at a reply l' → Comes l p at a reply l'
-comes_from l l' p at a reply f d = record { answer = came_acts (program_in l) (history_in l) p a f ∙ d.answer; kept = d.kept; same = d.same }
-
 pub end_comes : (l : Ledger) (p : ℕ) (at : Place) (a : Action) → p < l.procs → IsKept l (history_in l) → a ≡ act.End → Comes l p at a (Answered Done) l
 end_comes l p at a inside k is = subst (λ a. Comes l p at a (Answered Done) l) (sym is) (record {
   answer = refl;
@@ -79,28 +72,6 @@ entry_is s es p at a (Answered r) e = ap (entry_with p at a) e
 entry_is s es p at a (Faulted k) e = ap (entry_with p at a) e
 
 -- ---- ledgers
-
-along : (a b : NumberedProgram) (m n : ℕ) (g h : History) (s t : Contents) (u v : List Seat) (x y : List ℕ) (c d : List Region) → a ≡ b → m ≡ n → g ≡ h → s ≡ t → u ≡ v → x ≡ y → c ≡ d
-    → KeepsParts a m g s u x c → KeepsParts b n h t v y d
-along a b m n g h s t u v x y c d i j l o q r w k =
-    subst (λ d. KeepsParts b n h t v y d) w (subst (λ y. KeepsParts b n h t v y c) r (subst (λ v. KeepsParts b n h t v x c) q (subst (λ t. KeepsParts b n h t u x c) o (subst (λ h. KeepsParts b n h s u x c) l (subst (λ n. KeepsParts b n g s u x c) j (subst (λ b. KeepsParts b m g s u x c) i k))))))
-
--- the entry is added
-pub steps_from : (l l0 l1 l2 : Ledger) (p : ℕ) (at : Place) (a : Action) (reply : Reply) → SameLedger l l0 → Comes l0 p at a reply l1 → l2.program ≡ l1.program → l2.procs ≡ l1.procs → l2.heap ≡ l1.heap
-    → l2.rounds ≡ l1.rounds → l2.makings ≡ l1.makings → l2.regions ≡ l1.regions → l2.entries.items ≡ l1.entries.items ++ entry_after p at a reply ∷ [] → Steps l p at a reply l2
-steps_from l l0 l1 l2 p at a reply same c program procs heap rounds makings regions items =
-    let e = entry_after p at a reply in
-    let inner : l1.entries.items ≡ l0.entries.items = ap (λ (k : Ledger). k.entries.items) c.same in
-    let grown : l2.entries.items ≡ l0.entries.items ++ e ∷ [] = items ∙ ap (λ xs. xs ++ e ∷ []) inner in
-    let history : history_in l2 ≡ e ∷ history_in l0 = ap history_of grown ∙ history_grows l0.entries.items e in
-    record {
-      answer = (λ j. came_of (program_of (sym same.program j).parts) (history_of (sym same.entries j)) p a) ∙ c.answer;
-      kept = along (program_in l1) (program_in l2) l1.procs l2.procs (e ∷ history_in l0) (history_in l2) (contents l1.heap) (contents l2.heap) l1.rounds l2.rounds l1.makings l2.makings l1.regions l2.regions
-          (λ j. program_of (sym program j).parts) (sym procs) (sym history) (ap contents (sym heap)) (sym rounds) (sym makings) (sym regions) c.kept;
-      entries = grown ∙ ap (λ xs. xs ++ e ∷ []) same.entries;
-      program = program ∙ ap (λ (k : Ledger). k.program) c.same ∙ same.program;
-      procs = procs ∙ ap (λ (k : Ledger). k.procs) c.same ∙ same.procs;
-    }
 
 -- ---- the run
 
@@ -165,6 +136,3 @@ ledger_steps l l' fuel p at a reply k inside n arrived st =
 -- what is answered is in its form
 pub form_answered : (l l' : Ledger) (fuel p : ℕ) (at : Place) (a : Action) (answer : Answer) → IsLedger l fuel false → Steps l p at a (Answered answer) l' → IsFormedAnswer answer
 form_answered l l' fuel p at a answer k st = answer_formed (program_in l) l.procs (history_in l) (contents l.heap) p a answer k.laws.fields k.kept.ours k.kept.heap st.answer
-
-pub answered_no_fault : (l l' : Ledger) (p : ℕ) (at : Place) (a : Action) (answer : Answer) → Steps l p at a (Answered answer) l' → is_fault a ≡ false
-answered_no_fault l l' p at a answer st = answered_acts (program_in l) (history_in l) p a answer st.answer

@@ -20,11 +20,11 @@ use Rattle.ti_lang.proofs.MeaningLaws.Things.{made_once}
 
 -- ---- names
 
-both_true : (a b : Bool) → (a && b) ≡ true → (a ≡ true) × (b ≡ true)
+pub both_true : (a b : Bool) → (a && b) ≡ true → (a ≡ true) × (b ≡ true)
 both_true true b e = (refl, e)
 both_true false b e = cc
 
-same_name : (a b : Id) → same_id a b ≡ true → a ≡ b
+pub same_name : (a b : Id) → same_id a b ≡ true → a ≡ b
 same_name a b e =
     let x = both_true (a.maker == b.maker && a.serial == b.serial && a.owner == b.owner) (a.region == b.region) e in
     let y = both_true (a.maker == b.maker && a.serial == b.serial) (a.owner == b.owner) x.0 in
@@ -60,7 +60,7 @@ grid_made_by a id Done m e = cc
 
 -- ---- what has a class, and what has a map, was made
 
-class_then : (id : Id) (h : History) (c : ℕ) → class_of id h ≡ Some c → IsMade id h
+pub class_then : (id : Id) (h : History) (c : ℕ) → class_of id h ≡ Some c → IsMade id h
 class_then id [] c e = cc
 class_then id (x ∷ h) c e = by (is_making x.act && is_object id x.answer) refl (class_then id h c) e
   where
@@ -68,7 +68,7 @@ class_then id (x ∷ h) c e = by (is_making x.act && is_object id x.answer) refl
     by true k go f = let b = both_true (is_making x.act) (is_object id x.answer) k in inl (object_made x.act id x.answer b.0 b.1)
     by false k go f = inr (go f)
 
-grid_then : (id : Id) (h : History) (g : Grid) → grid_of id h ≡ Some g → IsMade id h
+pub grid_then : (id : Id) (h : History) (g : Grid) → grid_of id h ≡ Some g → IsMade id h
 grid_then id [] g e = cc
 grid_then id (x ∷ h) g e = by (is_making x.act && is_grid id x.answer) refl (grid_then id h g) e
   where

@@ -18,7 +18,7 @@ use Rattle.ti_lang.specs.Meaning.Runs.{World, entry_with, entry_of, CanTake, IsR
 use Rattle.ti_lang.specs.Meaning.Runs as r
 use Rattle.ti_lang.proofs.MeaningLaws.Steps.{next_same, after_same}
 
-some_entry : (d e : Entry) → Some d ≡ Some e → d ≡ e
+pub some_entry : (d e : Entry) → Some d ≡ Some e → d ≡ e
 some_entry d e h = cc
 
 pub entry_same : (s : Setting) (es : List Entry) (i : ℕ) (d e : Entry) → CanTake s es i d → CanTake s es i e → d ≡ e

@@ -14,10 +14,10 @@ to_same s p q x y = cc
 at_same : (s : Step) (v w : Request) (g h : Answer → Process) → s ≡ At v g → s ≡ At w h → g ≡ h
 at_same s v w g h x y = cc
 
-some_same : (m n : Next) → Some m ≡ Some n → m ≡ n
+pub some_same : (m n : Next) → Some m ≡ Some n → m ≡ n
 some_same m n e = cc
 
-none_some : (n : Next) → ◌≡◌ {A = Option Next} None (Some n) → ⊥
+pub none_some : (n : Next) → ◌≡◌ {A = Option Next} None (Some n) → ⊥
 none_some n e = cc
 
 -- a silent step shows nothing

@@ -19,6 +19,7 @@ use Rattle.ti_lang.specs.Typing.BuiltIn.{BuiltIn, Size, Min, Max, Contains, Doma
 use Rattle.ti_lang.specs.Typing.Expressions.{is_int, both, joined, one, all_ints, point_literal, range_of_points, rect_literal, index_type, select_type, called, member_given, member, range_count, known, operand, operands, bound, bounds, typed}
 use Rattle.ti_lang.specs.Typing.Declared.{declared_type, field_type, named_field_type, instance_method, result_type}
 use Rattle.ti_lang.specs.Typing.TextTypes.{IsDimOf, AreDims, IsRangeDims, AreRangesDims, used_type, how_many, joined_type, product_type, operator_type, field_seen, element_seen, built_in_type, member_seen, type_at, dims_of_range, dims_of_ranges}
+use Rattle.ti_lang.proofs.MeaningLaws.NewThings.{both_true}
 
 some_same : {A : Type 0} (a b : A) → ◌≡◌ {A = Option A} (Some a) (Some b) → a ≡ b
 some_same a b h = cc
@@ -224,7 +225,7 @@ joined_length None p ts n m f g h = no_some ts h
 joined_length (Some us) None ts n m f g h = no_some ts h
 joined_length (Some us) (Some ws) ts n m f g h = omega (arith, ap length (some_same (us ++ ws) ts h), length-append us ws, f us refl, g ws refl)
 
-how_many_is : (program : NumberedProgram) (s : ScopeContents) (xs : NumberedExps) (ts : List ValueType) → operands program s xs ≡ Some ts → length ts ≡ how_many xs
+pub how_many_is : (program : NumberedProgram) (s : ScopeContents) (xs : NumberedExps) (ts : List ValueType) → operands program s xs ≡ Some ts → length ts ≡ how_many xs
 how_many_is program s e.NoExp ts h = ap length (sym (some_same _ _ h))
 how_many_is program s (e.MoreExp x xs) ts h =
     omega (arith, joined_length (one (operand (known program s x))) (operands program s xs) ts 1 (how_many xs) (one_length (operand (known program s x))) (how_many_is program s xs) h)
@@ -267,17 +268,10 @@ flat (Some u) None q ts h = h
 flat (Some u) (Some ps) None ts h = h
 flat (Some u) (Some ps) (Some qs) ts h = h
 
-and_both : (a b : Bool) → (a && b) ≡ true → (a ≡ true) × (b ≡ true)
-and_both true b h = (refl, h)
-and_both false b h = absurd (wrong h)
-  where
-    wrong : false ≡ true → ⊥
-    wrong h = cc
-
 ints_split : (us ws : List ValueType) → all_ints (us ++ ws) ≡ true → (all_ints us ≡ true) × (all_ints ws ≡ true)
 ints_split [] ws h = (refl, h)
 ints_split (u ∷ us) ws h =
-    let k = and_both (is_int u) (all_ints (us ++ ws)) h in
+    let k = both_true (is_int u) (all_ints (us ++ ws)) h in
     let m = ints_split us ws k.1 in
     (ap (λ b. b && all_ints us) k.0 ∙ m.0, m.1)
 

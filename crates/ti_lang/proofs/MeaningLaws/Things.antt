@@ -33,17 +33,17 @@ pub some_then : {A : Type 0} (m : Option A) (go : A → Outcome) (r : Answer) �
 some_then None go r e = cc
 some_then (Some a) go r e = (a, refl, e)
 
-views_then : (m : Option FaultKind) (o : Outcome) (r : Answer) → views m o ≡ Answers r → o ≡ Answers r
+pub views_then : (m : Option FaultKind) (o : Outcome) (r : Answer) → views m o ≡ Answers r → o ≡ Answers r
 views_then None o r e = e
 views_then (Some k) o r e = cc
 
-given : (a b : Answer) → Answers a ≡ Answers b → a ≡ b
-given a b e = cc
+pub answer_same : (a b : Answer) → Answers a ≡ Answers b → a ≡ b
+answer_same a b e = cc
 
-made_value : (program : NumberedProgram) (h : History) (i : ℕ) (a : Action) (x : Value) (r : Answer) → makes program h i a x ≡ Answers r → Val x ≡ r
-made_value program h i a x r e = given (Val x) r (fault_then _ _ _ r e)
+pub made_value : (program : NumberedProgram) (h : History) (i : ℕ) (a : Action) (x : Value) (r : Answer) → makes program h i a x ≡ Answers r → Val x ≡ r
+made_value program h i a x r e = answer_same (Val x) r (fault_then _ _ _ r e)
 
-placed : (region : ℕ) (h : History) (o : Outcome) (r : Answer) → places region h o ≡ Answers r → o ≡ Answers r
+pub placed : (region : ℕ) (h : History) (o : Outcome) (r : Answer) → places region h o ≡ Answers r → o ≡ Answers r
 placed region h o r e = fault_then _ _ o r (possible_then _ _ r e).1
 
 -- ---- names
