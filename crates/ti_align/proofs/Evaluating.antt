@@ -1,5 +1,5 @@
 -- What a typed expression comes to is a value of its type, and all that it asks for is there.
-use Rattle.std.proofs.Common.{w32, ◌≡◌, ℕ, ℤ, pos, suc, pred, ◌+◌, ◌-◌, ◌^◌, ◌<◌, ◌≤◌, nat_lt, ◌==◌, int_le, ◌⊎◌, inl, inr, Bool, true, false, not, ◌&&◌, ◌||◌, cond, if◌then◌else◌, length, find, position, slice_get, slice_index_or, unwrap_or, option_map, option_and_then, Option, Some, None, List, [], ◌∷◌, ◌++◌, refl, ap, ap₂, sym, ◌∙◌, subst, arith, eqb-true}
+use Rattle.std.proofs.Common.{w32, ◌≡◌, ℕ, ℤ, pos, pred, ◌+◌, ◌-◌, ◌^◌, ◌<◌, ◌≤◌, nat_lt, ◌==◌, int_le, ◌⊎◌, inl, inr, Bool, true, false, not, ◌&&◌, ◌||◌, cond, if◌then◌else◌, length, find, position, slice_get, slice_index_or, unwrap_or, option_map, option_and_then, Option, Some, None, List, [], ◌∷◌, ◌++◌, refl, ap, ap₂, sym, ◌∙◌, subst, arith, eqb-true}
 use Rattle.std.specs.List.{list_all, position_or_len}
 use Rattle.std.specs.Option.{option_map_or}
 use Rattle.std.proofs.lemmas.Bool.{lt-ltb, ltb-true, leb-true}
@@ -296,7 +296,6 @@ all_both test (x ∷ xs) ys h = by (test x) refl h (λ k. all_both test xs ys k)
 -- ---- ranges, by their types
 
 module _ (p : NumberedProgram) (s : ScopeContents) where
-
   abbrev maybe_count : Option ValueType → ℕ
   maybe_count None = 0
   maybe_count (Some type) = count_of type

@@ -1,18 +1,14 @@
 -- What statements and work that break no rule of single values are like.
 use Rattle.std.proofs.Common.{◌≡◌, Bool, true, false, not, ◌&&◌, ◌||◌, unwrap_or, flat_map, Option, List, [], ◌∷◌, ◌++◌, if◌then◌else◌, refl, ap, ap₂, sym, ◌∙◌, subst}
-use Rattle.ti_base.specs.declared.place.Place.{Place}
 use Rattle.ti_lang.specs.Program.Statements.{NumberedStm, MaybeNumbered, NumberedStms, Nil, Cons}
 use Rattle.ti_lang.specs.Program.Classes.{NumberedMethod, NumberedProgram}
 use Rattle.ti_lang.specs.Program.Scope.{this_of}
 use Rattle.ti_lang.specs.Typing.Effects.{Doings, together, kept_in_loop, doings, doings_of_maybe, doings_of_all, return_acts, jump_acts, has_global_effects}
 use Rattle.ti_lang.specs.Meaning.Processes.{Loop, While, Foreach, Work, Do, End, Before, Behind, Receive, CopyAll, TakeAll, all_before}
 use Rattle.ti_lang.specs.Meaning.Turns.{turns_at, turn_before, dims_at, dims_inside}
-use Rattle.ti_rules.specs.declared.rule.Rule.{Rule}
 use Rattle.ti_rules.specs.declared.refusal.Refusal.{Refusal}
-use Rattle.ti_rules.specs.First.{refused_if}
 use Rattle.ti_rules.specs.Standing.{Around, Standing, in_loop, in_foreach, loop_acts, inside, inside_maybe, inside_all}
 use Rattle.ti_rules.specs.SingleRules.{has_effects, is_plain_condition, standing_single_refusals}
-use Rattle.ti_rules.proofs.Sound.Refused.{not_refused}
 use Rattle.ti_align.proofs.Slice.{jump_at, around_at, work_acts, kept_before, kept}
 use Rattle.ti_align.proofs.Vars.{true_false, or_false, or_left, not_false, if_true, if_false}
 

@@ -1,5 +1,5 @@
 -- Types of expressions are formed: they have one to three dimensions, wherever they have any, and elements that may be there.
-use Rattle.std.proofs.Common.{◌≡◌, ℕ, suc, ◌+◌, ◌-◌, ◌<◌, ◌==◌, nat_lt, ◌⊎◌, inl, inr, Bool, true, false, not, ◌&&◌, if◌then◌else◌, length, slice_get, option_map, option_and_then, Option, Some, None, List, [], ◌∷◌, ◌++◌, refl, ap, ap₂, sym, ◌∙◌, subst, arith}
+use Rattle.std.proofs.Common.{◌≡◌, ℕ, ◌-◌, ◌<◌, ◌==◌, nat_lt, ◌⊎◌, inl, inr, Bool, true, false, not, ◌&&◌, if◌then◌else◌, length, slice_get, option_map, option_and_then, Option, Some, None, List, [], ◌∷◌, ◌++◌, refl, ap, ap₂, sym, ◌∙◌, subst, arith}
 use Rattle.std.specs.Option.{option_or}
 use Rattle.std.proofs.lemmas.Bool.{ltb-true}
 use Rattle.ti_syntax.specs.declared.tree.exprs.UnaryOperator.{UnaryOperator}
@@ -18,7 +18,6 @@ use Rattle.ti_lang.specs.Typing.Operators.{wider, whole_type, truth_type, point_
 use Rattle.ti_lang.specs.Typing.BuiltIn.{BuiltIn, Size, Min, Max, Contains, Domain, Restrict, Translate, Slice, Copy, Exchange, Delete, same_grids, can_copy, can_exchange, has_local_elements, member_type}
 use Rattle.ti_lang.specs.Typing.Declared.{in_scope, declared_type, variable_type, field_type, named_field_type}
 use Rattle.ti_lang.specs.Typing.Expressions.{plain, both, joined, one, all_ints, point_literal, all_points, range_of_points, rect_literal, index_type, select_type, range_count, operands, bound, bounds, operand_type}
-use Rattle.ti_lang.specs.Typing.TextTypes.{how_many}
 use Rattle.ti_lang.specs.Meaning.Held.{is_dim}
 use Rattle.ti_align.specs.Things.{IsStorable, DimsFine}
 use Rattle.ti_align.specs.Work.{has_dims}

@@ -29,7 +29,7 @@ use Rattle.ti_lang.specs.Meaning.Answers.{IsPointOf, IsRectOf}
 use Rattle.ti_lang.specs.Meaning.Zeros.{zero_of_type, zeros_of_class}
 use Rattle.ti_lang.specs.Meaning.Histories.{History, is_making, is_departure}
 use Rattle.ti_align.proofs.Computing.{of_stays, grid_stays}
-use Rattle.ti_lang.specs.Meaning.HeapOf.{new_id, view_id, is_object, is_grid, made_by, IsMade, class_made, class_of, grid_made, grid_of, or_else, written_by, written_to, last_written, zero_of, cell_value}
+use Rattle.ti_lang.specs.Meaning.HeapOf.{new_id, view_id, is_object, is_grid, made_by, class_made, class_of, grid_made, grid_of, or_else, written_by, written_to, last_written, zero_of, cell_value}
 use Rattle.ti_lang.specs.Meaning.Asking.{Wanted, NewThing, told}
 use Rattle.ti_lang.specs.Meaning.RegionsOf.{is_region, is_made, is_place}
 use Rattle.ti_lang.specs.Meaning.HeapAnswers.{Outcome, Answers, Impossible, where_some, possible_if, faults_if, makes, places, at_point, views, heap_answer, IsAnswered, more}

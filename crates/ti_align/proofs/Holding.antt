@@ -29,7 +29,7 @@ use Rattle.ti_lang.specs.Meaning.RegionsOf.{is_made, is_gone, is_region}
 use Rattle.ti_lang.specs.Meaning.HeapOf.{grid_of, or_else, written_by, written_to, last_written}
 use Rattle.ti_lang.specs.Meaning.RoundsOf as rounds
 use Rattle.ti_lang.specs.Meaning.RoundsOf.{arrival_in, arrival_at, last_arrival, value_in, given, is_delete_of}
-use Rattle.ti_lang.specs.Meaning.HeapAnswers.{Answers, Impossible, answers_value, heap_answer, IsAnswered}
+use Rattle.ti_lang.specs.Meaning.HeapAnswers.{Answers, answers_value, heap_answer, IsAnswered}
 use Rattle.ti_lang.specs.Meaning.Runs.{World, CanTake, IsRun}
 use Rattle.ti_lang.specs.Meaning.Runs as run
 use Rattle.ti_lang.proofs.MeaningLaws.Steps.{after_same}

@@ -34,7 +34,7 @@ use Rattle.ti_align.proofs.FitWays.{FitWay, fit_then, fit_reach, fit_one}
 use Rattle.ti_align.proofs.FitWays as way
 use Rattle.ti_align.proofs.Vars.{true_false, not_true, if_true, if_false, or_right, or_left}
 use Rattle.ti_align.proofs.Entries.{departures_both, arrivals_both, own}
-use Rattle.ti_align.proofs.Arrived.{is_own, more_other, at_other, at_last, one_own, arrival_other, arrival_own}
+use Rattle.ti_align.proofs.Arrived.{is_own, one_own, arrival_other, arrival_own}
 use Rattle.ti_align.proofs.Running.{meeting, Grows, still, acted, grows, left_both, after_more}
 use Rattle.ti_align.proofs.Pacing.{deletes_any, Free}
 use Rattle.ti_align.proofs.Rounds.{impossible}

@@ -31,7 +31,7 @@ use Rattle.ti_rules.specs.ProgramRefusals.{IsChecked}
 use Rattle.ti_align.specs.Literals.{LiteralsFit}
 use Rattle.ti_align.specs.Work.{ReceiverFits, WholeFits, InitFits, StmFits, MaybeFits, StmsFit, MethodsFit}
 use Rattle.ti_align.proofs.Vars.{true_false, and_left, and_right}
-use Rattle.ti_align.proofs.Operating.{none_some, some_same, where_some, type_same, or_either}
+use Rattle.ti_align.proofs.Operating.{none_some, some_same, where_some, or_either}
 use Rattle.ti_align.proofs.Evaluating.{and_then, mapped, both_there, no_call, named_field, member_there, joined_there, one_there}
 use Rattle.ti_align.proofs.Results.{NoneOf, row_plain, unary_plain, rects_plain}
 use Rattle.ti_align.proofs.References.{Points, Alike, in_text, method_points, inside_points}
