@@ -8,17 +8,13 @@ use Rattle.ti_base.specs.declared.entry.Answer.{Answer}
 use Rattle.ti_base.specs.declared.entry.Answer.TheVariants.{Done}
 use Rattle.ti_base.specs.declared.entry.Entry.{Entry}
 use Rattle.ti_base.specs.declared.entry.Next.TheVariants as next
-use Rattle.ti_region.specs.declared.region.Region.{Region}
-use Rattle.ti_rounds.specs.declared.seat.Seat.{Seat}
-use Rattle.ti_heap.specs.Contents.{Contents}
 use Rattle.ti_heap.specs.Things.{contents}
 use Rattle.ti_lang.specs.Program.Classes.{NumberedProgram}
 use Rattle.ti_lang.specs.Program.Views.{program_of}
 use Rattle.ti_lang.specs.Meaning.Processes.{Setting}
 use Rattle.ti_lang.specs.Meaning.Histories.{History, history_of, is_end, is_fault, is_departure, entries_of, arrivals, departures, has_fault}
-use Rattle.ti_lang.specs.Meaning.HeapAnswers.{Answers, heap_answer}
+use Rattle.ti_lang.specs.Meaning.HeapAnswers.{Answers}
 use Rattle.ti_lang.specs.Meaning.Runs.{IsReady, entry_with, entry_of, IsRun}
-use Rattle.ti_lang.proofs.MeaningLaws.Running.{history_grows}
 use Rattle.ti_eval.specs.Forms.{IsFormedAnswer}
 use Rattle.ti_store.specs.declared.ledger.Ledger.{Ledger}
 use Rattle.ti_store.specs.declared.ledger.Reply.{Reply}
@@ -27,7 +23,7 @@ use Rattle.ti_align.specs.Stopping.{RoundsBalance}
 use Rattle.ti_store.specs.Conditions.{IsWithin, HasNext}
 use Rattle.ti_store.specs.Stores.{next_of}
 use Rattle.ti_store.specs.MirrorsLedger.{AllArrived}
-use Rattle.ti_store.specs.MirrorsParts.{program_in, history_in, KeepsParts, IsKept, outcome_of, entry_after, Does, came_of, MayAct, Comes, Steps, SameLedger}
+use Rattle.ti_store.specs.MirrorsParts.{program_in, history_in, IsKept, outcome_of, entry_after, came_of, MayAct, Comes, Steps}
 use Rattle.ti_store.specs.MirrorsStore.{KeepsLaws, setting_in, IsLedger}
 use Rattle.ti_store.proofs.OneMore.{fault_more}
 use Rattle.ti_store.proofs.Doing.{quiet_parts, fault_parts}

@@ -625,12 +625,7 @@ pub(crate) fn call(
 }
 
 /// The command over one file `a.ti`, with the watchers that `main` hands in.
-pub(crate) fn run(
-    rt: &HostRuntime,
-    line: &str,
-    text: String,
-    fails: Fails,
-) -> Result<Left, Fail> {
+pub(crate) fn run(rt: &HostRuntime, line: &str, text: String, fails: Fails) -> Result<Left, Fail> {
     let alloc = rt.alloc();
     let source = source_of(alloc, text, fails.source)?;
     let out = sink_of(alloc, fails.out)?;
