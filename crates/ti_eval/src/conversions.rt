@@ -76,8 +76,8 @@ pub fn as_domain<'a>(
     }
 }
 
-// An int becomes the long of the same number.
-fn as_long(h: Held) -> Held
+/// An int becomes the long of the same number; any other value stays.
+pub fn as_long(h: Held) -> Held
     ensures { result ≡ as_type types.Long h }
 {
     match &h.kept {
@@ -86,8 +86,8 @@ fn as_long(h: Held) -> Held
     }
 }
 
-// A long becomes the int that is left of it.
-fn as_int(h: Held) -> Held
+/// A long becomes the int that is left of it; any other value stays.
+pub fn as_int(h: Held) -> Held
     ensures { result ≡ as_type types.Int h }
 {
     match &h.kept {

@@ -27,7 +27,7 @@ mod variables;
 mod walking;
 
 pub use bounds::Bounds;
-pub use conversions::{as_domain, as_type, converted, kept_local, to_domain};
+pub use conversions::{as_domain, as_int, as_long, as_type, converted, kept_local, to_domain};
 pub use env::{Env, called_member, class_of_this, point_of_turn, type_of, variable};
 pub use expressions::{evaluate, evaluate_all, evaluate_numbers, evaluate_ranges};
 pub use fields::field_selected;

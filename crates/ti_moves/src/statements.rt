@@ -1,14 +1,18 @@
 // What statements come to.
 
 ghost use Rattle.std.specs.Prelude.{◌≡◌, ℕ, [], ◌∷◌, map, None, Some, pos, true, false, if◌then◌else◌};
+ghost use Rattle.std.specs.Option.{option_map_or};
+ghost use Rattle.std.specs.Borrow.{Bor};
 ghost use Rattle.ti_base.specs.declared.place.Place.{Place as At};
 ghost use Rattle.ti_base.specs.declared.value.Value.TheVariants.{Int};
 ghost use Rattle.ti_syntax.specs.Trees.Views.{maybe_of};
+ghost use Rattle.ti_lang.specs.declared.program.types.Ty.{Ty as Kind};
+ghost use Rattle.ti_lang.specs.Program.Types.{Void};
 ghost use Rattle.ti_lang.specs.Program.Expressions.{NumberedExp, numbered_exps};
 ghost use Rattle.ti_lang.specs.Program.Expressions as exp;
 ghost use Rattle.ti_lang.specs.Program.Statements.{NumberedStm};
 ghost use Rattle.ti_lang.specs.Program.Statements as stm;
-ghost use Rattle.ti_lang.specs.Program.Views.{expression_of, initial_of, printed_of, statement_of};
+ghost use Rattle.ti_lang.specs.Program.Views.{expression_of, initial_of, printed_of, statement_of, value_type_of};
 ghost use Rattle.ti_lang.specs.Typing.Declared.{result_type};
 ghost use Rattle.ti_lang.specs.Meaning.Held.{Held as Seen, Plain};
 ghost use Rattle.ti_lang.specs.Meaning.Asking.{Got, followed, gives};
@@ -24,7 +28,7 @@ ghost use Rattle.ti_lang.specs.Meaning.Moves as move;
 ghost use Rattle.ti_lang.specs.Meaning.Statements as statements;
 ghost use Rattle.ti_eval.specs.Comes.{Comes, ComesAs};
 ghost use Rattle.ti_eval.specs.Envs.{env_of};
-ghost use Rattle.ti_eval.specs.Frames.{Site, work_of};
+ghost use Rattle.ti_eval.specs.Frames.{Site, method_seen, work_of};
 ghost use Rattle.ti_moves.specs.Moves.{move_of, site_in, works_of, type_received, type_given};
 ghost use Rattle.ti_moves.specs.Receiving.{stm_seen, receiver_of};
 
@@ -38,7 +42,7 @@ use crate::receiving::{Receiver, Right, receiver_at, receives};
 use std::alloc::Global;
 use ti_base::{CollKind, Deposit, Place, Value};
 use ti_eval::{Env, Held, Part, Stop, Todo, Told, called_member, converted, evaluate};
-use ti_lang::program::{Expr, Init, Printed, ResultType, Stmt, Ty};
+use ti_lang::program::{Expr, Init, Method, Printed, ResultType, Stmt, Ty};
 use ti_lang::typing::BuiltIn;
 
 /// The statement goes on with what is left of it.
@@ -327,6 +331,19 @@ fn print<'a, 'c>(
 
 // ---- returns
 
+// The type of a method's result, where it has one.
+fn result_in<'a>(method: Option<&'a Method>) -> Option<&'a Ty>
+    ensures { option_map_or (λ (t : Bor Kind). value_type_of t.now) result Void ≡ result_type (method_seen method.entry) }
+{
+    match method {
+        Some(method) => match &method.result {
+            ResultType::Void => None,
+            ResultType::Typed(t) => Some(&t.ty),
+        },
+        None => None,
+    }
+}
+
 // A value as one of the method's result.
 fn as_result<'a>(
     alloc: Global,
@@ -337,12 +354,9 @@ fn as_result<'a>(
 ) -> Result<(Held, &'a [Told]), Stop>
     ensures { Comes result (conversions.converted at (result_type (env_of env.now).method) h answers.now) }
 {
-    match env.method {
-        Some(method) => match &method.result {
-            ResultType::Void => converted(alloc, at, &Ty::Void, h, answers),
-            ResultType::Typed(t) => converted(alloc, at, &t.ty, h, answers),
-        },
-        None => converted(alloc, at, &Ty::Void, h, answers),
+    match result_in(env.method) {
+        Some(t) => converted(alloc, at, t, h, answers),
+        None => Ok((h, answers)),
     }
 }
 

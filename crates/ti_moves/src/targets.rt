@@ -26,10 +26,10 @@ use crate::moves::Change;
 use std::alloc::Global;
 use ti_base::{Action, FaultKind, Place, Point, Value};
 use ti_eval::{
-    Env, Held, Stop, Told, as_type, asked, evaluate, evaluate_numbers, fetch_element, fetch_field,
-    field_selected, find, point_of_numbers, to_domain,
+    Env, Held, Stop, Told, as_int, as_long, asked, evaluate, evaluate_numbers, fetch_element,
+    fetch_field, field_selected, find, point_of_numbers, to_domain,
 };
-use ti_lang::program::{Expr, Ty, Variable};
+use ti_lang::program::{Expr, Variable};
 use ti_lang::typing::Seen;
 
 /// What an assignment names: a variable or a cell.
@@ -132,8 +132,8 @@ fn as_seen<'p>(t: Seen<'p>, h: Held) -> Held
     ensures { result ≡ as_type_spec (seen t.entry) h }
 {
     match t {
-        Seen::Long => as_type(&Ty::Long, h),
-        Seen::Int => as_type(&Ty::Int, h),
+        Seen::Long => as_long(h),
+        Seen::Int => as_int(h),
         Seen::Class { class: _, local: _ } => Held::plain(Value::Obj(h.thing())),
         Seen::Grid {
             elem: _,
