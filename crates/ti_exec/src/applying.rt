@@ -45,7 +45,7 @@ impl Walker {
         ensures { (c : NumberedProgram) → process_of c self.new ≡ going_on c self.old mode [] }
     {
         self.answers.clear();
-        self.mode = mode;
+        self.mode.set(mode);
     }
 
     // The current work is done, and this is left of the innermost statement.
