@@ -48,6 +48,13 @@ impl Walker {
         self.mode.set(mode);
     }
 
+    /// The current work isn't done, and the process goes on so.
+    pub(crate) fn stays(&mut self, mode: Mode)
+        ensures { self.new ≡ record self.old { mode = mode } }
+    {
+        self.mode.set(mode);
+    }
+
     // The current work is done, and this is left of the innermost statement.
     #[tactic(auto, using(crate::proofs::Works::lefts))]
     fn goes(&mut self, left: Left) -> Result<(), Memory>
