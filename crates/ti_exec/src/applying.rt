@@ -45,7 +45,14 @@ impl Walker {
         ensures { (c : NumberedProgram) → process_of c self.new ≡ going_on c self.old mode [] }
     {
         self.answers.clear();
-        self.mode = mode;
+        self.mode.set(mode);
+    }
+
+    /// The current work isn't done, and the process goes on so.
+    pub(crate) fn stays(&mut self, mode: Mode)
+        ensures { self.new ≡ record self.old { mode = mode } }
+    {
+        self.mode.set(mode);
     }
 
     // The current work is done, and this is left of the innermost statement.

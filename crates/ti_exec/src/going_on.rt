@@ -130,7 +130,7 @@ impl Walker {
     {
         self.spent = one_more(self.spent, self.fuel);
         self.answers.clear();
-        self.mode = mode;
+        self.mode.set(mode);
     }
 
     // Its current work has got one answer more.

@@ -71,7 +71,7 @@ impl Walker {
             return Ok(Turn::Went);
         }
         if self.spent >= self.fuel {
-            self.mode = Mode::Walks(Todo::Before);
+            self.stays(Mode::Walks(Todo::Before));
             return Ok(Turn::Fails(FaultKind::Fuel, loop_place(x)));
         }
         self.spent += 1;
@@ -138,11 +138,11 @@ impl Walker {
             Some(p) => {
                 if self.spent >= self.fuel {
                     let at = loop_place(self.top.stands(c));
-                    self.mode = Mode::Walks(Todo::Each {
+                    self.stays(Mode::Walks(Todo::Each {
                         variable,
                         domain,
                         last,
-                    });
+                    }));
                     return Ok(Turn::Fails(FaultKind::Fuel, at));
                 }
                 self.spent += 1;

@@ -1,6 +1,6 @@
 // A process of a run.
 
-ghost use Rattle.std.specs.Prelude.{◌<◌, ◌^◌, length};
+ghost use Rattle.std.specs.Prelude.{◌≡◌, ◌<◌, ◌^◌, length};
 
 use ti_base::{Action, FaultKind, Id, Place};
 use ti_eval::{Held, Level, Slot, Team, Todo, Told};
@@ -44,6 +44,15 @@ pub enum Mode {
     Expects(Meeting),
     /// No call is in progress.
     Ended,
+}
+
+impl Mode {
+    /// It goes on so from here.
+    pub(crate) fn set(&mut self, mode: Mode)
+        ensures { self.new ≡ mode }
+    {
+        *self = mode;
+    }
 }
 
 /// A process: the call in which it goes on, and those below.

@@ -111,7 +111,7 @@ impl Walker {
             match self.top.levels.pop() {
                 Some(level) => {
                     let Level { todo, inner: _ } = level;
-                    self.mode = Mode::Walks(todo);
+                    self.mode.set(Mode::Walks(todo));
                 }
                 None => return,
             }
@@ -132,7 +132,7 @@ impl Walker {
                         todo: Todo::From(n + 1),
                         inner: Part::Item(n),
                     })?;
-                    self.mode = Mode::Walks(Todo::Here);
+                    self.mode.set(Mode::Walks(Todo::Here));
                 }
                 Ok(())
             }

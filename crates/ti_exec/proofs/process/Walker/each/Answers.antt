@@ -1,13 +1,14 @@
-use Rattle.std.proofs.Common.{refl}
+use Rattle.std.proofs.Common.{ap, refl}
 use Rattle.ti_lang.specs.Program.Views.{program_of}
 use Rattle.ti_eval.specs.declared.frame.Todo.TheVariants as left
+use Rattle.ti_exec.specs.States.{process_of}
 use Rattle.ti_exec.proofs.Begun.{went_out, each_done, each_fails, each_turns}
 use Rattle.ti_exec.proofs.process.Walker.each.Goals as goal
 
 pub returns-then-self : goal.returns-then-self
 returns-then-self c =
     let p = program_of c.args.c.now in
-    (refl, each_fails p c.args.self.now c.args.variable c.args.domain c.args.last c.in-Some.p _ _ _ c.requires (rw c.deref.ensures at c.in-Some.ensures.value) c.if-self.true c.stands.ensures c.loop_place-at.ensures)
+    (ap (process_of p) c.stays.ensures, each_fails p c.args.self.now c.args.variable c.args.domain c.args.last c.in-Some.p _ _ _ c.requires (rw c.deref.ensures at c.in-Some.ensures.value) c.if-self.true c.stands.ensures c.loop_place-at.ensures)
 
 pub returns-in_ok-enter-in-Some : goal.returns-in_ok-enter-in-Some
 returns-in_ok-enter-in-Some c =

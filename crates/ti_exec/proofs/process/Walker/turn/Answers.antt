@@ -1,4 +1,4 @@
-use Rattle.std.proofs.Common.{◌≡◌, Bool, refl, subst, sym}
+use Rattle.std.proofs.Common.{◌≡◌, Bool, ap, subst, sym}
 use Rattle.ti_base.specs.declared.fault.FaultKind.TheVariants.{Fuel}
 use Rattle.ti_lang.specs.Program.Views.{program_of}
 use Rattle.ti_lang.specs.Meaning.Steps.{To, Faults}
@@ -17,7 +17,7 @@ pub returns-then-self : goal.returns-then-self
 returns-then-self c =
     let p = program_of c.args.c.now in
     let w = c.args.self.now in
-    (refl, subst (λ (b : Bool). turning p w b ≡ Faults Fuel c.loop_place.result) (sym c.if-not-again.false) (turn_fails p w _ _ c.if-self.true c.stands-x.ensures c.loop_place.ensures))
+    (ap (process_of p) c.stays.ensures, subst (λ (b : Bool). turning p w b ≡ Faults Fuel c.loop_place.result) (sym c.if-not-again.false) (turn_fails p w _ _ c.if-self.true c.stands-x.ensures c.loop_place.ensures))
 
 pub returns : goal.returns
 returns c =
