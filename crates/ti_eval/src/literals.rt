@@ -57,7 +57,9 @@ fn numbers_of(alloc: Global, h: &Held) -> Result<Vec<i32>, Memory>
 fn ones(alloc: Global, numbers: &[i32]) -> Result<Vec<i32>, Memory>
     ensures { IfOk result (λ v. v.items ≡ map (λ x. pos 1) numbers.now) }
 {
-    Ok(numbers.iter().map(|_x| 1).collect(alloc)?)
+    let mut found = Vec::new(alloc);
+    found.resize(numbers.len(), 1)?;
+    Ok(found)
 }
 
 /// From one to another by steps of 1.

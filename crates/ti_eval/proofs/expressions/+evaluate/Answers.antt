@@ -16,7 +16,7 @@ use Rattle.ti_lang.specs.Meaning.Asking.{Got, Gives, followed, gives}
 use Rattle.ti_lang.specs.Meaning.Literals as literal
 use Rattle.ti_lang.specs.Meaning.Parts.{Field, fetched, indexed}
 use Rattle.ti_lang.specs.Meaning.MemberForms.{member}
-use Rattle.ti_lang.specs.Meaning.Scoping.{type_of, field_selected}
+use Rattle.ti_lang.specs.Meaning.Scoping.{Env, type_of, field_selected}
 use Rattle.ti_lang.specs.Meaning.Evaluation.{eval, eval_all, eval_numbers, eval_range, eval_ranges, with_right}
 use Rattle.ti_lang.proofs.ProgramBridges.{seen_numbered_point, seen_numbered_rect, seen_numbered_member, seen_numbered_index}
 use Rattle.ti_eval.specs.declared.stop.Stop.{Stop}
@@ -25,6 +25,10 @@ use Rattle.ti_eval.specs.Comes.{Comes, ComesAs, Stops}
 use Rattle.ti_eval.specs.Envs.{env_of}
 use Rattle.ti_eval.proofs.Evaluating.{behind, all_stop, all_next, numbers_stopped, numbers_next, bounds_stopped, bounds_next}
 use Rattle.ti_eval.proofs.expressions.+evaluate.Goals as goal
+
+-- what the code knows of the form of an expression
+at_arm : (E : Env) (e a : Expr) (answers : List Answer) (r : Result (Held × Bor (List Answer)) Stop) → e ≡ a → Comes r (eval E (expression_of a) answers) → Comes r (eval E (expression_of e) answers)
+at_arm E e a answers r is h = subst (λ (z : Expr). Comes r (eval E (expression_of z) answers)) (sym is) h
 
 pub evaluated-returns-in-Point : goal.evaluated-returns-in-Point
 evaluated-returns-in-Point t c =
@@ -189,3 +193,21 @@ range-returns-in-Ok-evaluate-2 t c =
 
 pub evaluate-returns-in-Some : goal.evaluate-returns-in-Some
 evaluate-returns-in-Some t c = subst (λ (g : Got Held). Comes c.made.result g) (sym (c.in-Some.ensures.value c.args.answers.now)) c.made.ensures
+
+pub evaluated-returns-in-Truth : goal.evaluated-returns-in-Truth
+evaluated-returns-in-Truth t c = at_arm (env_of c.args.env.now) c.args.e.now _ c.args.answers.now c.made-in-Truth.result c.in-Truth.is c.made-in-Truth.ensures
+
+pub evaluated-returns-in-Null : goal.evaluated-returns-in-Null
+evaluated-returns-in-Null t c = at_arm (env_of c.args.env.now) c.args.e.now _ c.args.answers.now c.object.result c.in-Null.is c.object.ensures
+
+pub evaluated-returns-in-This : goal.evaluated-returns-in-This
+evaluated-returns-in-This t c = at_arm (env_of c.args.env.now) c.args.e.now _ c.args.answers.now c.object-in-This.result c.in-This.is c.object-in-This.ensures
+
+pub evaluated-returns-in-Variable : goal.evaluated-returns-in-Variable
+evaluated-returns-in-Variable t c = at_arm (env_of c.args.env.now) c.args.e.now _ c.args.answers.now c.held_by.result c.in-Variable.is c.held_by.ensures
+
+pub evaluated-returns-in-Call : goal.evaluated-returns-in-Call
+evaluated-returns-in-Call t c = at_arm (env_of c.args.env.now) c.args.e.now _ c.args.answers.now c.made-in-Call.result c.in-Call.is c.made-in-Call.ensures
+
+pub evaluated-returns-in-OwnCall : goal.evaluated-returns-in-OwnCall
+evaluated-returns-in-OwnCall t c = at_arm (env_of c.args.env.now) c.args.e.now _ c.args.answers.now c.made-in-OwnCall.result c.in-OwnCall.is c.made-in-OwnCall.ensures
