@@ -224,7 +224,9 @@ fn outcomes_of(
     procs: u32,
     history: &[Entry],
     number: u32,
-) -> Result<Option<Vec<Answer>>, Memory> {
+) -> Result<Option<Vec<Answer>>, Memory>
+    requires { procs ≤ 32 }
+{
     let mut outcomes = Vec::new(alloc);
     for entry in history {
         if entry.proc == number {
