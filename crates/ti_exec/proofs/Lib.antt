@@ -8,6 +8,5 @@ pub mod Formed
 pub mod Marks
 pub mod Sending
 pub mod Settling
-pub mod Spots
 pub mod Standings
 pub mod Works

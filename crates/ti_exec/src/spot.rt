@@ -8,6 +8,7 @@ ghost use Rattle.ti_exec.specs.States.{env_in};
 use crate::process::Walker;
 use ti_eval::Env;
 use ti_lang::program::Parts;
+use ti_moves::method;
 
 impl Walker {
     /// Where the innermost statement is evaluated.
@@ -17,7 +18,7 @@ impl Walker {
         Env {
             team: self.team,
             program: c,
-            method: self.top.method_in(c),
+            method: method(c, self.top.method),
             this: self.top.this,
             variables: &self.top.variables.slots,
             levels: &self.top.levels,

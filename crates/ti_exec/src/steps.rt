@@ -22,14 +22,13 @@ use std::alloc::Global;
 use ti_base::{Action, Memory, Place};
 use ti_eval::{Held, Stop, Todo, Told};
 use ti_lang::program::Parts;
-use ti_moves::{Move, Way, received, statement, unasked};
+use ti_moves::{Move, Way, method, received, statement, unasked};
 
 /// The place of the brace that closes `main`.
-#[tactic(auto, using(crate::proofs::Spots::spots))]
 pub fn end_place(c: &Parts) -> Place
     ensures { result ≡ end_of (program_of c.now) }
 {
-    match c.methods.get(c.main as usize) {
+    match method(c, c.main as usize) {
         Some(main) => main.end,
         None => Place { line: 0, col: 0 },
     }

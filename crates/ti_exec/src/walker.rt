@@ -5,9 +5,8 @@ ghost use Rattle.ti_lang.specs.Program.Classes.{NumberedProgram};
 ghost use Rattle.ti_lang.specs.Program.Views.{program_of};
 ghost use Rattle.ti_lang.specs.Meaning.Processes.{Do};
 ghost use Rattle.ti_eval.specs.declared.frame.Todo.TheVariants.{Inside, From};
-ghost use Rattle.ti_eval.specs.Frames.{slots_of, list_in, method_seen};
+ghost use Rattle.ti_eval.specs.Frames.{slots_of, list_in};
 ghost use Rattle.ti_eval.specs.Places.{part_of};
-ghost use Rattle.ti_moves.specs.Moves.{method_at};
 ghost use Rattle.ti_moves.specs.Receiving.{stm_seen};
 ghost use Rattle.ti_exec.specs.declared.process.Mode.TheVariants.{Walks};
 ghost use Rattle.ti_exec.specs.States.{here, left_in, process_of, IsSettled};
@@ -16,42 +15,23 @@ ghost use Rattle.ti_exec.specs.Walking.{done_with};
 use crate::process::{Call, Mode, Walker};
 use ti_base::Memory;
 use ti_eval::{Level, Part, Todo};
-use ti_lang::program::{Method, Parts, Stmt};
-use ti_moves::{count, statement_at};
+use ti_lang::program::{Parts, Stmt};
+use ti_moves::{body_of, count, method, statement_at};
 
 impl Call {
-    /// Its method.
-    #[tactic(auto, using(crate::proofs::Spots::spots))]
-    pub fn method_in<'c>(&self, c: &'c Parts) -> Option<&'c Method>
-        ensures { method_seen result ≡ method_at (program_of c.now) self.now.method }
-    {
-        match c.methods.get(self.method) {
-            Some(m) => Some(m),
-            None => None,
-        }
-    }
-
     /// Its innermost statement.
-    #[tactic(auto, using(crate::proofs::Spots::spots))]
     pub fn stands<'c>(&self, c: &'c Parts) -> Option<&'c Stmt>
         requires { 0 < length self.now.levels.items }
         ensures { stm_seen result ≡ here (program_of c.now) self.now }
     {
-        match self.method_in(c) {
-            Some(m) => statement_at(&m.body, &self.levels),
-            None => None,
-        }
+        statement_at(body_of(method(c, self.method)), &self.levels)
     }
 
     // How many statements the list of its innermost block has.
-    #[tactic(auto, using(crate::proofs::Settling::settling))]
     fn list_len(&self, c: &Parts) -> usize
         ensures { result ≡ length (list_in (here (program_of c.now) self.now)) }
     {
-        match self.method_in(c) {
-            Some(m) => count(&m.body, &self.levels),
-            None => count(&[], &self.levels),
-        }
+        count(body_of(method(c, self.method)), &self.levels)
     }
 }
 

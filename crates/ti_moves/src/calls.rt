@@ -9,7 +9,7 @@ ghost use Rattle.ti_lang.specs.Program.Types.{Typed};
 ghost use Rattle.ti_lang.specs.Program.Expressions.{numbered_exps};
 ghost use Rattle.ti_lang.specs.Program.Statements.{NumberedStm};
 ghost use Rattle.ti_lang.specs.Program.Classes.{NumberedMethod};
-ghost use Rattle.ti_lang.specs.Program.Views.{program_of, expression_of, value_type_of, numbered_param_of, numbered_params_of};
+ghost use Rattle.ti_lang.specs.Program.Views.{program_of, expression_of, statement_of, value_type_of, numbered_param_of, numbered_params_of};
 ghost use Rattle.ti_lang.specs.Typing.Seen.{seen};
 ghost use Rattle.ti_lang.specs.Typing.Declared.{is_static_method, instance_method};
 ghost use Rattle.ti_lang.specs.Typing.Called.{called_method, method_behind};
@@ -34,7 +34,7 @@ use crate::receiving::new_slot;
 use std::alloc::Global;
 use ti_base::{FaultKind, Id, Memory, Place, Value};
 use ti_eval::{Env, Held, Slot, Stop, Told, class_of_this, converted, evaluate};
-use ti_lang::program::{Expr, Method, Param, Params, Parts, Ty, has_static};
+use ti_lang::program::{Expr, Method, Param, Params, Parts, Stmt, Ty, has_static};
 use ti_lang::typing::{Seen as Kind, type_in_text};
 
 // ---- which method
@@ -48,6 +48,16 @@ pub fn method<'p>(program: &'p Parts, number: usize) -> Option<&'p Method>
         Some(&program.methods[number])
     } else {
         None
+    }
+}
+
+/// The statements of a method; none, where it isn't there.
+pub fn body_of<'p>(method: Option<&'p Method>) -> &'p [Stmt]
+    ensures { map statement_of result.now ≡ (method_seen method.entry).body }
+{
+    match method {
+        Some(m) => &m.body,
+        None => &[],
     }
 }
 

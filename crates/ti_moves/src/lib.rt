@@ -16,7 +16,7 @@ mod statements;
 mod targets;
 mod ways;
 
-pub use calls::{argument, method, number_called};
+pub use calls::{argument, body_of, method, number_called};
 pub use collectives::root_among;
 pub use copies::{copy_element, take_element};
 pub use moves::{Change, Left, Meeting, Move};

@@ -20,7 +20,7 @@ ghost use Rattle.ti_slice.specs.FirstWork.{first_acts};
 use ti_eval::{Level, Todo};
 use ti_exec::{Call, behind_loop, is_mark};
 use ti_lang::program::{Declared, Expr, Method, Program, Stmt};
-use ti_moves::statement_at;
+use ti_moves::{method, statement_at};
 use ti_rules::Checked;
 use ti_single::{
     Doings, boxed_statement, doings_in_loop, doings_of_statement, return_acts, this_of,
@@ -132,7 +132,7 @@ pub(crate) fn work_acts(c: &Checked, call: &Call, todo: &Todo) -> bool
     requires at_hand { IsAtHand (here (program_of c.now.program.parts) call.now) (length call.now.levels.items) todo.now }
     ensures { (procs : ℕ) (w : Work) (ws : List Work) → left_in (program_of c.now.program.parts) procs call.now todo.now ≡ w ∷ ws → result ≡ work_acts_spec (program_of c.now.program.parts) (method_at (program_of c.now.program.parts) call.now.method) ws w }
 {
-    match call.method_in(&c.program.parts) {
+    match method(&c.program.parts, call.method) {
         Some(m) => match call.stands(&c.program.parts) {
             Some(x) => acts_at(&c.program, m, &call.levels, x, todo),
             None => false,

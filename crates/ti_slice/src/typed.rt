@@ -1,8 +1,8 @@
 // The types that expressions have where a call stands, with the dimensions of the foreach loops around.
 
-ghost use Rattle.std.specs.Prelude.{◌≡◌, ◌<◌, IfOk, map, reverse};
+ghost use Rattle.std.specs.Prelude.{◌≡◌, ◌<◌, IfOk, reverse};
 ghost use Rattle.ti_lang.specs.Program.Scope.{this_of};
-ghost use Rattle.ti_lang.specs.Program.Views.{program_of, expression_of, statement_of};
+ghost use Rattle.ti_lang.specs.Program.Views.{program_of, expression_of};
 ghost use Rattle.ti_lang.specs.Typing.Kinds.{dim_of_type};
 ghost use Rattle.ti_lang.specs.Typing.Seen.{seen};
 ghost use Rattle.ti_lang.specs.Typing.ListedDims.{dims_in};
@@ -15,19 +15,9 @@ ghost use Rattle.ti_moves.specs.Receiving.{stm_seen};
 use std::alloc::Global;
 use ti_base::Memory;
 use ti_eval::{Env, Todo, class_of_this};
-use ti_lang::program::{Expr, Method, Stmt};
+use ti_lang::program::{Expr, Stmt};
 use ti_lang::typing::{ForeachDims, Seen, dims_of, type_over};
-use ti_moves::statement_at;
-
-// The statements of a method.
-fn body_of<'a>(method: Option<&'a Method>) -> &'a [Stmt]
-    ensures { map statement_of result.now ≡ (method_seen method.entry).body }
-{
-    match method {
-        Some(m) => &m.body,
-        None => &[],
-    }
-}
+use ti_moves::{body_of, statement_at};
 
 // How many dimensions the domain of a `foreach` has, where these are those of the loops around it.
 fn dims_of_domain(env: &Env, dims: &[ForeachDims], x: Option<&Stmt>) -> usize
