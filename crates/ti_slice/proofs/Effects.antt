@@ -25,7 +25,7 @@ use Rattle.ti_exec.specs.declared.process.Call.{Call}
 use Rattle.ti_exec.specs.Marks.{is_mark}
 use Rattle.ti_exec.specs.States.{IsAtHand, site_of, here, left_in}
 use Rattle.ti_exec.proofs.Works.{left_within}
-use Rattle.ti_exec.proofs.Spots.{none_inside}
+use Rattle.ti_slice.proofs.Spots.{none_inside}
 use Rattle.ti_slice.specs.FirstWork.{first_acts}
 
 -- ---- loops

@@ -1,5 +1,6 @@
 pub mod Dimming
 pub mod Ranging
+pub mod Spots
 pub mod Effects
 pub mod StatedCalls
 pub mod StatedForms
