@@ -12,7 +12,7 @@ ghost use Rattle.ti_lang.specs.Meaning.Asking.{Got, followed, gives};
 ghost use Rattle.ti_lang.specs.Meaning.Literals as literal;
 ghost use Rattle.ti_lang.specs.Meaning.Conversions as conversions;
 ghost use Rattle.ti_lang.specs.Meaning.Operators as ops;
-ghost use Rattle.ti_lang.specs.Meaning.Parts.{Field, fetched, indexed as indexed_spec};
+ghost use Rattle.ti_lang.specs.Meaning.Parts.{indexed as indexed_spec};
 ghost use Rattle.ti_lang.specs.Meaning.MemberForms as forms;
 ghost use Rattle.ti_lang.specs.Meaning.Evaluation.{kept_local as kept_local_spec};
 ghost use Rattle.ti_eval.specs.Bounds.{bounds_of};
@@ -24,7 +24,6 @@ use crate::held::Held;
 use crate::literals::{plain_bounds, point_of_numbers, rect_within, stepped_bounds};
 use crate::members::{indexed, member};
 use crate::operators::operated_alone;
-use crate::parts::fetch_field;
 use crate::stop::Stop;
 use crate::told::Told;
 use std::alloc::Global;
@@ -44,7 +43,7 @@ pub fn point_from<'a>(got: Result<(Vec<i32>, &'a [Told]), Stop>) -> Result<(Held
     }
 }
 
-/// The rectangular domain within the bounds.
+/// The rectangular domain within the bounds, unless a step is below 1.
 #[tactic(auto, using(crate::proofs::Steps::steps))]
 pub fn rect_from<'a>(
     at: Place,
@@ -72,22 +71,6 @@ pub fn alone_from<'a>(
     }
 }
 
-// A value of a type, if it is local where the type is.
-#[tactic(auto, using(crate::proofs::Steps::steps))]
-fn local_from<'a>(
-    number: u32,
-    at: Place,
-    ty: &Ty,
-    got: Result<(Held, &'a [Told]), Stop>,
-) -> Result<(Held, &'a [Told]), Stop>
-    ensures { (m : Got Seen) → Comes got.entry m → Comes result (followed m (λ k. kept_local_spec number at (value_type_of ty.now) k)) }
-{
-    match got {
-        Ok((h, answers)) => kept_local(number, at, ty, h, answers),
-        Err(stop) => Err(stop),
-    }
-}
-
 /// A cast.
 #[tactic(auto, using(crate::proofs::Steps::steps))]
 pub fn cast_from<'a>(
@@ -100,22 +83,10 @@ pub fn cast_from<'a>(
     ensures { (m : Got Seen) → Comes got.entry m → Comes result (followed m (λ h rest. followed (conversions.converted at (value_type_of ty.now) h rest) (λ k. kept_local_spec number at (value_type_of ty.now) k))) }
 {
     match got {
-        Ok((h, answers)) => local_from(number, at, ty, converted(alloc, at, ty, h, answers)),
-        Err(stop) => Err(stop),
-    }
-}
-
-/// A field of an object.
-#[tactic(auto, using(crate::proofs::Steps::steps))]
-pub fn field_from<'a>(
-    at: Place,
-    field: u32,
-    got: Result<(Held, &'a [Told]), Stop>,
-) -> Result<(Held, &'a [Told]), Stop>
-    ensures { (type through : ValueType) (m : Got Seen) → Comes got.entry m → Comes result (followed m (λ h. fetched at type (Field h through field))) }
-{
-    match got {
-        Ok((h, answers)) => fetch_field(at, &h, field, answers),
+        Ok((h, answers)) => match converted(alloc, at, ty, h, answers) {
+            Ok((k, answers)) => kept_local(number, at, ty, k, answers),
+            Err(stop) => Err(stop),
+        },
         Err(stop) => Err(stop),
     }
 }
@@ -125,13 +96,13 @@ pub fn field_from<'a>(
 pub fn member_from<'a>(
     at: Place,
     called: Option<BuiltIn>,
-    h: &Held,
+    h: Held,
     got: Result<(Vec<Held>, &'a [Told]), Stop>,
 ) -> Result<(Held, &'a [Told]), Stop>
-    ensures { (type through : ValueType) (m : Got (List Seen)) → ComesAs (λ (v : Row Seen Heap). v.items) got.entry m → Comes result (followed m (λ hs. forms.member at type (option_map built_in_of called) through h.now hs)) }
+    ensures { (type through : ValueType) (m : Got (List Seen)) → ComesAs (λ (v : Row Seen Heap). v.items) got.entry m → Comes result (followed m (λ hs. forms.member at type (option_map built_in_of called) through h hs)) }
 {
     match got {
-        Ok((hs, answers)) => member(at, called, h, &hs, answers),
+        Ok((hs, answers)) => member(at, called, &h, &hs, answers),
         Err(stop) => Err(stop),
     }
 }
@@ -141,13 +112,13 @@ pub fn member_from<'a>(
 pub fn index_from<'a>(
     is_point: bool,
     at: Place,
-    h: &Held,
+    h: Held,
     got: Result<(Vec<i32>, &'a [Told]), Stop>,
 ) -> Result<(Held, &'a [Told]), Stop>
-    ensures { (type through : ValueType) (m : Got (List ℤ)) → ComesAs (λ (v : Row ℤ Heap). v.items) got.entry m → Comes result (followed m (λ xs. indexed_spec is_point at type through h.now xs)) }
+    ensures { (type through : ValueType) (m : Got (List ℤ)) → ComesAs (λ (v : Row ℤ Heap). v.items) got.entry m → Comes result (followed m (λ xs. indexed_spec is_point at type through h xs)) }
 {
     match got {
-        Ok((numbers, answers)) => indexed(is_point, at, h, &numbers, answers),
+        Ok((numbers, answers)) => indexed(is_point, at, &h, &numbers, answers),
         Err(stop) => Err(stop),
     }
 }
@@ -156,13 +127,13 @@ pub fn index_from<'a>(
 #[tactic(auto, using(crate::proofs::Steps::steps))]
 pub fn plain_from<'a>(
     alloc: Global,
-    a: &Held,
+    a: Held,
     got: Result<(Held, &'a [Told]), Stop>,
 ) -> Result<(Bounds, &'a [Told]), Stop>
-    ensures { (m : Got Seen) → Comes got.entry m → ComesAs bounds_of result (followed m (λ b. gives (literal.plain_bounds a.now b))) }
+    ensures { (m : Got Seen) → Comes got.entry m → ComesAs bounds_of result (followed m (λ b. gives (literal.plain_bounds a b))) }
 {
     match got {
-        Ok((b, answers)) => match plain_bounds(alloc, a, &b) {
+        Ok((b, answers)) => match plain_bounds(alloc, &a, &b) {
             Ok(bounds) => Ok((bounds, answers)),
             Err(_) => Err(Stop::Memory),
         },
@@ -174,14 +145,14 @@ pub fn plain_from<'a>(
 #[tactic(auto, using(crate::proofs::Steps::steps))]
 pub fn stepped_from<'a>(
     alloc: Global,
-    a: &Held,
-    b: &Held,
+    a: Held,
+    b: Held,
     got: Result<(Held, &'a [Told]), Stop>,
 ) -> Result<(Bounds, &'a [Told]), Stop>
-    ensures { (m : Got Seen) → Comes got.entry m → ComesAs bounds_of result (followed m (λ c. gives (literal.stepped_bounds a.now b.now c))) }
+    ensures { (m : Got Seen) → Comes got.entry m → ComesAs bounds_of result (followed m (λ c. gives (literal.stepped_bounds a b c))) }
 {
     match got {
-        Ok((c, answers)) => match stepped_bounds(alloc, a, b, &c) {
+        Ok((c, answers)) => match stepped_bounds(alloc, &a, &b, &c) {
             Ok(bounds) => Ok((bounds, answers)),
             Err(_) => Err(Stop::Memory),
         },

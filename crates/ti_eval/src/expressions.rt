@@ -5,7 +5,7 @@ ghost use Rattle.ti_base.specs.declared.value.Value.TheVariants.{Int, Obj};
 ghost use Rattle.ti_lang.specs.Program.Types.{ValueType};
 ghost use Rattle.ti_lang.specs.Typing.Kinds.{is_point as is_point_spec};
 ghost use Rattle.ti_lang.specs.Meaning.Scoping.{type_of as type_of_spec, field_selected as selected_spec, value_by};
-ghost use Rattle.ti_lang.specs.Typing.Seen.{seen, built_in_of};
+ghost use Rattle.ti_lang.specs.Typing.Seen.{built_in_of};
 ghost use Rattle.std.specs.declared.vec.Vec.{Vec as Row};
 ghost use Rattle.std.specs.declared.alloc.Global.{Global as Heap};
 ghost use Rattle.ti_lang.specs.Program.Expressions.{numbered_exps, numbered_ranges};
@@ -23,8 +23,7 @@ ghost use Rattle.ti_eval.specs.Scalars.{held_of_scalar};
 
 use crate::bounds::Bounds;
 use crate::continued::{
-    alone_from, cast_from, field_from, index_from, member_from, plain_from, point_from, rect_from,
-    stepped_from,
+    alone_from, cast_from, index_from, member_from, plain_from, point_from, rect_from, stepped_from,
 };
 use crate::env::{Env, called_member, type_of, variable};
 use crate::fields::field_selected;
@@ -41,20 +40,14 @@ use ti_lang::program::{Expr, Range, Variable};
 use ti_lang::tree::BinaryOperator;
 use ti_lang::typing::{BuiltIn, Seen as Kind};
 
-fn is_point_type<'a>(t: Kind<'a>) -> bool
-    ensures { result ≡ is_point_spec (seen t.entry) }
-{
-    match t {
-        Kind::Pt(_) => true,
-        _ => false,
-    }
-}
-
 // Whether an expression is a point in the text.
 fn is_point(env: &Env, e: &Expr) -> bool
     ensures { result ≡ is_point_spec (type_of_spec (env_of env.now) (expression_of e.now)) }
 {
-    is_point_type(type_of(env, e))
+    match type_of(env, e) {
+        Kind::Pt(_) => true,
+        _ => false,
+    }
 }
 
 // The value of a variable.
@@ -92,9 +85,12 @@ fn selected<'a>(
 ) -> Result<(Held, &'a [Told]), Stop>
     ensures { (type through : ValueType) (m : Got Seen) → Comes got.entry m → Comes result (followed m (λ h. fetched at type (Field h through (selected_spec (env_of env.now) (expression_of e.now) name)))) }
 {
-    match field_selected(env, e, name) {
-        Ok(field) => field_from(at, field, got),
-        Err(_) => Err(Stop::Memory),
+    match got {
+        Ok((h, answers)) => match field_selected(env, e, name) {
+            Ok(field) => fetch_field(at, &h, field, answers),
+            Err(_) => Err(Stop::Memory),
+        },
+        Err(stop) => Err(stop),
     }
 }
 
@@ -104,13 +100,13 @@ fn operated_from<'a>(
     alloc: Global,
     at: Place,
     op: BinaryOperator,
-    h: &Held,
+    h: Held,
     got: Result<(Held, &'a [Told]), Stop>,
 ) -> Result<(Held, &'a [Told]), Stop>
-    ensures { (m : Got Seen) → Comes got.entry m → Comes result (followed m (λ k. ops.operated at op h.now k)) }
+    ensures { (m : Got Seen) → Comes got.entry m → Comes result (followed m (λ k. ops.operated at op h k)) }
 {
     match got {
-        Ok((k, answers)) => operated(alloc, at, op, h, k, answers),
+        Ok((k, answers)) => operated(alloc, at, op, &h, k, answers),
         Err(stop) => Err(stop),
     }
 }
@@ -131,7 +127,7 @@ fn binary<'a>(
     match got {
         Ok((h, answers)) => match settled(op, &h) {
             Some(k) => Ok((k, answers)),
-            None => operated_from(alloc, at, op, &h, evaluated(alloc, env, e, answers)),
+            None => operated_from(alloc, at, op, h, evaluated(alloc, env, e, answers)),
         },
         Err(stop) => Err(stop),
     }
@@ -151,7 +147,7 @@ fn with_arguments<'a>(
     ensures { (type through : ValueType) (m : Got Seen) → Comes got.entry m → Comes result (followed m (λ h rest. followed (evaluation.eval_all (env_of env.now) (numbered_exps (map expression_of args.now)) rest) (λ hs. forms.member at type (option_map built_in_of called) through h hs))) }
 {
     match got {
-        Ok((h, answers)) => { member_from(at, called, &h, evaluate_all(alloc, env, args, answers)) }
+        Ok((h, answers)) => { member_from(at, called, h, evaluate_all(alloc, env, args, answers)) }
         Err(stop) => Err(stop),
     }
 }
@@ -174,7 +170,7 @@ fn with_indices<'a>(
             index_from(
                 is_point,
                 at,
-                &h,
+                h,
                 evaluate_numbers(alloc, env, indices, answers),
             )
         }
@@ -243,13 +239,13 @@ fn range<'a>(
 {
     match r {
         Range::Plain { low, high } => match evaluate(alloc, env, low, answers) {
-            Ok((a, answers)) => plain_from(alloc, &a, evaluate(alloc, env, high, answers)),
+            Ok((a, answers)) => plain_from(alloc, a, evaluate(alloc, env, high, answers)),
             Err(stop) => Err(stop),
         },
         Range::Stepped { low, high, step } => match evaluate(alloc, env, low, answers) {
             Ok((a, answers)) => match evaluate(alloc, env, high, answers) {
                 Ok((b, answers)) => {
-                    stepped_from(alloc, &a, &b, evaluate(alloc, env, step, answers))
+                    stepped_from(alloc, a, b, evaluate(alloc, env, step, answers))
                 }
                 Err(stop) => Err(stop),
             },

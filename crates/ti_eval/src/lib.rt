@@ -27,13 +27,14 @@ mod variables;
 mod walking;
 
 pub use bounds::Bounds;
+pub use continued::rect_from;
 pub use conversions::{as_domain, as_int, as_long, as_type, converted, kept_local, to_domain};
 pub use env::{Env, called_member, class_of_this, point_of_turn, type_of, variable};
 pub use expressions::{evaluate, evaluate_all, evaluate_numbers, evaluate_ranges};
 pub use fields::field_selected;
 pub use frame::{Copy, Level, Part, Slot, Spot, Todo};
 pub use held::Held;
-pub use literals::{point_of_numbers, rect_within};
+pub use literals::point_of_numbers;
 pub use members::{indexed, member};
 pub use operators::{operated, operated_alone, settled};
 pub use parts::{asked, fetch_domain, fetch_element, fetch_field, fetch_view};

@@ -1,6 +1,6 @@
 // Points and rectangular domains from their numbers.
 
-ghost use Rattle.std.specs.Prelude.{◌≡◌, ◌++◌, ℤ, pos, int_le, map, true, IfOk, OnOk};
+ghost use Rattle.std.specs.Prelude.{◌≡◌, ◌++◌, pos, int_le, map, true, IfOk, OnOk};
 ghost use Rattle.std.specs.List.{list_all};
 ghost use Rattle.ti_base.specs.Points.{IsPoint};
 ghost use Rattle.ti_base.specs.Rects.{IsRect};

@@ -1,6 +1,6 @@
 // The members of the language that have a value.
 
-ghost use Rattle.std.specs.Prelude.{◌≡◌, pos, option_map, slice_index_or};
+ghost use Rattle.std.specs.Prelude.{◌≡◌, option_map, slice_index_or};
 ghost use Rattle.ti_base.specs.Points.{IsPoint};
 ghost use Rattle.ti_base.specs.Rects as rects;
 ghost use Rattle.ti_base.specs.declared.value.Value.TheVariants.{Rc};

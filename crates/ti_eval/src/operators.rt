@@ -1,6 +1,6 @@
 // The operators, on the values of their operands.
 
-ghost use Rattle.std.specs.Prelude.{◌≡◌, ℤ, option_map};
+ghost use Rattle.std.specs.Prelude.{◌≡◌, ℤ};
 ghost use Rattle.std.specs.Int.{Width};
 ghost use Rattle.ti_base.specs.WholeNumbers.{wrap, quotient, remainder};
 ghost use Rattle.ti_syntax.specs.declared.tree.exprs.BinaryOperator.TheVariants.{OrElse, AndThen, Equal, NotEqual};

@@ -1,7 +1,6 @@
 // Cells of things, and views.
 
 ghost use Rattle.std.specs.Prelude.{◌≡◌};
-ghost use Rattle.ti_base.specs.declared.action.ViewHow.{ViewHow as How};
 ghost use Rattle.ti_lang.specs.Program.Types.{ValueType};
 ghost use Rattle.ti_lang.specs.Meaning.Asking.{Wanted, asked as asked_spec};
 ghost use Rattle.ti_lang.specs.Meaning.Parts.{Field, Element, fetched, domain_of, viewed};

@@ -4,7 +4,6 @@ ghost use Rattle.std.specs.Prelude.{◌≡◌, [], IfOk};
 ghost use Rattle.ti_base.specs.Points.{IsDim};
 ghost use Rattle.ti_base.specs.Rects.{IsRect, empty_rect as empty_spec};
 ghost use Rattle.ti_lang.specs.Program.Views.{value_type_of, declared_of, variable_of};
-ghost use Rattle.ti_lang.specs.Typing.Kinds.{same_truth};
 ghost use Rattle.ti_lang.specs.Meaning.Held.{zero_of, is_dim};
 ghost use Rattle.ti_lang.specs.Meaning.Scoping.{same_declaration, same_variable, find_variable, with_changed, zero_declared};
 ghost use Rattle.ti_eval.specs.Frames.{slots_of};
@@ -17,12 +16,6 @@ use ti_domain::{Dom, DomErr, dom_of};
 use ti_lang::program::{Declared, Ty, Variable};
 use ti_lang::typing::same_elements;
 
-fn same_bool(a: bool, b: bool) -> bool
-    ensures { result ≡ same_truth a b }
-{
-    if a { b } else { !b }
-}
-
 fn same_declared(a: &Declared, b: &Declared) -> bool
     ensures { result ≡ same_declaration (declared_of a.now) (declared_of b.now) }
 {
@@ -33,7 +26,7 @@ fn same_declared(a: &Declared, b: &Declared) -> bool
                 single: other,
                 ty: u,
             },
-        ) => same_bool(*single, *other) && same_elements(ty, false, u, false),
+        ) => *single == *other && same_elements(ty, false, u, false),
         (Declared::Foreach, Declared::Foreach) => true,
         _ => false,
     }

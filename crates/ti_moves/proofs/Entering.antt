@@ -5,7 +5,7 @@ use Rattle.std.proofs.lemmas.Option.{slice_get-map}
 use Rattle.std.specs.declared.vec.Vec.{Vec}
 use Rattle.std.specs.declared.alloc.Global.{Global}
 use Rattle.ti_lang.specs.declared.program.stmts.Stmt.{Stmt, Block}
-use Rattle.ti_lang.specs.Program.Statements.{NumberedStm, NumberedStms, numbered_stms}
+use Rattle.ti_lang.specs.Program.Statements.{NumberedStm, numbered_stms}
 use Rattle.ti_lang.specs.Program.Statements as s
 use Rattle.ti_lang.specs.Program.Views.{statement_of, statements_of}
 use Rattle.ti_lang.proofs.ProgramBridges.{seen_numbered_block}

@@ -1,5 +1,5 @@
 -- Statements that ask for no action.
-use Rattle.std.proofs.Common.{◌≡◌, ◌∙◌, ap, refl, sym, subst, Bool, true, false, List, [], ◌∷◌, Option, None, Some, if◌then◌else◌}
+use Rattle.std.proofs.Common.{◌≡◌, ◌∙◌, ap, sym, Bool, List, [], ◌∷◌, Option, None, Some, if◌then◌else◌}
 use Rattle.ti_base.specs.declared.entry.Answer.{Answer}
 use Rattle.ti_base.specs.declared.place.Place.{Place}
 use Rattle.ti_base.specs.declared.value.Value.TheVariants as v
@@ -10,11 +10,11 @@ use Rattle.ti_lang.specs.Program.Expressions as exp
 use Rattle.ti_lang.specs.Program.Scope.{this_of}
 use Rattle.ti_lang.specs.Program.Statements.{NumberedStm}
 use Rattle.ti_lang.specs.Program.Statements as stm
-use Rattle.ti_lang.specs.Program.Types.{ValueType, VariableUse}
+use Rattle.ti_lang.specs.Program.Types.{VariableUse}
 use Rattle.ti_lang.specs.Typing.Called.{called_method}
 use Rattle.ti_lang.specs.Meaning.Held.{Held, Plain, truth_of}
 use Rattle.ti_lang.specs.Meaning.Asking.{Asking, Got, Gives, followed, gives, ◌>>=◌}
-use Rattle.ti_lang.specs.Meaning.Calls.{Call, call_by, called}
+use Rattle.ti_lang.specs.Meaning.Calls.{Call, call_by}
 use Rattle.ti_lang.specs.Meaning.Conversions.{converted}
 use Rattle.ti_lang.specs.Meaning.Evaluation.{eval}
 use Rattle.ti_lang.specs.Meaning.Moves.{Move, Goes, receives}
@@ -25,7 +25,7 @@ use Rattle.ti_lang.specs.Meaning.Statements.{initialized, valued_or_called, stat
 use Rattle.ti_lang.specs.Meaning.Targets.{into, stored, InVariable}
 use Rattle.ti_moves.specs.declared.ways.Way.{Way}
 use Rattle.ti_moves.specs.Moves.{site_in}
-use Rattle.ti_moves.specs.Ways.{GoesBy, PutsBy, changed_by, works_by, move_by}
+use Rattle.ti_moves.specs.Ways.{GoesBy, PutsBy, changed_by, move_by}
 
 -- a value that has gone to its receiver
 pub put_by : (E : Env) (x : NumberedStm) (r : Receiver) (h : Held) (o : Option Way) → ((rest : List Answer) → statement E x rest ≡ receives E r (gives h) rest) → PutsBy E r h o → GoesBy E x o

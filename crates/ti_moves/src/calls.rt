@@ -1,25 +1,20 @@
 // Calls of declared methods.
 
-ghost use Rattle.std.specs.Prelude.{◌≡◌, ◌==◌, ◌&&◌, IfOk, List, [], Option, Some, map, not, find, position, slice_get, option_map};
+ghost use Rattle.std.specs.Prelude.{◌≡◌, ◌==◌, ◌&&◌, [], Option, Some, map, not, find, position, slice_get, option_map};
 ghost use Rattle.std.specs.declared.vec.Vec.{Vec as Row};
 ghost use Rattle.std.specs.declared.alloc.Global.{Global as Heap};
-ghost use Rattle.ti_base.specs.declared.value.Id.{Id as Thing};
 ghost use Rattle.ti_lang.specs.declared.program.classes.Method.{Method as Coded};
 ghost use Rattle.ti_lang.specs.Program.Types.{Typed};
 ghost use Rattle.ti_lang.specs.Program.Expressions.{numbered_exps};
 ghost use Rattle.ti_lang.specs.Program.Statements.{NumberedStm};
 ghost use Rattle.ti_lang.specs.Program.Classes.{NumberedMethod};
-ghost use Rattle.ti_lang.specs.Program.Views.{program_of, expression_of, statement_of, value_type_of, numbered_param_of, numbered_params_of};
+ghost use Rattle.ti_lang.specs.Program.Views.{program_of, expression_of, statement_of, value_type_of, numbered_param_of};
 ghost use Rattle.ti_lang.specs.Typing.Seen.{seen};
 ghost use Rattle.ti_lang.specs.Typing.Declared.{is_static_method, instance_method};
 ghost use Rattle.ti_lang.specs.Typing.Called.{called_method, method_behind};
 ghost use Rattle.ti_lang.specs.Meaning.Held.{Held as Seen};
 ghost use Rattle.ti_lang.specs.Meaning.Asking.{Got, followed, gives};
-ghost use Rattle.ti_lang.specs.Meaning.Conversions as conversions;
-ghost use Rattle.ti_lang.specs.Meaning.Processes.{Variable as Named};
-ghost use Rattle.ti_lang.specs.Meaning.Scoping.{Env as Where};
 ghost use Rattle.ti_lang.specs.Meaning.Calls.{bound, called, call_by, maybe_needed, parameters_from, parameters_of};
-ghost use Rattle.ti_lang.specs.Meaning.Moves as move;
 ghost use Rattle.ti_eval.specs.declared.frame.Slot.{Slot as Kept};
 ghost use Rattle.ti_eval.specs.Comes.{Comes, ComesAs};
 ghost use Rattle.ti_eval.specs.Envs.{env_of};
@@ -27,14 +22,13 @@ ghost use Rattle.ti_eval.specs.Frames.{method_seen, slot_of, slots_of};
 ghost use Rattle.ti_moves.specs.Arguments.{given, calls_on};
 ghost use Rattle.ti_moves.specs.Callees.{CallComes};
 ghost use Rattle.ti_moves.specs.Moves.{method_at, move_of};
-ghost use Rattle.ti_moves.specs.Receiving.{receiver_of};
 
 use crate::moves::Move;
 use crate::receiving::new_slot;
 use std::alloc::Global;
 use ti_base::{FaultKind, Id, Memory, Place, Value};
 use ti_eval::{Env, Held, Slot, Stop, Told, class_of_this, converted, evaluate};
-use ti_lang::program::{Expr, Method, Param, Params, Parts, Stmt, Ty, has_static};
+use ti_lang::program::{Expr, Method, Param, Params, Parts, Stmt, has_static};
 use ti_lang::typing::{Seen as Kind, type_in_text};
 
 // ---- which method
@@ -142,33 +136,7 @@ pub fn number_called(program: &Parts, this: Option<u32>, e: &Expr) -> Option<usi
 
 // ---- arguments
 
-// A value as one of a type.
-#[tactic(auto, using(ti_eval::proofs::Steps::steps))]
-fn converted_from<'a>(
-    alloc: Global,
-    at: Place,
-    ty: &Ty,
-    got: Result<(Held, &'a [Told]), Stop>,
-) -> Result<(Held, &'a [Told]), Stop>
-    ensures { (m : Got Seen) → Comes got.entry m → Comes result (followed m (λ h. conversions.converted at (value_type_of ty.now) h)) }
-{
-    match got {
-        Ok((h, answers)) => converted(alloc, at, ty, h, answers),
-        Err(stop) => Err(stop),
-    }
-}
-
-// The parameter of a number, with the value of its argument. A number that 32 bits don't hold is want of memory.
-fn slot(alloc: Global, number: usize, param: &Param, held: Held) -> Result<Slot, Memory>
-    ensures { IfOk result (λ s. slot_of s ≡ record { named = record { number = number; declared = Typed param.now.ty.single (value_type_of param.now.ty.ty) }; held = held }) }
-{
-    let Ok(number) = u32::try_from(number) else {
-        return Err(Memory);
-    };
-    new_slot(alloc, &param.ty, number, held)
-}
-
-// The same, behind its argument.
+// The parameter of a number, behind its argument. A number that 32 bits don't hold is want of memory.
 #[tactic(auto, using(ti_eval::proofs::Steps::steps))]
 fn slot_from<'a>(
     alloc: Global,
@@ -179,12 +147,16 @@ fn slot_from<'a>(
     ensures { (m : Got Seen) → Comes got.entry m → ComesAs slot_of result (followed m (λ h. gives (record { named = record { number = number; declared = Typed param.now.ty.single (value_type_of param.now.ty.ty) }; held = h }))) }
 {
     match got {
-        Ok((h, answers)) => Ok((slot(alloc, number, param, h)?, answers)),
+        Ok((h, answers)) => match u32::try_from(number) {
+            Ok(number) => Ok((new_slot(alloc, &param.ty, number, h)?, answers)),
+            Err(_) => Err(Stop::Memory),
+        },
         Err(stop) => Err(stop),
     }
 }
 
 /// The parameter of a number, with the value of its argument, made one of its type at once.
+#[tactic(auto, using(ti_eval::proofs::Steps::steps))]
 pub fn argument<'a>(
     alloc: Global,
     env: &Env,
@@ -195,9 +167,13 @@ pub fn argument<'a>(
 ) -> Result<(Slot, &'a [Told]), Stop>
     ensures { ComesAs slot_of result (given (env_of env.now) (record { number = number; declared = Typed param.now.ty.single (value_type_of param.now.ty.ty) }) (expression_of x.now) answers.now) }
 {
-    let got = evaluate(alloc, env, x, answers);
-    let got = converted_from(alloc, x.place(), &param.ty.ty, got);
-    slot_from(alloc, number, param, got)
+    match evaluate(alloc, env, x, answers) {
+        Ok((h, answers)) => {
+            let got = converted(alloc, x.place(), &param.ty.ty, h, answers);
+            slot_from(alloc, number, param, got)
+        }
+        Err(stop) => Err(stop),
+    }
 }
 
 // The parameters with the values of their arguments, as far as both go.
@@ -226,23 +202,7 @@ fn bind<'a>(
     Ok((found, left))
 }
 
-// The same; `String[] x` is no variable.
-fn bind_all<'a>(
-    alloc: Global,
-    env: &Env,
-    params: &Params,
-    args: &[Expr],
-    answers: &'a [Told],
-) -> Result<(Vec<Slot>, &'a [Told]), Stop>
-    ensures { ComesAs (λ (v : Row Kept Heap). slots_of v.items) result (bound (env_of env.now) (parameters_of (numbered_params_of params.now)) (numbered_exps (map expression_of args.now)) [] answers.now) }
-{
-    match params {
-        Params::Typed(params) => bind(alloc, env, params, args, answers),
-        Params::Words => Ok((Vec::new(alloc), answers)),
-    }
-}
-
-// The same, of a method; one that isn't there has no parameter.
+// The same, of a method; `String[] x` is no variable, and a method that isn't there has no parameter.
 fn parameters<'a>(
     alloc: Global,
     env: &Env,
@@ -253,7 +213,10 @@ fn parameters<'a>(
     ensures { ComesAs (λ (v : Row Kept Heap). slots_of v.items) result (bound (env_of env.now) (parameters_of (method_seen m.entry).params) (numbered_exps (map expression_of args.now)) [] answers.now) }
 {
     match m {
-        Some(m) => bind_all(alloc, env, &m.params, args, answers),
+        Some(m) => match &m.params {
+            Params::Typed(params) => bind(alloc, env, params, args, answers),
+            Params::Words => Ok((Vec::new(alloc), answers)),
+        },
         None => Ok((Vec::new(alloc), answers)),
     }
 }
@@ -277,79 +240,32 @@ fn needed<'a>(
     }
 }
 
-// The call, behind the object that it needs.
+// The call of the method of a number, with the value of its object, if it has one.
 #[tactic(auto, using(ti_eval::proofs::Steps::steps))]
 fn calls_with<'a, 'c>(
-    at: Place,
-    method: usize,
-    parameters: Vec<Slot>,
-    got: Result<(Option<Id>, &'a [Told]), Stop>,
-) -> Result<(Move<'c>, &'a [Told]), Stop>
-    ensures { (env : Where) (x : NumberedStm) (m : Got (Option Thing)) → Comes got.entry m → ComesAs (move_of env x) result (followed m (λ this. gives (move.Calls at (method_at env.program method) this (slots_of parameters.items) (receiver_of x)))) }
-{
-    match got {
-        Ok((this, answers)) => {
-            let call = Move::Calls {
-                at,
-                method,
-                this,
-                parameters,
-            };
-            Ok((call, answers))
-        }
-        Err(stop) => Err(stop),
-    }
-}
-
-// The same, behind its arguments.
-#[tactic(auto, using(ti_eval::proofs::Steps::steps))]
-fn calls_behind<'a, 'c>(
-    at: Place,
-    method: usize,
-    object: &Option<Held>,
-    got: Result<(Vec<Slot>, &'a [Told]), Stop>,
-) -> Result<(Move<'c>, &'a [Told]), Stop>
-    ensures { (env : Where) (x : NumberedStm) (m : Got (List Named)) → ComesAs (λ (v : Row Kept Heap). slots_of v.items) got.entry m → ComesAs (move_of env x) result (followed m (λ parameters rest. followed (maybe_needed at object.now rest) (λ this. gives (move.Calls at (method_at env.program method) this parameters (receiver_of x))))) }
-{
-    match got {
-        Ok((parameters, answers)) => {
-            calls_with(at, method, parameters, needed(at, object, answers))
-        }
-        Err(stop) => Err(stop),
-    }
-}
-
-// The call of the method of a number, behind the value of its object.
-#[tactic(auto, using(ti_eval::proofs::Steps::steps))]
-fn calls_from<'a, 'c>(
     alloc: Global,
     env: &Env,
     at: Place,
     number: usize,
     args: &[Expr],
-    got: Result<(Option<Held>, &'a [Told]), Stop>,
+    object: Option<Held>,
+    answers: &'a [Told],
 ) -> Result<(Move<'c>, &'a [Told]), Stop>
-    ensures { (x : NumberedStm) (m : Got (Option Seen)) → Comes got.entry m → ComesAs (move_of (env_of env.now) x) result (followed m (λ object. calls_on (env_of env.now) x at number (numbered_exps (map expression_of args.now)) object)) }
+    ensures { (x : NumberedStm) → ComesAs (move_of (env_of env.now) x) result (calls_on (env_of env.now) x at number (numbered_exps (map expression_of args.now)) object answers.now) }
 {
-    match got {
-        Ok((object, answers)) => {
-            let called = method(env.program, number);
-            let got = parameters(alloc, env, called, args, answers);
-            calls_behind(at, number, &object, got)
-        }
-        Err(stop) => Err(stop),
-    }
-}
-
-// The value of an object.
-#[tactic(auto, using(ti_eval::proofs::Steps::steps))]
-fn object_from<'a>(
-    got: Result<(Held, &'a [Told]), Stop>,
-) -> Result<(Option<Held>, &'a [Told]), Stop>
-    ensures { (m : Got Seen) → Comes got.entry m → Comes result (followed m (λ h. gives (Some h))) }
-{
-    match got {
-        Ok((h, answers)) => Ok((Some(h), answers)),
+    match parameters(alloc, env, method(env.program, number), args, answers) {
+        Ok((parameters, answers)) => match needed(at, &object, answers) {
+            Ok((this, answers)) => {
+                let call = Move::Calls {
+                    at,
+                    method: number,
+                    this,
+                    parameters,
+                };
+                Ok((call, answers))
+            }
+            Err(stop) => Err(stop),
+        },
         Err(stop) => Err(stop),
     }
 }
@@ -369,28 +285,26 @@ fn call_of<'a, 'c>(
             place,
             method: _,
             args,
-        } => {
-            let got = Ok((None, answers));
-            Some(calls_from(alloc, env, *place, number, args, got))
-        }
+        } => Some(calls_with(alloc, env, *place, number, args, None, answers)),
         Expr::OwnCall {
             place,
             method: _,
             args,
         } => {
             let this = Held::plain(Value::Obj(env.this));
-            let got = Ok((Some(this), answers));
-            Some(calls_from(alloc, env, *place, number, args, got))
+            Some(calls_with(alloc, env, *place, number, args, Some(this), answers))
         }
         Expr::Member {
             place,
             receiver,
             name: _,
             args,
-        } => {
-            let got = object_from(evaluate(alloc, env, receiver, answers));
-            Some(calls_from(alloc, env, *place, number, args, got))
-        }
+        } => match evaluate(alloc, env, receiver, answers) {
+            Ok((h, answers)) => {
+                Some(calls_with(alloc, env, *place, number, args, Some(h), answers))
+            }
+            Err(stop) => Some(Err(stop)),
+        },
         _ => None,
     }
 }

@@ -1,9 +1,6 @@
 // What processes do together, up to their arrival.
 
-ghost use Rattle.std.specs.Prelude.{◌≡◌, ◌<◌, ◌^◌, ℕ, List, [], ◌∷◌, map, slice_index_or};
-ghost use Rattle.std.specs.declared.vec.Vec.{Vec as Row};
-ghost use Rattle.std.specs.declared.alloc.Global.{Global as Heap};
-ghost use Rattle.ti_base.specs.declared.action.Deposit.{Deposit as Given};
+ghost use Rattle.std.specs.Prelude.{◌≡◌, ◌<◌, ◌^◌, [], ◌∷◌, map, slice_index_or};
 ghost use Rattle.ti_base.specs.declared.action.Deposit.TheVariants as deposit;
 ghost use Rattle.ti_base.specs.Points.{IsPoint};
 ghost use Rattle.ti_base.specs.Rects.{IsRect, IsIn, points_of};
@@ -12,8 +9,8 @@ ghost use Rattle.ti_lang.specs.Program.Expressions.{numbered_exps};
 ghost use Rattle.ti_lang.specs.Program.Views.{expression_of};
 ghost use Rattle.ti_lang.specs.Typing.Kinds.{element_of};
 ghost use Rattle.ti_lang.specs.Typing.Seen.{seen};
-ghost use Rattle.ti_lang.specs.Meaning.Held.{Held as Seen, nothing, thing_of, plain_of, as_type as as_type_spec};
-ghost use Rattle.ti_lang.specs.Meaning.Asking.{Wanted, ToBeDone, ValueOf, Got, followed, gives};
+ghost use Rattle.ti_lang.specs.Meaning.Held.{nothing, plain_of, as_type as as_type_spec};
+ghost use Rattle.ti_lang.specs.Meaning.Asking.{Wanted, ToBeDone, ValueOf, gives};
 ghost use Rattle.ti_lang.specs.Meaning.Operands.{same_points};
 ghost use Rattle.ti_lang.specs.Meaning.Processes.{Receiver, Nowhere, TakeAll};
 ghost use Rattle.ti_lang.specs.Meaning.Copies.{counted, element_at as element_at_spec};
@@ -26,7 +23,7 @@ ghost use Rattle.ti_eval.specs.Frames.{reference};
 ghost use Rattle.ti_moves.specs.declared.collectives.Arrival.{Arrival as Arriving};
 ghost use Rattle.ti_moves.specs.declared.collectives.Exchange.{Exchange as Exchanging};
 ghost use Rattle.ti_moves.specs.Moves.{wait_of};
-ghost use Rattle.ti_moves.specs.Arriving.{last_of, broadcast_left, move_of_exchange, exchange_over, exchange_named};
+ghost use Rattle.ti_moves.specs.Arriving.{last_of, broadcast_left, move_of_exchange, exchange_named};
 
 use crate::copies::element_at;
 use crate::moves::Meeting;
@@ -71,18 +68,8 @@ pub fn root_among<'a>(
     }
 }
 
-// A value is given.
-#[tactic(auto, using(ti_eval::proofs::Steps::steps))]
-fn one_from<'a>(got: Result<(Held, &'a [Told]), Stop>) -> Result<(Deposit, &'a [Told]), Stop>
-    ensures { (m : Got Seen) → Comes got.entry m → Comes result (followed m (λ h. gives (deposit.One (plain_of h)))) }
-{
-    match got {
-        Ok((h, answers)) => Ok((Deposit::One(h.value()), answers)),
-        Err(stop) => Err(stop),
-    }
-}
-
 // The root gives its value, and no other process does.
+#[tactic(auto, using(ti_eval::proofs::Steps::steps))]
 fn root_gives<'a>(
     alloc: Global,
     env: &Env,
@@ -93,23 +80,12 @@ fn root_gives<'a>(
     ensures { Comes result (collectives.root_deposit (env_of env.now) root (expression_of value.now) answers.now) }
 {
     if env.team.number == root {
-        one_from(evaluate(alloc, env, value, answers))
+        match evaluate(alloc, env, value, answers) {
+            Ok((h, answers)) => Ok((Deposit::One(h.value()), answers)),
+            Err(stop) => Err(stop),
+        }
     } else {
         Ok((Deposit::Nothing, answers))
-    }
-}
-
-// An arrival, behind what is given.
-#[tactic(auto, using(ti_eval::proofs::Steps::steps))]
-fn arrival_from<'a>(
-    meeting: Meeting,
-    got: Result<(Deposit, &'a [Told]), Stop>,
-) -> Result<(Arrival, &'a [Told]), Stop>
-    ensures { (wanted : Wanted) (receiver : Receiver) (m : Got Given) → Comes got.entry m → ComesAs (λ (a : Arriving). move.Meets (wait_of a.meeting wanted receiver) a.deposit []) result (followed m (λ given. gives (move.Meets (wait_of meeting wanted receiver) given []))) }
-{
-    match got {
-        Ok((deposit, answers)) => Ok((Arrival { meeting, deposit }, answers)),
-        Err(stop) => Err(stop),
     }
 }
 
@@ -132,7 +108,10 @@ fn broadcast_behind<'a>(
                 kind: CollKind::Broadcast,
                 arg: Some(root),
             };
-            arrival_from(meeting, root_gives(alloc, env, root, value, answers))
+            match root_gives(alloc, env, root, value, answers) {
+                Ok((deposit, answers)) => Ok((Arrival { meeting, deposit }, answers)),
+                Err(stop) => Err(stop),
+            }
         }
         Err(stop) => Err(stop),
     }
@@ -226,35 +205,8 @@ fn given<'p>(t: Kind<'p>, hs: Vec<Held>) -> Value
     as_element(t, first).value()
 }
 
-// The arrival, if the grid has the domain of the team.
+// An exchange into a grid, if this is there and has the domain of the team.
 #[tactic(auto, using(ti_eval::proofs::Steps::steps))]
-fn exchange_from<'a>(
-    team: Team,
-    at: Place,
-    grid: Id,
-    value: Value,
-    got: Result<(Held, &'a [Told]), Stop>,
-) -> Result<(Exchange, &'a [Told]), Stop>
-    ensures { (t : ValueType) (m : Got Seen) → Comes got.entry m → ComesAs (move_of_exchange at t team.procs) result (followed m (exchange_over at (record { thing = grid; type = t }) team.procs value)) }
-{
-    match got {
-        Ok((d, answers)) => if is_of_team(&d.rect(), team.procs) {
-            let meeting = Meeting {
-                place: at,
-                kind: CollKind::Exchange,
-                arg: None,
-            };
-            let deposit = Deposit::One(value);
-            let arrival = Arrival { meeting, deposit };
-            Ok((Exchange { arrival, grid }, answers))
-        } else {
-            Err(Stop::Fails(FaultKind::ExchangeDomain, at))
-        },
-        Err(stop) => Err(stop),
-    }
-}
-
-// An exchange into a grid, unless this isn't there.
 fn exchange_of<'a>(
     team: Team,
     at: Place,
@@ -265,32 +217,27 @@ fn exchange_of<'a>(
     ensures { (t : ValueType) → ComesAs (move_of_exchange at t team.procs) result (exchange_named at t grid team.procs value answers.now) }
 {
     match grid {
-        Some(grid) => {
-            let got = asked(at, Action::DomainOf { grid }, answers);
-            exchange_from(team, at, grid, value, got)
-        }
+        Some(grid) => match asked(at, Action::DomainOf { grid }, answers) {
+            Ok((d, answers)) => if is_of_team(&d.rect(), team.procs) {
+                let meeting = Meeting {
+                    place: at,
+                    kind: CollKind::Exchange,
+                    arg: None,
+                };
+                let deposit = Deposit::One(value);
+                let arrival = Arrival { meeting, deposit };
+                Ok((Exchange { arrival, grid }, answers))
+            } else {
+                Err(Stop::Fails(FaultKind::ExchangeDomain, at))
+            },
+            Err(stop) => Err(stop),
+        },
         None => Err(Stop::Fails(FaultKind::NullRef, at)),
     }
 }
 
-// An exchange, behind its grid, which has this type in the text, and the values of its arguments.
-#[tactic(auto, using(ti_eval::proofs::Steps::steps))]
-fn exchange_behind<'a, 'p>(
-    team: Team,
-    at: Place,
-    t: Kind<'p>,
-    h: &Held,
-    got: Result<(Vec<Held>, &'a [Told]), Stop>,
-) -> Result<(Exchange, &'a [Told]), Stop>
-    ensures { (m : Got (List Seen)) → ComesAs (λ (v : Row Seen Heap). v.items) got.entry m → ComesAs (move_of_exchange at (seen t.entry) team.procs) result (followed m (λ hs. exchange_named at (seen t.entry) (thing_of h.now) team.procs (plain_of (as_type_spec (element_of (seen t.entry)) (slice_index_or hs 0 nothing))))) }
-{
-    match got {
-        Ok((hs, answers)) => exchange_of(team, at, h.thing(), given(t, hs), answers),
-        Err(stop) => Err(stop),
-    }
-}
-
 /// `a.exchange(e)`, at its place.
+#[tactic(auto, using(ti_eval::proofs::Steps::steps))]
 pub fn exchanges<'a>(
     alloc: Global,
     env: &Env,
@@ -304,28 +251,11 @@ pub fn exchanges<'a>(
     match evaluate(alloc, env, receiver, answers) {
         Ok((h, answers)) => {
             let t = type_of(env, receiver);
-            let got = evaluate_all(alloc, env, args, answers);
-            exchange_behind(env.team, at, t, &h, got)
+            match evaluate_all(alloc, env, args, answers) {
+                Ok((hs, answers)) => exchange_of(env.team, at, h.thing(), given(t, hs), answers),
+                Err(stop) => Err(stop),
+            }
         }
-        Err(stop) => Err(stop),
-    }
-}
-
-// ---- regions
-
-/// `r.delete()`: the number of the region.
-#[tactic(auto, using(ti_eval::proofs::Steps::steps))]
-pub fn deletes<'a>(
-    alloc: Global,
-    env: &Env,
-    at: Place,
-    receiver: &Expr,
-    answers: &'a [Told],
-) -> Result<(u32, &'a [Told]), Stop>
-    ensures { ComesAs (λ (region : ℕ). move.Deletes at region) result (collectives.deletes (env_of env.now) at (expression_of receiver.now) answers.now) }
-{
-    match evaluate(alloc, env, receiver, answers) {
-        Ok((h, answers)) => Ok((h.region(), answers)),
         Err(stop) => Err(stop),
     }
 }

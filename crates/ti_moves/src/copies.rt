@@ -1,17 +1,14 @@
 // Copies of grids, and what an exchange puts into its grid.
 
 ghost use Rattle.std.specs.Prelude.{◌≡◌, ◌<◌, ◌^◌, ℕ, List, [], ◌∷◌, map, slice_index_or};
-ghost use Rattle.std.specs.declared.vec.Vec.{Vec as Row};
-ghost use Rattle.std.specs.declared.alloc.Global.{Global as Heap};
-ghost use Rattle.ti_base.specs.declared.place.Place.{Place as Spot};
 ghost use Rattle.ti_base.specs.declared.point.Point.{Point as At};
 ghost use Rattle.ti_base.specs.Points.{IsPoint};
 ghost use Rattle.ti_base.specs.Rects.{IsRect};
 ghost use Rattle.ti_lang.specs.Program.Types.{ValueType};
 ghost use Rattle.ti_lang.specs.Program.Expressions.{numbered_exps};
 ghost use Rattle.ti_lang.specs.Program.Views.{expression_of};
-ghost use Rattle.ti_lang.specs.Meaning.Held.{Held as Seen, nothing, points_in, rect_of, thing_of};
-ghost use Rattle.ti_lang.specs.Meaning.Asking.{Got, followed, gives};
+ghost use Rattle.ti_lang.specs.Meaning.Held.{Held as Seen, nothing, points_in, thing_of};
+ghost use Rattle.ti_lang.specs.Meaning.Asking.{Got, followed};
 ghost use Rattle.ti_lang.specs.Meaning.Processes.{Variable, CopyAll, TakeAll};
 ghost use Rattle.ti_lang.specs.Meaning.Scoping.{Env as Where};
 ghost use Rattle.ti_lang.specs.Meaning.Moves as move;
@@ -22,7 +19,6 @@ ghost use Rattle.ti_eval.specs.Frames.{reference, first_reference};
 ghost use Rattle.ti_eval.specs.declared.frame.Copy.{Copy as Copying};
 ghost use Rattle.ti_moves.specs.Copying.{written, move_of_copy, copy_left, copy_named};
 
-use crate::actions::perform;
 use std::alloc::Global;
 use ti_base::{Action, FaultKind, Id, Place, Point, Rect, Value};
 use ti_eval::{Copy, Env, Held, Stop, Told, asked, evaluate, evaluate_all};
@@ -44,26 +40,6 @@ fn common(r: &Rect, s: &Rect) -> Held
     }
 }
 
-// A copy, behind the domains of both grids.
-#[tactic(auto, using(ti_eval::proofs::Steps::steps))]
-fn copy_from<'a>(
-    to: Id,
-    from: Id,
-    r: &Rect,
-    got: Result<(Held, &'a [Told]), Stop>,
-) -> Result<(Copy, &'a [Told]), Stop>
-    requires { IsRect r.now }
-    ensures { (at : Spot) (ws : List Variable) (t u : ValueType) (m : Got Seen) → Comes got.entry m → ComesAs (move_of_copy ws at t u) result (followed m (λ e. gives (move.Goes ws (CopyAll at (record { thing = to; type = t }) (record { thing = from; type = u }) (copying.common_points r.now (rect_of e)) ∷ [])))) }
-{
-    match got {
-        Ok((e, answers)) => {
-            let domain = common(r, &e.rect());
-            Ok((Copy { to, from, domain }, answers))
-        }
-        Err(stop) => Err(stop),
-    }
-}
-
 // A copy between grids that are there.
 #[tactic(auto, using(ti_eval::proofs::Steps::steps))]
 fn copy_between<'a>(
@@ -75,10 +51,13 @@ fn copy_between<'a>(
     ensures { (ws : List Variable) (t u : ValueType) → ComesAs (move_of_copy ws at t u) result (copy_left ws at (record { thing = to; type = t }) (record { thing = from; type = u }) answers.now) }
 {
     match asked(at, Action::DomainOf { grid: to }, answers) {
-        Ok((d, answers)) => {
-            let got = asked(at, Action::DomainOf { grid: from }, answers);
-            copy_from(to, from, &d.rect(), got)
-        }
+        Ok((d, answers)) => match asked(at, Action::DomainOf { grid: from }, answers) {
+            Ok((e, answers)) => {
+                let domain = common(&d.rect(), &e.rect());
+                Ok((Copy { to, from, domain }, answers))
+            }
+            Err(stop) => Err(stop),
+        },
         Err(stop) => Err(stop),
     }
 }
@@ -108,22 +87,8 @@ fn first_thing(hs: &[Held]) -> Option<Id>
     if hs.is_empty() { None } else { hs[0].thing() }
 }
 
-// A copy, behind the grid that it is into and the values of its arguments.
-#[tactic(auto, using(ti_eval::proofs::Steps::steps))]
-fn copy_behind<'a>(
-    at: Place,
-    h: &Held,
-    got: Result<(Vec<Held>, &'a [Told]), Stop>,
-) -> Result<(Copy, &'a [Told]), Stop>
-    ensures { (ws : List Variable) (t u : ValueType) (m : Got (List Seen)) → ComesAs (λ (v : Row Seen Heap). v.items) got.entry m → ComesAs (move_of_copy ws at t u) result (followed m (λ hs. copy_named ws at t (thing_of h.now) u (thing_of (slice_index_or hs 0 nothing)))) }
-{
-    match got {
-        Ok((hs, answers)) => copy_of(at, h.thing(), first_thing(&hs), answers),
-        Err(stop) => Err(stop),
-    }
-}
-
 /// `a.copy(b)`, at its place: both grids and the points of both.
+#[tactic(auto, using(ti_eval::proofs::Steps::steps))]
 pub fn copies<'a>(
     alloc: Global,
     env: &Env,
@@ -135,7 +100,10 @@ pub fn copies<'a>(
     ensures { ComesAs (λ (c : Copying). move.Goes (env_of env.now).variables (CopyAll at (reference (site_of env.now) (expression_of receiver.now) c.to) (first_reference (site_of env.now) (numbered_exps (map expression_of args.now)) c.from) (points_in c.domain) ∷ [])) result (copying.copies (env_of env.now) at (expression_of receiver.now) (numbered_exps (map expression_of args.now)) answers.now) }
 {
     match evaluate(alloc, env, receiver, answers) {
-        Ok((h, answers)) => { copy_behind(at, &h, evaluate_all(alloc, env, args, answers)) }
+        Ok((h, answers)) => match evaluate_all(alloc, env, args, answers) {
+            Ok((hs, answers)) => copy_of(at, h.thing(), first_thing(&hs), answers),
+            Err(stop) => Err(stop),
+        },
         Err(stop) => Err(stop),
     }
 }
@@ -155,15 +123,15 @@ fn write_from<'a>(
     match got {
         Ok((h, answers)) => {
             let value = h.value();
-            perform(
-                at,
-                Action::PutElem {
-                    grid,
-                    at: index,
-                    value,
-                },
-                answers,
-            )
+            let action = Action::PutElem {
+                grid,
+                at: index,
+                value,
+            };
+            match asked(at, action, answers) {
+                Ok((_, answers)) => Ok(((), answers)),
+                Err(stop) => Err(stop),
+            }
         }
         Err(stop) => Err(stop),
     }

@@ -1,7 +1,6 @@
 //! What statements come to, from the answers that their actions have got so far: moves of their process.
 #![tactic(auto)]
 
-mod actions;
 mod calls;
 mod collectives;
 mod copies;

@@ -1,41 +1,47 @@
 // Prints.
 
-ghost use Rattle.std.specs.Prelude.{Some, []};
+ghost use Rattle.std.specs.Prelude.{Some};
 ghost use Rattle.ti_lang.specs.Program.Views.{printed_of};
 ghost use Rattle.ti_lang.specs.Meaning.Held.{Held as Seen, plain_of};
 ghost use Rattle.ti_lang.specs.Meaning.Asking.{Got, followed};
 ghost use Rattle.ti_lang.specs.Meaning.Scoping.{Env as Where};
-ghost use Rattle.ti_lang.specs.Meaning.Moves as move;
+ghost use Rattle.ti_lang.specs.Program.Statements.{NumberedStm};
 ghost use Rattle.ti_lang.specs.Meaning.Statements as statements;
 ghost use Rattle.ti_eval.specs.Comes.{Comes, ComesAs};
 ghost use Rattle.ti_eval.specs.Envs.{env_of};
+ghost use Rattle.ti_moves.specs.Moves.{move_of};
 
-use crate::actions::perform;
+use crate::moves::Move;
+use crate::statements::goes;
 use std::alloc::Global;
 use ti_base::{Action, Place, Value};
-use ti_eval::{Env, Held, Stop, Told, evaluate};
+use ti_eval::{Env, Held, Stop, Todo, Told, asked, evaluate};
 use ti_lang::program::Printed;
 
-// A line.
-fn prints<'a>(
+// A line, behind which nothing is left of the statement.
+#[tactic(auto, using(ti_eval::proofs::Steps::steps))]
+fn prints<'a, 'c>(
     at: Place,
     literal: Option<u32>,
     value: Option<Value>,
     answers: &'a [Told],
-) -> Result<((), &'a [Told]), Stop>
-    ensures { (env : Where) → ComesAs (λ done. move.Goes env.variables []) result (statements.prints env at literal value answers.now) }
+) -> Result<(Move<'c>, &'a [Told]), Stop>
+    ensures { (env : Where) (x : NumberedStm) → ComesAs (move_of env x) result (statements.prints env at literal value answers.now) }
 {
-    perform(at, Action::Print { literal, value }, answers)
+    match asked(at, Action::Print { literal, value }, answers) {
+        Ok((_, answers)) => Ok((goes(Todo::Inside), answers)),
+        Err(stop) => Err(stop),
+    }
 }
 
 // A line that ends with a value.
 #[tactic(auto, using(ti_eval::proofs::Steps::steps))]
-fn line_from<'a>(
+fn line_from<'a, 'c>(
     at: Place,
     literal: Option<u32>,
     got: Result<(Held, &'a [Told]), Stop>,
-) -> Result<((), &'a [Told]), Stop>
-    ensures { (env : Where) (m : Got Seen) → Comes got.entry m → ComesAs (λ done. move.Goes env.variables []) result (followed m (λ h. statements.prints env at literal (Some (plain_of h)))) }
+) -> Result<(Move<'c>, &'a [Told]), Stop>
+    ensures { (env : Where) (x : NumberedStm) (m : Got Seen) → Comes got.entry m → ComesAs (move_of env x) result (followed m (λ h. statements.prints env at literal (Some (plain_of h)))) }
 {
     match got {
         Ok((h, answers)) => prints(at, literal, Some(h.value()), answers),
@@ -44,14 +50,14 @@ fn line_from<'a>(
 }
 
 /// A print: first its value, then the line.
-pub fn printed<'a>(
+pub fn printed<'a, 'c>(
     alloc: Global,
     env: &Env,
     at: Place,
     what: &Printed,
     answers: &'a [Told],
-) -> Result<((), &'a [Told]), Stop>
-    ensures { ComesAs (λ done. move.Goes (env_of env.now).variables []) result (statements.printed (env_of env.now) at (printed_of what.now) answers.now) }
+) -> Result<(Move<'c>, &'a [Told]), Stop>
+    ensures { (x : NumberedStm) → ComesAs (move_of (env_of env.now) x) result (statements.printed (env_of env.now) at (printed_of what.now) answers.now) }
 {
     match what {
         Printed::Nothing => prints(at, None, None, answers),

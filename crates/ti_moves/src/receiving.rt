@@ -133,21 +133,6 @@ fn value_of<'a>(
     }
 }
 
-// ---- nowhere
-
-// A value that is dropped.
-#[tactic(auto, using(ti_eval::proofs::Steps::steps))]
-fn dropped_from<'a, 'c>(
-    got: Result<(Held, &'a [Told]), Stop>,
-) -> Result<(Change<'c>, &'a [Told]), Stop>
-    ensures { (ws : List process.Variable) (m : Got Holding) → Comes got.entry m → ComesAs (λ (c : Changing). changed c ws) result (followed m (λ h. gives ws)) }
-{
-    match got {
-        Ok((_, answers)) => Ok((Change::Same, answers)),
-        Err(stop) => Err(stop),
-    }
-}
-
 // ---- into a new variable
 
 /// A new variable.
@@ -162,25 +147,6 @@ pub fn new_slot(alloc: Global, ty: &TypeUse, number: u32, held: Held) -> Result<
     Ok(Slot { variable, held })
 }
 
-// A new variable that holds the value.
-#[tactic(auto, using(ti_eval::proofs::Steps::steps))]
-fn new_from<'a, 'c>(
-    alloc: Global,
-    ty: &TypeUse,
-    variable: u32,
-    got: Result<(Held, &'a [Told]), Stop>,
-) -> Result<(Change<'c>, &'a [Told]), Stop>
-    ensures { (ws : List process.Variable) (m : Got Holding) → Comes got.entry m → ComesAs (λ (c : Changing). changed c ws) result (followed m (λ k. gives (with_new (declared_as (type_use_of ty.now) variable) k ws))) }
-{
-    match got {
-        Ok((held, answers)) => {
-            let slot = new_slot(alloc, ty, variable, held)?;
-            Ok((Change::New(slot), answers))
-        }
-        Err(stop) => Err(stop),
-    }
-}
-
 // A new variable that holds the value as one of its type.
 #[tactic(auto, using(ti_eval::proofs::Steps::steps))]
 fn declared_from<'a, 'c>(
@@ -193,30 +159,18 @@ fn declared_from<'a, 'c>(
     ensures { (ws : List process.Variable) (m : Got Holding) → Comes got.entry m → ComesAs (λ (c : Changing). changed c ws) result (followed m (λ h rest. followed (conversions.converted at (value_type_of ty.now.ty) h rest) (λ k. gives (with_new (declared_as (type_use_of ty.now) variable) k ws)))) }
 {
     match got {
-        Ok((h, answers)) => {
-            let got = converted(alloc, at, &ty.ty, h, answers);
-            new_from(alloc, ty, variable, got)
-        }
+        Ok((h, answers)) => match converted(alloc, at, &ty.ty, h, answers) {
+            Ok((held, answers)) => {
+                let slot = new_slot(alloc, ty, variable, held)?;
+                Ok((Change::New(slot), answers))
+            }
+            Err(stop) => Err(stop),
+        },
         Err(stop) => Err(stop),
     }
 }
 
 // ---- into a target
-
-// The value goes into the target.
-#[tactic(auto, using(ti_eval::proofs::Steps::steps))]
-fn stored_from<'a, 'c>(
-    at: Place,
-    place: &Target<'c>,
-    got: Result<(Held, &'a [Told]), Stop>,
-) -> Result<(Change<'c>, &'a [Told]), Stop>
-    ensures { (env : Where) (through : ValueType) (m : Got Holding) → Comes got.entry m → ComesAs (λ (c : Changing). changed c env.variables) result (followed m (λ k. targets.stored env at (target_of through place.now) k)) }
-{
-    match got {
-        Ok((k, answers)) => stored(at, place, k, answers),
-        Err(stop) => Err(stop),
-    }
-}
 
 // The value goes into the target as one of its type.
 #[tactic(auto, using(ti_eval::proofs::Steps::steps))]
@@ -230,10 +184,10 @@ fn assigned_from<'a, 'c, 'p>(
     ensures { (env : Where) (through : ValueType) (m : Got Holding) → Comes got.entry m → ComesAs (λ (c : Changing). changed c env.variables) result (followed m (λ h. converted_into env at (seen t.entry) (target_of through place.now) h)) }
 {
     match got {
-        Ok((h, answers)) => {
-            let got = as_typed(alloc, at, t, h, answers);
-            stored_from(at, place, got)
-        }
+        Ok((h, answers)) => match as_typed(alloc, at, t, h, answers) {
+            Ok((k, answers)) => stored(at, place, k, answers),
+            Err(stop) => Err(stop),
+        },
         Err(stop) => Err(stop),
     }
 }
@@ -261,29 +215,7 @@ fn assigned_at<'a, 'c>(
 
 // ---- into a target, by an operator
 
-// What the operator makes of the value that the target held and of another one goes into the target.
-#[tactic(auto, using(ti_eval::proofs::Steps::steps))]
-fn operated_from<'a, 'c, 'p>(
-    alloc: Global,
-    at: Place,
-    operator: BinaryOperator,
-    t: Seen<'p>,
-    place: &Target<'c>,
-    old: &Held,
-    got: Result<(Held, &'a [Told]), Stop>,
-) -> Result<(Change<'c>, &'a [Told]), Stop>
-    ensures { (env : Where) (through : ValueType) (m : Got Holding) → Comes got.entry m → ComesAs (λ (c : Changing). changed c env.variables) result (followed m (λ h. operated_into env at operator (seen t.entry) (target_of through place.now) old.now h)) }
-{
-    match got {
-        Ok((h, answers)) => {
-            let got = operated(alloc, at, operator, old, h, answers);
-            assigned_from(alloc, at, t, place, got)
-        }
-        Err(stop) => Err(stop),
-    }
-}
-
-// The same with what a right side comes to.
+// What the operator makes of the value that the target held and of what a right side comes to goes into the target.
 #[tactic(auto, using(ti_eval::proofs::Steps::steps))]
 fn updated_from<'a, 'c, 'p>(
     alloc: Global,
@@ -298,10 +230,13 @@ fn updated_from<'a, 'c, 'p>(
     ensures { (through : ValueType) (m : Got Holding) → Comes got.entry m → ComesAs (λ (c : Changing). changed c (env_of env.now).variables) result (followed m (λ old left. followed (right_seen (env_of env.now) right.entry left) (λ h. operated_into (env_of env.now) at operator (seen t.entry) (target_of through place.now) old h))) }
 {
     match got {
-        Ok((old, answers)) => {
-            let got = value_of(alloc, env, right, answers);
-            operated_from(alloc, at, operator, t, place, &old, got)
-        }
+        Ok((old, answers)) => match value_of(alloc, env, right, answers) {
+            Ok((h, answers)) => {
+                let got = operated(alloc, at, operator, &old, h, answers);
+                assigned_from(alloc, at, t, place, got)
+            }
+            Err(stop) => Err(stop),
+        },
         Err(stop) => Err(stop),
     }
 }
@@ -340,6 +275,7 @@ fn updated_at<'a, 'c>(
 // ---- any receiver
 
 /// What becomes of the variables in scope when what a right side comes to has gone to its receiver.
+#[tactic(auto, using(ti_eval::proofs::Steps::steps))]
 pub fn into<'a, 'c>(
     alloc: Global,
     env: &Env,
@@ -350,7 +286,10 @@ pub fn into<'a, 'c>(
     ensures { ComesAs (λ (c : Changing). changed c (env_of env.now).variables) result (into_spec (env_of env.now) (receiver_seen receiver.entry) (right_seen (env_of env.now) right.entry) answers.now) }
 {
     match receiver {
-        Receiver::Nowhere => dropped_from(value_of(alloc, env, right, answers)),
+        Receiver::Nowhere => match value_of(alloc, env, right, answers) {
+            Ok((_, answers)) => Ok((Change::Same, answers)),
+            Err(stop) => Err(stop),
+        },
         Receiver::Declared { at, ty, variable } => {
             let got = value_of(alloc, env, right, answers);
             declared_from(alloc, at, ty, variable, got)

@@ -4,7 +4,6 @@ ghost use Rattle.std.specs.Prelude.{◌≡◌, not, map};
 ghost use Rattle.ti_lang.specs.Program.Statements.{numbered_stms};
 ghost use Rattle.ti_lang.specs.Program.Views.{statement_of, type_use_of, declared_of, variable_of};
 ghost use Rattle.ti_lang.specs.Program.Types.{Typed};
-ghost use Rattle.ti_lang.specs.Typing.Kinds.{same_truth};
 ghost use Rattle.ti_lang.specs.Meaning.Scoping.{same_declaration, same_variable, without};
 ghost use Rattle.ti_lang.specs.Meaning.Statements.{declared_as};
 ghost use Rattle.ti_lang.specs.Meaning.Performing.{declared_in, declared_alone, declared_among};
@@ -16,18 +15,12 @@ use ti_eval::Slot;
 use ti_lang::program::{Declared, Stmt, TypeUse, Variable};
 use ti_lang::typing::same_elements;
 
-fn same_bool(a: bool, b: bool) -> bool
-    ensures { result ≡ same_truth a b }
-{
-    if a { b } else { !b }
-}
-
 // Whether a declaration of this type is that of a variable.
 fn same_declared(t: &TypeUse, declared: &Declared) -> bool
     ensures { result ≡ same_declaration (Typed (type_use_of t.now).is_single (type_use_of t.now).type) (declared_of declared.now) }
 {
     match declared {
-        Declared::Typed { single, ty } => same_bool(t.single, *single)
+        Declared::Typed { single, ty } => t.single == *single
             && same_elements(&t.ty, false, ty, false),
         Declared::Foreach => false,
     }

@@ -12,7 +12,7 @@ ghost use Rattle.ti_lang.specs.Program.Expressions.{NumberedExp, numbered_exps};
 ghost use Rattle.ti_lang.specs.Program.Expressions as exp;
 ghost use Rattle.ti_lang.specs.Program.Statements.{NumberedStm};
 ghost use Rattle.ti_lang.specs.Program.Statements as stm;
-ghost use Rattle.ti_lang.specs.Program.Views.{expression_of, initial_of, printed_of, statement_of, value_type_of};
+ghost use Rattle.ti_lang.specs.Program.Views.{expression_of, initial_of, statement_of, value_type_of};
 ghost use Rattle.ti_lang.specs.Typing.Declared.{result_type};
 ghost use Rattle.ti_lang.specs.Meaning.Held.{Held as Seen, Plain};
 ghost use Rattle.ti_lang.specs.Meaning.Asking.{Got, followed, gives};
@@ -33,7 +33,7 @@ ghost use Rattle.ti_moves.specs.Moves.{move_of, site_in, works_of, type_received
 ghost use Rattle.ti_moves.specs.Receiving.{stm_seen, receiver_of};
 
 use crate::calls::call;
-use crate::collectives::{broadcasts, deletes, exchanges};
+use crate::collectives::{broadcasts, exchanges};
 use crate::copies::copies;
 use crate::makers::{new_grid, new_object};
 use crate::moves::{Change, Left, Meeting, Move};
@@ -42,7 +42,7 @@ use crate::receiving::{Receiver, Right, receiver_at, receives};
 use std::alloc::Global;
 use ti_base::{CollKind, Deposit, Place, Value};
 use ti_eval::{Env, Held, Part, Stop, Todo, Told, called_member, converted, evaluate};
-use ti_lang::program::{Expr, Init, Method, Printed, ResultType, Stmt, Ty};
+use ti_lang::program::{Expr, Init, Method, ResultType, Stmt, Ty};
 use ti_lang::typing::BuiltIn;
 
 /// The statement goes on with what is left of it.
@@ -225,6 +225,7 @@ fn exchange<'a, 'c>(
 }
 
 /// `r.delete()`
+#[tactic(auto, using(ti_eval::proofs::Steps::steps))]
 pub fn delete<'a, 'c>(
     alloc: Global,
     env: &Env,
@@ -234,8 +235,11 @@ pub fn delete<'a, 'c>(
 ) -> Result<(Move<'c>, &'a [Told]), Stop>
     ensures { (x : NumberedStm) → ComesAs (move_of (env_of env.now) x) result (collectives.deletes (env_of env.now) at (expression_of receiver.now) answers.now) }
 {
-    match deletes(alloc, env, at, receiver, answers) {
-        Ok((region, answers)) => Ok((Move::Deletes { at, region }, answers)),
+    match evaluate(alloc, env, receiver, answers) {
+        Ok((h, answers)) => {
+            let region = h.region();
+            Ok((Move::Deletes { at, region }, answers))
+        }
         Err(stop) => Err(stop),
     }
 }
@@ -313,22 +317,6 @@ fn alone<'a, 'c>(
     }
 }
 
-// A print.
-fn print<'a, 'c>(
-    alloc: Global,
-    env: &Env,
-    at: Place,
-    what: &Printed,
-    answers: &'a [Told],
-) -> Result<(Move<'c>, &'a [Told]), Stop>
-    ensures { (x : NumberedStm) → ComesAs (move_of (env_of env.now) x) result (statements.printed (env_of env.now) at (printed_of what.now) answers.now) }
-{
-    match printed(alloc, env, at, what, answers) {
-        Ok((_, answers)) => Ok((goes(Todo::Inside), answers)),
-        Err(stop) => Err(stop),
-    }
-}
-
 // ---- returns
 
 // The type of a method's result, where it has one.
@@ -360,17 +348,6 @@ fn as_result<'a>(
     }
 }
 
-// Out of the method with a value.
-#[tactic(auto, using(ti_eval::proofs::Steps::steps))]
-fn returned<'a, 'c>(got: Result<(Held, &'a [Told]), Stop>) -> Result<(Move<'c>, &'a [Told]), Stop>
-    ensures { (env : Where) (x : NumberedStm) (m : Got Seen) → Comes got.entry m → ComesAs (move_of env x) result (followed m (λ h. gives (move.Returns (Some h)))) }
-{
-    match got {
-        Ok((h, answers)) => Ok((Move::Returns(Some(h)), answers)),
-        Err(stop) => Err(stop),
-    }
-}
-
 /// `return`, of a value or of none.
 #[tactic(auto, using(ti_eval::proofs::Steps::steps))]
 pub fn returns<'a, 'c>(
@@ -384,7 +361,10 @@ pub fn returns<'a, 'c>(
 {
     match value {
         Some(e) => match evaluate(alloc, env, e, answers) {
-            Ok((h, answers)) => returned(as_result(alloc, env, at, h, answers)),
+            Ok((h, answers)) => match as_result(alloc, env, at, h, answers) {
+                Ok((k, answers)) => Ok((Move::Returns(Some(k)), answers)),
+                Err(stop) => Err(stop),
+            },
             Err(stop) => Err(stop),
         },
         None => Ok((Move::Returns(None), answers)),
@@ -487,7 +467,7 @@ fn present<'a, 'c>(
         Stmt::Update { value, .. } => valued(alloc, env, s, value, answers),
         Stmt::Step { .. } => step(alloc, env, s, answers),
         Stmt::Call(e) => alone(alloc, env, e, answers),
-        Stmt::Print(place, what) => print(alloc, env, *place, what, answers),
+        Stmt::Print(place, what) => printed(alloc, env, *place, what, answers),
         Stmt::Barrier(place) => Ok((
             Move::Meets {
                 meeting: meeting(*place, CollKind::Barrier),

@@ -1,18 +1,14 @@
 // What assignments write.
 
-ghost use Rattle.std.specs.Prelude.{◌≡◌, ℤ, List};
-ghost use Rattle.std.specs.declared.vec.Vec.{Vec as Row};
-ghost use Rattle.std.specs.declared.alloc.Global.{Global as Heap};
+ghost use Rattle.std.specs.Prelude.{◌≡◌, List};
 ghost use Rattle.ti_base.specs.declared.value.Id.{Id as Thing};
 ghost use Rattle.ti_base.specs.declared.action.Action.TheVariants.{PutField, PutElem};
 ghost use Rattle.ti_lang.specs.Program.Types.{ValueType};
 ghost use Rattle.ti_lang.specs.Program.Views.{expression_of};
 ghost use Rattle.ti_lang.specs.Typing.Seen.{seen};
-ghost use Rattle.ti_lang.specs.Meaning.Held.{Held as Holding, plain_of, as_type as as_type_spec};
-ghost use Rattle.ti_lang.specs.Meaning.Asking.{Got, ToBeDone, asked as asked_spec, followed, gives};
-ghost use Rattle.ti_lang.specs.Meaning.Literals as literal;
+ghost use Rattle.ti_lang.specs.Meaning.Held.{plain_of, as_type as as_type_spec};
+ghost use Rattle.ti_lang.specs.Meaning.Asking.{ToBeDone, asked as asked_spec, followed, gives};
 ghost use Rattle.ti_lang.specs.Meaning.Conversions as conversions;
-ghost use Rattle.ti_lang.specs.Meaning.Parts as part;
 ghost use Rattle.ti_lang.specs.Meaning.Processes.{Variable as InScope};
 ghost use Rattle.ti_lang.specs.Meaning.Scoping.{Env as Where};
 ghost use Rattle.ti_lang.specs.Meaning.Targets as targets;
@@ -44,34 +40,6 @@ pub enum Target<'c> {
 
 // ---- targets
 
-// A field of an object.
-#[tactic(auto, using(ti_eval::proofs::Steps::steps))]
-fn field_from<'a, 'c>(
-    field: u32,
-    got: Result<(Held, &'a [Told]), Stop>,
-) -> Result<(Target<'c>, &'a [Told]), Stop>
-    ensures { (through : ValueType) (m : Got Holding) → Comes got.entry m → ComesAs (target_of through) result (followed m (λ h. gives (targets.InPart (part.Field h through field)))) }
-{
-    match got {
-        Ok((h, answers)) => Ok((Target::Field(h, field), answers)),
-        Err(stop) => Err(stop),
-    }
-}
-
-// An element of a grid, at the point of the numbers.
-#[tactic(auto, using(ti_eval::proofs::Steps::steps))]
-fn element_from<'a, 'c>(
-    grid: Held,
-    got: Result<(Vec<i32>, &'a [Told]), Stop>,
-) -> Result<(Target<'c>, &'a [Told]), Stop>
-    ensures { (through : ValueType) (m : Got (List ℤ)) → ComesAs (λ (v : Row ℤ Heap). v.items) got.entry m → ComesAs (target_of through) result (followed m (λ xs. gives (targets.InPart (part.Element grid through (literal.point_of_numbers xs))))) }
-{
-    match got {
-        Ok((numbers, answers)) => Ok((Target::Element(grid, point_of_numbers(&numbers)), answers)),
-        Err(stop) => Err(stop),
-    }
-}
-
 /// The target that an expression names: its reference and its index are evaluated.
 #[tactic(auto, using(ti_eval::proofs::Evaluating::evaluating))]
 pub fn located<'a, 'c>(
@@ -94,14 +62,22 @@ pub fn located<'a, 'c>(
             name,
         } => {
             let field = field_selected(env, receiver, *name)?;
-            field_from(field, evaluate(alloc, env, receiver, answers))
+            match evaluate(alloc, env, receiver, answers) {
+                Ok((h, answers)) => Ok((Target::Field(h, field), answers)),
+                Err(stop) => Err(stop),
+            }
         }
         Expr::Index {
             place: _,
             receiver,
             indices,
         } => match evaluate(alloc, env, receiver, answers) {
-            Ok((h, answers)) => element_from(h, evaluate_numbers(alloc, env, indices, answers)),
+            Ok((h, answers)) => match evaluate_numbers(alloc, env, indices, answers) {
+                Ok((numbers, answers)) => {
+                    Ok((Target::Element(h, point_of_numbers(&numbers)), answers))
+                }
+                Err(stop) => Err(stop),
+            },
             Err(stop) => Err(stop),
         },
         _ => Ok((Target::Field(Held::truth(false), 0), answers)),

@@ -1,6 +1,4 @@
 use Rattle.std.proofs.Common.{arith, ap, sym, ◌∙◌}
-use Rattle.ti_base.specs.declared.value.Value.TheVariants.{Pt}
-use Rattle.ti_lang.specs.Meaning.Held.{Plain}
 use Rattle.ti_eval.specs.declared.frame.Level.{Level}
 use Rattle.ti_eval.proofs.Turning.{turn_found, no_turn}
 use Rattle.ti_eval.proofs.env.point_of_turn.Goals as goal

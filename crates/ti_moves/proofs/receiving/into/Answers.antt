@@ -23,12 +23,6 @@ at_receiver : (E : Env) (right : Asking Held) (answers : List Answer) (result : 
 at_receiver E right answers result r s is comes =
     subst (λ (t : Receiver). ComesAs (λ (d : Change). changed d E.variables) result (into E (receiver_seen t) right answers)) (sym is) comes
 
-pub returns-in-Nowhere : goal.returns-in-Nowhere
-returns-in-Nowhere c =
-    let E = env_of c.args.env.now in
-    at_receiver E (right_seen E c.args.right) c.args.answers.now c.dropped_from.result c.args.receiver _ c.in-Nowhere.is
-    (c.dropped_from.ensures E.variables _ c.value_of.ensures)
-
 pub returns-in-Declared : goal.returns-in-Declared
 returns-in-Declared c =
     let E = env_of c.args.env.now in

@@ -52,7 +52,7 @@ pub returns-in-Print : goal.returns-in-Print
 returns-in-Print c =
     let E = env_of c.args.env.now in
     let x = statement_of c.args.s.now in
-    subst (λ (g : Got Move). ComesAs (move_of E x) c.print.result g) (sym (ap (λ (a : Stmt). statement E (statement_of a) c.args.answers.now) c.in-Print.is)) (c.print.ensures x)
+    subst (λ (g : Got Move). ComesAs (move_of E x) c.printed.result g) (sym (ap (λ (a : Stmt). statement E (statement_of a) c.args.answers.now) c.in-Print.is)) (c.printed.ensures x)
 
 pub returns-in-Return : goal.returns-in-Return
 returns-in-Return c =

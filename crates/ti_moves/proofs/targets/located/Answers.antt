@@ -1,41 +1,68 @@
 use Rattle.std.proofs.Common.{◌≡◌, ◌∙◌, sym, ap, subst, ℕ, ℤ, List, map}
-use Rattle.std.specs.declared.vec.Vec.{Vec}
-use Rattle.std.specs.declared.alloc.Global.{Global}
+use Rattle.ti_base.specs.declared.point.Point.{Point}
 use Rattle.ti_lang.specs.declared.program.exprs.Expr.{Expr}
 use Rattle.ti_lang.specs.Program.Expressions.{NumberedExp, numbered_exps}
 use Rattle.ti_lang.specs.Program.Views.{expression_of}
 use Rattle.ti_lang.specs.Meaning.Held.{Held}
-use Rattle.ti_lang.specs.Meaning.Asking.{Got, Gives, followed, gives}
+use Rattle.ti_lang.specs.Meaning.Asking.{Asking, Got, Gives, followed, gives}
 use Rattle.ti_lang.specs.Meaning.Literals.{point_of_numbers}
 use Rattle.ti_lang.specs.Meaning.Parts.{Field, Element}
 use Rattle.ti_lang.specs.Meaning.Scoping.{type_of, field_selected}
 use Rattle.ti_lang.specs.Meaning.Evaluation.{eval, eval_numbers}
-use Rattle.ti_lang.specs.Meaning.Targets.{InPart, located}
+use Rattle.ti_lang.specs.Meaning.Targets.{Target, InPart, located}
 use Rattle.ti_lang.proofs.ProgramBridges.{seen_numbered_index}
-use Rattle.ti_eval.specs.Comes.{Comes, ComesAs}
+use Rattle.ti_eval.specs.Comes.{Stops}
 use Rattle.ti_eval.specs.Envs.{env_of}
-use Rattle.ti_moves.specs.Targets.{target_of, through_of}
+use Rattle.ti_eval.proofs.Steps.{then_stops}
+use Rattle.ti_moves.specs.Targets.{through_of}
 use Rattle.ti_moves.proofs.targets.located.Goals as goal
-
-pub returns-in_ok-field-in-Select : goal.returns-in_ok-field-in-Select
-returns-in_ok-field-in-Select c =
-    let E = env_of c.args.env.now in
-    let y = expression_of c.in-Select.receiver.value in
-    let m = eval E y c.args.answers.now in
-    let p : Comes c.evaluate.result m = subst (λ (z : Expr). Comes c.evaluate.result (eval E (expression_of z) c.args.answers.now)) c.deref-in-Select.ensures c.evaluate.ensures in
-    let f : c.in_ok-field-in-Select.field ≡ field_selected E y c.in-Select.name = c.in_ok-field-in-Select.ensures ∙ ap (λ (z : Expr). field_selected E (expression_of z) c.in-Select.name) c.deref.ensures in
-    subst (λ (w : NumberedExp). ComesAs (target_of (through_of E w)) c.field_from.result (located E w c.args.answers.now)) (sym (ap expression_of c.in-Select.is))
-    (subst (λ (n : ℕ). ComesAs (target_of (type_of E y)) c.field_from.result (followed m (λ h. gives (InPart (Field h (type_of E y) n))))) f (c.field_from.ensures (type_of E y) m p))
 
 pub returns-in-Ok : goal.returns-in-Ok
 returns-in-Ok c =
     let E = env_of c.args.env.now in
+    let y = expression_of c.in-Select.receiver.value in
+    let answers = c.args.answers.now in
+    let rest = c.in-Ok.answers.now in
+    let n = c.in_ok-field-in-Select.field in
+    let e : eval E y answers ≡ Gives c.in-Ok.h rest = subst (λ (z : Expr). eval E (expression_of z) answers ≡ Gives c.in-Ok.h rest) c.deref-in-Select.ensures c.in-Ok.ensures in
+    let f : n ≡ field_selected E y c.in-Select.name = c.in_ok-field-in-Select.ensures ∙ ap (λ (z : Expr). field_selected E (expression_of z) c.in-Select.name) c.deref.ensures in
+    subst (λ (w : NumberedExp). located E w answers ≡ Gives (InPart (Field c.in-Ok.h (through_of E w) n)) rest) (sym (ap expression_of c.in-Select.is))
+    (ap (λ (g : Got Held). followed g (λ h. gives (InPart (Field h (type_of E y) (field_selected E y c.in-Select.name))))) e
+    ∙ ap (λ (k : ℕ). Gives (InPart (Field c.in-Ok.h (type_of E y) k)) rest) (sym f))
+
+pub returns-in-Ok-evaluate_numbers : goal.returns-in-Ok-evaluate_numbers
+returns-in-Ok-evaluate_numbers c =
+    let E = env_of c.args.env.now in
     let y = expression_of c.in-Index.receiver.value in
     let xs = numbered_exps (map expression_of c.in-Index.indices.items) in
-    let rest = c.in-Ok.answers.now in
-    let e : eval E y c.args.answers.now ≡ Gives c.in-Ok.h rest = subst (λ (z : Expr). eval E (expression_of z) c.args.answers.now ≡ Gives c.in-Ok.h rest) c.deref-in-Index.ensures c.in-Ok.ensures in
-    let q = subst (λ (ys : List Expr). ComesAs (λ (v : Vec ℤ Global). v.items) c.evaluate_numbers.result (eval_numbers E (numbered_exps (map expression_of ys)) rest)) c.deref-in-Ok.ensures.value c.evaluate_numbers.ensures in
+    let answers = c.args.answers.now in
+    let h = c.in-Ok-evaluate.h in
+    let rest = c.in-Ok-evaluate.answers.now in
+    let numbers = c.in-Ok-evaluate_numbers.numbers.items in
+    let left = c.in-Ok-evaluate_numbers.answers.now in
+    let e : eval E y answers ≡ Gives h rest = subst (λ (z : Expr). eval E (expression_of z) answers ≡ Gives h rest) c.deref-in-Index.ensures c.in-Ok-evaluate.ensures in
+    let q : eval_numbers E xs rest ≡ Gives numbers left =
+    subst (λ (ys : List Expr). eval_numbers E (numbered_exps (map expression_of ys)) rest ≡ Gives numbers left) c.deref-in-Ok-evaluate.ensures.value c.in-Ok-evaluate_numbers.ensures in
+    let p : c.point_of_numbers.result ≡ point_of_numbers numbers = c.point_of_numbers.ensures.value ∙ ap point_of_numbers c.deref-in-Ok-evaluate_numbers.ensures.value in
+    let found : Held → List ℤ → Asking Target = λ h ns. gives (InPart (Element h (type_of E y) (point_of_numbers ns))) in
     let b = seen_numbered_index c.args.e.now c.in-Index.place c.in-Index.receiver c.in-Index.indices c.in-Index.is in
-    subst (λ (w : NumberedExp). ComesAs (target_of (through_of E w)) c.element_from.result (located E w c.args.answers.now)) (sym b)
-    (subst (λ (g : Got Held). ComesAs (target_of (type_of E y)) c.element_from.result (followed g (λ h r. followed (eval_numbers E xs r) (λ ns. gives (InPart (Element h (type_of E y) (point_of_numbers ns))))))) (sym e)
-    (c.element_from.ensures (type_of E y) (eval_numbers E xs rest) q))
+    subst (λ (w : NumberedExp). located E w answers ≡ Gives (InPart (Element h (through_of E w) c.point_of_numbers.result)) left) (sym b)
+    (ap (λ (g : Got Held). followed g (λ h r. followed (eval_numbers E xs r) (found h))) e
+    ∙ ap (λ (g : Got (List ℤ)). followed g (found h)) q
+    ∙ ap (λ (k : Point). Gives (InPart (Element h (type_of E y) k)) left) (sym p))
+
+pub returns-in-Err-evaluate_numbers : goal.returns-in-Err-evaluate_numbers
+returns-in-Err-evaluate_numbers c =
+    let E = env_of c.args.env.now in
+    let y = expression_of c.in-Index.receiver.value in
+    let xs = numbered_exps (map expression_of c.in-Index.indices.items) in
+    let answers = c.args.answers.now in
+    let stop = c.in-Err-evaluate_numbers.stop in
+    let rest = c.in-Ok-evaluate.answers.now in
+    let e : eval E y answers ≡ Gives c.in-Ok-evaluate.h rest = subst (λ (z : Expr). eval E (expression_of z) answers ≡ Gives c.in-Ok-evaluate.h rest) c.deref-in-Index.ensures c.in-Ok-evaluate.ensures in
+    let q = subst (λ (ys : List Expr). Stops stop (eval_numbers E (numbered_exps (map expression_of ys)) rest)) c.deref-in-Ok-evaluate.ensures.value c.in-Err-evaluate_numbers.ensures in
+    let found : Held → List ℤ → Asking Target = λ h ns. gives (InPart (Element h (type_of E y) (point_of_numbers ns))) in
+    let b = seen_numbered_index c.args.e.now c.in-Index.place c.in-Index.receiver c.in-Index.indices c.in-Index.is in
+    subst (λ (w : NumberedExp). Stops stop (located E w answers)) (sym b)
+    (subst (λ (g : Got Held). Stops stop (followed g (λ h r. followed (eval_numbers E xs r) (found h)))) (sym e)
+    (then_stops stop (eval_numbers E xs rest) (found c.in-Ok-evaluate.h) q))
