@@ -36,6 +36,41 @@ enum Given {
 /// Statements of `main`, which begin in column 62.
 const STATEMENTS: &[Walk] = &[
     Walk {
+        text: "println(Ti.thisProc()); Ti.barrier(); println(Ti.numProcs());",
+        answers: &[],
+        asks: "print Int(0); arrive Barrier; depart; print Int(2); end 1:124",
+    },
+    Walk {
+        text: "int x = 1;",
+        answers: &[],
+        asks: "end 1:73",
+    },
+    Walk {
+        text: "println(1 + 2);",
+        answers: &[],
+        asks: "print Int(3); end 1:78",
+    },
+    Walk {
+        text: "println(-2147483647 - 1); println((-2147483647 - 1) / -1); println((-2147483647 - 1) % -1); println(7 / -2); println(-7 % 2);",
+        answers: &[],
+        asks: "print Int(-2147483648); print Int(-2147483648); print Int(0); print Int(-3); print Int(-1); end 1:188",
+    },
+    Walk {
+        text: "if (Ti.thisProc() == 0) { int i = 0; while (true) { i = i + 1; } } Ti.barrier();",
+        answers: &[],
+        asks: "fuel 1:99",
+    },
+    Walk {
+        text: "println(6 / Ti.thisProc());",
+        answers: &[],
+        asks: "divZero 1:72",
+    },
+    Walk {
+        text: "int x = `256#~`0; println(x);",
+        answers: &[],
+        asks: "print Int(0); end 1:341",
+    },
+    Walk {
         text: "println(1 << 33); println(-8 >> 1); println(-8 >>> 28); int d = 0; if (d != 0 && 10 / d > 1) println(1); else println(2);",
         answers: &[],
         asks: "print Int(2); print Int(-4); print Int(15); print Int(2); end 1:184",
@@ -51,14 +86,29 @@ const STATEMENTS: &[Walk] = &[
         asks: "print Int(0); print Int(2); arrive Barrier; depart; end 1:161",
     },
     Walk {
-        text: "int single k = 0; while (true) { Ti.barrier(); k = k + 1; if (k == 2) break; } println(k);",
+        text: "int single k = 0; while (true) { Ti.barrier(); k = k + 1; if (k == 3) break; } println(k);",
         answers: &[],
-        asks: "arrive Barrier; depart; arrive Barrier; depart; print Int(2); end 1:153",
+        asks: "arrive Barrier; depart; arrive Barrier; depart; arrive Barrier; depart; print Int(3); end 1:153",
     },
     Walk {
-        text: "long x = 2147483647; x = x + 1; println(x); println((int) x); x += 1L; println(x); { int y = 3; println(y); } int y = 4; println(y);",
+        text: "long x = 2147483647; x = x + 1; println(x); println((int) x); println(-9223372036854775807L - 1L); println((-9223372036854775807L - 1L) / -1);",
         answers: &[],
-        asks: "print Long(2147483648); print Int(-2147483648); print Long(2147483649); print Int(3); print Int(4); end 1:195",
+        asks: "print Long(2147483648); print Int(-2147483648); print Long(-9223372036854775808); print Long(-9223372036854775808); end 1:205",
+    },
+    Walk {
+        text: "println(1L << 33); println(1 << 33L); println(-8L >>> 60);",
+        answers: &[],
+        asks: "print Long(8589934592); print Int(2); print Long(15); end 1:121",
+    },
+    Walk {
+        text: "int x = 2147483647; x += 1L; println(x);",
+        answers: &[],
+        asks: "print Int(-2147483648); end 1:103",
+    },
+    Walk {
+        text: "{ int y = 3; println(y); } int y = 4; println(y); long x = 2147483648L; x += 1; x++; println(x);",
+        answers: &[],
+        asks: "print Int(3); print Int(4); print Long(2147483650); end 1:159",
     },
     Walk {
         text: "println(); println(\"a\"); println(\"b\" + true); if (false) println(1); ;",
@@ -111,6 +161,20 @@ const STATEMENTS: &[Walk] = &[
         asks: "make a grid; make a grid; domain of 0; domain of 1; get at 1 of 1; put Int(6) at 1 of 0; get at 2 of 1; put Int(8) at 2 of 0; end 1:129",
     },
     Walk {
+        text: "int [1d] a = new int [0:4]; int [1d] b = a.restrict([1:2]); b = b.translate([3]); println(b.domain().size()); int [2d] m = new int [0:1, 0:1]; println(m.slice(1, 0)[1]);",
+        answers: &[
+            Given::Grid(0),
+            Given::Grid(1),
+            Given::Grid(2),
+            Given::Line(4, 5),
+            Given::Done,
+            Given::Grid(3),
+            Given::Grid(4),
+            Given::Int(9),
+        ],
+        asks: "make a grid; view of 0; view of 1; domain of 2; print Int(2); make a grid; view of 3; get at 1 of 4; print Int(9); end 1:232",
+    },
+    Walk {
         text: "int [1d] a = new int [0:1]; a.exchange(Ti.thisProc());",
         answers: &[
             Given::Grid(0),
@@ -142,6 +206,11 @@ const STATEMENTS: &[Walk] = &[
 
 /// Whole texts.
 const TEXTS: &[Walk] = &[
+    Walk {
+        text: "class Main { static int f(int x) { if (x > 2) return 1; return 2; } public static single void main(String[] args) { int y = f(3); println(y); } }",
+        answers: &[],
+        asks: "print Int(1); end 1:143",
+    },
     Walk {
         text: "class Main { static int f(int x) { if (x > 2) return 1; return 2; } public static single void main(String[] args) { int y = f(3); println(y); y = f(y); println(y); return; } }",
         answers: &[],
@@ -233,6 +302,10 @@ fn shown_access(alloc: Global, action: Action) -> Result<String, AllocError> {
         Action::DomainOf { grid } => {
             let n = grid.serial;
             format!(in alloc; "domain of {n}")
+        }
+        Action::MakeView { grid, .. } => {
+            let n = grid.serial;
+            format!(in alloc; "view of {n}")
         }
         _ => format!(in alloc; "another action"),
     }
