@@ -13,14 +13,14 @@ both_true : (a b : Bool) → (a && b) ≡ true → (a ≡ true) × (b ≡ true)
 both_true true b e = (refl, e)
 both_true false b e = absurd (let c : false ≡ true = e in cc)
 
-number_from : (x y : ℤ) → same_number x y ≡ true → x ≡ y
+pub number_from : (x y : ℤ) → same_number x y ≡ true → x ≡ y
 number_from x y e =
     let b = both_true (int_le x y) (int_le y x) e in
     let f : x ≤ℤ y = let t = b.0 in grind (arith, ints) in
     let g : y ≤ℤ x = let t = b.1 in grind (arith, ints) in
     omega (arith, ints)
 
-number_self : (x : ℤ) → same_number x x ≡ true
+pub number_self : (x : ℤ) → same_number x x ≡ true
 number_self x = let e : int_le x x ≡ true = grind (arith, ints) in ap (λ t. t && int_le x x) e ∙ e
 
 pub same_from : (p q : Point) → same_point p q ≡ true → p ≡ q

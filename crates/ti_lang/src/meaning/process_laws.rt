@@ -1,10 +1,13 @@
 // What holds of every process of every program.
-ghost use Rattle.std.specs.Prelude.{◌≡◌, ◌≤◌, length, ℕ, false, List, [], ◌∷◌};
+ghost use Rattle.std.specs.Prelude.{◌≡◌, ◌≤◌, length, ℕ, false, List, [], ◌∷◌, ◌++◌};
 ghost use Rattle.ti_base.specs.declared.entry.Answer.{Answer};
 ghost use Rattle.ti_base.specs.declared.entry.Next.{Next};
-ghost use Rattle.ti_lang.specs.Meaning.Processes.{Setting, Process, begin};
+ghost use Rattle.ti_lang.specs.Meaning.Processes.{Setting, Process, Work, begin};
 ghost use Rattle.ti_lang.specs.Meaning.NextStep.{IsNext, After};
-ghost use Rattle.ti_lang.specs.Meaning.Asking.{Request};
+ghost use Rattle.ti_lang.specs.Meaning.Asking.{Request, Gives, Asks};
+ghost use Rattle.ti_lang.specs.Meaning.Scoping.{Env};
+ghost use Rattle.ti_lang.specs.Meaning.Moves.{Move};
+ghost use Rattle.ti_lang.specs.Meaning.Performing.{performed};
 ghost use Rattle.ti_lang.specs.Meaning.Steps.{At, most_frames, step};
 ghost use Rattle.ti_lang.specs.Meaning.Histories.{is_end, is_fault};
 ghost use Rattle.ti_lang.specs.Meaning.Answers.{FitsAction};
@@ -29,6 +32,15 @@ pub fn asks_for_actions()
 /// Where an answer fits what a process has next, there is a process after it.
 pub fn goes_on()
     ensures { (p : Process) (r : Answer) → FitsAction p r → (q : Process) × After p (r ∷ []) q }
+{}
+
+/// Each piece of work looks at its answers one after the other: where it has used them all it comes to the same
+/// if more stand behind them, and what it asked last it uses before it comes to anything.
+pub fn answers_in_order()
+    ensures no_further { (env : Env) (w : Work) (rs more : List Answer) (move : Move) → performed env w rs ≡ Gives move []
+        → performed env w (rs ++ more) ≡ Gives move more }
+    ensures used_up { (env : Env) (w : Work) (rs rest : List Answer) (q : Request) (r : Answer) (move : Move) → performed env w rs ≡ Asks q
+        → performed env w (rs ++ r ∷ []) ≡ Gives move rest → rest ≡ [] }
 {}
 
 /// After whatever answers, a process has spent no more ticks than it has, and has no more frames
