@@ -1,4 +1,5 @@
 pub mod Computing
+pub mod Costs
 pub mod Dims
 pub mod Falling
 pub mod Forms
@@ -6,6 +7,7 @@ pub mod Grids
 pub mod Limits
 pub mod NewThings
 pub mod Performed
+pub mod Racing
 pub mod Requests
 pub mod Running
 pub mod Short

@@ -1,5 +1,5 @@
 -- What a program means, in the order in which it is read: values and computations, processes, what work comes to, steps; the heap,
--- the regions and the rounds of a history; runs and their lines.
+-- the regions and the rounds of a history; runs and their lines; races, and what a run without one decides.
 pub mod Held
 pub mod Asking
 pub mod Conversions
@@ -33,3 +33,6 @@ pub mod HeapAnswers
 pub mod Answers
 pub mod Runs
 pub mod Lines
+pub mod Races
+pub mod Spots
+pub mod Determinacy

@@ -2,5 +2,6 @@
 
 pub mod heap_laws;
 pub mod process_laws;
+pub mod race_laws;
 pub mod run_laws;
 pub mod text_laws;

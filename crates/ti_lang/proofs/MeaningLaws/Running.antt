@@ -1,5 +1,6 @@
 -- A process takes at most one entry; fronts of runs are runs; the entries of a run are answered.
-use Rattle.std.proofs.Common.{◌≡◌, ◌⊎◌, inl, inr, ℕ, Some, List, [], ◌∷◌, ◌++◌, map, reverse, refl, sym, ◌∙◌, ap, subst}
+use Rattle.std.proofs.Common.{◌≡◌, ◌⊎◌, inl, inr, ℕ, ◌+◌, ◌<◌, ◌≤◌, true, false, Some, List, [], ◌∷◌, ◌++◌, length, map, reverse, refl, sym, ◌∙◌, ap, subst, arith, length-append}
+use Rattle.std.proofs.lemmas.Bool.{cases_lt}
 use Rattle.std.proofs.lemmas.List.{reverse-append, reverse-reverse, map-append}
 use Rattle.ti_base.specs.declared.place.Place.{Place}
 use Rattle.ti_base.specs.declared.action.Action.{Action}
@@ -9,14 +10,14 @@ use Rattle.ti_base.specs.declared.entry.Next.{Next}
 use Rattle.ti_base.specs.declared.entry.Next.TheVariants as next
 use Rattle.ti_lang.specs.Program.Classes.{NumberedProgram}
 use Rattle.ti_lang.specs.Meaning.Processes.{Setting, Process}
-use Rattle.ti_lang.specs.Meaning.NextStep.{IsNext, After, more, none}
-use Rattle.ti_lang.specs.Meaning.Answers.{FitsAction}
+use Rattle.ti_lang.specs.Meaning.Steps.{Step, To, At, Ends, Faults as FaultsAt, step}
+use Rattle.ti_lang.specs.Meaning.NextStep.{IsNext, After, more, none, shown}
 use Rattle.ti_lang.specs.Meaning.Histories.{History, history_of}
 use Rattle.ti_lang.specs.Meaning.HeapAnswers.{Outcome, Answers, Faults, Impossible, heap_answer, IsAnswered}
 use Rattle.ti_lang.specs.Meaning.HeapAnswers as heap
-use Rattle.ti_lang.specs.Meaning.Runs.{World, entry_with, entry_of, CanTake, IsRun, IsSolo}
+use Rattle.ti_lang.specs.Meaning.Runs.{World, entry_with, entry_of, CanTake, IsRun, IsSolo, IsComplete}
 use Rattle.ti_lang.specs.Meaning.Runs as r
-use Rattle.ti_lang.proofs.MeaningLaws.Steps.{next_same, after_same}
+use Rattle.ti_lang.proofs.MeaningLaws.Steps.{some_same, none_some, next_same, settles_at, after_same}
 
 pub some_entry : (d e : Entry) → Some d ≡ Some e → d ≡ e
 some_entry d e h = cc
@@ -30,12 +31,21 @@ entry_same s es i d e x y =
 pub world_same : (s : Setting) (es : List Entry) (i : ℕ) (p q : Process) → World s es i p → World s es i q → p ≡ q
 world_same s es i p q x y = after_same _ _ _ _ x y
 
-pub goes_on : (p : Process) (r : Answer) → FitsAction p r → (q : Process) × After p (r ∷ []) q
-goes_on p r f = (f.go r, more f.reaches f.stands none)
+-- ---- how a process goes on
 
-pub solo_run : (s : Setting) (es : List Entry) → IsSolo s es → IsRun s es
-solo_run s es r.none = r.none
-solo_run s es (r.more w t l z) = r.more (solo_run s _ w) t z
+-- after each answer to an action
+pub goes_on : (p : Process) (at : Place) (a : Action) (r : Answer) → IsNext p (next.Act at a) → (q : Process) × After p (r ∷ []) q
+goes_on p at a r n = by (step n.0) refl n.1.stands
+  where
+    by : (s : Step) → step n.0 ≡ s → shown s ≡ Some (next.Act at a) → (q : Process) × After p (r ∷ []) q
+    by (To q) e z = absurd (none_some _ z)
+    by (At request go) e z = (go r, more n.1.reaches e none)
+    by (Ends place) e z = absurd (let c : next.End place ≡ next.Act at a = some_same _ _ z in cc)
+    by (FaultsAt kind place) e z = absurd (let c : next.Fault kind place ≡ next.Act at a = some_same _ _ z in cc)
+
+-- and after nothing else
+pub only_acts : (p q : Process) (n : Next) (r : Answer) → IsNext p n → After p (r ∷ []) q → (at : Place) × (a : Action) × (n ≡ next.Act at a)
+only_acts p q n r x (more {q = s} {request = w} {go = go} reaches e rest) = (w.place, w.action, next_same p n _ x (s, settles_at p s w go reaches e))
 
 -- ---- fronts
 
@@ -149,3 +159,49 @@ decided s es ds (r.more {es = a} {i = i} {e = x} run take z) (r.more {es = b} {i
     let own : CanTake s a i y = subst (λ es. CanTake s es i y) (sym before) (subst (λ k. CanTake s b k y) who took) in
     let last : x ≡ y = entry_same s a i x y take own in
     z ∙ ap (λ es. es ++ x ∷ []) before ∙ ap (λ d. b ++ d ∷ []) last ∙ sym w
+
+-- ---- one solo run
+
+pub solo_run : (s : Setting) (es : List Entry) → IsSolo s es → IsRun s es
+solo_run s es r.none = r.none
+solo_run s es (r.more w t l z) = r.more (solo_run s _ w) t z
+
+length_more : (es all : List Entry) (e : Entry) → all ≡ es ++ e ∷ [] → length all ≡ length es + 1
+length_more es all e z = ap (λ (l : List Entry). length l) z ∙ length-append es (e ∷ [])
+
+-- two solo runs of as many entries are one
+solo_same : (s : Setting) (es ds : List Entry) → IsSolo s es → IsSolo s ds → length es ≡ length ds → es ≡ ds
+solo_same s es ds r.none r.none h = refl
+solo_same s es ds r.none (r.more {es = b} {e = y} run took least w) h = absurd (omega (arith, h, length_more b ds y w))
+solo_same s es ds (r.more {es = a} {e = x} run take first z) r.none h = absurd (omega (arith, h, length_more a es x z))
+solo_same s es ds (r.more {es = a} {i = i} {e = x} run take first z) (r.more {es = b} {i = j} {e = y} ran took least w) h =
+    let before : a ≡ b = solo_same s a b run ran (omega (arith, h, length_more a es x z, length_more b ds y w)) in
+    let there : CanTake s b i x = subst (λ es. CanTake s es i x) before take in
+    let own : CanTake s a j y = subst (λ es. CanTake s es j y) (sym before) took in
+    let who : j ≡ i = elim (cases_lt i j) [
+      | inl below ↦ absurd (least i x below there)
+      | inr above ↦ elim (cases_lt j i) [ inl below ↦ absurd (first j y below own) | inr same ↦ omega arith ]
+    ] in
+    let last : x ≡ y = entry_same s a i x y take (subst (λ k. CanTake s a k y) who own) in
+    z ∙ ap (λ es. es ++ x ∷ []) before ∙ ap (λ d. b ++ d ∷ []) last ∙ sym w
+
+-- nobody can take an entry after a complete run
+nobody_goes_on : (s : Setting) (es : List Entry) (i : ℕ) (e : Entry) → IsComplete s es → CanTake s es i e → ⊥
+nobody_goes_on s es i e (inl fault) take = let c : true ≡ false = sym fault ∙ take.goes_on in cc
+nobody_goes_on s es i e (inr ended) take = let c : true ≡ false = sym (ended i take.within) ∙ take.unended in cc
+
+-- a solo run is no longer than a complete one
+no_longer : (s : Setting) (es ds : List Entry) → IsSolo s es → IsComplete s es → IsSolo s ds → length es ≤ length ds → es ≡ ds
+no_longer s es ds run whole r.none h = solo_same s es [] run r.none (omega (arith, h))
+no_longer s es ds run whole (r.more {es = b} {i = j} {e = y} ran took least w) h =
+    elim (cases_lt (length b) (length es)) [
+      | inl above ↦ solo_same s es ds run (r.more ran took least w) (omega (arith, h, length_more b ds y w))
+      | inr within ↦ absurd (nobody_goes_on s es j y whole (subst (λ es. CanTake s es j y) (sym (no_longer s es b run whole ran within)) took))
+    ]
+
+pub solo_only : (s : Setting) (es ds : List Entry) → IsSolo s es → IsComplete s es → IsSolo s ds → IsComplete s ds → es ≡ ds
+solo_only s es ds run whole ran other =
+    elim (cases_lt (length ds) (length es)) [
+      | inl longer ↦ sym (no_longer s ds es ran other run (omega arith))
+      | inr within ↦ no_longer s es ds run whole ran within
+    ]

@@ -1,7 +1,10 @@
 // What holds of every process of every program.
-ghost use Rattle.std.specs.Prelude.{◌≡◌, ◌≤◌, length, ℕ, false, List, [], ◌∷◌, ◌++◌};
+ghost use Rattle.std.specs.Prelude.{◌≡◌, ◌+◌, ◌≤◌, length, ℕ, false, List, [], ◌∷◌, ◌++◌};
+ghost use Rattle.ti_base.specs.declared.place.Place.{Place};
+ghost use Rattle.ti_base.specs.declared.action.Action.{Action};
 ghost use Rattle.ti_base.specs.declared.entry.Answer.{Answer};
 ghost use Rattle.ti_base.specs.declared.entry.Next.{Next};
+ghost use Rattle.ti_base.specs.declared.entry.Next.TheVariants as next;
 ghost use Rattle.ti_lang.specs.Meaning.Processes.{Setting, Process, Work, begin};
 ghost use Rattle.ti_lang.specs.Meaning.NextStep.{IsNext, After};
 ghost use Rattle.ti_lang.specs.Meaning.Asking.{Request, Gives, Asks};
@@ -10,7 +13,6 @@ ghost use Rattle.ti_lang.specs.Meaning.Moves.{Move};
 ghost use Rattle.ti_lang.specs.Meaning.Performing.{performed};
 ghost use Rattle.ti_lang.specs.Meaning.Steps.{At, most_frames, step};
 ghost use Rattle.ti_lang.specs.Meaning.Histories.{is_end, is_fault};
-ghost use Rattle.ti_lang.specs.Meaning.Answers.{FitsAction};
 
 /// A process has exactly one thing next: an action, its end or a fault.
 pub fn one_next()
@@ -29,9 +31,13 @@ pub fn asks_for_actions()
         → (is_end q.action ≡ false) × (is_fault q.action ≡ false) }
 {}
 
-/// Where an answer fits what a process has next, there is a process after it.
+/// Where a process has an action next it goes on after each answer, where it has its end or a fault next after none; and each answer
+/// costs it a tick at least.
 pub fn goes_on()
-    ensures { (p : Process) (r : Answer) → FitsAction p r → (q : Process) × After p (r ∷ []) q }
+    ensures acts { (p : Process) (at : Place) (a : Action) (r : Answer) → IsNext p (next.Act at a) → (q : Process) × After p (r ∷ []) q }
+    ensures only_acts { (p q : Process) (n : Next) (r : Answer) → IsNext p n → After p (r ∷ []) q
+        → (at : Place) × (a : Action) × (n ≡ next.Act at a) }
+    ensures costs { (p q : Process) (rs : List Answer) → After p rs q → p.spent + length rs ≤ q.spent }
 {}
 
 /// Each piece of work looks at its answers one after the other: where it has used them all it comes to the same

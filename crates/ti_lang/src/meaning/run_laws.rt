@@ -1,12 +1,10 @@
 // What holds of every run of every program.
 ghost use Rattle.std.specs.Prelude.{◌≡◌, ◌++◌, ℕ, List, map};
 ghost use Rattle.ti_base.specs.declared.entry.Entry.{Entry};
-ghost use Rattle.ti_lang.specs.Program.Classes.{NumberedProgram};
 ghost use Rattle.ti_lang.specs.Meaning.Processes.{Setting, Process};
 ghost use Rattle.ti_lang.specs.Meaning.Histories.{history_of};
 ghost use Rattle.ti_lang.specs.Meaning.HeapAnswers.{IsAnswered};
-ghost use Rattle.ti_lang.specs.Meaning.Runs.{World, CanTake, IsRun, IsSolo};
-ghost use Rattle.ti_lang.specs.Meaning.Lines.{lines_of};
+ghost use Rattle.ti_lang.specs.Meaning.Runs.{World, CanTake, IsRun, IsSolo, IsComplete};
 
 /// After the same entries a process is the same one.
 pub fn one_world()
@@ -30,18 +28,14 @@ pub fn fronts_are_runs()
     ensures { (s : Setting) (es rest : List Entry) → IsRun s (es ++ rest) → IsRun s es }
 {}
 
-/// The run of the lowest-numbered process that can take an entry is a run.
-pub fn solo_is_run()
-    ensures { (s : Setting) (es : List Entry) → IsSolo s es → IsRun s es }
+/// The run of the lowest-numbered process that can take an entry is a run, and there is one complete one at most.
+pub fn one_solo_run()
+    ensures is_run { (s : Setting) (es : List Entry) → IsSolo s es → IsRun s es }
+    ensures only { (s : Setting) (es ds : List Entry) → IsSolo s es → IsComplete s es → IsSolo s ds → IsComplete s ds → es ≡ ds }
 {}
 
 /// In a run each entry got the answer that the entries before it give, so the laws of heaps hold
 /// of the history of every run.
 pub fn runs_are_answered()
     ensures { (s : Setting) (es : List Entry) → IsRun s es → IsAnswered s.program (history_of es) }
-{}
-
-/// The lines of a list of entries that goes on begin with those before.
-pub fn lines_follow()
-    ensures { (program : NumberedProgram) (es fs : List Entry) → lines_of program (es ++ fs) ≡ lines_of program es ++ lines_of program fs }
 {}
