@@ -6,7 +6,7 @@ use Rattle.std.specs.Map.{lookup}
 use Rattle.ti_syntax.specs.Trees.Expressions.{Exp, Exps, RangeTree, RangeTrees}
 use Rattle.ti_syntax.specs.Trees.Statements.{DimsTree, InitTree, PrintTree, Stm, MaybeStm, Stms, stms}
 use Rattle.ti_syntax.specs.Trees.Statements as tree
-use Rattle.ti_syntax.specs.Trees.Classes.{ParamTree, ParamsTree, TextTree}
+use Rattle.ti_syntax.specs.Trees.Classes.{ParamTree, ParamsTree, MethodTree, TextTree}
 use Rattle.ti_lang.specs.Program.Types.{ValueType, NumberedType, Declaration, Typed, Foreach, VariableUse}
 use Rattle.ti_lang.specs.Program.Types as t
 use Rattle.ti_lang.specs.Program.Expressions.{NumberedExp, NumberedExps, NumberedRange, NumberedRanges}
@@ -15,7 +15,7 @@ use Rattle.ti_lang.specs.Program.Classes.{NumberedParam, NumberedParams, Numbere
 use Rattle.ti_lang.specs.Members.{OwnMethod, methods_of}
 use Rattle.ti_lang.specs.Scopes.{Known, Site, with_variable, declares, typed_as, past, past_maybe, past_all, behind, behind_maybe, behind_params, method_site, body_site}
 use Rattle.ti_lang.specs.Typing.Kinds.{same_truth, same_type}
-use Rattle.ti_lang.specs.MainForm.{IsWords}
+use Rattle.ti_lang.specs.MainForm.{is_void, is_words as tells_words, has_main_modifiers, has_main_form}
 use Rattle.ti_lang.specs.Numbering as number
 use Rattle.ti_lang.specs.Numbering.{NumbersExp, NumbersExps, NumbersRange, NumbersRanges, NumbersMaybe, NumbersDims, NumbersInit, NumbersPrint, NumbersStm, NumbersMaybeStm, NumbersStms, NumbersParamList, NumbersParams, NumbersMethod, NumbersMethods, Numbers, IsNumbered}
 use Rattle.ti_lang.specs.Meaning.Scoping.{same_declaration, same_variable}
@@ -428,19 +428,26 @@ scoped p c = ∥∥₁_elim c (methods_prop p.methods) (λ n. methods_scoped n.0
 
 -- ---- `main`
 
-words_are : (site : Site) (own : OwnMethod) (m : NumberedMethod) → NumbersMethod site own m → IsWords own.method.params → is_words m.params ≡ true
+words_are : (site : Site) (own : OwnMethod) (m : NumberedMethod) → NumbersMethod site own m → tells_words own.method.params ≡ true → is_words m.params ≡ true
 words_are site own m (number.method {params = params} r ps h) w = by own.method.params params ps w
   where
-    by : (x : ParamsTree) (q : NumberedParams) → NumbersParams site x q → IsWords x → is_words q ≡ true
+    by : (x : ParamsTree) (q : NumberedParams) → NumbersParams site x q → tells_words x ≡ true → is_words q ≡ true
     by x q number.words w = refl
-    by x q (number.params n) w = absurd w
+    by x q (number.params n) w = cc
 
 words_at : (text : TextTree) (n before : ℕ) (owns : List OwnMethod) (ms : List NumberedMethod) → NumbersMethods text n before owns ms → (k : ℕ) (own : OwnMethod) (m : NumberedMethod) → slice_get owns k ≡ Some own
-    → slice_get ms k ≡ Some m → IsWords own.method.params → is_words m.params ≡ true
+    → slice_get ms k ≡ Some m → tells_words own.method.params ≡ true → is_words m.params ≡ true
 words_at text n before owns ms number.none k own m a b w = absurd (none_some own a)
 words_at text n before owns ms (number.more {own = x} {method = y} e h rest) zero own m a b w =
-    ap (λ (z : NumberedMethod). is_words z.params) (sym (some_same y m b)) ∙ words_are _ x y h (subst (λ (z : OwnMethod). IsWords z.method.params) (sym (some_same x own a)) w)
+    ap (λ (z : NumberedMethod). is_words z.params) (sym (some_same y m b)) ∙ words_are _ x y h (subst (λ (z : OwnMethod). tells_words z.method.params ≡ true) (sym (some_same x own a)) w)
 words_at text n before owns ms (number.more e h rest) (suc k) own m a b w = words_at text _ _ _ _ rest k own m a b w
 
+second_true : (a b : Bool) → (a && b) ≡ true → b ≡ true
+second_true true b e = e
+second_true false b e = cc
+
+main_tells : (m : MethodTree) → has_main_form m ≡ true → tells_words m.params ≡ true
+main_tells m e = second_true (is_void m.result) (tells_words m.params) (second_true (has_main_modifiers m) (is_void m.result && tells_words m.params) e)
+
 pub main_words : (p : NumberedProgram) → ∥ IsNumbered p ∥₁ → (m : NumberedMethod) → slice_get p.methods p.main ≡ Some m → is_words m.params ≡ true
-main_words p c m z = ∥∥₁_elim c (Bool-set _ _) (λ n. words_at n.0 0 0 (methods_of n.0) p.methods n.2.methods p.main n.2.main.own m n.2.main.stands z n.2.main.form.params)
+main_words p c m z = ∥∥₁_elim c (Bool-set _ _) (λ n. words_at n.0 0 0 (methods_of n.0) p.methods n.2.methods p.main n.2.main.own m n.2.main.stands z (main_tells n.2.main.own.method n.2.main.form))

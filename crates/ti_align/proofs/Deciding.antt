@@ -20,7 +20,7 @@ use Rattle.ti_base.specs.WholeNumbers.{Fits}
 use Rattle.ti_base.specs.Points.{IsDim, IsPoint, HasCoordinates}
 use Rattle.ti_base.specs.Ranges.{Range, IsRange, natural}
 use Rattle.ti_base.specs.Rects.{IsRect, HasPoints, empty_rect, first_range, second_range, third_range}
-use Rattle.ti_lang.specs.Meaning.Held.{is_dim}
+use Rattle.ti_base.specs.Forms.{is_dim}
 use Rattle.ti_lang.specs.Program.Types.{ValueType}
 use Rattle.ti_lang.specs.Program.Types as t
 use Rattle.ti_lang.specs.Meaning.Asking.{Wanted, ToBeDone, ValueOf, NewThing}

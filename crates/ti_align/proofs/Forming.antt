@@ -18,7 +18,7 @@ use Rattle.ti_lang.specs.Typing.Operators.{wider, whole_type, truth_type, point_
 use Rattle.ti_lang.specs.Typing.BuiltIn.{BuiltIn, Size, Min, Max, Contains, Domain, Restrict, Translate, Slice, Copy, Exchange, Delete, same_grids, can_copy, can_exchange, has_local_elements, member_type}
 use Rattle.ti_lang.specs.Typing.Declared.{in_scope, declared_type, variable_type, field_type, named_field_type}
 use Rattle.ti_lang.specs.Typing.Expressions.{plain, both, joined, one, all_ints, point_literal, all_points, range_of_points, rect_literal, index_type, select_type, range_count, operands, bound, bounds, operand_type}
-use Rattle.ti_lang.specs.Meaning.Held.{is_dim}
+use Rattle.ti_base.specs.Forms.{is_dim}
 use Rattle.ti_align.specs.Things.{IsStorable, DimsFine}
 use Rattle.ti_align.specs.Work.{has_dims}
 use Rattle.ti_align.proofs.Vars.{true_false, and_left, and_right}

@@ -9,7 +9,8 @@ use Rattle.ti_lang.specs.Typing.Declared.{in_scope, variable_type, declared_type
 use Rattle.ti_lang.specs.Typing.Kinds.{domain_dim}
 use Rattle.ti_lang.specs.Typing.Singleness.{is_single_part}
 use Rattle.ti_base.specs.declared.value.Value.TheVariants as val
-use Rattle.ti_lang.specs.Meaning.Held.{Plain, is_dim}
+use Rattle.ti_base.specs.Forms.{is_dim}
+use Rattle.ti_lang.specs.Meaning.Held.{Plain}
 use Rattle.ti_lang.specs.Meaning.Turns.{turns_at, point_at}
 use Rattle.ti_lang.specs.Meaning.Processes.{Process, Frame, While, Foreach, Work, Do, End, Before, Behind, Receive, CopyAll, TakeAll}
 use Rattle.ti_lang.specs.Meaning.Scoping.{Env, env_of, find_variable, value_by}

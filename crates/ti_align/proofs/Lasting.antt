@@ -20,7 +20,8 @@ use Rattle.ti_lang.specs.Program.Types as t
 use Rattle.ti_lang.specs.Program.Classes.{NumberedProgram}
 use Rattle.ti_lang.specs.Typing.Kinds.{is_local}
 use Rattle.ti_lang.specs.Meaning.Held as held
-use Rattle.ti_lang.specs.Meaning.Held.{Plain, is_dim}
+use Rattle.ti_base.specs.Forms.{is_dim}
+use Rattle.ti_lang.specs.Meaning.Held.{Plain}
 use Rattle.ti_lang.specs.Meaning.Asking.{Wanted, told}
 use Rattle.ti_lang.specs.Meaning.Processes.{Setting, Process}
 use Rattle.ti_lang.specs.Meaning.Zeros.{zeros_of_class}

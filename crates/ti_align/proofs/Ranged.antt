@@ -23,7 +23,8 @@ use Rattle.ti_lang.specs.Program.Types.{ValueType}
 use Rattle.ti_lang.specs.Program.Types as t
 use Rattle.ti_lang.specs.Program.Classes.{NumberedProgram}
 use Rattle.ti_lang.specs.Typing.Kinds.{is_void}
-use Rattle.ti_lang.specs.Meaning.Held.{Plain, Dm, is_dim}
+use Rattle.ti_base.specs.Forms.{is_dim}
+use Rattle.ti_lang.specs.Meaning.Held.{Plain, Dm}
 use Rattle.ti_lang.specs.Meaning.Answers.{IsCount, IsName}
 use Rattle.ti_lang.specs.Meaning.Processes.{Setting}
 use Rattle.ti_lang.specs.Meaning.Histories.{History, history_of, is_making, is_arrival, is_departure, is_answered, things_made, arrivals}

@@ -19,7 +19,7 @@ use Rattle.ti_syntax.specs.Spelling.Statements as st
 use Rattle.ti_syntax.specs.Spelling.Statements.{Start, start, Region, Dims, Initial, Declared, declared, Changed, Printed, Condition, condition, First, Optional, Update, Stated, Items}
 use Rattle.ti_syntax.specs.Spelling.Classes as k
 use Rattle.ti_syntax.specs.Spelling.Classes.{ParamList, Parameters, Method, Member, Members, Class, AllClasses}
-use Rattle.ti_lang.specs.Meaning.Held.{is_dim}
+use Rattle.ti_base.specs.Forms.{is_dim}
 use Rattle.ti_lang.proofs.MeaningLaws.Dims.{dim_is}
 
 -- ---- types

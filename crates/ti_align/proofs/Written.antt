@@ -21,7 +21,7 @@ use Rattle.ti_lang.specs.Typing.Operators.{binary_type}
 use Rattle.ti_lang.specs.Typing.Declared.{in_scope, variable_type, field_type}
 use Rattle.ti_lang.specs.Typing.Expressions.{plain, operand, both, is_int, all_ints, rect_literal, index_type, select_type, range_count, known, operands, bounds, typed, operand_type}
 use Rattle.ti_lang.specs.Typing.Alike.{one_dim}
-use Rattle.ti_lang.specs.Meaning.Held.{is_dim}
+use Rattle.ti_base.specs.Forms.{is_dim}
 use Rattle.ti_lang.specs.Meaning.Zeros.{zero_of_type}
 use Rattle.ti_lang.specs.Meaning.Processes.{Assigned, Updated}
 use Rattle.ti_lang.specs.Meaning.Statements.{one_more}

@@ -4,7 +4,8 @@ ghost use Rattle.std.specs.Prelude.{◌≡◌, [], IfOk};
 ghost use Rattle.ti_base.specs.Points.{IsDim};
 ghost use Rattle.ti_base.specs.Rects.{IsRect, empty_rect as empty_spec};
 ghost use Rattle.ti_lang.specs.Program.Views.{value_type_of, declared_of, variable_of};
-ghost use Rattle.ti_lang.specs.Meaning.Held.{zero_of, is_dim};
+ghost use Rattle.ti_base.specs.Forms.{is_dim};
+ghost use Rattle.ti_lang.specs.Meaning.Held.{zero_of};
 ghost use Rattle.ti_lang.specs.Meaning.Scoping.{same_declaration, same_variable, find_variable, with_changed, zero_declared};
 ghost use Rattle.ti_eval.specs.Frames.{slots_of};
 

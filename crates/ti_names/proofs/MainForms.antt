@@ -5,152 +5,23 @@ use Rattle.std.specs.Option.{option_map_or, option_and_then, unwrap_or}
 use Rattle.std.proofs.lemmas.Bool.Decides.{nat_tests}
 use Rattle.std.proofs.lemmas.Iterator.Adapters.{position_from-zero}
 use Rattle.ti_base.specs.declared.place.Place.{Place}
-use Rattle.ti_syntax.specs.declared.tree.classes.Modifier.{Modifier}
-use Rattle.ti_syntax.specs.declared.tree.classes.ModifierWord.{ModifierWord}
-use Rattle.ti_syntax.specs.declared.tree.classes.ModifierWord.TheVariants as word
-use Rattle.ti_syntax.specs.Trees.Classes.{ParamsTree, Words, Params, ResultTree, Void, Typed, MethodTree, ClassTree, TextTree}
-use Rattle.ti_lang.specs.MainForm.{HasMainModifiers, IsVoid, IsWords, IsMainForm}
-use Rattle.ti_lang.specs.Members.{OwnMethod, methods_of, method_named, is_static, is_static_word, is_single, is_single_word}
+use Rattle.ti_syntax.specs.Trees.Classes.{ClassTree, TextTree}
+use Rattle.ti_lang.specs.Members.{OwnMethod, methods_of, method_named}
 use Rattle.ti_lang.specs.Numbering.{HasMain}
 use Rattle.ti_rules.specs.declared.rule.Rule.{Rule}
 use Rattle.ti_rules.specs.declared.rule.Rule.TheVariants.{N2, N3}
 use Rattle.ti_rules.specs.First.{refused_if}
-use Rattle.ti_rules.specs.MainForm.{is_public, is_public_word, is_void, is_words, has_main_form, main_class, main_method, is_another, form_refusals, words_refusals, main_refusals}
-use Rattle.ti_rules.proofs.First.{In, in_contains, contains_in}
+use Rattle.ti_lang.specs.MainForm.{is_words, has_main_form}
+use Rattle.ti_rules.specs.MainForm.{main_class, main_method, is_another, form_refusals, words_refusals, main_refusals}
 use Rattle.ti_names.proofs.CleanNodes.{empty_left, empty_right}
 use Rattle.ti_names.proofs.OnlyOne.{main_is}
 use Rattle.ti_names.proofs.TotalPrograms.{same_number}
 
 -- ---- tests
 
-and_left : (b c : Bool) → (b && c) ≡ true → b ≡ true
-and_left true c e = refl
-and_left false c e = e
-
-and_right : (b c : Bool) → (b && c) ≡ true → c ≡ true
-and_right true c e = e
-and_right false c e = cc
-
-and_both : (b c : Bool) → b ≡ true → c ≡ true → (b && c) ≡ true
-and_both true c e f = f
-and_both false c e f = e
-
 not_refused : (b : Bool) (rule : Rule) (at : Place) → refused_if b rule at ≡ [] → b ≡ false
 not_refused true rule at e = cc
 not_refused false rule at e = refl
-
--- ---- words
-
-abbrev words_of : List Modifier → List ModifierWord
-words_of ms = map (λ (x : Modifier). x.word) ms
-
--- a test that one word passes
-module _ (t : ModifierWord → Bool) (w : ModifierWord) (passes : t w ≡ true) (alone : (x : ModifierWord) → t x ≡ true → x ≡ w) where
-  any_in : (ms : List Modifier) → list_any (λ (x : Modifier). t x.word) ms ≡ true → In (words_of ms) w
-  any_in [] e = cc
-  any_in (m ∷ ms) e = by (t m.word) refl e (any_in ms)
-    where
-      by : (b : Bool) → t m.word ≡ b → (b || list_any (λ (x : Modifier). t x.word) ms) ≡ true → (list_any (λ (x : Modifier). t x.word) ms ≡ true → In (words_of ms) w) → In (words_of (m ∷ ms)) w
-      by true is e rest = In.here (alone m.word is)
-      by false is e rest = In.there (rest e)
-
-  in_any : (ms : List Modifier) → In (words_of ms) w → list_any (λ (x : Modifier). t x.word) ms ≡ true
-  in_any [] i = elim i [ ]
-  in_any (m ∷ ms) (In.here e) = ap (λ x. t x || list_any (λ (x : Modifier). t x.word) ms) e ∙ ap (λ b. b || list_any (λ (x : Modifier). t x.word) ms) passes
-  in_any (m ∷ ms) (In.there i) = by (t m.word) (in_any ms i)
-    where
-      by : (b : Bool) → list_any (λ (x : Modifier). t x.word) ms ≡ true → (b || list_any (λ (x : Modifier). t x.word) ms) ≡ true
-      by true e = refl
-      by false e = e
-
-only_public : (x : ModifierWord) → is_public_word x ≡ true → x ≡ word.Public
-only_public word.Public e = refl
-only_public word.Private e = cc
-only_public word.Protected e = cc
-only_public word.Static e = cc
-only_public word.Final e = cc
-only_public word.Single e = cc
-
-only_static : (x : ModifierWord) → is_static_word x ≡ true → x ≡ word.Static
-only_static word.Public e = cc
-only_static word.Private e = cc
-only_static word.Protected e = cc
-only_static word.Static e = refl
-only_static word.Final e = cc
-only_static word.Single e = cc
-
-only_single : (x : ModifierWord) → is_single_word x ≡ true → x ≡ word.Single
-only_single word.Public e = cc
-only_single word.Private e = cc
-only_single word.Protected e = cc
-only_single word.Static e = cc
-only_single word.Final e = cc
-only_single word.Single e = refl
-
-length_words : (ms : List Modifier) → length (words_of ms) ≡ length ms
-length_words [] = refl
-length_words (m ∷ ms) = ap suc (length_words ms)
-
-three_is : (n : ℕ) → (n == 3) ≡ true → n ≡ 3
-three_is n e = grind (arith, nat_tests, e)
-
--- ---- the form
-
-abbrev modifiers_test : MethodTree → Bool
-modifiers_test m = ((length m.modifiers == 3) && is_public m.modifiers) && (is_static m && is_single m.modifiers)
-
-modifiers_of : (m : MethodTree) → modifiers_test m ≡ true → HasMainModifiers (words_of m.modifiers)
-modifiers_of m e =
-    let a = length m.modifiers == 3 in
-    let b = is_public m.modifiers in
-    let c = is_static m in
-    let d = is_single m.modifiers in
-    let front = and_left (a && b) (c && d) e in
-    let back = and_right (a && b) (c && d) e in
-    record {
-      three = length_words m.modifiers ∙ three_is (length m.modifiers) (and_left a b front);
-      public = in_contains (any_in is_public_word word.Public refl only_public m.modifiers (and_right a b front));
-      static = in_contains (any_in is_static_word word.Static refl only_static m.modifiers (and_left c d back));
-      single = in_contains (any_in is_single_word word.Single refl only_single m.modifiers (and_right c d back));
-    }
-
-modifiers_test_of : (m : MethodTree) → HasMainModifiers (words_of m.modifiers) → modifiers_test m ≡ true
-modifiers_test_of m h =
-    let count : length m.modifiers ≡ 3 = sym (length_words m.modifiers) ∙ h.three in
-    let three : (length m.modifiers == 3) ≡ true = ap (λ n. n == 3) count in
-    let public = in_any is_public_word word.Public refl only_public m.modifiers (contains_in _ word.Public h.public) in
-    let static = in_any is_static_word word.Static refl only_static m.modifiers (contains_in _ word.Static h.static) in
-    let single = in_any is_single_word word.Single refl only_single m.modifiers (contains_in _ word.Single h.single) in
-    and_both _ _ (and_both _ _ three public) (and_both _ _ static single)
-
-void_of : (r : ResultTree) → is_void r ≡ true → IsVoid r
-void_of (Void at) e = tt
-void_of (Typed type) e = cc
-
-void_test_of : (r : ResultTree) → IsVoid r → is_void r ≡ true
-void_test_of (Void at) h = refl
-void_test_of (Typed type) h = absurd h
-
-words_of_params : (p : ParamsTree) → is_words p ≡ true → IsWords p
-words_of_params (Words at name) e = tt
-words_of_params (Params params) e = cc
-
-words_test_of : (p : ParamsTree) → IsWords p → is_words p ≡ true
-words_test_of (Words at name) h = refl
-words_test_of (Params params) h = absurd h
-
-form_of : (m : MethodTree) → has_main_form m ≡ true → IsMainForm m
-form_of m e =
-    let b = is_void m.result && is_words m.params in
-    let both = and_right (modifiers_test m) b e in
-    record {
-      modifiers = modifiers_of m (and_left (modifiers_test m) b e);
-      result = void_of m.result (and_left (is_void m.result) (is_words m.params) both);
-      params = words_of_params m.params (and_right (is_void m.result) (is_words m.params) both);
-    }
-
-form_test_of : (m : MethodTree) → IsMainForm m → has_main_form m ≡ true
-form_test_of m h = and_both _ _ (modifiers_test_of m h.modifiers) (and_both _ _ (void_test_of m.result h.result) (words_test_of m.params h.params))
 
 -- ---- methods with a parameter `String[] x`
 
@@ -182,14 +53,14 @@ clean_main text number main =
     let found = main_is main in
     let form : form_refusals text (main_class text) (main_method text) ≡ [] =
     (λ j. form_refusals text (main.is_class j) (found j)) ∙ ap (λ (o : Option OwnMethod). option_map_or (λ (own : OwnMethod). refused_if (not (has_main_form own.method)) N3 own.method.place) o []) main.stands
-    ∙ ap (λ b. refused_if (not b) N3 main.own.method.place) (form_test_of main.own.method main.form) in
+    ∙ ap (λ b. refused_if (not b) N3 main.own.method.place) main.form in
     let words : words_refusals (main_method text) 0 (methods_of text) ≡ [] = no_words (main_method text) 0 (methods_of text) (λ k own at. alone k own at (is_words own.method.params) refl) in
     λ j. form j ++ words j
   where
     alone : (k : ℕ) (own : OwnMethod) → slice_get (methods_of text) k ≡ Some own → (b : Bool) → is_words own.method.params ≡ b → (b && is_another (main_method text) (0 + k)) ≡ false
     alone k own at false e = refl
     alone k own at true e =
-        let same : k ≡ number = main.alone k own at (words_of_params own.method.params e) in
+        let same : k ≡ number = main.alone k own at e in
         let zero_k : 0 + k ≡ number = omega (arith, same) in
         let self : (number == number) ≡ true = grind (arith, nat_tests) in
         (λ j. is_another (main_is main j) (zero_k j)) ∙ ap not self
@@ -216,11 +87,11 @@ main_of_clean text none = by (main_class text) refl (empty_left (form_refusals t
     words : words_refusals (main_method text) 0 (methods_of text) ≡ []
     words = empty_right (form_refusals text (main_class text) (main_method text)) _ none
 
-    only : (n : ℕ) → main_method text ≡ Some n → (k : ℕ) (other : OwnMethod) → slice_get (methods_of text) k ≡ Some other → IsWords other.method.params → k ≡ n
+    only : (n : ℕ) → main_method text ≡ Some n → (k : ℕ) (other : OwnMethod) → slice_get (methods_of text) k ≡ Some other → is_words other.method.params ≡ true → k ≡ n
     only n f k other at is =
         let zero_k : 0 + k ≡ k = omega arith in
         let apart : is_another (main_method text) (0 + k) ≡ false =
-        ap (λ b. b && is_another (main_method text) (0 + k)) (sym (words_test_of other.method.params is)) ∙ words_none (main_method text) 0 (methods_of text) words k other at in
+        ap (λ b. b && is_another (main_method text) (0 + k)) (sym is) ∙ words_none (main_method text) 0 (methods_of text) words k other at in
         let same : Some n ≡ Some (0 + k) = sym f ∙ same_number (main_method text) (0 + k) other.method.place (ap (λ b. refused_if b N2 other.method.place) apart) in
         let number : n ≡ 0 + k = cc in
         sym (number ∙ zero_k)
@@ -233,7 +104,7 @@ main_of_clean text none = by (main_class text) refl (empty_left (form_refusals t
       is_method = sym (ap (λ c. option_and_then (λ (c : ℕ). method_named text c (codes "main")) c) e) ∙ f;
       own = own;
       stands = at;
-      form = form_of own.method is;
+      form = is;
       alone = only n f;
     }
     formed class n e f own at false is form = cc

@@ -1,19 +1,9 @@
--- The refusal of a list that counts: the one at the least place, and at one place that of the rule listed first.
-use Rattle.std.specs.Prelude.{◌&&◌, ◌||◌, ◌==◌, nat_lt, Bool, if◌then◌else◌, List, [], ◌∷◌, Option, Some, None}
+-- The refusal of a list that counts.
+use Rattle.std.specs.Prelude.{Bool, if◌then◌else◌, List, [], ◌∷◌, Option, Some, None}
 use Rattle.ti_base.specs.declared.place.Place.{Place}
 use Rattle.ti_rules.specs.declared.rule.Rule.{Rule}
 use Rattle.ti_rules.specs.declared.refusal.Refusal.{Refusal}
-use Rattle.ti_rules.specs.Rules.{number_of}
-
-abbrev pub place_before : Place → Place → Bool
-place_before p q = nat_lt p.line q.line || ((p.line == q.line) && nat_lt p.col q.col)
-
-abbrev pub same_place : Place → Place → Bool
-same_place p q = (p.line == q.line) && (p.col == q.col)
-
--- the first refusal counts before the second
-abbrev pub counts_before : Refusal → Refusal → Bool
-counts_before r s = place_before r.place s.place || (same_place r.place s.place && nat_lt (number_of r.rule) (number_of s.rule))
+use Rattle.ti_rules.specs.Refusals.{counts_before}
 
 -- the one of two that counts; of two that count the same, the first
 unfoldable pub sooner : Option Refusal → Option Refusal → Option Refusal

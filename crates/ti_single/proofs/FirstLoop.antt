@@ -8,7 +8,7 @@ use Rattle.ti_base.specs.declared.place.Place.{Place}
 use Rattle.ti_lang.specs.Program.Statements.{NumberedStm, MaybeNumbered, NumberedStms, numbered_stms}
 use Rattle.ti_lang.specs.Program.Statements as st
 use Rattle.ti_lang.specs.Program.Classes.{NumberedMethod, NumberedProgram}
-use Rattle.ti_rules.specs.First.{same_place}
+use Rattle.ti_base.specs.Places.{same_place}
 use Rattle.ti_rules.specs.Standing.{Around, Standing, in_loop, in_foreach, inside, inside_maybe, inside_all, around_method}
 use Rattle.ti_single.specs.EffectsAt.{is_loop_at, loop_at}
 use Rattle.ti_single.specs.Mirrors.Loops.{loop_in, loop_in_maybe, loop_in_all}

@@ -7,7 +7,7 @@ use Rattle.ti_lang.specs.Program.Statements as st
 use Rattle.ti_lang.specs.Program.Classes.{NumberedMethod, NumberedProgram}
 use Rattle.ti_lang.specs.Program.Scope.{Whereabouts, this_of}
 use Rattle.ti_lang.specs.Typing.Effects.{Doings, nothing, doings, return_acts, jump_acts, has_global_effects}
-use Rattle.ti_rules.specs.First.{same_place}
+use Rattle.ti_base.specs.Places.{same_place}
 use Rattle.ti_rules.specs.Standing.{Standing, doings_of_loop, standing_in_method}
 
 -- ---- the loop at a place

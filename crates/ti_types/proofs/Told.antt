@@ -14,7 +14,8 @@ use Rattle.ti_lang.specs.Typing.Expressions.{Typed, is_int, all_ints, all_fit, t
 use Rattle.ti_rules.specs.declared.rule.Rule.{Rule}
 use Rattle.ti_rules.specs.declared.rule.Rule.TheVariants.{Y1, Y2, Y4, Y5, Q1}
 use Rattle.ti_rules.specs.declared.refusal.Refusal.{Refusal}
-use Rattle.ti_rules.specs.First.{counts_before, sooner, first_of}
+use Rattle.ti_rules.specs.Refusals.{counts_before}
+use Rattle.ti_rules.specs.First.{sooner, first_of}
 use Rattle.ti_lang.specs.Typing.Alike.{one_dim, as_local}
 use Rattle.ti_rules.specs.Broken.Refused.{refused, judged, misfit}
 use Rattle.ti_rules.specs.Broken.Calls.{misfits, first_misfit, params_refusals, call_refusals, instance_refusals}

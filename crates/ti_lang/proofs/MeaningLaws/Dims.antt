@@ -3,7 +3,7 @@ use Rattle.std.proofs.Common.{◌≡◌, ℕ, true, ◌&&◌, ap₂, arith}
 use Rattle.std.proofs.lemmas.Bool.{le-leb}
 use Rattle.std.proofs.lemmas.Bool.Decides.{nat_tests}
 use Rattle.ti_base.specs.Points.{IsDim}
-use Rattle.ti_lang.specs.Meaning.Held.{is_dim}
+use Rattle.ti_base.specs.Forms.{is_dim}
 
 pub dims_are : (n : ℕ) → is_dim n ≡ true → IsDim n
 dims_are n h = grind (arith, nat_tests)

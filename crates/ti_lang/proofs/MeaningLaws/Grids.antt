@@ -20,7 +20,7 @@ use Rattle.ti_base.specs.Cells.{Grid, whole_grid, cell_of, view, suits, view_fau
 use Rattle.ti_lang.specs.Program.Classes.{NumberedProgram}
 use Rattle.ti_lang.specs.Meaning.Histories.{History, is_making}
 use Rattle.ti_lang.specs.Meaning.HeapOf.{new_id, view_id, is_grid, grid_made, grid_of}
-use Rattle.ti_lang.specs.Meaning.Held.{is_dim}
+use Rattle.ti_base.specs.Forms.{is_dim}
 use Rattle.ti_lang.specs.Meaning.HeapAnswers.{Answers, possible_if, views, makes, places, heap_answer, IsAnswered, none, more}
 use Rattle.ti_lang.proofs.MeaningLaws.Dims.{dims_are}
 use Rattle.ti_lang.proofs.MeaningLaws.Things.{possible_then, some_then}

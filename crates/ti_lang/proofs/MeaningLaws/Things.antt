@@ -16,7 +16,7 @@ use Rattle.ti_lang.specs.Program.Classes.{NumberedProgram}
 use Rattle.ti_lang.specs.Meaning.Histories.{History, is_making, entries_of, things_made}
 use Rattle.ti_lang.specs.Meaning.Zeros.{zeros_of_class}
 use Rattle.ti_lang.specs.Meaning.HeapOf.{grid_of, new_id, view_id, made_by, IsMade}
-use Rattle.ti_lang.specs.Meaning.Held.{is_dim}
+use Rattle.ti_base.specs.Forms.{is_dim}
 use Rattle.ti_lang.specs.Meaning.HeapAnswers.{Outcome, Answers, where_some, possible_if, faults_if, views, makes, places, heap_answer, IsAnswered, none, more}
 
 -- ---- what an answer says

@@ -18,7 +18,7 @@ use Rattle.ti_lang.specs.Program.Classes.{NumberedProgram}
 use Rattle.ti_lang.specs.Meaning.Histories.{History}
 use Rattle.ti_lang.specs.Meaning.RoundsOf.{round_of, last_arrival, given, was_left, rounds_making}
 use Rattle.ti_lang.specs.Meaning.RegionsOf.{is_made, is_gone, is_place}
-use Rattle.ti_lang.specs.Meaning.Held.{is_dim}
+use Rattle.ti_base.specs.Forms.{is_dim}
 use Rattle.ti_lang.specs.Meaning.Zeros.{zeros_of_class}
 use Rattle.ti_lang.specs.Meaning.HeapOf.{grid_of, new_id, view_id, cell_value, cost_of, cost_of_making, most_cells}
 use Rattle.ti_lang.specs.Meaning.RegionUse.{is_in_use}

@@ -1,5 +1,5 @@
 -- What variables hold, and how a value becomes one of a type.
-use Rattle.std.specs.Prelude.{ℕ, nat_le, ℤ, pos, Bool, false, ◌&&◌, if◌then◌else◌, List, [], Option, None}
+use Rattle.std.specs.Prelude.{ℕ, ℤ, pos, Bool, false, if◌then◌else◌, List, [], Option, None}
 use Rattle.ti_base.specs.declared.point.Point.{Point}
 use Rattle.ti_base.specs.declared.point.Rect.{Rect}
 use Rattle.ti_base.specs.declared.value.Id.{Id}
@@ -8,6 +8,7 @@ use Rattle.ti_base.specs.declared.value.Value.TheVariants as v
 use Rattle.ti_base.specs.WholeNumbers.{to_long, to_int}
 use Rattle.ti_base.specs.Rects.{points_of, empty_rect}
 use Rattle.ti_base.specs.Cells.{named_by}
+use Rattle.ti_base.specs.Forms.{is_dim}
 use Rattle.ti_lang.specs.Program.Types.{ValueType}
 use Rattle.ti_lang.specs.Program.Types as t
 
@@ -84,10 +85,6 @@ dim_of (Dm dim points) = dim
 dim_of h = 1
 
 -- ---- values of types
-
--- a number of dimensions: 1, 2 or 3
-abbrev pub is_dim : ℕ → Bool
-is_dim dim = nat_le 1 dim && nat_le dim 3
 
 -- the value, where there are so many dimensions; no program has a type of another number of them
 abbrev pub where_dim : ℕ → Held → Held

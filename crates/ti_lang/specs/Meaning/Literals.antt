@@ -7,7 +7,8 @@ use Rattle.ti_base.specs.declared.point.Rect.{Rect}
 use Rattle.ti_base.specs.declared.value.Value.TheVariants as v
 use Rattle.ti_base.specs.declared.fault.FaultKind.TheVariants.{BadStride}
 use Rattle.ti_base.specs.Rects.{made, empty_rect}
-use Rattle.ti_lang.specs.Meaning.Held.{Held, Plain, int_of, is_dim, zero_point}
+use Rattle.ti_base.specs.Forms.{is_dim}
+use Rattle.ti_lang.specs.Meaning.Held.{Held, Plain, int_of, zero_point}
 use Rattle.ti_lang.specs.Meaning.Asking.{Asking, guarded}
 
 -- the coordinates of a point that are used

@@ -5,7 +5,7 @@ use Rattle.std.specs.Option.{option_or}
 use Rattle.ti_base.specs.declared.place.Place.{Place}
 use Rattle.ti_lang.specs.Program.Statements.{NumberedStm, MaybeNumbered, NumberedStms}
 use Rattle.ti_lang.specs.Program.Statements as st
-use Rattle.ti_rules.specs.First.{same_place}
+use Rattle.ti_base.specs.Places.{same_place}
 
 abbrev mutual
   -- in a statement
