@@ -39,7 +39,7 @@ use Rattle.ti_lang.specs.Meaning.Performing.{condition, declared_in, performed}
 use Rattle.ti_lang.proofs.MeaningLaws.Falling.{Giving, then_giving, guarded_giving}
 use Rattle.ti_rules.specs.declared.refusal.Refusal.{Refusal}
 use Rattle.ti_rules.specs.declared.rule.Rule.TheVariants.{S2, S4}
-use Rattle.ti_rules.specs.First.{refused_if}
+use Rattle.ti_rules.specs.Refusals.{refused_if}
 use Rattle.ti_rules.specs.Standing.{Around, scope_of, singles_in, loop_acts, in_loop, in_foreach, inside, inside_all, inside_maybe, stands}
 use Rattle.ti_rules.specs.SingleRules.{has_effects, is_plain_condition, single_refusals_at, initial_refusals, whole_refusals, method_single_refusals}
 use Rattle.ti_rules.proofs.Sound.Refused.{not_refused}

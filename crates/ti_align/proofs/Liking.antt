@@ -29,7 +29,7 @@ use Rattle.ti_lang.specs.Meaning.Calls.{Call, call_of, called, calling, bound, m
 use Rattle.ti_lang.specs.Meaning.Moves.{Move, Goes, Turns, Breaks, Continues, Calls, Returns, Meets, Deletes, receives, goes_on}
 use Rattle.ti_lang.proofs.MeaningLaws.Falling.{Giving}
 use Rattle.ti_rules.specs.declared.rule.Rule.TheVariants.{S5, S9}
-use Rattle.ti_rules.specs.First.{refused_if}
+use Rattle.ti_rules.specs.Refusals.{refused_if}
 use Rattle.ti_rules.specs.Standing.{Around}
 use Rattle.ti_rules.specs.SingleRules.{is_plain_part, argument_refusals, params_refusals, call_refusals, whole_refusals, word_refusals, result_refusals, effect_refusals}
 use Rattle.ti_rules.proofs.Sound.Refused.{not_refused}

@@ -16,7 +16,7 @@ use Rattle.ti_lang.specs.Typing.Declared.{in_scope, result_type}
 use Rattle.ti_lang.specs.Typing.Expressions.{operand_type}
 use Rattle.ti_lang.specs.Meaning.Processes.{Updated}
 use Rattle.ti_rules.specs.declared.rule.Rule.TheVariants.{Y3, Y6}
-use Rattle.ti_rules.specs.First.{refused_if}
+use Rattle.ti_rules.specs.Refusals.{refused_if}
 use Rattle.ti_rules.specs.InitialTypes.{value_type, initial_type}
 use Rattle.ti_rules.specs.Standing.{Around, Standing, scope_of, stands, in_loop, in_foreach, inside, inside_maybe, inside_all}
 use Rattle.ti_rules.specs.Broken.Refused.{refused, judged, both_judged, mistaken, misfit}

@@ -16,7 +16,7 @@ use Rattle.ti_lang.specs.Typing.Called.{called_method, method_behind}
 use Rattle.ti_lang.specs.Typing.TextTypes.{type_in_text}
 use Rattle.ti_lang.specs.Meaning.Calls.{parameters_from, parameters_of}
 use Rattle.ti_rules.specs.declared.rule.Rule.TheVariants.{Y6}
-use Rattle.ti_rules.specs.First.{refused_if}
+use Rattle.ti_rules.specs.Refusals.{refused_if}
 use Rattle.ti_rules.specs.Standing.{Around, scope_of, Standing, stands, in_loop, in_foreach, inside, inside_maybe, inside_all, around_method, standing_in_method}
 use Rattle.ti_rules.specs.Broken.Statements.{statement_refusals, standing_refusals}
 use Rattle.ti_rules.specs.TypeRules.{ends_with_return, head_refusals, end_refusals, method_refusals, class_refusals}

@@ -33,7 +33,7 @@ use Rattle.ti_lang.specs.Meaning.Statements.{declared_as, one_more, returns}
 use Rattle.ti_lang.specs.Meaning.Performing.{condition, performed}
 use Rattle.ti_lang.proofs.MeaningLaws.Falling.{Giving}
 use Rattle.ti_rules.specs.declared.rule.Rule.TheVariants.{S1, S3, S4, S5, S7, S8}
-use Rattle.ti_rules.specs.First.{refused_if}
+use Rattle.ti_rules.specs.Refusals.{refused_if}
 use Rattle.ti_rules.specs.Standing.{Around, in_foreach, inside}
 use Rattle.ti_rules.specs.SingleRules.{is_plain_part, is_plain_condition, argument_refusals, params_refusals, call_refusals, whole_refusals, is_delete, initial_refusals, return_refusals}
 use Rattle.ti_rules.proofs.Sound.Refused.{not_refused}

@@ -27,7 +27,7 @@ use Rattle.ti_lang.specs.Meaning.Processes.{Assigned, Updated}
 use Rattle.ti_lang.specs.Meaning.Statements.{one_more}
 use Rattle.ti_rules.specs.declared.rule.Rule.TheVariants.{Y1, Y2, Y6, Q2}
 use Rattle.ti_rules.specs.declared.refusal.Refusal.{Refusal}
-use Rattle.ti_rules.specs.First.{refused_if}
+use Rattle.ti_rules.specs.Refusals.{refused_if}
 use Rattle.ti_rules.specs.Known.{IsThere, IsKnown, AreKnown, IsKnownRange, AreKnownRanges}
 use Rattle.ti_rules.specs.Parts.{parts_of_ranges}
 use Rattle.ti_rules.specs.InitialTypes.{value_type, can_broadcast, broadcast_type, region_type, is_region, object_type, Spread, Over, Ranged, spread, spread_type, grid_over, new_grid_type, initial_type}

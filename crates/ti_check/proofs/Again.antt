@@ -7,7 +7,8 @@ use Rattle.ti_syntax.specs.declared.tree.classes.ModifierWord.{ModifierWord}
 use Rattle.ti_syntax.specs.declared.tree.classes.ModifierWord.TheVariants as word
 use Rattle.ti_rules.specs.declared.rule.Rule.TheVariants.{Y7}
 use Rattle.ti_rules.specs.declared.refusal.Refusal.{Refusal}
-use Rattle.ti_rules.specs.First.{sooner, first_of, refused_if}
+use Rattle.ti_rules.specs.Refusals.{refused_if}
+use Rattle.ti_rules.specs.Mirrors.First.{sooner, first_of}
 use Rattle.ti_rules.specs.Broken.Words.{same_word, repeated_modifiers}
 use Rattle.ti_rules.proofs.First.{first_append, sooner_assoc, sooner_none}
 use Rattle.ti_types.proofs.Loops.{none_sooner, drop_next}

@@ -3,12 +3,12 @@ use Rattle.std.proofs.Common.{◌≡◌, List, ◌++◌, flat_map, Option, Some,
 use Rattle.std.specs.Option.{option_or}
 use Rattle.ti_lang.specs.Program.Classes.{NumberedMethod, NumberedProgram}
 use Rattle.ti_rules.specs.declared.refusal.Refusal.{Refusal}
-use Rattle.ti_rules.specs.First.{sooner, first_of}
+use Rattle.ti_rules.specs.Mirrors.First.{sooner, first_of}
 use Rattle.ti_rules.specs.Standing.{standing_in_method}
 use Rattle.ti_rules.specs.TypeRules.{class_refusals, head_refusals, end_refusals, method_refusals, type_refusals}
 use Rattle.ti_rules.specs.Broken.Statements.{standing_refusals}
 use Rattle.ti_rules.specs.SingleRules.{effect_refusals, result_refusals, standing_single_refusals, method_single_refusals, single_refusals}
-use Rattle.ti_rules.specs.ProgramRefusals.{program_refusal}
+use Rattle.ti_rules.specs.Mirrors.ProgramRefusal.{program_refusal}
 use Rattle.ti_rules.proofs.First.{first_append}
 use Rattle.ti_check.specs.declared.found.Found.{Found}
 use Rattle.ti_check.specs.Mirrors.Found.{IsFirst, IsFound}

@@ -8,7 +8,7 @@ use Rattle.ti_lang.specs.Program.Statements as st
 use Rattle.ti_lang.specs.Program.Classes.{NumberedProgram}
 use Rattle.ti_lang.specs.Program.Views.{statement_of}
 use Rattle.ti_rules.specs.declared.refusal.Refusal.{Refusal}
-use Rattle.ti_rules.specs.First.{sooner, first_of}
+use Rattle.ti_rules.specs.Mirrors.First.{sooner, first_of}
 use Rattle.ti_rules.specs.Standing.{Around, Standing, stands, inside, inside_all}
 use Rattle.ti_rules.specs.Broken.Statements.{statement_refusals, standing_refusals}
 use Rattle.ti_rules.specs.SingleRules.{single_refusals_at, standing_single_refusals}

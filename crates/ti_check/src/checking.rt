@@ -3,7 +3,7 @@ ghost use Rattle.std.specs.Prelude.{◌≡◌, ◌<◌, map, flat_map, length, s
 ghost use Rattle.ti_lang.specs.Program.Views.{program_of, numbered_method_of};
 ghost use Rattle.ti_rules.specs.TypeRules.{method_refusals};
 ghost use Rattle.ti_rules.specs.SingleRules.{method_single_refusals};
-ghost use Rattle.ti_rules.specs.ProgramRefusals.{program_refusal};
+ghost use Rattle.ti_rules.specs.Mirrors.ProgramRefusal.{program_refusal};
 ghost use Rattle.ti_check.specs.Answer.{GivesChecked};
 ghost use Rattle.ti_check.specs.Mirrors.Found.{IsFirst};
 

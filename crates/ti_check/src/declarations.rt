@@ -2,7 +2,7 @@
 ghost use Rattle.std.specs.Prelude.{◌≡◌, map, flat_map, true, false};
 ghost use Rattle.ti_lang.specs.Program.Classes.{NumberedParam};
 ghost use Rattle.ti_lang.specs.Program.Views.{type_use_of, numbered_field_of, numbered_class_of, numbered_param_of, numbered_params_of, numbered_result_of, numbered_method_of};
-ghost use Rattle.ti_rules.specs.First.{first_of};
+ghost use Rattle.ti_rules.specs.Mirrors.First.{first_of};
 ghost use Rattle.ti_rules.specs.Broken.Words.{type_word_refusals};
 ghost use Rattle.ti_rules.specs.TypeRules.{field_refusals, class_refusals, result_refusals, params_refusals, head_refusals};
 
@@ -54,7 +54,7 @@ pub fn classes(classes: &[Class]) -> Option<Refusal>
 
 // ---- methods
 
-#[tactic(auto, unfolding(ti_rules::specs::First::first_of))]
+#[tactic(auto, unfolding(ti_rules::specs::Mirrors::First::first_of))]
 fn result_words(result_type: &ResultType) -> Option<Refusal>
     ensures { result ≡ first_of (result_refusals (numbered_result_of result_type.now)) }
 {
@@ -80,7 +80,7 @@ fn all_param_words(may_be_single: bool, params: &[Param]) -> Option<Refusal>
     found
 }
 
-#[tactic(auto, unfolding(ti_rules::specs::First::first_of))]
+#[tactic(auto, unfolding(ti_rules::specs::Mirrors::First::first_of))]
 fn params_words(may_be_single: bool, params: &Params) -> Option<Refusal>
     ensures { result ≡ first_of (params_refusals may_be_single (numbered_params_of params.now)) }
 {

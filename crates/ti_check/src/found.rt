@@ -1,6 +1,6 @@
 // What counts of the rules that are broken somewhere.
 ghost use Rattle.std.specs.Prelude.{◌≡◌, [], None};
-ghost use Rattle.ti_rules.specs.First.{sooner as sooner_of};
+ghost use Rattle.ti_rules.specs.Mirrors.First.{sooner as sooner_of};
 ghost use Rattle.ti_check.specs.Mirrors.Found.{IsFirst};
 
 use ti_rules::{Refusal, sooner};
@@ -14,7 +14,7 @@ pub struct Found {
 
 impl Found {
     /// Nothing is broken.
-    #[tactic(auto, unfolding(ti_rules::specs::First::first_of))]
+    #[tactic(auto, unfolding(ti_rules::specs::Mirrors::First::first_of))]
     pub fn nothing() -> Found
         ensures first { IsFirst [] [] result }
         ensures none { result ≡ record { types = None; single = None } }

@@ -2,7 +2,7 @@
 ghost use Rattle.std.specs.Prelude.{◌≡◌, ◌<◌, map, flat_map, length, slice_get, IfOk};
 ghost use Rattle.ti_lang.specs.Program.Views.{program_of, statement_of, numbered_result_of, numbered_method_of};
 ghost use Rattle.ti_lang.specs.Typing.Effects.{return_acts};
-ghost use Rattle.ti_rules.specs.First.{first_of};
+ghost use Rattle.ti_rules.specs.Mirrors.First.{first_of};
 ghost use Rattle.ti_rules.specs.TypeRules.{is_return, ends_with_return, end_refusals, method_refusals};
 ghost use Rattle.ti_rules.specs.SingleRules.{word_refusals, result_refusals, effect_refusals, method_single_refusals};
 ghost use Rattle.ti_check.specs.Mirrors.Found.{IsFirst};
@@ -66,7 +66,7 @@ fn single_words(words: &[Qualifier]) -> Option<Refusal>
 }
 
 // The words `single` among those of the result of a method that isn't single.
-#[tactic(auto, unfolding(ti_rules::specs::First::first_of))]
+#[tactic(auto, unfolding(ti_rules::specs::Mirrors::First::first_of))]
 fn single_result(is_single: bool, result_type: &ResultType) -> Option<Refusal>
     ensures { result ≡ first_of (result_refusals is_single (numbered_result_of result_type.now)) }
 {

@@ -1,7 +1,7 @@
 // Modifiers that can't stand where they do.
 ghost use Rattle.std.specs.Prelude.{◌≡◌, false, [], flat_map};
 ghost use Rattle.ti_lang.specs.Members.{is_single_word, is_static_word};
-ghost use Rattle.ti_rules.specs.First.{first_of};
+ghost use Rattle.ti_rules.specs.Mirrors.First.{first_of};
 ghost use Rattle.ti_rules.specs.Broken.Words.{repeated_modifiers, field_modifier_refusals, method_modifier_refusals};
 ghost use Rattle.ti_check.specs.Mirrors.Modifiers.{met_again, has_met, meeting, nothing_met};
 

@@ -6,7 +6,7 @@ ghost use Rattle.ti_lang.specs.Program.Statements as st;
 ghost use Rattle.ti_lang.specs.Program.Views.{expression_of, type_use_of, extent_of, initial_of};
 ghost use Rattle.ti_lang.specs.Typing.Expressions.{both};
 ghost use Rattle.ti_lang.specs.Typing.Seen.{seen};
-ghost use Rattle.ti_rules.specs.First.{first_of, sooner as sooner_of};
+ghost use Rattle.ti_rules.specs.Mirrors.First.{first_of, sooner as sooner_of};
 ghost use Rattle.ti_rules.specs.InitialTypes.{can_broadcast, broadcast_type, region_type, is_region, object_type, grid_over, spread, new_grid_type, initial_type};
 ghost use Rattle.ti_rules.specs.Broken.Refused.{judged, both_judged, mistaken as mistaken_at};
 ghost use Rattle.ti_rules.specs.Broken.RightSides.{region_refusals, dims_refusals, one_dim_spread, initial_refusals};
@@ -54,7 +54,7 @@ fn maybe_broadcast<'a>(t: Option<Seen<'a>>, root: Option<Seen<'a>>) -> Option<Se
     }
 }
 
-#[tactic(auto, unfolding(ti_rules::specs::First::first_of))]
+#[tactic(auto, unfolding(ti_rules::specs::Mirrors::First::first_of))]
 fn broadcast_refusal<'a>(
     place: Place,
     t: Option<Seen<'a>>,
@@ -92,7 +92,7 @@ fn object_type<'a>(class: u32, region: Option<Seen<'a>>) -> Option<Seen<'a>>
     }
 }
 
-#[tactic(auto, unfolding(ti_rules::specs::First::first_of))]
+#[tactic(auto, unfolding(ti_rules::specs::Mirrors::First::first_of))]
 fn region_mistaken(place: Place, region: Option<Seen>) -> Option<Refusal>
     ensures { result ≡ first_of (judged (option_map seen region.entry) (λ r. mistaken_at place (is_region r) false)) }
 {
@@ -166,7 +166,7 @@ fn grid_near(region: Seen, spread: Literal) -> bool
     is_region(region) && spread.near
 }
 
-#[tactic(auto, unfolding(ti_rules::specs::First::first_of))]
+#[tactic(auto, unfolding(ti_rules::specs::Mirrors::First::first_of))]
 fn grid_refusal<'a>(
     place: Place,
     element: &'a TypeUse,
@@ -188,7 +188,7 @@ fn grid_refusal<'a>(
 
 impl<'a> Site<'a> {
     /// The region of a `new`; where none is said, a region all the same.
-    #[tactic(auto, unfolding(ti_rules::specs::First::first_of))]
+    #[tactic(auto, unfolding(ti_rules::specs::Mirrors::First::first_of))]
     fn region(self, region: &'a Option<Expr>) -> Value<'a>
         ensures ty { option_map seen result.ty ≡ region_type (program_at self.entry) (scope_at self.entry) (maybe_of expression_of region.now) }
         ensures first { result.first ≡ first_of (region_refusals (program_at self.entry) (scope_at self.entry) (maybe_of expression_of region.now)) }
@@ -274,7 +274,7 @@ impl<'a> Site<'a> {
     }
 
     /// A whole right side.
-    #[tactic(auto, unfolding(ti_rules::specs::First::first_of))]
+    #[tactic(auto, unfolding(ti_rules::specs::Mirrors::First::first_of))]
     pub fn initial(self, value: &'a Init) -> Value<'a>
         ensures ty { option_map seen result.ty ≡ initial_type (program_at self.entry) (scope_at self.entry) (initial_of value.now) }
         ensures first { result.first ≡ first_of (initial_refusals (program_at self.entry) (scope_at self.entry) (initial_of value.now)) }

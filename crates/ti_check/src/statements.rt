@@ -10,7 +10,8 @@ ghost use Rattle.ti_lang.specs.Typing.Declared.{result_type};
 ghost use Rattle.ti_lang.specs.Typing.Expressions.{operand_type};
 ghost use Rattle.ti_lang.specs.Typing.Seen.{seen};
 ghost use Rattle.ti_rules.specs.declared.rule.Rule.TheVariants.{Y3, Y8};
-ghost use Rattle.ti_rules.specs.First.{first_of, refused_if as refused_at};
+ghost use Rattle.ti_rules.specs.Refusals.{refused_if as refused_at};
+ghost use Rattle.ti_rules.specs.Mirrors.First.{first_of};
 ghost use Rattle.ti_rules.specs.Broken.Refused.{judged, both_judged, mistaken as mistaken_at, misfit as misfit_at};
 ghost use Rattle.ti_rules.specs.Broken.Statements.{narrows, result_refusals, update_refusals, operator_of, is_boolean, condition_refusals, maybe_condition_refusals, is_printed, printed_refusals, print_refusals, given_back, return_refusals, statement_refusals};
 ghost use Rattle.ti_rules.specs.Broken.RightSides.{inner_refusals};
@@ -29,7 +30,7 @@ use ti_types::{binary_type, misfit, mistaken, result_type, type_words};
 // ---- values and what is to hold them
 
 // A value that doesn't fit its variable.
-#[tactic(auto, unfolding(ti_rules::specs::First::first_of))]
+#[tactic(auto, unfolding(ti_rules::specs::Mirrors::First::first_of))]
 fn value_misfit<'a>(place: Place, t: Option<Seen<'a>>, wanted: &'a Ty) -> Option<Refusal>
     ensures { result ≡ first_of (judged (option_map seen t.entry) (λ t. misfit_at place t (value_type_of wanted.now))) }
 {
@@ -47,7 +48,7 @@ fn narrows(t: Seen, u: Seen) -> bool
 }
 
 // What the operator gives, if anything, goes into the target.
-#[tactic(auto, unfolding(ti_rules::specs::First::first_of))]
+#[tactic(auto, unfolding(ti_rules::specs::Mirrors::First::first_of))]
 fn result_refusal<'a>(place: Place, given: Option<Seen<'a>>, t: Seen<'a>) -> Option<Refusal>
     ensures { result ≡ first_of (judged (option_map seen given.entry) (λ r. result_refusals place r (seen t.entry))) }
 {
@@ -88,7 +89,7 @@ fn operator_of(op: StepOperator) -> BinaryOperator
 
 // ---- conditions, prints and results
 
-#[tactic(auto, unfolding(ti_rules::specs::First::first_of))]
+#[tactic(auto, unfolding(ti_rules::specs::Mirrors::First::first_of))]
 fn condition_mistaken(place: Place, t: Option<Seen>) -> Option<Refusal>
     ensures { result ≡ first_of (judged (option_map seen t.entry) (λ t. refused_at (not (is_boolean t)) Y3 place)) }
 {
@@ -107,7 +108,7 @@ fn is_printed(t: Seen) -> bool
     }
 }
 
-#[tactic(auto, unfolding(ti_rules::specs::First::first_of))]
+#[tactic(auto, unfolding(ti_rules::specs::Mirrors::First::first_of))]
 fn print_mistaken(place: Place, t: Option<Seen>) -> Option<Refusal>
     ensures { result ≡ first_of (judged (option_map seen t.entry) (λ t. mistaken_at place (is_printed t) false)) }
 {
@@ -127,7 +128,7 @@ fn given_back<'a>(place: Place, wanted: Seen<'a>, t: Seen<'a>) -> Option<Refusal
     }
 }
 
-#[tactic(auto, unfolding(ti_rules::specs::First::first_of))]
+#[tactic(auto, unfolding(ti_rules::specs::Mirrors::First::first_of))]
 fn maybe_given_back<'a>(place: Place, wanted: Seen<'a>, t: Option<Seen<'a>>) -> Option<Refusal>
     ensures { result ≡ first_of (judged (option_map seen t.entry) (λ t. given_back place (seen wanted.entry) t)) }
 {
@@ -137,7 +138,7 @@ fn maybe_given_back<'a>(place: Place, wanted: Seen<'a>, t: Option<Seen<'a>>) -> 
     }
 }
 
-#[tactic(auto, unfolding(ti_rules::specs::First::first_of))]
+#[tactic(auto, unfolding(ti_rules::specs::Mirrors::First::first_of))]
 fn domain_mistaken(place: Place, t: Option<Seen>) -> Option<Refusal>
     ensures { result ≡ first_of (judged (option_map seen t.entry) (λ t. mistaken_at place (is_some (domain_dim t)) false)) }
 {
@@ -167,7 +168,7 @@ impl<'a> Site<'a> {
     }
 
     // What counts of what is wrong with writing a value of this type, where target and value have types.
-    #[tactic(auto, unfolding(ti_rules::specs::First::first_of), using(crate::proofs::Written::written_laws))]
+    #[tactic(auto, unfolding(ti_rules::specs::Mirrors::First::first_of), using(crate::proofs::Written::written_laws))]
     fn write_value(
         self,
         place: Place,
@@ -194,7 +195,7 @@ impl<'a> Site<'a> {
     }
 
     // The same with an operator.
-    #[tactic(auto, unfolding(ti_rules::specs::First::first_of), using(crate::proofs::Written::written_laws))]
+    #[tactic(auto, unfolding(ti_rules::specs::Mirrors::First::first_of), using(crate::proofs::Written::written_laws))]
     fn write_updated(
         self,
         place: Place,
@@ -228,7 +229,7 @@ impl<'a> Site<'a> {
     }
 
     // The same with 1.
-    #[tactic(auto, unfolding(ti_rules::specs::First::first_of), using(crate::proofs::Written::written_laws))]
+    #[tactic(auto, unfolding(ti_rules::specs::Mirrors::First::first_of), using(crate::proofs::Written::written_laws))]
     fn write_stepped(
         self,
         place: Place,
@@ -263,7 +264,7 @@ impl<'a> Site<'a> {
         sooner(condition.first, condition_mistaken(e.place(), condition.ty))
     }
 
-    #[tactic(auto, unfolding(ti_rules::specs::First::first_of))]
+    #[tactic(auto, unfolding(ti_rules::specs::Mirrors::First::first_of))]
     fn maybe_condition(self, e: &'a Option<Expr>) -> Option<Refusal>
         ensures { result ≡ first_of (maybe_condition_refusals (program_at self.entry) (scope_at self.entry) (maybe_of expression_of e.now)) }
     {
@@ -281,7 +282,7 @@ impl<'a> Site<'a> {
         sooner(value.first, print_mistaken(place, value.ty))
     }
 
-    #[tactic(auto, unfolding(ti_rules::specs::First::first_of))]
+    #[tactic(auto, unfolding(ti_rules::specs::Mirrors::First::first_of))]
     fn print(self, place: Place, what: &'a Printed) -> Option<Refusal>
         ensures { result ≡ first_of (print_refusals (program_at self.entry) (scope_at self.entry) place (printed_of what.now)) }
     {
@@ -322,7 +323,7 @@ impl<'a> Site<'a> {
     }
 
     /// What counts of the rules of types that a statement breaks, apart from those that the statements in it break.
-    #[tactic(auto, unfolding(ti_rules::specs::First::first_of), using(ti_lang::proofs::ProgramBridges::program_bridges))]
+    #[tactic(auto, unfolding(ti_rules::specs::Mirrors::First::first_of), using(ti_lang::proofs::ProgramBridges::program_bridges))]
     pub fn types(self, x: &'a Stmt) -> Option<Refusal>
         ensures { result ≡ first_of (statement_refusals (program_at self.entry) (around_of self.entry) (statement_of x.now)) }
     {

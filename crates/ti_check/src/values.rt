@@ -10,7 +10,7 @@ ghost use Rattle.ti_lang.specs.Typing.Expressions.{bounds, range_count, operand_
 ghost use Rattle.ti_lang.specs.Typing.Kinds.{is_void};
 ghost use Rattle.ti_lang.specs.Typing.Seen.{seen};
 ghost use Rattle.ti_lang.specs.Typing.Singleness.{is_single_part};
-ghost use Rattle.ti_rules.specs.First.{first_of};
+ghost use Rattle.ti_rules.specs.Mirrors.First.{first_of};
 ghost use Rattle.ti_rules.specs.InitialTypes.{value_type};
 ghost use Rattle.ti_rules.specs.Standing.{singles_in};
 ghost use Rattle.ti_rules.specs.Parts.{parts_of_ranges};

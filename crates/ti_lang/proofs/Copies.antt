@@ -9,7 +9,7 @@ use Rattle.ti_lang.specs.declared.program.classes.Param.{Param}
 use Rattle.ti_lang.specs.declared.program.classes.Method.{Method}
 use Rattle.ti_lang.specs.declared.program.classes.Parts.{Parts}
 use Rattle.ti_lang.specs.Program.Views as view
-use Rattle.ti_lang.specs.Copies.{AreSame}
+use Rattle.ti_lang.specs.Mirrors.Copies.{AreSame}
 
 -- one more element, and the same one
 same_more : {A : Type 0} (same : A → A → Type 0) (xs ys : List A) (x y : A) → AreSame same xs ys → same x y → AreSame same (xs ++ x ∷ []) (ys ++ y ∷ [])

@@ -1,7 +1,7 @@
-pub mod Copies
 pub mod MainForm
 pub mod Meaning
 pub mod Members
+pub mod Mirrors
 pub mod Nodes
 pub mod Numbering
 pub mod Program

@@ -8,7 +8,6 @@ pub mod BuiltIn
 pub mod Declared
 pub mod Expressions
 pub mod TextTypes
-pub mod ListedDims
 pub mod Called
 pub mod Singleness
 pub mod Effects

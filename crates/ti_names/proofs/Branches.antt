@@ -21,7 +21,7 @@ use Rattle.ti_lang.specs.Nodes.{Node, node, VariableName, exp_nodes, maybe_nodes
 use Rattle.ti_names.specs.Branched.{numbered_branches}
 use Rattle.ti_names.specs.Mirrors.Numbered.{number_exp, number_stm, number_maybe_stm}
 use Rattle.ti_names.specs.Seen.{tree_maybe, seen_maybe}
-use Rattle.ti_rules.specs.First.{sooner}
+use Rattle.ti_rules.specs.Mirrors.First.{sooner}
 use Rattle.ti_rules.proofs.First.{sooner_none}
 use Rattle.ti_names.specs.Found.{first_in}
 use Rattle.ti_names.proofs.Firsts.{in_none, in_append}

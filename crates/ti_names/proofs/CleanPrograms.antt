@@ -17,7 +17,7 @@ use Rattle.ti_lang.specs.Scopes.{Site, class_site, most_variables, IsFresh, HasR
 use Rattle.ti_lang.specs.Nodes.{base_nodes, type_nodes, exp_nodes, exps_nodes, range_nodes, ranges_nodes, maybe_nodes, dims_nodes, init_nodes, print_nodes, stm_nodes, maybe_stm_nodes, stms_nodes, fields_nodes, classes_nodes, result_nodes, param_list_nodes, params_nodes, method_nodes, methods_nodes, nodes_of, node, ClassName, FieldName, MethodName, VariableName, ClassUse}
 use Rattle.ti_lang.specs.Numbering.{IsKnownBase, NumbersType, NumbersExp, NumbersExps, NumbersRange, NumbersRanges, NumbersMaybe, NumbersDims, NumbersInit, NumbersPrint, NumbersStm, NumbersMaybeStm, NumbersStms, NumbersFields, NumbersClasses, NumbersResult, NumbersParamList, NumbersParams, NumbersMethod, NumbersMethods, Numbers}
 use Rattle.ti_rules.specs.declared.rule.Rule.TheVariants.{N2}
-use Rattle.ti_rules.specs.First.{refused_if}
+use Rattle.ti_rules.specs.Refusals.{refused_if}
 use Rattle.ti_rules.specs.MainForm.{is_another}
 use Rattle.ti_names.proofs.CleanNodes.{Clean, first_clean, clean_append}
 

@@ -10,7 +10,7 @@ use Rattle.ti_lang.specs.Program.Statements as m
 use Rattle.ti_lang.specs.Scopes.{Site, past_maybe, behind_maybe}
 use Rattle.ti_lang.specs.Nodes.{maybe_nodes, stm_nodes, maybe_stm_nodes}
 use Rattle.ti_rules.specs.declared.refusal.Refusal.{Refusal}
-use Rattle.ti_rules.specs.First.{sooner}
+use Rattle.ti_rules.specs.Mirrors.First.{sooner}
 use Rattle.ti_names.specs.Found.{first_in}
 use Rattle.ti_names.specs.Mirrors.Numbered.{number_maybe, number_stm, number_maybe_stm}
 use Rattle.ti_names.proofs.Branches.{in_for}

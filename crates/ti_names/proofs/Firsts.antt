@@ -16,7 +16,8 @@ use Rattle.ti_lang.specs.Scopes.{Site, own_method_named, class_before_dot}
 use Rattle.ti_lang.specs.Nodes.{Node, node, Expression, exp_nodes, exps_nodes, ranges_nodes, classes_nodes, methods_nodes, nodes_of}
 use Rattle.ti_rules.specs.declared.rule.Rule.TheVariants.{N1}
 use Rattle.ti_rules.specs.declared.refusal.Refusal.{Refusal}
-use Rattle.ti_rules.specs.First.{sooner, first_of, refused_if}
+use Rattle.ti_rules.specs.Refusals.{refused_if}
+use Rattle.ti_rules.specs.Mirrors.First.{sooner, first_of}
 use Rattle.ti_rules.specs.BrokenNames.{lacks_method, node_refusals, name_refusals}
 use Rattle.ti_rules.specs.MainForm.{main_refusals}
 use Rattle.ti_rules.proofs.First.{sooner_none, sooner_assoc, first_append, first_append_each, first_alone, first_nil}

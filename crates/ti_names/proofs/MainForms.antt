@@ -10,7 +10,7 @@ use Rattle.ti_lang.specs.Members.{OwnMethod, methods_of, method_named}
 use Rattle.ti_lang.specs.Numbering.{HasMain}
 use Rattle.ti_rules.specs.declared.rule.Rule.{Rule}
 use Rattle.ti_rules.specs.declared.rule.Rule.TheVariants.{N2, N3}
-use Rattle.ti_rules.specs.First.{refused_if}
+use Rattle.ti_rules.specs.Refusals.{refused_if}
 use Rattle.ti_lang.specs.MainForm.{is_words, has_main_form}
 use Rattle.ti_rules.specs.MainForm.{main_class, main_method, is_another, form_refusals, words_refusals, main_refusals}
 use Rattle.ti_names.proofs.CleanNodes.{empty_left, empty_right}

@@ -7,7 +7,7 @@ use Rattle.ti_syntax.specs.Trees.Views.{class_of}
 use Rattle.ti_lang.specs.Members.{OwnMethod, methods_of}
 use Rattle.ti_rules.specs.declared.rule.Rule.TheVariants.{N3}
 use Rattle.ti_rules.specs.declared.refusal.Refusal.{Refusal}
-use Rattle.ti_rules.specs.First.{refused_if}
+use Rattle.ti_rules.specs.Refusals.{refused_if}
 use Rattle.ti_lang.specs.MainForm.{has_main_form}
 use Rattle.ti_rules.specs.MainForm.{form_refusals}
 use Rattle.ti_names.specs.declared.own.Own.{Own}

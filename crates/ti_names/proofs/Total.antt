@@ -14,7 +14,7 @@ use Rattle.ti_lang.specs.Scopes.{numbered_type, Site, variable_named, own_field_
 use Rattle.ti_lang.specs.Nodes.{base_nodes, type_nodes, exp_nodes, exps_nodes, range_nodes, ranges_nodes, maybe_nodes}
 use Rattle.ti_lang.specs.Numbering.{IsKnownBase, NumbersType, known, NumbersExp, int, long, truth, null, this, variable, own_field, call, own_call, this_proc, num_procs, point, rect, unary, binary, cast, select, member, class_call, index, NumbersExps, no_exps, more_exps, NumbersRange, plain, stepped, NumbersRanges, no_ranges, more_ranges, NumbersMaybe}
 use Rattle.ti_rules.specs.declared.rule.Rule.TheVariants.{N1}
-use Rattle.ti_rules.specs.First.{refused_if}
+use Rattle.ti_rules.specs.Refusals.{refused_if}
 use Rattle.ti_rules.specs.BrokenNames.{lacks_method}
 use Rattle.ti_names.specs.Mirrors.Numbered.{named, called, class_called, selected, member_called, number_exp, number_exps, number_range, number_ranges, number_maybe}
 use Rattle.ti_names.proofs.CleanNodes.{Clean, first_clean, rest_clean, clean_left, clean_right}

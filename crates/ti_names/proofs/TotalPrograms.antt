@@ -11,7 +11,7 @@ use Rattle.ti_lang.specs.Scopes.{Site, class_site, declares, typed_as, literals_
 use Rattle.ti_lang.specs.Nodes.{type_nodes, result_nodes, param_list_nodes, params_nodes, fields_nodes, classes_nodes, method_nodes, methods_nodes, nodes_of, node, VariableName, ClassName, FieldName, MethodName}
 use Rattle.ti_lang.specs.Numbering.{NumbersFields, NumbersClasses, NumbersResult, NumbersParamList, NumbersParams, NumbersMethod, NumbersMethods, HasMain, Numbers}
 use Rattle.ti_rules.specs.declared.rule.Rule.TheVariants.{N2}
-use Rattle.ti_rules.specs.First.{refused_if}
+use Rattle.ti_rules.specs.Refusals.{refused_if}
 use Rattle.ti_rules.specs.MainForm.{is_another, main_method}
 use Rattle.ti_names.specs.Mirrors.Numbered.{number_fields, number_classes, number_result, number_param_list, number_params, number_method, number_methods, number_program}
 use Rattle.ti_names.proofs.CleanNodes.{Clean, first_clean, rest_clean, clean_left, clean_right}

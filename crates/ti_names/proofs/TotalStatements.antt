@@ -13,7 +13,7 @@ use Rattle.ti_lang.specs.Nodes.{type_nodes, exp_nodes, maybe_nodes, dims_nodes, 
 use Rattle.ti_lang.specs.Numbering.{NumbersDims, NumbersInit, NumbersPrint, NumbersStm, NumbersMaybeStm, NumbersStms}
 use Rattle.ti_rules.specs.declared.rule.Rule.TheVariants.{N2, N4}
 use Rattle.ti_rules.specs.declared.refusal.Refusal.{Refusal}
-use Rattle.ti_rules.specs.First.{refused_if}
+use Rattle.ti_rules.specs.Refusals.{refused_if}
 use Rattle.ti_names.specs.Mirrors.Numbered.{number_dims, number_init, number_print, number_stm, number_maybe_stm, number_stms}
 use Rattle.ti_names.proofs.CleanNodes.{Clean, first_clean, rest_clean, clean_left, clean_right}
 use Rattle.ti_names.proofs.Lists.{number_ranges_list}

@@ -2,7 +2,7 @@
 use Rattle.std.specs.Prelude.{List, flat_map, Option}
 use Rattle.ti_lang.specs.Nodes.{Node}
 use Rattle.ti_rules.specs.declared.refusal.Refusal.{Refusal}
-use Rattle.ti_rules.specs.First.{first_of}
+use Rattle.ti_rules.specs.Mirrors.First.{first_of}
 use Rattle.ti_rules.specs.BrokenNames.{node_refusals}
 
 unfoldable pub first_in : List Node → Option Refusal

@@ -4,7 +4,7 @@ ghost use Rattle.std.specs.Prelude.{◌≡◌, ◌&&◌, map, IfOk};
 ghost use Rattle.ti_syntax.specs.Trees.Text.{tree_of};
 ghost use Rattle.ti_syntax.specs.Trees.Views.{method_of, params_of, result_of};
 ghost use Rattle.ti_lang.specs.Members.{methods_of};
-ghost use Rattle.ti_rules.specs.First.{first_of};
+ghost use Rattle.ti_rules.specs.Mirrors.First.{first_of};
 ghost use Rattle.ti_lang.specs.MainForm.{is_public_word, is_public, is_void, is_words, has_main_form};
 ghost use Rattle.ti_rules.specs.MainForm.{is_another, main_class, main_method, form_refusals, words_refusals, main_refusals};
 ghost use Rattle.ti_names.specs.Own.{own_of};

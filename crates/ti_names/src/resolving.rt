@@ -8,7 +8,7 @@ ghost use Rattle.ti_lang.specs.Program.Views.{program_of};
 ghost use Rattle.ti_lang.specs.Members.{methods_of, names_of};
 ghost use Rattle.ti_lang.specs.Numbering.{Numbers};
 ghost use Rattle.ti_rules.specs.declared.refusal.Refusal.{Refusal as RefusalSeen};
-ghost use Rattle.ti_rules.specs.First.{first_of};
+ghost use Rattle.ti_rules.specs.Mirrors.First.{first_of};
 ghost use Rattle.ti_rules.specs.Refusals.{IsFirstRefusal};
 ghost use Rattle.ti_rules.specs.MainForm.{main_method as main_of};
 ghost use Rattle.ti_rules.specs.BrokenNames.{name_refusals, BreaksNames};

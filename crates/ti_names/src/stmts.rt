@@ -9,7 +9,7 @@ ghost use Rattle.ti_lang.specs.Scopes.{printed_text, past, past_maybe, behind, b
 ghost use Rattle.ti_lang.specs.Nodes.{exp_nodes, print_nodes, stm_nodes, maybe_stm_nodes, stms_nodes};
 ghost use Rattle.ti_names.specs.Mirrors.Numbered.{number_exp, number_print, number_stm, number_maybe_stm, number_list};
 ghost use Rattle.ti_names.specs.Found.{first_in};
-ghost use Rattle.ti_rules.specs.First.{sooner};
+ghost use Rattle.ti_rules.specs.Mirrors.First.{sooner};
 ghost use Rattle.ti_names.specs.Branched.{numbered_branches};
 ghost use Rattle.ti_names.specs.Seen.{site_of, tree_maybe, seen_maybe};
 

@@ -5,7 +5,7 @@ use Rattle.ti_base.specs.declared.place.Place.{Place}
 use Rattle.ti_lang.specs.Program.Classes.{NumberedProgram}
 use Rattle.ti_lang.specs.Meaning.Processes.{Setting}
 use Rattle.ti_rules.specs.declared.rule.Rule.{Rule}
-use Rattle.ti_rules.specs.ProgramRefusals.{program_refusal}
+use Rattle.ti_rules.specs.Mirrors.ProgramRefusal.{program_refusal}
 
 -- the first refusal of the program is by this rule at this place
 abbrev pub Refuses : NumberedProgram → Rule → Place → Type 0

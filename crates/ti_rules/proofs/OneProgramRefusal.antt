@@ -3,10 +3,11 @@ use Rattle.std.proofs.Common.{◌≡◌, List, [], length, Contains, Option, Som
 use Rattle.std.specs.Option.{option_or}
 use Rattle.ti_lang.specs.Program.Classes.{NumberedProgram}
 use Rattle.ti_rules.specs.declared.refusal.Refusal.{Refusal}
-use Rattle.ti_rules.specs.First.{first_of}
+use Rattle.ti_rules.specs.Mirrors.First.{first_of}
 use Rattle.ti_rules.specs.TypeRules.{type_refusals}
 use Rattle.ti_rules.specs.SingleRules.{single_refusals}
-use Rattle.ti_rules.specs.ProgramRefusals.{IsProgramRefusal, of_types, of_single, BreaksNothing, program_refusal}
+use Rattle.ti_rules.specs.ProgramRefusals.{IsProgramRefusal, of_types, of_single, BreaksNothing}
+use Rattle.ti_rules.specs.Mirrors.ProgramRefusal.{program_refusal}
 use Rattle.ti_rules.proofs.First.{first_is, first_none}
 use Rattle.ti_rules.proofs.FirstRefusal.{first_only}
 

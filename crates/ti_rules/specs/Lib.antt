@@ -1,10 +1,10 @@
 pub mod Broken
 pub mod BrokenNames
-pub mod First
 pub mod InitialTypes
 pub mod Known
 pub mod LexicalRefusals
 pub mod MainForm
+pub mod Mirrors
 pub mod Parts
 pub mod ProgramRefusals
 pub mod RefusalOf

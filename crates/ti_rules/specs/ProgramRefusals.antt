@@ -1,11 +1,9 @@
 -- What a numbered program is refused for, and which programs break no rule.
-use Rattle.std.specs.Prelude.{◌≡◌, [], Option, Contains}
-use Rattle.std.specs.Option.{option_or}
+use Rattle.std.specs.Prelude.{◌≡◌, [], Contains}
 use Rattle.ti_lang.specs.Program.Classes.{NumberedProgram}
 use Rattle.ti_lang.specs.Numbering.{IsNumbered}
 use Rattle.ti_rules.specs.declared.refusal.Refusal.{Refusal}
 use Rattle.ti_rules.specs.Refusals.{IsFirstRefusal}
-use Rattle.ti_rules.specs.First.{first_of}
 use Rattle.ti_rules.specs.TypeRules.{type_refusals}
 use Rattle.ti_rules.specs.SingleRules.{single_refusals}
 
@@ -23,7 +21,3 @@ pub record BreaksNothing (p : NumberedProgram) : Type 0 where
 pub record IsChecked (p : NumberedProgram) : Type 0 where
   pub numbered : ∥ IsNumbered p ∥₁
   pub unbroken : BreaksNothing p
-
--- the same refusal as it is found
-abbrev pub program_refusal : NumberedProgram → Option Refusal
-program_refusal p = option_or (first_of (type_refusals p)) (first_of (single_refusals p))

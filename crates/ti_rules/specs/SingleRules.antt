@@ -17,7 +17,7 @@ use Rattle.ti_lang.specs.Typing.Singleness.{has_single_result, is_single_part, i
 use Rattle.ti_lang.specs.Typing.Effects.{is_single_target, doings, doings_of_maybe, doings_of_method, return_acts, has_global_effects}
 use Rattle.ti_rules.specs.declared.rule.Rule.TheVariants.{S1, S2, S3, S4, S5, S6, S7, S8, S9}
 use Rattle.ti_rules.specs.declared.refusal.Refusal.{Refusal}
-use Rattle.ti_rules.specs.First.{refused_if}
+use Rattle.ti_rules.specs.Refusals.{refused_if}
 use Rattle.ti_rules.specs.Standing.{Around, scope_of, singles_in, Standing, loop_acts, standing_in_method}
 
 -- ---- what is single and what has effects, where it stands

@@ -8,7 +8,7 @@ use Rattle.ti_lang.specs.Typing.Kinds.{is_void}
 use Rattle.ti_lang.specs.Typing.Declared.{is_static_method, result_type}
 use Rattle.ti_rules.specs.declared.rule.Rule.TheVariants.{Y6}
 use Rattle.ti_rules.specs.declared.refusal.Refusal.{Refusal}
-use Rattle.ti_rules.specs.First.{refused_if}
+use Rattle.ti_rules.specs.Refusals.{refused_if}
 use Rattle.ti_rules.specs.Standing.{standing_in_method}
 use Rattle.ti_rules.specs.Broken.Words.{repeated_modifiers, type_word_refusals, field_modifier_refusals, method_modifier_refusals}
 use Rattle.ti_rules.specs.Broken.Statements.{standing_refusals}

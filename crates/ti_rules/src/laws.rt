@@ -10,7 +10,8 @@ ghost use Rattle.ti_rules.specs.Broken.Expressions.{exp_refusals};
 ghost use Rattle.ti_rules.specs.Broken.Statements.{standing_refusals};
 ghost use Rattle.ti_rules.specs.SingleRules.{standing_single_refusals};
 ghost use Rattle.ti_rules.specs.declared.refusal.Refusal.{Refusal};
-ghost use Rattle.ti_rules.specs.ProgramRefusals.{IsProgramRefusal, BreaksNothing, program_refusal};
+ghost use Rattle.ti_rules.specs.ProgramRefusals.{IsProgramRefusal, BreaksNothing};
+ghost use Rattle.ti_rules.specs.Mirrors.ProgramRefusal.{program_refusal};
 
 /// An expression whose names mean something, and in which no rule of types is broken, has a type.
 pub fn typed_where_unbroken()

@@ -2,14 +2,14 @@
 
 ghost use Rattle.std.specs.Prelude.{◌≡◌, List, ◌++◌, [], Contains, Some, None};
 ghost use Rattle.ti_rules.specs.declared.refusal.Refusal.{Refusal as RefusalSeen};
-ghost use Rattle.ti_rules.specs.Refusals.{IsFirstRefusal};
-ghost use Rattle.ti_rules.specs.First.{sooner, first_of, refused_if};
+ghost use Rattle.ti_rules.specs.Refusals.{refused_if, IsFirstRefusal};
+ghost use Rattle.ti_rules.specs.Mirrors.First.{sooner, first_of};
 
 use crate::{Refusal, Rule};
 use ti_base::Place;
 
 /// The one of two that counts; of two that count the same, the first.
-#[tactic(auto, unfolding(crate::specs::First::sooner))]
+#[tactic(auto, unfolding(crate::specs::Mirrors::First::sooner))]
 pub fn sooner(first: Option<Refusal>, second: Option<Refusal>) -> Option<Refusal>
     ensures { result ≡ sooner first second }
 {
@@ -27,7 +27,7 @@ pub fn sooner(first: Option<Refusal>, second: Option<Refusal>) -> Option<Refusal
 }
 
 /// A rule at a place, where it is broken.
-#[tactic(auto, unfolding(crate::specs::First::first_of, crate::specs::First::sooner))]
+#[tactic(auto, unfolding(crate::specs::Mirrors::First::first_of, crate::specs::Mirrors::First::sooner))]
 pub fn refused_if(broken: bool, rule: Rule, place: Place) -> Option<Refusal>
     ensures { result ≡ first_of (refused_if broken rule place) }
 {

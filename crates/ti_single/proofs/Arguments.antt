@@ -8,7 +8,8 @@ use Rattle.ti_lang.specs.Program.Classes.{NumberedParam, NumberedProgram}
 use Rattle.ti_lang.specs.Program.Views.{expression_of, numbered_param_of}
 use Rattle.ti_rules.specs.declared.rule.Rule.TheVariants.{S5}
 use Rattle.ti_rules.specs.declared.refusal.Refusal.{Refusal}
-use Rattle.ti_rules.specs.First.{sooner, first_of, refused_if}
+use Rattle.ti_rules.specs.Refusals.{refused_if}
+use Rattle.ti_rules.specs.Mirrors.First.{sooner, first_of}
 use Rattle.ti_rules.specs.Standing.{Around}
 use Rattle.ti_rules.specs.SingleRules.{is_plain_part, argument_refusals}
 use Rattle.ti_rules.proofs.First.{first_append, sooner_assoc, sooner_none}

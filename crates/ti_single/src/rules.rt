@@ -11,7 +11,8 @@ ghost use Rattle.ti_lang.specs.Typing.Seen.{built_in_of};
 ghost use Rattle.ti_lang.specs.Typing.Singleness.{is_single_part};
 ghost use Rattle.ti_rules.specs.Standing.{singles_in};
 ghost use Rattle.ti_rules.specs.declared.rule.Rule.TheVariants.{S1, S2, S4, S5};
-ghost use Rattle.ti_rules.specs.First.{first_of, refused_if as refused_at};
+ghost use Rattle.ti_rules.specs.Refusals.{refused_if as refused_at};
+ghost use Rattle.ti_rules.specs.Mirrors.First.{first_of};
 ghost use Rattle.ti_rules.specs.SingleRules.{is_plain_part, is_plain, is_plain_initial, is_plain_condition, has_effects, argument_refusals, call_refusals, is_delete, delete_refusals, whole_refusals, initial_refusals, return_refusals, single_refusals_at};
 ghost use Rattle.ti_single.specs.EffectsAt.{doings_in_loop};
 ghost use Rattle.ti_single.specs.Sites.{program_at, around_of, scope_at};
@@ -127,7 +128,7 @@ impl<'a> SingleSite<'a> {
     }
 
     // A call of the method, if there is one.
-    #[tactic(auto, unfolding(ti_rules::specs::First::first_of))]
+    #[tactic(auto, unfolding(ti_rules::specs::Mirrors::First::first_of))]
     fn call(self, m: Option<&Method>, args: &[Expr]) -> Option<Refusal>
         ensures { result ≡ first_of (call_refusals (program_at self.entry) (around_of self.entry) (option_map (λ m. numbered_method_of m.now) m.entry) (numbered_exps (map expression_of args.now))) }
     {
@@ -157,7 +158,7 @@ impl<'a> SingleSite<'a> {
     }
 
     // An expression that stands whole: a right side, or a statement.
-    #[tactic(auto, unfolding(ti_rules::specs::First::first_of), using(ti_lang::proofs::ProgramBridges::program_bridges))]
+    #[tactic(auto, unfolding(ti_rules::specs::Mirrors::First::first_of), using(ti_lang::proofs::ProgramBridges::program_bridges))]
     fn whole(self, e: &Expr) -> Option<Refusal>
         ensures { result ≡ first_of (whole_refusals (program_at self.entry) (around_of self.entry) (expression_of e.now)) }
     {
@@ -185,7 +186,7 @@ impl<'a> SingleSite<'a> {
     }
 
     // A right side: the root of a broadcast is single.
-    #[tactic(auto, unfolding(ti_rules::specs::First::first_of))]
+    #[tactic(auto, unfolding(ti_rules::specs::Mirrors::First::first_of))]
     fn whole_initial(self, value: &Init) -> Option<Refusal>
         ensures { result ≡ first_of (initial_refusals (program_at self.entry) (around_of self.entry) (initial_of value.now)) }
     {
@@ -286,7 +287,7 @@ impl<'a> SingleSite<'a> {
         )
     }
 
-    #[tactic(auto, unfolding(ti_rules::specs::First::first_of))]
+    #[tactic(auto, unfolding(ti_rules::specs::Mirrors::First::first_of))]
     fn return_single(self, place: Place, value: &Option<Expr>) -> Option<Refusal>
         ensures { result ≡ first_of (return_refusals (program_at self.entry) (around_of self.entry) place (maybe_of expression_of value.now)) }
     {
@@ -301,7 +302,7 @@ impl<'a> SingleSite<'a> {
     }
 
     /// What counts of the rules of single values that a statement breaks, apart from those that the statements in it break.
-    #[tactic(auto, unfolding(ti_rules::specs::First::first_of), using(ti_lang::proofs::ProgramBridges::program_bridges))]
+    #[tactic(auto, unfolding(ti_rules::specs::Mirrors::First::first_of), using(ti_lang::proofs::ProgramBridges::program_bridges))]
     pub fn refusal(self, x: &Stmt) -> Option<Refusal>
         ensures { result ≡ first_of (single_refusals_at (program_at self.entry) (around_of self.entry) (statement_of x.now)) }
     {

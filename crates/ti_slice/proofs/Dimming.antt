@@ -10,7 +10,7 @@ use Rattle.ti_lang.specs.Program.Statements as s
 use Rattle.ti_lang.specs.Program.Classes.{NumberedProgram}
 use Rattle.ti_lang.specs.Typing.Kinds.{dim_of_type}
 use Rattle.ti_lang.specs.Typing.TextTypes.{type_at}
-use Rattle.ti_lang.specs.Typing.ListedDims.{dims_in}
+use Rattle.ti_lang.specs.Mirrors.ListedDims.{dims_in}
 use Rattle.ti_lang.specs.Meaning.Held.{Held}
 use Rattle.ti_lang.specs.Meaning.Processes.{Work, Do, End}
 use Rattle.ti_lang.specs.Meaning.Turns.{dims_at}

@@ -5,7 +5,7 @@ ghost use Rattle.ti_lang.specs.Program.Scope.{this_of};
 ghost use Rattle.ti_lang.specs.Program.Views.{program_of, expression_of};
 ghost use Rattle.ti_lang.specs.Typing.Kinds.{dim_of_type};
 ghost use Rattle.ti_lang.specs.Typing.Seen.{seen};
-ghost use Rattle.ti_lang.specs.Typing.ListedDims.{dims_in};
+ghost use Rattle.ti_lang.specs.Mirrors.ListedDims.{dims_in};
 ghost use Rattle.ti_lang.specs.Typing.TextTypes.{type_at};
 ghost use Rattle.ti_lang.specs.Meaning.Scoping as scoping;
 ghost use Rattle.ti_eval.specs.Envs.{env_of};

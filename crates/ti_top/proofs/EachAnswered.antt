@@ -12,7 +12,8 @@ use Rattle.ti_lang.specs.Numbering.{Numbers}
 use Rattle.ti_rules.specs.declared.refusal.Refusal.{Refusal}
 use Rattle.ti_rules.specs.Refusals.{IsFirstRefusal}
 use Rattle.ti_rules.specs.LexicalRefusals.{most_bytes, IsLexicalRefusal}
-use Rattle.ti_rules.specs.ProgramRefusals.{IsProgramRefusal, BreaksNothing, program_refusal}
+use Rattle.ti_rules.specs.ProgramRefusals.{IsProgramRefusal, BreaksNothing}
+use Rattle.ti_rules.specs.Mirrors.ProgramRefusal.{program_refusal}
 use Rattle.ti_rules.specs.BrokenNames.{BreaksNames}
 use Rattle.ti_rules.specs.RefusalOf.{HasNone, of_names, of_program, HasTokens, HasTree, IsRefusal, of_bytes, of_tokens, of_tree, HasProgram}
 use Rattle.ti_parse_expr.specs.Answers.{EndsAtEnd}

@@ -11,7 +11,7 @@ use Rattle.ti_lang.specs.Typing.Kinds.{where_true}
 use Rattle.ti_lang.specs.Typing.Operators.{binary_type}
 use Rattle.ti_lang.specs.Typing.Expressions.{Typed, plain, operand, both, all_ints, point_literal, rect_literal, range_count, index_type, select_type, called, member, known, operands, bounds}
 use Rattle.ti_rules.specs.declared.refusal.Refusal.{Refusal}
-use Rattle.ti_rules.specs.First.{sooner, first_of}
+use Rattle.ti_rules.specs.Mirrors.First.{sooner, first_of}
 use Rattle.ti_lang.specs.Typing.Alike.{one_dim}
 use Rattle.ti_rules.specs.Parts.{parts, parts_of_all, parts_of_ranges}
 use Rattle.ti_rules.specs.Broken.Refused.{judged, both_judged, mistaken}

@@ -7,7 +7,8 @@ use Rattle.ti_syntax.specs.declared.tree.types.Qualifier.{Qualifier}
 use Rattle.ti_lang.specs.Scopes.{is_single_word}
 use Rattle.ti_rules.specs.declared.rule.Rule.TheVariants.{Y7}
 use Rattle.ti_types.specs.Mirrors.Words.{qualifiers_again}
-use Rattle.ti_rules.specs.First.{sooner, first_of, refused_if}
+use Rattle.ti_rules.specs.Refusals.{refused_if}
+use Rattle.ti_rules.specs.Mirrors.First.{sooner, first_of}
 use Rattle.ti_rules.proofs.First.{sooner_none, sooner_assoc, first_append}
 
 pub none_sooner : (a : Option Refusal) → a ≡ sooner None a

@@ -4,7 +4,8 @@ use Rattle.std.specs.List.{list_any}
 use Rattle.ti_syntax.specs.declared.tree.types.Qualifier.{Qualifier}
 use Rattle.ti_lang.specs.Scopes.{is_single_word}
 use Rattle.ti_rules.specs.declared.rule.Rule.TheVariants.{Y7}
-use Rattle.ti_rules.specs.First.{refused_if, first_of}
+use Rattle.ti_rules.specs.Refusals.{refused_if}
+use Rattle.ti_rules.specs.Mirrors.First.{first_of}
 use Rattle.ti_rules.specs.Broken.Words.{same_qualifier, repeated_qualifiers}
 use Rattle.ti_lang.specs.Typing.Kinds.{same_truth}
 use Rattle.ti_types.specs.Mirrors.Words.{qualifiers_again}

@@ -11,7 +11,7 @@ use Rattle.ti_lang.specs.Program.Scope.{ScopeContents}
 use Rattle.ti_lang.specs.Program.Views.{expression_of, bound_of}
 use Rattle.ti_lang.specs.Typing.Kinds.{where_true}
 use Rattle.ti_lang.specs.Typing.Expressions.{plain, operand, both}
-use Rattle.ti_rules.specs.First.{sooner, first_of}
+use Rattle.ti_rules.specs.Mirrors.First.{sooner, first_of}
 use Rattle.ti_rules.specs.Broken.Refused.{judged, both_judged, mistaken}
 use Rattle.ti_rules.specs.Broken.Misplaced.{misplaced_at}
 use Rattle.ti_rules.specs.Broken.Expressions.{places_of}

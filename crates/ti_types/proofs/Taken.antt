@@ -13,7 +13,7 @@ use Rattle.ti_lang.specs.Typing.Declared.{instance_method, result_type, types_of
 use Rattle.ti_lang.specs.Typing.Expressions.{Typed, operand, both, joined, one, all_fit, takes, call_type, called, member_given, member}
 use Rattle.ti_rules.specs.declared.rule.Rule.TheVariants.{Y4, Y5, Y6, Q2, Q3}
 use Rattle.ti_rules.specs.declared.refusal.Refusal.{Refusal}
-use Rattle.ti_rules.specs.First.{refused_if}
+use Rattle.ti_rules.specs.Refusals.{refused_if}
 use Rattle.ti_rules.specs.Known.{IsThere}
 use Rattle.ti_rules.specs.Broken.Refused.{refused, judged, both_judged, mistaken, misfit}
 use Rattle.ti_rules.specs.Broken.Misplaced.{misplaced_at}

@@ -12,7 +12,7 @@ use Rattle.ti_lang.specs.Typing.BuiltIn.{BuiltIn, built_in, member_type}
 use Rattle.ti_lang.specs.Typing.Expressions.{Typed, plain, both, joined, is_int, all_ints, range_of_points, rect_literal, range_count, index_type, bound, bounds, member}
 use Rattle.ti_rules.specs.declared.rule.Rule.TheVariants.{Y1, Y4}
 use Rattle.ti_rules.specs.declared.refusal.Refusal.{Refusal}
-use Rattle.ti_rules.specs.First.{first_of}
+use Rattle.ti_rules.specs.Mirrors.First.{first_of}
 use Rattle.ti_lang.specs.Typing.Alike.{one_dim}
 use Rattle.ti_rules.specs.Broken.Refused.{refused, judged, both_judged, mistaken}
 use Rattle.ti_rules.specs.Broken.Calls.{has_member, arity, argument_refusals, built_in_refusals, member_refusals}

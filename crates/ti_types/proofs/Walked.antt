@@ -11,7 +11,7 @@ use Rattle.ti_lang.specs.Program.Scope.{ScopeContents}
 use Rattle.ti_lang.specs.Program.Views.{expression_of, bound_of}
 use Rattle.ti_lang.specs.Typing.Expressions.{operand, both, joined, one, known, operands, bound}
 use Rattle.ti_rules.specs.declared.refusal.Refusal.{Refusal}
-use Rattle.ti_rules.specs.First.{sooner, first_of}
+use Rattle.ti_rules.specs.Mirrors.First.{sooner, first_of}
 use Rattle.ti_rules.specs.Parts.{parts, parts_of_all, parts_of_range, parts_of_ranges}
 use Rattle.ti_rules.specs.Broken.Misplaced.{misplaced_at, misplaced, all_misplaced, bound_misplaced, bounds_misplaced}
 use Rattle.ti_rules.specs.Broken.Expressions.{places_of, refusals_at, exp_refusals}

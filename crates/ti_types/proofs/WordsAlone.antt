@@ -17,7 +17,7 @@ use Rattle.ti_lang.specs.Typing.Operators.{unary_type, binary_type}
 use Rattle.ti_lang.specs.Typing.Expressions.{one, all_ints, point_literal, rect_literal, index_type, select_type, known, operands, bound, bounds, range_count, typed, operand_type}
 use Rattle.ti_rules.specs.declared.rule.Rule.TheVariants.{Y7}
 use Rattle.ti_rules.specs.declared.refusal.Refusal.{Refusal}
-use Rattle.ti_rules.specs.First.{refused_if}
+use Rattle.ti_rules.specs.Refusals.{refused_if}
 use Rattle.ti_rules.specs.Known.{IsThere}
 use Rattle.ti_rules.specs.Parts.{parts, parts_of_all, parts_of_range, parts_of_ranges}
 use Rattle.ti_rules.specs.Broken.Refused.{judged, both_judged, mistaken}

@@ -8,7 +8,7 @@ use Rattle.ti_lang.specs.Program.Scope.{ScopeContents}
 use Rattle.ti_lang.specs.Typing.Alike.{one_dim}
 use Rattle.ti_lang.specs.Typing.Expressions.{Typed, known, rect_literal}
 use Rattle.ti_lang.specs.Typing.Seen.{seen}
-use Rattle.ti_rules.specs.First.{first_of}
+use Rattle.ti_rules.specs.Mirrors.First.{first_of}
 use Rattle.ti_rules.specs.Broken.Expressions.{exp_refusals}
 use Rattle.ti_types.specs.declared.judged.Judged.{Judged}
 use Rattle.ti_types.specs.declared.rects.Literal.{Literal}

@@ -5,7 +5,7 @@ ghost use Rattle.ti_lang.specs.Program.Expressions.{numbered_exps};
 ghost use Rattle.ti_lang.specs.Program.Views.{expression_of, numbered_method_of, numbered_params_of, numbered_param_of, value_type_of};
 ghost use Rattle.ti_lang.specs.Typing.Declared.{result_type, types_of};
 ghost use Rattle.ti_lang.specs.Typing.Expressions.{operand, both, is_int};
-ghost use Rattle.ti_rules.specs.First.{sooner as sooner_of, first_of};
+ghost use Rattle.ti_rules.specs.Mirrors.First.{sooner as sooner_of, first_of};
 ghost use Rattle.ti_rules.specs.Broken.Misplaced.{misplaced_at};
 ghost use Rattle.ti_rules.specs.Broken.Expressions.{places_of};
 ghost use Rattle.ti_rules.specs.Broken.Calls.{first_misfit};
@@ -44,7 +44,7 @@ pub struct Arguments<'a> {
     pub types: Option<Told<'a>>,
 }
 
-#[tactic(auto, unfolding(ti_rules::specs::First::first_of))]
+#[tactic(auto, unfolding(ti_rules::specs::Mirrors::First::first_of))]
 fn wanted_misfit<'a>(place: Place, t: Seen<'a>, wanted: Option<Seen<'a>>) -> Option<Refusal>
     ensures { result ≡ wanted_misfit place (seen t.entry) (option_map seen wanted.entry) }
 {
@@ -91,7 +91,7 @@ fn told_more<'a>(
 
 impl<'a> Arguments<'a> {
     /// Of no arguments.
-    #[tactic(auto, unfolding(ti_rules::specs::First::first_of))]
+    #[tactic(auto, unfolding(ti_rules::specs::Mirrors::First::first_of))]
     pub fn none() -> Arguments<'a>
         ensures inner { result.inner ≡ first_of [] }
         ensures misplaced { result.misplaced ≡ first_of [] }
@@ -216,7 +216,7 @@ fn call_type<'a>(m: Option<&'a Method>, count: usize, told: Told<'a>) -> Option<
     }
 }
 
-#[tactic(auto, unfolding(ti_rules::specs::First::first_of, ti_rules::specs::First::sooner))]
+#[tactic(auto, unfolding(ti_rules::specs::Mirrors::First::first_of, ti_rules::specs::Mirrors::First::sooner))]
 fn first_refused(args: &[Expr]) -> Option<Refusal>
     ensures { result ≡ first_of (first_misfit (places_of (numbered_exps (map expression_of args.now)))) }
 {

@@ -3,7 +3,7 @@ ghost use Rattle.std.specs.Prelude.{◌≡◌, [], ◌∷◌, None};
 ghost use Rattle.std.specs.Option.{option_map, option_and_then};
 ghost use Rattle.ti_lang.specs.Program.Views.{program_of};
 ghost use Rattle.ti_lang.specs.Typing.BuiltIn.{same_grids, has_local_elements, can_copy, can_exchange, member_type, Contains, Restrict, Translate};
-ghost use Rattle.ti_rules.specs.First.{first_of};
+ghost use Rattle.ti_rules.specs.Mirrors.First.{first_of};
 ghost use Rattle.ti_rules.specs.Broken.Calls.{has_member, arity, copy_refusals, exchange_refusals, slice_refusals, takes_local};
 ghost use Rattle.ti_lang.specs.Typing.Seen.{seen, built_in_of};
 ghost use Rattle.ti_types.specs.Mirrors.Arguments.{told_of};
@@ -212,7 +212,7 @@ pub fn given<'a>(b: BuiltIn, t: Seen<'a>, count: usize, told: Told<'a>) -> Optio
     }
 }
 
-#[tactic(auto, unfolding(ti_rules::specs::First::first_of))]
+#[tactic(auto, unfolding(ti_rules::specs::Mirrors::First::first_of))]
 fn copy_refusal<'a>(place: Place, t: Seen<'a>, u: Seen<'a>) -> Option<Refusal>
     ensures { result ≡ first_of (copy_refusals place (seen t.entry) (seen u.entry ∷ [])) }
 {
@@ -248,7 +248,7 @@ fn exchange_refusal<'a>(place: Place, t: Seen<'a>, u: Seen<'a>) -> Option<Refusa
     )
 }
 
-#[tactic(auto, unfolding(ti_rules::specs::First::first_of))]
+#[tactic(auto, unfolding(ti_rules::specs::Mirrors::First::first_of))]
 fn slice_refusal<'a>(place: Place, t: Seen<'a>, u: Seen<'a>, v: Seen<'a>) -> Option<Refusal>
     ensures { result ≡ first_of (slice_refusals place (seen t.entry) (seen u.entry ∷ seen v.entry ∷ [])) }
 {
@@ -264,7 +264,7 @@ fn slice_refusal<'a>(place: Place, t: Seen<'a>, u: Seen<'a>, v: Seen<'a>) -> Opt
     }
 }
 
-#[tactic(auto, unfolding(ti_rules::specs::First::first_of))]
+#[tactic(auto, unfolding(ti_rules::specs::Mirrors::First::first_of))]
 fn refusal_of_none<'a>(
     place: Place,
     b: BuiltIn,
@@ -313,7 +313,7 @@ fn refusal_of_one<'a>(place: Place, b: BuiltIn, t: Seen<'a>, u: Seen<'a>) -> Opt
 }
 
 /// What counts of what is wrong with the arguments of a member, of which there are as many as it takes.
-#[tactic(auto, unfolding(ti_rules::specs::First::first_of))]
+#[tactic(auto, unfolding(ti_rules::specs::Mirrors::First::first_of))]
 fn argument_refusal<'a>(place: Place, b: BuiltIn, t: Seen<'a>, told: Told<'a>) -> Option<Refusal>
     ensures { result ≡ first_of (told_arguments place (built_in_of b) (seen t.entry) (told_of told.entry)) }
 {
@@ -331,7 +331,7 @@ fn argument_refusal<'a>(place: Place, b: BuiltIn, t: Seen<'a>, told: Told<'a>) -
 }
 
 /// What counts of what is wrong with a member behind what is no object.
-#[tactic(auto, unfolding(ti_rules::specs::First::first_of))]
+#[tactic(auto, unfolding(ti_rules::specs::Mirrors::First::first_of))]
 fn built_in_refusal<'a>(
     place: Place,
     b: Option<BuiltIn>,

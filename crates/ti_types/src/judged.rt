@@ -6,7 +6,7 @@ ghost use Rattle.ti_lang.specs.Typing.Kinds.{where_true};
 ghost use Rattle.ti_lang.specs.Typing.Fits.{casts as casts_to};
 ghost use Rattle.ti_lang.specs.Typing.Operators.{unary_type, binary_type};
 ghost use Rattle.ti_lang.specs.Typing.Expressions.{plain, operand, both};
-ghost use Rattle.ti_rules.specs.First.{sooner as sooner_of, first_of};
+ghost use Rattle.ti_rules.specs.Mirrors.First.{sooner as sooner_of, first_of};
 ghost use Rattle.ti_lang.specs.Typing.Alike.{one_dim};
 ghost use Rattle.ti_rules.specs.Broken.Refused.{judged, both_judged, mistaken as mistaken_at};
 ghost use Rattle.ti_rules.specs.Broken.Misplaced.{misplaced_at};
@@ -49,7 +49,7 @@ impl<'a> Judged<'a> {
     }
 
     /// One that is no call and breaks no rule.
-    #[tactic(auto, unfolding(ti_rules::specs::First::first_of))]
+    #[tactic(auto, unfolding(ti_rules::specs::Mirrors::First::first_of))]
     pub(crate) fn sound(ty: Option<Seen<'a>>) -> Judged<'a>
         ensures known { typed_of result ≡ plain (option_map seen ty.entry) }
         ensures first { result.first ≡ first_of [] }
@@ -143,7 +143,7 @@ impl<'a> Judged<'a> {
 }
 
 /// An operand that the operator doesn't take.
-#[tactic(auto, unfolding(ti_rules::specs::First::first_of))]
+#[tactic(auto, unfolding(ti_rules::specs::Mirrors::First::first_of))]
 fn unary_mistaken(place: Place, op: UnaryOperator, t: Option<Seen>) -> Option<Refusal>
     ensures { result ≡ first_of (judged (option_map seen t.entry) (λ t. mistaken_at place (is_some (unary_type op t)) false)) }
 {
@@ -154,7 +154,7 @@ fn unary_mistaken(place: Place, op: UnaryOperator, t: Option<Seen>) -> Option<Re
 }
 
 /// Two operands that the operator doesn't take.
-#[tactic(auto, unfolding(ti_rules::specs::First::first_of))]
+#[tactic(auto, unfolding(ti_rules::specs::Mirrors::First::first_of))]
 fn binary_mistaken<'a>(
     place: Place,
     op: BinaryOperator,
@@ -196,7 +196,7 @@ fn cast_type<'a>(to: &'a Ty, t: Option<Seen<'a>>) -> Option<Seen<'a>>
 }
 
 /// An operand that can't be cast.
-#[tactic(auto, unfolding(ti_rules::specs::First::first_of))]
+#[tactic(auto, unfolding(ti_rules::specs::Mirrors::First::first_of))]
 fn cast_mistaken<'a>(place: Place, to: &'a Ty, t: Option<Seen<'a>>) -> Option<Refusal>
     ensures { result ≡ first_of (judged (option_map seen t.entry) (λ t. mistaken_at place (casts_to (value_type_of to.now) t) (casts_to (one_dim (value_type_of to.now)) (one_dim t)))) }
 {

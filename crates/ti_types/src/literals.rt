@@ -5,7 +5,7 @@ ghost use Rattle.ti_lang.specs.Program.Expressions.{numbered_ranges};
 ghost use Rattle.ti_lang.specs.Program.Scope.{contents_of};
 ghost use Rattle.ti_lang.specs.Program.Views.{program_of, bound_of};
 ghost use Rattle.ti_lang.specs.Typing.Expressions.{bounds, range_count};
-ghost use Rattle.ti_rules.specs.First.{first_of};
+ghost use Rattle.ti_rules.specs.Mirrors.First.{first_of};
 ghost use Rattle.ti_rules.specs.Parts.{parts_of_ranges};
 ghost use Rattle.ti_rules.specs.Broken.Expressions.{refusals_at};
 ghost use Rattle.ti_rules.specs.Broken.Misplaced.{bounds_misplaced};

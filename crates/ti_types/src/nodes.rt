@@ -6,7 +6,7 @@ ghost use Rattle.ti_lang.specs.Program.Expressions.{numbered_exps};
 ghost use Rattle.ti_lang.specs.Program.Views.{program_of, expression_of, numbered_method_of};
 ghost use Rattle.ti_lang.specs.Typing.Kinds.{where_true};
 ghost use Rattle.ti_lang.specs.Typing.Expressions.{plain, both, select_type};
-ghost use Rattle.ti_rules.specs.First.{first_of};
+ghost use Rattle.ti_rules.specs.Mirrors.First.{first_of};
 ghost use Rattle.ti_rules.specs.Broken.Refused.{judged, both_judged, mistaken as mistaken_at};
 ghost use Rattle.ti_rules.specs.Broken.Expressions.{places_of};
 ghost use Rattle.ti_types.specs.Judging.{typed_of};
@@ -36,7 +36,7 @@ fn point_type<'a>(count: usize, types: Option<Told<'a>>) -> Option<Seen<'a>>
     }
 }
 
-#[tactic(auto, unfolding(ti_rules::specs::First::first_of))]
+#[tactic(auto, unfolding(ti_rules::specs::Mirrors::First::first_of))]
 fn point_refusal(place: Place, types: Option<Told>) -> Option<Refusal>
     ensures { result ≡ first_of (judged (option_map told_of types.entry) (λ (t : ToldTypes). mistaken_at place t.ints false)) }
 {
@@ -119,7 +119,7 @@ fn maybe_index<'a>(count: usize, t: Option<Seen<'a>>, types: Option<Told<'a>>) -
     }
 }
 
-#[tactic(auto, unfolding(ti_rules::specs::First::first_of))]
+#[tactic(auto, unfolding(ti_rules::specs::Mirrors::First::first_of))]
 fn index_refusal<'a>(
     place: Place,
     count: usize,
@@ -154,7 +154,7 @@ pub fn index<'a>(
 }
 
 /// A member of a name at a place, behind something; behind an object a call of this method.
-#[tactic(auto, unfolding(ti_rules::specs::First::first_of))]
+#[tactic(auto, unfolding(ti_rules::specs::Mirrors::First::first_of))]
 pub fn member<'a>(
     program: &'a Parts,
     place: Place,
@@ -188,7 +188,7 @@ fn field_of<'a>(program: &'a Parts, t: Option<Seen<'a>>, name: u32) -> Option<Se
     }
 }
 
-#[tactic(auto, unfolding(ti_rules::specs::First::first_of))]
+#[tactic(auto, unfolding(ti_rules::specs::Mirrors::First::first_of))]
 fn field_refusal<'a>(
     program: &'a Parts,
     place: Place,

@@ -4,7 +4,7 @@ ghost use Rattle.std.specs.Option.{option_map, option_and_then};
 ghost use Rattle.ti_lang.specs.Typing.Expressions.{plain, operand, both, range_of_points};
 ghost use Rattle.ti_lang.specs.Typing.Kinds.{same_type};
 ghost use Rattle.ti_lang.specs.Program.Types.{Pt};
-ghost use Rattle.ti_rules.specs.First.{sooner as sooner_of, first_of};
+ghost use Rattle.ti_rules.specs.Mirrors.First.{sooner as sooner_of, first_of};
 ghost use Rattle.ti_rules.specs.Broken.Refused.{judged, mistaken as mistaken_at};
 ghost use Rattle.ti_rules.specs.Broken.Misplaced.{misplaced_at};
 ghost use Rattle.ti_types.specs.Judging.{typed_of, literal_of};
@@ -140,7 +140,7 @@ fn maybe_three<'a>(
 
 impl<'a> Bounds<'a> {
     /// Of no ranges.
-    #[tactic(auto, unfolding(ti_rules::specs::First::first_of))]
+    #[tactic(auto, unfolding(ti_rules::specs::Mirrors::First::first_of))]
     pub fn none() -> Bounds<'a>
         ensures inner { result.inner ≡ first_of [] }
         ensures misplaced { result.misplaced ≡ first_of [] }
@@ -274,7 +274,7 @@ fn maybe_rect<'a>(count: usize, types: Option<Ends<'a>>) -> Option<Seen<'a>>
     }
 }
 
-#[tactic(auto, unfolding(ti_rules::specs::First::first_of))]
+#[tactic(auto, unfolding(ti_rules::specs::Mirrors::First::first_of))]
 fn rect_refusal(place: Place, count: usize, types: Option<Ends>) -> Option<Refusal>
     ensures { result ≡ first_of (judged (option_map ends_of types.entry) (λ (e : EndTypes). mistaken_at place (is_some (told_rect count e)) (told_near count e))) }
 {

@@ -1,6 +1,6 @@
 // What is wrong with operands and values.
 ghost use Rattle.std.specs.Prelude.{◌≡◌};
-ghost use Rattle.ti_rules.specs.First.{first_of};
+ghost use Rattle.ti_rules.specs.Mirrors.First.{first_of};
 ghost use Rattle.ti_rules.specs.Broken.Refused.{mistaken, misfit};
 ghost use Rattle.ti_lang.specs.Typing.Seen.{seen};
 
@@ -10,7 +10,7 @@ use ti_lang::typing::Seen;
 use ti_rules::{Refusal, Rule};
 
 /// Operands that aren't taken, though perhaps with other numbers of dimensions.
-#[tactic(auto, unfolding(ti_rules::specs::First::first_of, ti_rules::specs::First::sooner))]
+#[tactic(auto, unfolding(ti_rules::specs::Mirrors::First::first_of, ti_rules::specs::Mirrors::First::sooner))]
 pub fn mistaken(place: Place, taken: bool, otherwise: bool) -> Option<Refusal>
     ensures { result ≡ first_of (mistaken place taken otherwise) }
 {
@@ -30,7 +30,7 @@ pub fn mistaken(place: Place, taken: bool, otherwise: bool) -> Option<Refusal>
 }
 
 /// A value of the first type where the second is wanted.
-#[tactic(auto, unfolding(ti_rules::specs::First::first_of, ti_rules::specs::First::sooner))]
+#[tactic(auto, unfolding(ti_rules::specs::Mirrors::First::first_of, ti_rules::specs::Mirrors::First::sooner))]
 pub fn misfit<'p>(place: Place, t: Seen<'p>, u: Seen<'p>) -> Option<Refusal>
     ensures { result ≡ first_of (misfit place (seen t.entry) (seen u.entry)) }
 {

@@ -3,7 +3,8 @@ ghost use Rattle.std.specs.Prelude.{◌≡◌, ◌||◌, [], map, false, if◌th
 ghost use Rattle.ti_syntax.specs.Trees.Views.{grid_of};
 ghost use Rattle.ti_lang.specs.Scopes.{is_single_word};
 ghost use Rattle.ti_lang.specs.Program.Views.{value_type_of, type_use_of};
-ghost use Rattle.ti_rules.specs.First.{first_of, refused_if};
+ghost use Rattle.ti_rules.specs.Refusals.{refused_if};
+ghost use Rattle.ti_rules.specs.Mirrors.First.{first_of};
 ghost use Rattle.ti_rules.specs.declared.rule.Rule.TheVariants.{Y7};
 ghost use Rattle.ti_rules.specs.Broken.Words.{repeated_qualifiers, base_of, is_grid, base_word_refusals, grid_word_refusals, grid_refusals, type_word_refusals};
 ghost use Rattle.ti_lang.specs.Typing.Kinds.{is_object};

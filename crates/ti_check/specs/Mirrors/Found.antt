@@ -5,7 +5,7 @@ use Rattle.ti_lang.specs.Program.Statements.{NumberedStm}
 use Rattle.ti_lang.specs.Program.Statements as st
 use Rattle.ti_lang.specs.Program.Classes.{NumberedProgram}
 use Rattle.ti_rules.specs.declared.refusal.Refusal.{Refusal}
-use Rattle.ti_rules.specs.First.{first_of}
+use Rattle.ti_rules.specs.Mirrors.First.{first_of}
 use Rattle.ti_rules.specs.Standing.{Around, Standing, in_loop, in_foreach, inside, inside_maybe, inside_all}
 use Rattle.ti_rules.specs.Broken.Statements.{standing_refusals}
 use Rattle.ti_rules.specs.SingleRules.{standing_single_refusals}

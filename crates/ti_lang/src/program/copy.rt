@@ -2,7 +2,7 @@
 
 ghost use Rattle.std.specs.Prelude.{◌≡◌, map, IfOk};
 ghost use Rattle.ti_syntax.specs.Trees.Views.{grid_of, maybe_of};
-ghost use Rattle.ti_lang.specs.Copies.{AreSame};
+ghost use Rattle.ti_lang.specs.Mirrors.Copies.{AreSame};
 ghost use Rattle.ti_lang.specs.Program.Views as view;
 
 use super::classes::{Class, Field, Method, Param, Params, Parts, ResultType};

@@ -7,7 +7,7 @@ ghost use Rattle.ti_lang.specs.Program.Views.{program_of, expression_of, bound_o
 ghost use Rattle.ti_lang.specs.Typing.Kinds.{dim_of_type};
 ghost use Rattle.ti_lang.specs.Typing.Declared.{result_type};
 ghost use Rattle.ti_lang.specs.Typing.Seen.{seen, built_in_of};
-ghost use Rattle.ti_lang.specs.Typing.ListedDims.{dims_in};
+ghost use Rattle.ti_lang.specs.Mirrors.ListedDims.{dims_in};
 ghost use Rattle.ti_lang.specs.Typing.TextTypes.{used_type, joined_type, product_type, operator_type, field_seen, element_seen, sliced, how_many, built_in_type, member_seen, dims_of_range, dims_of_ranges, type_at, type_in_text};
 ghost use Rattle.ti_lang.specs.Typing.Called.{called_method, member_called};
 

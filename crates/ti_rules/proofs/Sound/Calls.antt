@@ -12,7 +12,7 @@ use Rattle.ti_lang.specs.Typing.Expressions.{all_fit, is_int, takes, call_type, 
 use Rattle.ti_rules.specs.declared.rule.Rule.{Rule}
 use Rattle.ti_rules.specs.declared.rule.Rule.TheVariants.{Y1, Y4, Y5, Q2, Q3}
 use Rattle.ti_rules.specs.declared.refusal.Refusal.{Refusal}
-use Rattle.ti_rules.specs.First.{refused_if}
+use Rattle.ti_rules.specs.Refusals.{refused_if}
 use Rattle.ti_lang.specs.Typing.Alike.{one_dim, as_local}
 use Rattle.ti_rules.specs.Broken.Refused.{refused, mistaken, misfit}
 use Rattle.ti_rules.specs.Broken.Calls.{has_member, arity, misfits, first_misfit, params_refusals, call_refusals, instance_refusals, copy_refusals, exchange_refusals, slice_refusals, argument_refusals, built_in_refusals, member_refusals}

@@ -8,7 +8,7 @@ use Rattle.ti_lang.specs.Typing.Expressions.{Typed, operand, both, joined, one}
 use Rattle.ti_rules.specs.declared.rule.Rule.{Rule}
 use Rattle.ti_rules.specs.declared.rule.Rule.TheVariants.{Y2, Y5, Y6, Q1}
 use Rattle.ti_rules.specs.declared.refusal.Refusal.{Refusal}
-use Rattle.ti_rules.specs.First.{refused_if}
+use Rattle.ti_rules.specs.Refusals.{refused_if}
 use Rattle.ti_lang.specs.Typing.Alike.{one_dim, as_local}
 use Rattle.ti_rules.specs.Broken.Refused.{refused, judged, both_judged, mistaken, misfit}
 use Rattle.ti_rules.specs.Broken.Misplaced.{misplaced_at}

@@ -10,7 +10,7 @@ use Rattle.ti_lang.specs.Typing.Declared.{instance_method, types_of}
 use Rattle.ti_lang.specs.Typing.Expressions.{all_ints}
 use Rattle.ti_rules.specs.declared.rule.Rule.TheVariants.{Y1, Y2, Y4, Y5, Q2, Q3}
 use Rattle.ti_rules.specs.declared.refusal.Refusal.{Refusal}
-use Rattle.ti_rules.specs.First.{refused_if}
+use Rattle.ti_rules.specs.Refusals.{refused_if}
 use Rattle.ti_lang.specs.Typing.Alike.{one_dim, as_local}
 use Rattle.ti_rules.specs.Broken.Refused.{refused, mistaken, misfit}
 

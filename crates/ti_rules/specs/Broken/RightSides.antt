@@ -9,7 +9,7 @@ use Rattle.ti_lang.specs.Program.Scope.{ScopeContents}
 use Rattle.ti_lang.specs.Typing.Expressions.{typed, operand_type}
 use Rattle.ti_rules.specs.declared.rule.Rule.TheVariants.{Y6}
 use Rattle.ti_rules.specs.declared.refusal.Refusal.{Refusal}
-use Rattle.ti_rules.specs.First.{refused_if}
+use Rattle.ti_rules.specs.Refusals.{refused_if}
 use Rattle.ti_lang.specs.Typing.Alike.{one_dim}
 use Rattle.ti_rules.specs.InitialTypes.{is_region, region_type, Spread, Over, Ranged, spread, new_grid_type, broadcast_type}
 use Rattle.ti_rules.specs.Parts.{parts_of_ranges}

@@ -18,7 +18,7 @@ use Rattle.ti_lang.specs.Typing.Declared.{result_type}
 use Rattle.ti_lang.specs.Typing.Expressions.{operand_type}
 use Rattle.ti_rules.specs.declared.rule.Rule.TheVariants.{Y3, Y6, Y8}
 use Rattle.ti_rules.specs.declared.refusal.Refusal.{Refusal}
-use Rattle.ti_rules.specs.First.{refused_if}
+use Rattle.ti_rules.specs.Refusals.{refused_if}
 use Rattle.ti_lang.specs.Typing.Alike.{one_dim}
 use Rattle.ti_rules.specs.InitialTypes.{value_type, initial_type}
 use Rattle.ti_rules.specs.Standing.{Around, scope_of, Standing}

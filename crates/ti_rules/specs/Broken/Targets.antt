@@ -12,7 +12,7 @@ use Rattle.ti_lang.specs.Typing.Declared.{field_type, named_field_type}
 use Rattle.ti_lang.specs.Typing.Expressions.{operand_type}
 use Rattle.ti_rules.specs.declared.rule.Rule.TheVariants.{Y1, Y2, Q2}
 use Rattle.ti_rules.specs.declared.refusal.Refusal.{Refusal}
-use Rattle.ti_rules.specs.First.{refused_if}
+use Rattle.ti_rules.specs.Refusals.{refused_if}
 use Rattle.ti_rules.specs.Broken.Refused.{refused}
 
 -- a variable that a foreach declares

@@ -12,7 +12,7 @@ use Rattle.ti_lang.specs.Program.Types.{ValueType, Grid, NumberedType}
 use Rattle.ti_lang.specs.Typing.Kinds.{same_truth, is_object}
 use Rattle.ti_rules.specs.declared.rule.Rule.TheVariants.{Y7}
 use Rattle.ti_rules.specs.declared.refusal.Refusal.{Refusal}
-use Rattle.ti_rules.specs.First.{refused_if}
+use Rattle.ti_rules.specs.Refusals.{refused_if}
 
 -- ---- words that stand twice
 

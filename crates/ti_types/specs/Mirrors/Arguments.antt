@@ -9,7 +9,7 @@ use Rattle.ti_lang.specs.Typing.Declared.{types_of, result_type}
 use Rattle.ti_lang.specs.Typing.Expressions.{Typed, is_int, all_ints}
 use Rattle.ti_rules.specs.declared.rule.Rule.TheVariants.{Y4}
 use Rattle.ti_rules.specs.declared.refusal.Refusal.{Refusal}
-use Rattle.ti_rules.specs.First.{sooner, first_of}
+use Rattle.ti_rules.specs.Mirrors.First.{sooner, first_of}
 use Rattle.ti_rules.specs.Broken.Refused.{refused, misfit}
 use Rattle.ti_rules.specs.Broken.Calls.{misfits, first_misfit}
 use Rattle.ti_types.specs.declared.arguments.Told.{Told}

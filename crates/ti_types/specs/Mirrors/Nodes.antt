@@ -13,7 +13,7 @@ use Rattle.ti_lang.specs.Typing.Expressions.{Typed, plain, both, all_ints, range
 use Rattle.ti_lang.specs.Typing.Called.{method_behind}
 use Rattle.ti_rules.specs.declared.rule.Rule.TheVariants.{Y1}
 use Rattle.ti_rules.specs.declared.refusal.Refusal.{Refusal}
-use Rattle.ti_rules.specs.First.{first_of}
+use Rattle.ti_rules.specs.Mirrors.First.{first_of}
 use Rattle.ti_lang.specs.Typing.Alike.{one_dim}
 use Rattle.ti_rules.specs.Broken.Refused.{refused}
 use Rattle.ti_types.specs.declared.rects.Ends.{Ends}

@@ -7,7 +7,7 @@ use Rattle.ti_lang.specs.Program.Classes.{NumberedProgram}
 use Rattle.ti_lang.specs.Program.Scope.{ScopeContents}
 use Rattle.ti_lang.specs.Typing.Expressions.{operands, bound}
 use Rattle.ti_rules.specs.declared.refusal.Refusal.{Refusal}
-use Rattle.ti_rules.specs.First.{first_of}
+use Rattle.ti_rules.specs.Mirrors.First.{first_of}
 use Rattle.ti_rules.specs.Parts.{parts_of_all, parts_of_range, parts_of_ranges}
 use Rattle.ti_rules.specs.Broken.Misplaced.{all_misplaced, bound_misplaced, bounds_misplaced}
 use Rattle.ti_rules.specs.Broken.Expressions.{places_of, refusals_at}

@@ -1,6 +1,6 @@
 use Rattle.std.proofs.Common.{map, flat_map, ap, ◌∙◌}
 use Rattle.ti_lang.specs.Program.Views.{program_of, numbered_class_of}
-use Rattle.ti_rules.specs.First.{first_of}
+use Rattle.ti_rules.specs.Mirrors.First.{first_of}
 use Rattle.ti_rules.specs.TypeRules.{class_refusals}
 use Rattle.ti_check.proofs.Heads.{broken_types, unbroken_types}
 use Rattle.ti_check.proofs.checking.refusal.Goals as goal

@@ -1,5 +1,5 @@
 use Rattle.std.proofs.Common.{◌≡◌, drop, flat_map, map}
-use Rattle.ti_rules.specs.First.{sooner, first_of}
+use Rattle.ti_rules.specs.Mirrors.First.{sooner, first_of}
 use Rattle.ti_lang.specs.Program.Classes.{NumberedParam}
 use Rattle.ti_rules.specs.Broken.Words.{type_word_refusals}
 use Rattle.ti_lang.specs.Program.Views.{numbered_param_of}

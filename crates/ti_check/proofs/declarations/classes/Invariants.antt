@@ -1,5 +1,5 @@
 use Rattle.std.proofs.Common.{◌≡◌, drop, flat_map, map}
-use Rattle.ti_rules.specs.First.{sooner, first_of}
+use Rattle.ti_rules.specs.Mirrors.First.{sooner, first_of}
 use Rattle.ti_rules.specs.TypeRules.{class_refusals}
 use Rattle.ti_lang.specs.Program.Views.{numbered_class_of}
 use Rattle.ti_check.proofs.declarations.classes.Given as goal

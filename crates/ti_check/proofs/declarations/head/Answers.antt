@@ -4,7 +4,7 @@ use Rattle.ti_syntax.specs.declared.tree.classes.Modifier.{Modifier}
 use Rattle.ti_lang.specs.Members.{is_static_word}
 use Rattle.ti_lang.specs.Program.Views.{numbered_params_of, numbered_result_of, numbered_method_of}
 use Rattle.ti_lang.specs.Typing.Declared.{is_static_method}
-use Rattle.ti_rules.specs.First.{sooner, first_of}
+use Rattle.ti_rules.specs.Mirrors.First.{sooner, first_of}
 use Rattle.ti_rules.specs.Broken.Words.{repeated_modifiers, method_modifier_refusals}
 use Rattle.ti_rules.specs.TypeRules.{result_refusals, params_refusals}
 use Rattle.ti_rules.proofs.First.{first_append}

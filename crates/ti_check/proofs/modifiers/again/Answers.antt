@@ -1,5 +1,5 @@
 use Rattle.std.proofs.Common.{sym, ap, ◌∙◌, arith}
-use Rattle.ti_rules.specs.First.{sooner}
+use Rattle.ti_rules.specs.Mirrors.First.{sooner}
 use Rattle.ti_check.proofs.Again.{met_init, met_step, met_end}
 use Rattle.ti_check.proofs.modifiers.again.Goals as goal
 

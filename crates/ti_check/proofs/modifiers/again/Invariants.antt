@@ -1,5 +1,5 @@
 use Rattle.std.proofs.Common.{◌≡◌, drop}
-use Rattle.ti_rules.specs.First.{sooner, first_of}
+use Rattle.ti_rules.specs.Mirrors.First.{sooner, first_of}
 use Rattle.ti_check.specs.Mirrors.Modifiers.{met_again, has_met, nothing_met}
 use Rattle.ti_check.proofs.modifiers.again.Given as goal
 

@@ -1,5 +1,5 @@
 use Rattle.std.proofs.Common.{sym, ap, ◌∙◌, arith}
-use Rattle.ti_rules.specs.First.{sooner}
+use Rattle.ti_rules.specs.Mirrors.First.{sooner}
 use Rattle.ti_rules.specs.Broken.Words.{field_modifier_refusals}
 use Rattle.ti_types.proofs.Loops.{none_sooner, each_step, each_end}
 use Rattle.ti_check.proofs.modifiers.field_modifiers.Goals as goal

@@ -1,5 +1,5 @@
 use Rattle.std.proofs.Common.{sym, ap, ◌∙◌}
-use Rattle.ti_rules.specs.First.{first_of}
+use Rattle.ti_rules.specs.Mirrors.First.{first_of}
 use Rattle.ti_check.proofs.Again.{again_is}
 use Rattle.ti_check.proofs.modifiers.repeated_modifiers.Goals as goal
 

@@ -4,7 +4,7 @@ use Rattle.ti_syntax.specs.Trees.Views.{class_of}
 use Rattle.ti_lang.specs.Members.{fields_in}
 use Rattle.ti_lang.specs.Scopes.{class_site}
 use Rattle.ti_lang.specs.Nodes.{node, ClassName, fields_nodes, classes_nodes}
-use Rattle.ti_rules.specs.First.{sooner}
+use Rattle.ti_rules.specs.Mirrors.First.{sooner}
 use Rattle.ti_names.specs.Found.{first_in}
 use Rattle.ti_names.specs.Seen.{text_of}
 use Rattle.ti_names.proofs.Firsts.{in_step, in_end}

@@ -1,7 +1,7 @@
 use Rattle.std.proofs.Common.{◌≡◌, map, drop}
 use Rattle.ti_syntax.specs.Trees.Views.{class_of}
 use Rattle.ti_lang.specs.Nodes.{classes_nodes}
-use Rattle.ti_rules.specs.First.{sooner}
+use Rattle.ti_rules.specs.Mirrors.First.{sooner}
 use Rattle.ti_names.specs.Found.{first_in}
 use Rattle.ti_names.specs.Seen.{text_of}
 use Rattle.ti_names.proofs.classes.check_classes.Given as goal

@@ -2,7 +2,8 @@ use Rattle.std.proofs.Common.{◌≡◌, map, not, ap, sym, ◌∙◌}
 use Rattle.ti_syntax.specs.Trees.Text.{tree_of}
 use Rattle.ti_syntax.specs.Trees.Views.{class_of, text_tree_of}
 use Rattle.ti_rules.specs.declared.rule.Rule.TheVariants.{N3}
-use Rattle.ti_rules.specs.First.{first_of, refused_if}
+use Rattle.ti_rules.specs.Refusals.{refused_if}
+use Rattle.ti_rules.specs.Mirrors.First.{first_of}
 use Rattle.ti_rules.specs.MainForm.{form_refusals}
 use Rattle.ti_rules.proofs.First.{first_nil}
 use Rattle.ti_names.specs.Own.{own_of}

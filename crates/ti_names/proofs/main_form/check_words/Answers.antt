@@ -1,7 +1,8 @@
 use Rattle.std.proofs.Common.{◌+◌, ◌&&◌, map, drop, arith, ap, ◌∙◌}
 use Rattle.std.proofs.lemmas.List.{drop_all}
 use Rattle.ti_rules.specs.declared.rule.Rule.TheVariants.{N3}
-use Rattle.ti_rules.specs.First.{sooner, first_of, refused_if}
+use Rattle.ti_rules.specs.Refusals.{refused_if}
+use Rattle.ti_rules.specs.Mirrors.First.{sooner, first_of}
 use Rattle.ti_lang.specs.MainForm.{is_words}
 use Rattle.ti_rules.specs.MainForm.{is_another, words_refusals}
 use Rattle.ti_names.specs.Own.{own_of}

@@ -1,5 +1,5 @@
 use Rattle.std.proofs.Common.{◌≡◌, map, drop}
-use Rattle.ti_rules.specs.First.{sooner, first_of}
+use Rattle.ti_rules.specs.Mirrors.First.{sooner, first_of}
 use Rattle.ti_rules.specs.MainForm.{words_refusals}
 use Rattle.ti_names.specs.Own.{own_of}
 use Rattle.ti_names.proofs.main_form.check_words.Given as goal

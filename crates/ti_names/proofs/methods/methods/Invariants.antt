@@ -4,7 +4,7 @@ use Rattle.ti_lang.specs.Program.Views.{numbered_method_of}
 use Rattle.ti_lang.specs.Members.{OwnMethod}
 use Rattle.ti_lang.specs.Scopes.{literals_in}
 use Rattle.ti_lang.specs.Nodes.{methods_nodes}
-use Rattle.ti_rules.specs.First.{sooner}
+use Rattle.ti_rules.specs.Mirrors.First.{sooner}
 use Rattle.ti_names.specs.Found.{first_in}
 use Rattle.ti_names.specs.Mirrors.Numbered.{number_methods}
 use Rattle.ti_names.specs.Own.{own_of}

@@ -7,7 +7,7 @@ use Rattle.ti_lang.specs.Program.Views.{numbered_class_of, numbered_method_of}
 use Rattle.ti_lang.specs.Members.{OwnMethod, methods_of, names_of}
 use Rattle.ti_lang.specs.Scopes.{literals_in, literals_of_text}
 use Rattle.ti_lang.specs.Nodes.{classes_nodes, methods_nodes}
-use Rattle.ti_rules.specs.First.{sooner, first_of}
+use Rattle.ti_rules.specs.Mirrors.First.{sooner, first_of}
 use Rattle.ti_rules.specs.MainForm.{main_method, main_refusals}
 use Rattle.ti_names.specs.Found.{first_in}
 use Rattle.ti_names.specs.Mirrors.Numbered.{number_classes, number_methods}

@@ -1,7 +1,7 @@
 use mathlib.Core.Path.{refl}
 use Rattle.ti_lang.specs.Typing.BuiltIn.{built_in}
 use Rattle.ti_lang.specs.Typing.Declared.{named_field_type, instance_method}
-use Rattle.ti_rules.specs.First.{sooner, first_of}
+use Rattle.ti_rules.specs.Mirrors.First.{sooner, first_of}
 use Rattle.ti_rows.proofs.refusals.single_values.Goals as goal
 
 pub returns-clause-a_barrier_under_the_own_number : goal.returns-clause-a_barrier_under_the_own_number

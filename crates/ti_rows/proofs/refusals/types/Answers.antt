@@ -1,7 +1,7 @@
 use mathlib.Core.Path.{refl}
 use Rattle.ti_lang.specs.Typing.BuiltIn.{built_in}
 use Rattle.ti_lang.specs.Typing.Declared.{named_field_type, instance_method}
-use Rattle.ti_rules.specs.First.{sooner, first_of}
+use Rattle.ti_rules.specs.Mirrors.First.{sooner, first_of}
 use Rattle.ti_rows.proofs.refusals.types.Goals as goal
 
 pub returns-clause-operands_of_two_kinds : goal.returns-clause-operands_of_two_kinds

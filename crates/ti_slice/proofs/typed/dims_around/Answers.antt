@@ -4,7 +4,7 @@ use Rattle.ti_lang.specs.Program.Scope.{this_of}
 use Rattle.ti_lang.specs.Program.Statements.{numbered_stms}
 use Rattle.ti_lang.specs.Program.Views.{program_of}
 use Rattle.ti_lang.specs.Typing.Kinds.{dim_of_type}
-use Rattle.ti_lang.specs.Typing.ListedDims.{dims_in}
+use Rattle.ti_lang.specs.Mirrors.ListedDims.{dims_in}
 use Rattle.ti_lang.specs.Typing.TextTypes.{type_at}
 use Rattle.ti_eval.specs.Envs.{site_of}
 use Rattle.ti_eval.specs.Frames.{method_seen, domain_in}

@@ -2,7 +2,7 @@ use Rattle.std.proofs.Common.{◌≡◌, reverse, take}
 use Rattle.ti_lang.specs.Program.Scope.{this_of}
 use Rattle.ti_lang.specs.Program.Statements.{numbered_stms}
 use Rattle.ti_lang.specs.Program.Views.{program_of}
-use Rattle.ti_lang.specs.Typing.ListedDims.{dims_in}
+use Rattle.ti_lang.specs.Mirrors.ListedDims.{dims_in}
 use Rattle.ti_eval.specs.Envs.{site_of}
 use Rattle.ti_eval.specs.Frames.{method_seen}
 use Rattle.ti_slice.proofs.Dimming.{dims_rest}

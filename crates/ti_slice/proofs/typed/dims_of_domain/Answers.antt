@@ -1,7 +1,7 @@
 use Rattle.std.proofs.Common.{◌≡◌, reverse, sym, ap, ◌∙◌}
 use Rattle.ti_lang.specs.Program.Views.{program_of, expression_of, statement_of}
 use Rattle.ti_lang.specs.Typing.Kinds.{dim_of_type}
-use Rattle.ti_lang.specs.Typing.ListedDims.{dims_in}
+use Rattle.ti_lang.specs.Mirrors.ListedDims.{dims_in}
 use Rattle.ti_lang.specs.Typing.TextTypes.{type_at}
 use Rattle.ti_eval.specs.Frames.{domain_in}
 use Rattle.ti_moves.specs.Receiving.{stm_seen}

@@ -1,6 +1,6 @@
 use Rattle.std.proofs.Common.{◌≡◌, reverse, ap, ◌∙◌}
 use Rattle.ti_lang.specs.Program.Views.{program_of, expression_of}
-use Rattle.ti_lang.specs.Typing.ListedDims.{dims_in}
+use Rattle.ti_lang.specs.Mirrors.ListedDims.{dims_in}
 use Rattle.ti_lang.specs.Typing.TextTypes.{type_at}
 use Rattle.ti_eval.specs.Envs.{env_of}
 use Rattle.ti_slice.proofs.typed.type_here.Goals as goal

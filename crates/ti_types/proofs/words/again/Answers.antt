@@ -1,5 +1,5 @@
 use Rattle.std.proofs.Common.{sym, ap, ◌∙◌, arith, not, ◌||◌}
-use Rattle.ti_rules.specs.First.{sooner}
+use Rattle.ti_rules.specs.Mirrors.First.{sooner}
 use Rattle.ti_types.proofs.Loops.{none_sooner, again_step, again_end}
 use Rattle.ti_types.proofs.words.again.Goals as goal
 

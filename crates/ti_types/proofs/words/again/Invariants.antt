@@ -1,5 +1,5 @@
 use Rattle.std.proofs.Common.{◌≡◌, drop, false}
-use Rattle.ti_rules.specs.First.{sooner, first_of}
+use Rattle.ti_rules.specs.Mirrors.First.{sooner, first_of}
 use Rattle.ti_types.specs.Mirrors.Words.{qualifiers_again}
 use Rattle.ti_types.proofs.words.again.Given as goal
 

@@ -1,6 +1,6 @@
 use Rattle.std.proofs.Common.{sym, ap, ◌∙◌, arith}
 use Rattle.ti_lang.specs.Program.Views.{value_type_of}
-use Rattle.ti_rules.specs.First.{sooner}
+use Rattle.ti_rules.specs.Mirrors.First.{sooner}
 use Rattle.ti_rules.specs.Broken.Words.{base_word_refusals}
 use Rattle.ti_types.proofs.Loops.{none_sooner, each_step, each_end}
 use Rattle.ti_types.proofs.words.base_words.Goals as goal

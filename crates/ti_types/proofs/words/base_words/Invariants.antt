@@ -1,6 +1,6 @@
 use Rattle.std.proofs.Common.{◌≡◌, drop, flat_map}
 use Rattle.ti_lang.specs.Program.Views.{value_type_of}
-use Rattle.ti_rules.specs.First.{sooner, first_of}
+use Rattle.ti_rules.specs.Mirrors.First.{sooner, first_of}
 use Rattle.ti_rules.specs.Broken.Words.{base_word_refusals}
 use Rattle.ti_types.proofs.words.base_words.Given as goal
 

@@ -1,5 +1,5 @@
 use Rattle.std.proofs.Common.{sym, ap, ◌∙◌, arith}
-use Rattle.ti_rules.specs.First.{sooner}
+use Rattle.ti_rules.specs.Mirrors.First.{sooner}
 use Rattle.ti_rules.specs.Broken.Words.{grid_word_refusals}
 use Rattle.ti_types.proofs.Loops.{none_sooner, each_step, each_end}
 use Rattle.ti_types.proofs.words.grid_words.Goals as goal

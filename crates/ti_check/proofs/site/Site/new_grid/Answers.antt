@@ -2,7 +2,7 @@ use Rattle.std.proofs.Common.{◌++◌, false, is_some, option_map, ap, sym, ◌
 use Rattle.ti_syntax.specs.Trees.Views.{maybe_of}
 use Rattle.ti_lang.specs.Program.Views.{expression_of, type_use_of, extent_of}
 use Rattle.ti_lang.specs.Typing.Expressions.{both}
-use Rattle.ti_rules.specs.First.{sooner, first_of}
+use Rattle.ti_rules.specs.Mirrors.First.{sooner, first_of}
 use Rattle.ti_rules.specs.InitialTypes.{region_type, spread, new_grid_type}
 use Rattle.ti_rules.specs.Broken.Refused.{both_judged, mistaken}
 use Rattle.ti_rules.specs.Broken.Words.{type_word_refusals}

@@ -1,6 +1,6 @@
 use Rattle.std.proofs.Common.{ap, sym, ◌∙◌}
 use Rattle.ti_lang.specs.Program.Views.{statement_of}
-use Rattle.ti_rules.specs.First.{first_of}
+use Rattle.ti_rules.specs.Mirrors.First.{first_of}
 use Rattle.ti_rules.specs.Broken.Statements.{statement_refusals}
 use Rattle.ti_check.specs.Mirrors.Sites.{program_at, around_of}
 use Rattle.ti_check.proofs.site.Site.types.Goals as goal

@@ -1,5 +1,5 @@
 use Rattle.std.proofs.Common.{take}
-use Rattle.ti_lang.specs.Copies.{AreSame}
+use Rattle.ti_lang.specs.Mirrors.Copies.{AreSame}
 use Rattle.ti_lang.proofs.program.copy.copy_all.Given as goal
 
 abbrev pub invariant-loop-x : goal.invariant-loop-x

@@ -4,7 +4,7 @@ use Rattle.ti_lang.specs.declared.program.exprs.Range.{Range}
 use Rattle.ti_lang.specs.Program.Types as t
 use Rattle.ti_lang.specs.Program.Expressions.{numbered_exps, numbered_ranges}
 use Rattle.ti_lang.specs.Program.Views.{program_of, expression_of, bound_of}
-use Rattle.ti_lang.specs.Typing.ListedDims.{dims_in}
+use Rattle.ti_lang.specs.Mirrors.ListedDims.{dims_in}
 use Rattle.ti_lang.specs.Typing.TextTypes.{how_many, dims_of_ranges, type_at}
 use Rattle.ti_lang.proofs.ProgramBridges.{seen_numbered_point, seen_numbered_rect}
 use Rattle.ti_lang.proofs.RangeDims.{many_ranges}

@@ -5,7 +5,8 @@ use Rattle.ti_syntax.specs.Trees.Expressions.{exps, ranges_tree}
 use Rattle.ti_lang.specs.Nodes.{exp_nodes, exps_nodes, range_nodes, ranges_nodes}
 use Rattle.ti_lang.specs.Scopes.{own_method_named}
 use Rattle.ti_rules.specs.declared.rule.Rule.TheVariants.{N1}
-use Rattle.ti_rules.specs.First.{sooner, first_of, refused_if}
+use Rattle.ti_rules.specs.Refusals.{refused_if}
+use Rattle.ti_rules.specs.Mirrors.First.{sooner, first_of}
 use Rattle.ti_names.specs.Found.{first_in}
 use Rattle.ti_names.specs.Seen.{site_of}
 use Rattle.ti_names.proofs.Firsts.{in_step, in_end, in_call, in_point, in_rect, in_index}

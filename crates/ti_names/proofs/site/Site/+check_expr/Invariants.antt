@@ -2,7 +2,7 @@ use Rattle.std.proofs.Common.{◌≡◌, map, drop}
 use Rattle.ti_syntax.specs.Trees.Views.{exp_of, range_of}
 use Rattle.ti_syntax.specs.Trees.Expressions.{exps, ranges_tree}
 use Rattle.ti_lang.specs.Nodes.{exps_nodes, ranges_nodes}
-use Rattle.ti_rules.specs.First.{sooner}
+use Rattle.ti_rules.specs.Mirrors.First.{sooner}
 use Rattle.ti_names.specs.Found.{first_in}
 use Rattle.ti_names.specs.Seen.{site_of}
 use Rattle.ti_names.proofs.site.Site.+check_expr.Given as goal

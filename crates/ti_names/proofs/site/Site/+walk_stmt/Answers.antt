@@ -12,7 +12,7 @@ use Rattle.ti_lang.specs.Program.Views.{expression_of, statement_of}
 use Rattle.ti_lang.specs.Scopes.{declares, past, past_maybe, behind, behind_maybe, behind_all}
 use Rattle.ti_lang.specs.Nodes.{node, VariableName, exp_nodes, stm_nodes, maybe_stm_nodes, stms_nodes}
 use Rattle.ti_lang.proofs.ProgramBridges.{seen_numbered_block}
-use Rattle.ti_rules.specs.First.{sooner}
+use Rattle.ti_rules.specs.Mirrors.First.{sooner}
 use Rattle.ti_names.specs.Found.{first_in}
 use Rattle.ti_names.specs.Mirrors.Numbered.{number_exp, number_stm, number_maybe_stm, number_list}
 use Rattle.ti_names.specs.Branched.{numbered_branches}

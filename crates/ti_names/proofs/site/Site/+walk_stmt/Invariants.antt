@@ -4,7 +4,7 @@ use Rattle.ti_syntax.specs.Trees.Views.{stm_of}
 use Rattle.ti_lang.specs.Program.Views.{statement_of}
 use Rattle.ti_lang.specs.Scopes.{behind_all}
 use Rattle.ti_lang.specs.Nodes.{stms_nodes}
-use Rattle.ti_rules.specs.First.{sooner}
+use Rattle.ti_rules.specs.Mirrors.First.{sooner}
 use Rattle.ti_names.specs.Found.{first_in}
 use Rattle.ti_names.specs.Mirrors.Numbered.{number_list}
 use Rattle.ti_names.specs.Seen.{site_of}

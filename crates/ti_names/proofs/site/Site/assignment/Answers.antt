@@ -1,7 +1,7 @@
 use Rattle.std.proofs.Common.{sym, ◌∙◌}
 use Rattle.ti_syntax.specs.Trees.Views.{exp_of, init_of}
 use Rattle.ti_lang.specs.Nodes.{exp_nodes, init_nodes}
-use Rattle.ti_rules.specs.First.{sooner}
+use Rattle.ti_rules.specs.Mirrors.First.{sooner}
 use Rattle.ti_names.specs.Seen.{site_of}
 use Rattle.ti_names.proofs.Firsts.{in_append}
 use Rattle.ti_names.proofs.site.Site.assignment.Goals as goal

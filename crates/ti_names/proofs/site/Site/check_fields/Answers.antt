@@ -3,7 +3,7 @@ use Rattle.std.proofs.lemmas.List.{drop_all}
 use Rattle.ti_syntax.specs.Trees.Views.{member_of, field_of, type_of}
 use Rattle.ti_lang.specs.Members.{fields_in}
 use Rattle.ti_lang.specs.Nodes.{node, FieldName, type_nodes, fields_nodes}
-use Rattle.ti_rules.specs.First.{sooner}
+use Rattle.ti_rules.specs.Mirrors.First.{sooner}
 use Rattle.ti_names.specs.Found.{first_in}
 use Rattle.ti_names.specs.Seen.{site_of}
 use Rattle.ti_names.proofs.Firsts.{in_step, in_end}

@@ -2,7 +2,7 @@ use Rattle.std.proofs.Common.{◌≡◌, map, drop}
 use Rattle.ti_syntax.specs.Trees.Views.{member_of}
 use Rattle.ti_lang.specs.Members.{fields_in}
 use Rattle.ti_lang.specs.Nodes.{fields_nodes}
-use Rattle.ti_rules.specs.First.{sooner}
+use Rattle.ti_rules.specs.Mirrors.First.{sooner}
 use Rattle.ti_names.specs.Found.{first_in}
 use Rattle.ti_names.specs.Seen.{site_of}
 use Rattle.ti_names.proofs.site.Site.check_fields.Given as goal

@@ -1,7 +1,7 @@
 use Rattle.std.proofs.Common.{List, [], ◌∷◌, ◌++◌, ap, sym, ◌∙◌}
 use Rattle.ti_syntax.specs.Trees.Views.{type_of, init_of}
 use Rattle.ti_lang.specs.Nodes.{Node, node, VariableName, type_nodes, init_nodes}
-use Rattle.ti_rules.specs.First.{sooner}
+use Rattle.ti_rules.specs.Mirrors.First.{sooner}
 use Rattle.ti_names.specs.Found.{first_in}
 use Rattle.ti_names.specs.Seen.{site_of}
 use Rattle.ti_names.proofs.Firsts.{in_append}

@@ -3,7 +3,7 @@ use Rattle.ti_syntax.specs.Trees.Statements.{stms}
 use Rattle.ti_syntax.specs.Trees.Views.{stm_of}
 use Rattle.ti_lang.specs.Scopes.{body_site}
 use Rattle.ti_lang.specs.Nodes.{node, MethodName, result_nodes, params_nodes, stms_nodes}
-use Rattle.ti_rules.specs.First.{sooner}
+use Rattle.ti_rules.specs.Mirrors.First.{sooner}
 use Rattle.ti_names.specs.Found.{first_in}
 use Rattle.ti_names.specs.Own.{own_of}
 use Rattle.ti_names.specs.Seen.{site_of}

@@ -5,7 +5,7 @@ use Rattle.ti_lang.specs.Program.Views.{numbered_param_of}
 use Rattle.ti_lang.specs.Scopes.{declares, typed_as, behind_params}
 use Rattle.ti_lang.specs.Scopes as scopes
 use Rattle.ti_lang.specs.Nodes.{node, VariableName, type_nodes, param_list_nodes}
-use Rattle.ti_rules.specs.First.{sooner}
+use Rattle.ti_rules.specs.Mirrors.First.{sooner}
 use Rattle.ti_names.specs.Found.{first_in}
 use Rattle.ti_names.specs.Mirrors.Numbered.{number_param, number_param_list}
 use Rattle.ti_names.specs.Seen.{site_of, text_of}

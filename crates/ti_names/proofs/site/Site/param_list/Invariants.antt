@@ -3,7 +3,7 @@ use Rattle.ti_syntax.specs.Trees.Views.{param_of}
 use Rattle.ti_lang.specs.Program.Views.{numbered_param_of}
 use Rattle.ti_lang.specs.Scopes.{behind_params}
 use Rattle.ti_lang.specs.Nodes.{param_list_nodes}
-use Rattle.ti_rules.specs.First.{sooner}
+use Rattle.ti_rules.specs.Mirrors.First.{sooner}
 use Rattle.ti_names.specs.Found.{first_in}
 use Rattle.ti_names.specs.Mirrors.Numbered.{number_param_list}
 use Rattle.ti_names.specs.Seen.{site_of, text_of}

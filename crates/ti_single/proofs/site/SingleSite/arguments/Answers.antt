@@ -1,5 +1,5 @@
 use Rattle.std.proofs.Common.{ap, ◌∙◌, arith}
-use Rattle.ti_rules.specs.First.{sooner}
+use Rattle.ti_rules.specs.Mirrors.First.{sooner}
 use Rattle.ti_single.specs.Sites.{program_at, around_of}
 use Rattle.ti_single.proofs.Arguments.{none_sooner}
 use Rattle.ti_single.proofs.Arguments.{argument_step, params_end, args_end}

@@ -1,7 +1,7 @@
 use Rattle.std.proofs.Common.{◌≡◌, map}
 use Rattle.ti_lang.specs.Program.Expressions.{numbered_exps}
 use Rattle.ti_lang.specs.Program.Views.{expression_of, numbered_param_of}
-use Rattle.ti_rules.specs.First.{sooner, first_of}
+use Rattle.ti_rules.specs.Mirrors.First.{sooner, first_of}
 use Rattle.ti_rules.specs.SingleRules.{argument_refusals}
 use Rattle.ti_single.specs.Sites.{program_at, around_of}
 use Rattle.ti_single.proofs.Arguments.{arguments_from}

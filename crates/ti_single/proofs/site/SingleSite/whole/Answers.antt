@@ -4,7 +4,7 @@ use Rattle.ti_lang.specs.Program.Expressions as x
 use Rattle.ti_lang.specs.Program.Scope.{this_of}
 use Rattle.ti_lang.specs.Program.Views.{expression_of, numbered_method_of}
 use Rattle.ti_lang.specs.Typing.Called.{called_method}
-use Rattle.ti_rules.specs.First.{sooner, first_of}
+use Rattle.ti_rules.specs.Mirrors.First.{sooner, first_of}
 use Rattle.ti_rules.specs.SingleRules.{call_refusals, delete_refusals, whole_refusals}
 use Rattle.ti_rules.proofs.First.{first_append}
 use Rattle.ti_lang.proofs.ProgramBridges.{seen_numbered_member}

@@ -2,7 +2,7 @@ use Rattle.std.proofs.Common.{ap, sym, ◌∙◌, length, map, flat_map, option_
 use Rattle.ti_lang.specs.Program.Expressions.{numbered_ranges}
 use Rattle.ti_lang.specs.Program.Scope.{contents_of}
 use Rattle.ti_lang.specs.Program.Views.{program_of, bound_of}
-use Rattle.ti_rules.specs.First.{sooner, first_of}
+use Rattle.ti_rules.specs.Mirrors.First.{sooner, first_of}
 use Rattle.ti_rules.specs.Parts.{parts_of_ranges}
 use Rattle.ti_rules.specs.Broken.Expressions.{refusals_at}
 use Rattle.ti_rules.specs.Broken.Misplaced.{bounds_misplaced}

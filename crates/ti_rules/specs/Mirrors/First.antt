@@ -1,7 +1,5 @@
 -- The refusal of a list that counts.
-use Rattle.std.specs.Prelude.{Bool, if◌then◌else◌, List, [], ◌∷◌, Option, Some, None}
-use Rattle.ti_base.specs.declared.place.Place.{Place}
-use Rattle.ti_rules.specs.declared.rule.Rule.{Rule}
+use Rattle.std.specs.Prelude.{if◌then◌else◌, List, [], ◌∷◌, Option, Some, None}
 use Rattle.ti_rules.specs.declared.refusal.Refusal.{Refusal}
 use Rattle.ti_rules.specs.Refusals.{counts_before}
 
@@ -15,7 +13,3 @@ sooner (Some r) (Some s) = if counts_before s r then Some s else Some r
 unfoldable pub first_of : List Refusal → Option Refusal
 first_of [] = None
 first_of (r ∷ rest) = sooner (Some r) (first_of rest)
-
--- a rule at a place, where it is broken
-abbrev pub refused_if : Bool → Rule → Place → List Refusal
-refused_if broken rule place = if broken then record { rule = rule; place = place } ∷ [] else []
