@@ -22,9 +22,10 @@ use Rattle.ti_align.specs.Alignment.{most_procs, ArrivalsAgree}
 use Rattle.ti_align.specs.Answering.{AnswersFit}
 use Rattle.ti_align.specs.Names.{NamesFit}
 use Rattle.ti_align.specs.Things.{Things, IsStorable, IsOf}
-use Rattle.ti_align.specs.Sound.{IsThere, SuitsWanted}
+use Rattle.ti_align.specs.There.{IsThere, SuitsWanted}
 use Rattle.ti_align.specs.Heap.{things_of, is_of_heap}
-use Rattle.ti_align.specs.Typed.{ProgramFits, GivesLast, hands_in, RunTyped}
+use Rattle.ti_align.specs.Mirrors.Processes.{ProgramFits}
+use Rattle.ti_align.specs.Typed.{GivesLast, hands_in, RunTyped}
 use Rattle.ti_align.proofs.Steps.{ActionFits, StepFits}
 use Rattle.ti_align.proofs.Vars.{true_false}
 use Rattle.ti_align.proofs.Ways.{Asked, asking}

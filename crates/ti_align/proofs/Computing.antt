@@ -13,10 +13,11 @@ use Rattle.ti_lang.specs.Typing.Kinds.{is_local}
 use Rattle.ti_lang.specs.Meaning.Held.{Held, thing_of}
 use Rattle.ti_lang.specs.Meaning.Asking.{Wanted, Request, request, Reference, needed, Asking, ◌>>=◌, followed, gives, guarded, found_or, asked, told}
 use Rattle.ti_lang.specs.Meaning.Evaluation.{is_own}
-use Rattle.ti_align.specs.Owners.{IsOwnAction}
-use Rattle.ti_align.specs.Things.{Things, seen_by, Grows, IsGridOf, IsPlaced, IsOwn, IsOf}
+use Rattle.ti_align.specs.Dangling.{used_by}
+use Rattle.ti_align.specs.Things.{Things, seen_by, Grows, IsGridOf, IsPlaced, IsOwn, IsOf, IsThingOf}
 use Rattle.ti_align.proofs.Vars.{true_false}
-use Rattle.ti_align.specs.Sound.{IsThere, SuitsWanted, IsOwnReference, FitsAsked, Sound, value, fault, asks}
+use Rattle.ti_align.specs.There.{IsThere, GoesThrough, SuitsWanted, FitsAsked}
+use Rattle.ti_align.specs.Mirrors.Sound.{ReferenceFits, Sound, value, fault, asks}
 
 -- ---- what is there grows
 
@@ -60,6 +61,15 @@ of_stays u w (t.Grid e n l) h g k = (k.0, k.1, (λ id z. grid_stays u w e n id g
 of_stays u w t.Null h g k = k
 of_stays u w t.Void h g k = k
 
+-- so does a thing
+pub thing_stays : (u w : Things) (type : ValueType) (id : Id) → Grows u w → IsThingOf u type id → IsThingOf w type id
+thing_stays u w (t.Class c l) id g k = g.classes id c k
+thing_stays u w (t.Grid e n l) id g k = grid_stays u w e n id g k
+thing_stays u w _ id g k = absurd k
+
+pub reference_stays : (u w : Things) (r : Reference) → Grows u w → ReferenceFits u r → ReferenceFits w r
+reference_stays u w r g k = (own_stays u w (is_local r.type) (Some r.thing) g k.0, thing_stays u w r.type r.thing g k.1)
+
 -- ---- owners
 
 pub same_owner : (i j : ℕ) (o : Option Id) → i ≡ j → is_own i o ≡ true → is_own j o ≡ true
@@ -84,6 +94,25 @@ pub own_of : (w : Things) (a : ValueType) (h : Held) → IsOf w a h → IsOwn w 
 own_of w (t.Class c l) h k z = subst (λ o. is_own w.owner o ≡ true) (sym (ap thing_of k.1)) (k.3 z)
 own_of w (t.Grid e n l) h k z = subst (λ o. is_own w.owner o ≡ true) (sym (ap thing_of k.1)) (k.3 z)
 own_of w _ h k z = absurd (true_false (sym z))
+
+-- ---- actions through references
+
+pub goes_stays : (u w : Things) (through : ValueType) (a : Action) → Grows u w → GoesThrough u through a → GoesThrough w through a
+goes_stays u w through a g k = ((λ l. same_owner u.owner w.owner (used_by a) g.owner (k.0 l)), λ id z. thing_stays u w through id g (k.1 id z))
+
+-- an action that goes through none
+pub goes_alone : (w : Things) (a : Action) → used_by a ≡ None → GoesThrough w t.Void a
+goes_alone w a n = ((λ z. absurd (true_false (sym z))), λ id z. absurd (not_some id (sym n ∙ z)))
+  where
+    not_some : (id : Id) → ◌≡◌ {A = Option Id} None (Some id) → ⊥
+    not_some id z = cc
+
+-- an action that uses what the reference names
+pub goes_through : (w : Things) (r : Reference) (a : Action) → used_by a ≡ Some r.thing → ReferenceFits w r → GoesThrough w r.type a
+goes_through w r a n k = ((λ l. subst (λ o. is_own w.owner o ≡ true) (sym n) (k.0 l)), λ id z. subst (IsThingOf w r.type) (same_thing r.thing id (sym n ∙ z)) k.1)
+  where
+    same_thing : (x y : Id) → Some x ≡ Some y → x ≡ y
+    same_thing x y z = cc
 
 -- ---- computations
 
@@ -122,21 +151,25 @@ module _ (p : NumberedProgram) where
   sound_found P w kind at (Some a) h = value a (h a refl) (λ rest. refl)
 
   -- an action that goes through no reference
-  pub sound_request : (P : Things → Held → Type 0) (w : Things) (at : Place) (a : Action) (wanted : Wanted) → IsThere p w a wanted → SuitsWanted p w a wanted → ((u : Things) → Grows w u → (r : Answer) → FitsAsked p u a wanted r → P u (told r)) → Sound p P w (asked (request at a wanted))
-  sound_request P w at a wanted i s f = asks (request at a wanted) refl (i, (λ z. absurd (true_false (sym z))), s) (λ u g r t. value (told r) (f u g r t) (λ rest. refl))
+  pub sound_request : (P : Things → Held → Type 0) (w : Things) (at : Place) (a : Action) (wanted : Wanted) → used_by a ≡ None → IsThere p w a wanted → SuitsWanted p w a wanted → ((u : Things) → Grows w u → (r : Answer) → FitsAsked p u a wanted r → P u (told r)) → Sound p P w (asked (request at a wanted))
+  sound_request P w at a wanted n i s f = asks (request at a wanted) refl (i, goes_alone w a n, s) (λ u g r t. value (told r) (f u g r t) (λ rest. refl))
 
-  pub sound_asked : (P : Things → Held → Type 0) (w : Things) (q : Request) → IsThere p w q.action q.wanted × IsOwnAction w.owner q.through q.action × SuitsWanted p w q.action q.wanted → ((u : Things) → Grows w u → (r : Answer) → FitsAsked p u q.action q.wanted r → P u (told r)) → Sound p P w (asked q)
+  pub sound_asked : (P : Things → Held → Type 0) (w : Things) (q : Request) → IsThere p w q.action q.wanted × GoesThrough w q.through q.action × SuitsWanted p w q.action q.wanted → ((u : Things) → Grows w u → (r : Answer) → FitsAsked p u q.action q.wanted r → P u (told r)) → Sound p P w (asked q)
   sound_asked P w q i f = asks q refl i (λ u g r t. value (told r) (f u g r t) (λ rest. refl))
 
 -- a reference that is needed: it has this type in the text, and what it names is the own one of the process where that is local
 pub record Names (P : Things → Id → Type 0) (through : ValueType) (w : Things) (r : Reference) : Type 0 where
   pub type : r.type ≡ through
   pub thing : P w r.thing
-  pub own : IsOwnReference w r
+  pub own : IsOwn w (is_local r.type) (Some r.thing)
 
 -- the process, where that is local
 pub names_own : (P : Things → Id → Type 0) (through : ValueType) (u w : Things) (r : Reference) → Grows u w → Names P through u r → is_local through ≡ true → r.thing.owner ≡ w.owner
 names_own P through u w r g n z = eqb-true r.thing.owner u.owner (n.own (ap is_local n.type ∙ z)) ∙ g.owner
+
+-- what it names is a thing of that type
+pub names_thing : (P : Things → Id → Type 0) (through type : ValueType) (w : Things) (r : Reference) → through ≡ type → Names P through w r → IsThingOf w type r.thing → ReferenceFits w r
+names_thing P through type w r e n k = (n.own, subst (λ x. IsThingOf w x r.thing) (sym (n.type ∙ e)) k)
 
 pub needed_as : (p : NumberedProgram) (w : Things) (at : Place) (through : ValueType) (h : Held) (P : Things → Id → Type 0) → ((id : Id) → thing_of h ≡ Some id → P w id) → IsOwn w (is_local through) (thing_of h)
     → Sound p (λ u (r : Reference). Names P through u r) w (needed at through h)

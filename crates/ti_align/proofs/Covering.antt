@@ -23,7 +23,8 @@ use Rattle.ti_lang.specs.Meaning.Calls.{parameters_from, parameters_of}
 use Rattle.ti_lang.specs.Meaning.Performing.{declared_alone, declared_among, declared_maybe}
 use Rattle.ti_align.proofs.Vars.{true_false, not_true, or_left, or_right}
 use Rattle.ti_align.proofs.Operating.{none_some, some_same, or_either}
-use Rattle.ti_align.proofs.Scoped.{Names, is_one, with_all, Fresh, KnownAs, ExpScoped, ExpsScoped, RangeScoped, RangesScoped, OptionScoped, DimsScoped, InitScoped, PrintScoped, StmScoped, MaybeScoped, StmsScoped, stms_prop}
+use Rattle.ti_align.specs.Scoped.{Names, KnownAs, ExpScoped, ExpsScoped, RangeScoped, RangesScoped, OptionScoped, DimsScoped, InitScoped, PrintScoped}
+use Rattle.ti_align.proofs.Scoped.{is_one, with_all, Fresh, StmScoped, MaybeScoped, StmsScoped, stms_prop}
 use Rattle.ti_align.proofs.Found.{variable_is}
 use Rattle.ti_align.proofs.Keeping.{is_words}
 

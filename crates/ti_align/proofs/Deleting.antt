@@ -27,7 +27,8 @@ use Rattle.ti_align.proofs.Vars.{true_false}
 use Rattle.ti_align.proofs.Stepping.{Alone}
 use Rattle.ti_align.proofs.Asks.{work_alone}
 use Rattle.ti_align.proofs.Keeping.{ProgramStands, WaitStands, Keeps, step_keeps}
-use Rattle.ti_align.proofs.Using.{FirstUses, FramesUse, frames_use}
+use Rattle.ti_align.specs.Scoped.{FirstUses, FramesUse}
+use Rattle.ti_align.proofs.Using.{frames_use}
 use Rattle.ti_align.proofs.Regional.{Good, GoodAs, AllGood, mark_good, received_type, ReceiverSuits, WorksAreSuch, such_both, such_before, such_from, such_past, MethodsAreSuch}
 use Rattle.ti_align.proofs.Handing.{MoveIsSuch, OneIsSuch, such_at, performed_good}
 

@@ -28,9 +28,11 @@ use Rattle.ti_rules.specs.InitialTypes.{can_broadcast}
 use Rattle.ti_align.specs.Alignment.{most_procs, ArrivalsAgree}
 use Rattle.ti_align.specs.Names.{NamesFit}
 use Rattle.ti_align.specs.Things.{Things, IsGridOf, IsOf}
-use Rattle.ti_align.specs.Work.{IsOfRound, WantsOf}
+use Rattle.ti_align.specs.Given.{IsOfRound}
+use Rattle.ti_align.specs.Mirrors.Work.{WantsOf}
 use Rattle.ti_align.specs.Heap.{Elements, things_of}
-use Rattle.ti_align.specs.Typed.{ProgramFits, GivesLast, hands_in, RunTyped}
+use Rattle.ti_align.specs.Mirrors.Processes.{ProgramFits}
+use Rattle.ti_align.specs.Typed.{GivesLast, hands_in, RunTyped}
 use Rattle.ti_align.proofs.Steps.{StepFits}
 use Rattle.ti_align.proofs.Vars.{true_false}
 use Rattle.ti_align.proofs.Ways.{Asked, asking}

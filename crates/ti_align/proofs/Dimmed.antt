@@ -16,8 +16,9 @@ use Rattle.ti_lang.specs.Meaning.Turns.{dims_at}
 use Rattle.ti_lang.proofs.MeaningLaws.TextAgrees.{agrees}
 use Rattle.ti_rules.specs.Standing.{singles_in, with_point}
 use Rattle.ti_align.specs.Things.{Things}
-use Rattle.ti_align.specs.Fitting.{IsWritten, IsRangeWritten, AreRangesWritten}
-use Rattle.ti_align.specs.Work.{may_use, uses_of, scope_over, WorksFit}
+use Rattle.ti_align.specs.Mirrors.Fitting.{IsWritten, IsRangeWritten, AreRangesWritten}
+use Rattle.ti_align.specs.Mirrors.Work.{may_use, uses_of, WorksFit}
+use Rattle.ti_align.specs.Given.{scope_over}
 use Rattle.ti_align.proofs.Vars.{true_false}
 use Rattle.ti_align.proofs.Operating.{none_some, some_same}
 use Rattle.ti_align.proofs.Evaluating.{no_call}

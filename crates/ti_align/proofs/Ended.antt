@@ -12,10 +12,9 @@ use Rattle.ti_lang.specs.Program.Types as t
 use Rattle.ti_lang.specs.Meaning.Held.{Held, Plain}
 use Rattle.ti_lang.specs.Meaning.Processes.{Variable, Frame}
 use Rattle.ti_lang.specs.Meaning.Histories.{History}
-use Rattle.ti_align.specs.Things.{Things, IsPlaced, IsOf}
-use Rattle.ti_align.specs.Work.{VariablesFit}
+use Rattle.ti_align.specs.Things.{Things, IsPlaced, IsOf, VariablesFit}
 use Rattle.ti_align.specs.Heap.{Elements, things_of}
-use Rattle.ti_align.specs.Typed.{FramesFit}
+use Rattle.ti_align.specs.Mirrors.Processes.{FramesFit}
 use Rattle.ti_align.specs.Stopping.{HoldMade, AllHoldMade, RegionsMade, is_delete, NoneImpossible}
 use Rattle.ti_align.proofs.Regional.{AllGood}
 use Rattle.ti_rules.specs.InitialTypes.{is_region}
@@ -27,7 +26,7 @@ use Rattle.ti_lang.specs.Meaning.Processes.{Setting}
 use Rattle.ti_lang.specs.Meaning.Histories.{history_of}
 use Rattle.ti_lang.specs.Meaning.Runs.{AllEnded}
 use Rattle.ti_rules.specs.ProgramRefusals.{IsChecked}
-use Rattle.ti_align.specs.Literals.{LiteralsFit}
+use Rattle.ti_align.specs.Mirrors.Literals.{LiteralsFit}
 use Rattle.ti_align.specs.Alignment.{NoneStuck, OfEveryRun, IsAligned}
 use Rattle.ti_align.proofs.Stopping.{DeletesNothing}
 use Rattle.ti_align.proofs.Using.{checked_stands}
@@ -35,6 +34,7 @@ use Rattle.ti_align.proofs.Programs.{checked_fits}
 use Rattle.ti_align.proofs.Regioned.{checked_such}
 use Rattle.ti_align.proofs.Presence as presence
 use Rattle.ti_align.proofs.Checked.{checked_fine}
+use Rattle.ti_align.proofs.Storing.{held_of}
 use Rattle.ti_align.proofs.Holding.{known_of}
 use Rattle.ti_align.proofs.EveryRun as every
 
@@ -54,7 +54,7 @@ made_held w h (r, z, f) (n, y, k) = (r, z, by (subst (IsPlaced w) (same n r (sym
 variables_made : (i : ℕ) (elements : Elements) (h : History) (xs : List Variable) → AllGood xs → VariablesFit (things_of i elements h) xs → HoldMade h xs
 variables_made i elements h [] g k = tt
 variables_made i elements h (x ∷ xs) g k =
-    (λ z. made_held (things_of i elements h) x.held (g.0 (ap is_region z)) (subst (λ a. IsOf (things_of i elements h) a x.held) z k.0), variables_made i elements h xs g.1 k.1)
+    (λ z. made_held (things_of i elements h) x.held (g.0 (ap is_region z)) (subst (λ a. IsOf (things_of i elements h) a x.held) z (held_of (things_of i elements h) x.named.declared x.held k.0)), variables_made i elements h xs g.1 k.1)
 
 frames_made : (p q : NumberedProgram) (i : ℕ) (elements : Elements) (h : History) (fs : List Frame) → AllSuch p fs → FramesFit q (things_of i elements h) fs → AllHoldMade h fs
 frames_made p q i elements h [] g k = tt

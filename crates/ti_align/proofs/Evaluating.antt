@@ -52,10 +52,12 @@ use Rattle.ti_lang.specs.Meaning.Evaluation.{is_own, eval, eval_all, eval_number
 use Rattle.ti_lang.proofs.MeaningLaws.Dims.{dim_is}
 use Rattle.ti_lang.proofs.MeaningLaws.TextAgrees.{how_many_is}
 use Rattle.ti_align.specs.Things.{Things, seen_by, Grows, IsGridOf, IsOwn, IsOf, DimsFine}
-use Rattle.ti_align.specs.Sound.{SameForm, IsOwnReference, Sound, SuitsView, dims_viewed}
-use Rattle.ti_align.specs.Fitting.{EnvFits, FieldsFit, IsWritten, AreWritten, IsRangeWritten, AreRangesWritten}
+use Rattle.ti_align.specs.There.{SameForm, SuitsView, dims_viewed}
+use Rattle.ti_align.specs.Mirrors.Sound.{ReferenceFits, Sound}
+use Rattle.ti_align.specs.Mirrors.Fitting.{EnvFits, IsWritten, AreWritten, IsRangeWritten, AreRangesWritten}
+use Rattle.ti_align.specs.Heap.{FieldsFit}
 use Rattle.ti_align.proofs.Vars.{true_false, and_left, and_right}
-use Rattle.ti_align.proofs.Computing.{grid_stays, of_stays, same_owner, seen_from, own_of, sound_then, weaker, sound_value, sound_guarded, sound_tested, sound_found, sound_asked, Names, names_own, needed_as}
+use Rattle.ti_align.proofs.Computing.{grid_stays, of_stays, same_owner, seen_from, own_of, sound_then, weaker, sound_value, sound_guarded, sound_tested, sound_found, sound_asked, goes_through, Names, names_own, names_thing, needed_as}
 use Rattle.ti_align.proofs.Forms.{zero_fits, long_zero, natural_fits, AllFit, both_fit, get_fits, coordinates_fit, numbers_point, origin_point, empty_form, AreOf, bounds_form}
 use Rattle.ti_align.proofs.Operating.{none_some, some_same, where_some, Seen, seen_same, type_same, to_global, to_local, global_type, operated_fine, right_fine, alone_fine, cast_fine}
 
@@ -164,33 +166,33 @@ IsGridType type = (element : ValueType) × (n : ℕ) × (l : Bool) × (type ≡ 
 
 module _ (p : NumberedProgram) where
   -- a field of an object of this class
-  pub field_fine : (w : Things) (at : Place) (type through : ValueType) (h : Held) (field class : ℕ) (of : ValueType) → ((id : Id) → thing_of h ≡ Some id → w.class_at id ≡ Some class) → IsOwn w (is_local through) (thing_of h)
+  pub field_fine : (w : Things) (at : Place) (type through : ValueType) (h : Held) (field class : ℕ) (l : Bool) (of : ValueType) → through ≡ t.Class class l → ((id : Id) → thing_of h ≡ Some id → w.class_at id ≡ Some class) → IsOwn w (is_local through) (thing_of h)
       → field_type p class field ≡ Some of → SameForm type of → Sound p (λ u k. IsOf u (read_through (is_local through) of) k) w (fetched at type (Field h through field))
-  field_fine w at type through h field class of k own f same =
+  field_fine w at type through h field class l of through_is k own f same =
       sound_then p (λ u r. Names (λ u id. u.class_at id ≡ Some class) through u r) _ w (needed at through h) _
       (needed_as p w at through h (λ u id. u.class_at id ≡ Some class) k own)
-      (λ u g r z. sound_asked p _ u (request_through r at (act.GetField r.thing field) (ValueOf type)) ((of, (class, z.thing, f)), z.own, (of, type, (class, z.thing, f), refl, same))
+      (λ u g r z. sound_asked p _ u (request_through r at (act.GetField r.thing field) (ValueOf type)) ((of, (class, z.thing, f)), goes_through u r (act.GetField r.thing field) refl (names_thing _ through (t.Class class l) u r through_is z z.thing), (of, type, (class, z.thing, f), refl, same))
       (λ x i answer q. read_of x r.thing.owner (is_local through) of _ (names_own _ through u x r i z) (q of (class, i.classes r.thing class z.thing, f))))
 
   -- an element of a grid of such elements
-  pub element_fine : (w : Things) (at : Place) (type through : ValueType) (h : Held) (index : Point) (element : ValueType) (n : ℕ) → ((id : Id) → thing_of h ≡ Some id → IsGridOf w element n id) → IsOwn w (is_local through) (thing_of h)
+  pub element_fine : (w : Things) (at : Place) (type through : ValueType) (h : Held) (index : Point) (element : ValueType) (n : ℕ) (l : Bool) → through ≡ t.Grid element n l → ((id : Id) → thing_of h ≡ Some id → IsGridOf w element n id) → IsOwn w (is_local through) (thing_of h)
       → IsPointOf n index → SameForm type element → Sound p (λ u k. IsOf u (read_through (is_local through) element) k) w (fetched at type (Element h through index))
-  element_fine w at type through h index element n k own d same =
+  element_fine w at type through h index element n l through_is k own d same =
       sound_then p (λ u r. Names (λ u id. IsGridOf u element n id) through u r) _ w (needed at through h) _
       (needed_as p w at through h (λ u id. IsGridOf u element n id) k own)
-      (λ u g r z. sound_asked p _ u (request_through r at (act.GetElem r.thing index) (ValueOf type)) ((element, n, z.thing, d), z.own, (element, type, n, z.thing, refl, same))
+      (λ u g r z. sound_asked p _ u (request_through r at (act.GetElem r.thing index) (ValueOf type)) ((element, n, z.thing, d), goes_through u r (act.GetElem r.thing index) refl (names_thing _ through (t.Grid element n l) u r through_is z z.thing), (element, type, n, z.thing, refl, same))
       (λ x i answer q. read_of x r.thing.owner (is_local through) element _ (names_own _ through u x r i z) (q element n (grid_stays u x element n r.thing i z.thing))))
 
-  pub domain_fine : (w : Things) (at : Place) (r : Reference) (element : ValueType) (n : ℕ) → IsGridOf w element n r.thing → IsOwnReference w r → dim_of_type r.type ≡ n → Sound p (λ u k. IsOf u (t.Rc n) k) w (domain_asked at r)
-  domain_fine w at r element n z own d =
-      sound_asked p _ w (request_through r at (act.DomainOf r.thing) (ValueOf (t.Rc (dim_of_type r.type)))) ((element, n, z), own, (element, n, z, ap (λ m. ValueOf (t.Rc m)) d)) (λ x i answer q. q element n (grid_stays w x element n r.thing i z))
+  pub domain_fine : (w : Things) (at : Place) (r : Reference) (element : ValueType) (n : ℕ) → IsGridOf w element n r.thing → ReferenceFits w r → dim_of_type r.type ≡ n → Sound p (λ u k. IsOf u (t.Rc n) k) w (domain_asked at r)
+  domain_fine w at r element n z named d =
+      sound_asked p _ w (request_through r at (act.DomainOf r.thing) (ValueOf (t.Rc (dim_of_type r.type)))) ((element, n, z), goes_through w r (act.DomainOf r.thing) refl named, (element, n, z, ap (λ m. ValueOf (t.Rc m)) d)) (λ x i answer q. q element n (grid_stays w x element n r.thing i z))
 
-  pub viewed_fine : (w : Things) (at : Place) (type : ValueType) (view : ViewHow) (through : ValueType) (h : Held) (element : ValueType) (n : ℕ) → ((id : Id) → thing_of h ≡ Some id → IsGridOf w element n id) → IsOwn w (is_local through) (thing_of h)
+  pub viewed_fine : (w : Things) (at : Place) (type : ValueType) (view : ViewHow) (through : ValueType) (h : Held) (element : ValueType) (n : ℕ) (l : Bool) → through ≡ t.Grid element n l → ((id : Id) → thing_of h ≡ Some id → IsGridOf w element n id) → IsOwn w (is_local through) (thing_of h)
       → SuitsView view n → IsGridType type → Sound p (λ u k. IsOf u (t.Grid element (dims_viewed view n) (is_local through)) k) w (viewed at type view through h)
-  viewed_fine w at type view through h element n k own s g =
+  viewed_fine w at type view through h element n l through_is k own s g =
       sound_then p (λ u r. Names (λ u id. IsGridOf u element n id) through u r) _ w (needed at through h) _
       (needed_as p w at through h (λ u id. IsGridOf u element n id) k own)
-      (λ u o r z. sound_asked p _ u (request_through r at (act.MakeView r.thing view) (NewThing type)) ((element, n, z.thing, s), z.own, (g.0, g.1, g.2, ap NewThing g.3))
+      (λ u o r z. sound_asked p _ u (request_through r at (act.MakeView r.thing view) (NewThing type)) ((element, n, z.thing, s), goes_through u r (act.MakeView r.thing view) refl (names_thing _ through (t.Grid element n l) u r through_is z z.thing), (g.0, g.1, g.2, ap NewThing g.3))
       (λ x i answer q. view_of x r.thing.owner (is_local through) element (dims_viewed view n) _ (names_own _ through u x r i z) (q element n (grid_stays u x element n r.thing i z.thing))))
 
 -- what a reference names
@@ -425,7 +427,7 @@ module _ (p : NumberedProgram) (w : Things) where
       → Sound p (λ u k. IsOf u (t.Grid x (dims_viewed view n) l) k) w (viewed at wanted view through h)
   view_seen at wanted view through h x n l y k s g =
       subst (λ q. Sound p (λ u k. IsOf u (t.Grid x (dims_viewed view n) l) k) w (viewed at wanted view q h)) (sym y)
-      (viewed_fine p w at wanted view (t.Grid x n l) h x n (grid_in w x n l h k) (own_of w (t.Grid x n l) h k) s g)
+      (viewed_fine p w at wanted view (t.Grid x n l) h x n l refl (grid_in w x n l h k) (own_of w (t.Grid x n l) h k) s g)
 
   pub member_fine : (at : Place) (wanted through : ValueType) (b : BuiltIn) (type r : ValueType) (ts : List ValueType) (h : Held) (hs : List Held) → member_type b type ts ≡ Some r → is_void r ≡ false → Seen type through → IsOf w type h → AllOfTypes w ts hs
       → wanted ≡ built_in_type (Some b) through → Sound p (λ u k. IsOf u r k) w (member at wanted (Some b) through h hs)
@@ -443,7 +445,7 @@ module _ (p : NumberedProgram) (w : Things) where
       subst (λ q. Sound p (λ u k. IsOf u q k) w (domain_of at through h)) (some_same (t.Rc n) r e)
       (subst (λ q. Sound p (λ u k. IsOf u (t.Rc n) k) w (domain_of at q h)) (sym y)
       (sound_then p (λ u r. Names (λ u id. IsGridOf u x n id) (t.Grid x n l) u r) _ w (needed at (t.Grid x n l) h) _ (needed_as p w at (t.Grid x n l) h (λ u id. IsGridOf u x n id) (grid_in w x n l h k) (own_of w (t.Grid x n l) h k))
-      (λ u g y i. domain_fine p u at y x n i.thing i.own (ap dim_of_type i.type))))
+      (λ u g y i. domain_fine p u at y x n i.thing (names_thing _ (t.Grid x n l) (t.Grid x n l) u y refl i i.thing) (ap dim_of_type i.type))))
   member_fine at wanted through Restrict (t.Grid x n l) r (t.Rc m ∷ []) h (c ∷ []) e z y k a same =
       let q = where_some (n == m) (t.Grid x n l) r e in
       subst (λ o. Sound p (λ u k. IsOf u o k) w (viewed at wanted (how.Restrict (rect_of c)) through h)) q.1
@@ -514,7 +516,7 @@ indexed_fine p w at wanted u (t.Grid element n l) r ts h zs e i d k c same = by 
         subst (λ z. Sound p (λ x k. IsOf x z k) w (indexed (is_point u) at wanted u h zs) × DimsFine z × Seen z (element_seen u)) q.1 (
           subst (λ b. Sound p (λ x k. IsOf x (read_through l element) k) w (indexed b at wanted u h zs)) (sym (ap is_point i))
               (subst (λ o. Sound p (λ x k. IsOf x (read_through l element) k) w (indexed false at wanted o h zs)) (sym i)
-              (element_fine p w at wanted (t.Grid element n l) h (point_of_numbers zs) element n (grid_in w element n l h k) (own_of w (t.Grid element n l) h k) (numbers_point zs n (c.0 ∙ q.0) d.0 c.1) (seen_form wanted element l (same ∙ ap element_seen i)))),
+              (element_fine p w at wanted (t.Grid element n l) h (point_of_numbers zs) element n l refl (grid_in w element n l h k) (own_of w (t.Grid element n l) h k) (numbers_point zs n (c.0 ∙ q.0) d.0 c.1) (seen_form wanted element l (same ∙ ap element_seen i)))),
           read_dims l element d.1,
           subst (λ z. Seen (read_through l element) (element_seen z)) (sym i) (seen_same (read_through l element)),
         )
@@ -771,7 +773,7 @@ selected w env g at a name (t.Class c l) r h k =
       sound = sound_then p (λ u h. IsOf u (t.Class c l) h) _ w (eval env a) _ k.sound (λ u i h y.
           subst (λ m. Sound p (λ u h. IsOf u (read_through l q.0) h) u (fetched at (type_of env (e.Select at a name)) (Field h (type_of env a) m))) (sym number)
           (subst (λ o. Sound p (λ u h. IsOf u (read_through l q.0) h) u (fetched at (type_of env (e.Select at a name)) (Field h o f.0))) (sym k.seen)
-          (field_fine p u at _ (t.Class c l) h f.0 c q.0 (object_of u c l h y) (own_of u (t.Class c l) h y) f.2 (seen_form _ q.0 l seen))));
+          (field_fine p u at _ (t.Class c l) h f.0 c l q.0 refl (object_of u c l h y) (own_of u (t.Class c l) h y) f.2 (seen_form _ q.0 l seen))));
       dims = read_dims l q.0 (g c f.0 q.0 f.2);
       seen = subst (λ y. Seen (read_through l q.0) y) (sym seen) (seen_same (read_through l q.0));
     })
@@ -815,7 +817,7 @@ module _ (uses : VariableUse → Bool) (s : ScopeContents) where
         to_type w env (e.OwnField at field) (as_global q.0) type q.2 (record {
           sound =
               subst (λ b. Sound p (λ u h. IsOf u (read_through b q.0) h) w (eval env (e.OwnField at field))) (this_global (this_of env.method))
-              (field_fine p w at _ (type_of env (e.This at)) (Plain (v.Obj env.this)) field c.0 q.0 (λ id y. f.this c.0 c.1 id y) (λ z. absurd (true_false (sym z ∙ this_global (this_of env.method)))) c.2 (seen_form _ q.0 false seen));
+              (field_fine p w at _ (type_of env (e.This at)) (Plain (v.Obj env.this)) field c.0 false q.0 (ap (λ o. option_map_or (λ class. t.Class class false) o t.Void) (sym f.this_class ∙ c.1)) (λ id y. f.this c.0 c.1 id y) (λ z. absurd (true_false (sym z ∙ this_global (this_of env.method)))) c.2 (seen_form _ q.0 false seen));
           dims = read_dims false q.0 (g c.0 field q.0 c.2);
           seen = subst (λ y. Seen (as_global q.0) y) (sym seen) (seen_same (as_global q.0));
         })

@@ -1,5 +1,5 @@
 -- The laws of every run of a checked program.
-use Rattle.std.specs.Prelude.{◌≡◌, ◌<◌, ℕ, false, List}
+use Rattle.std.proofs.Common.{◌≡◌, ◌<◌, ℕ, false, List, subst}
 use Rattle.ti_lang.specs.Program.Classes.{NumberedProgram}
 use Rattle.ti_base.specs.declared.place.Place.{Place}
 use Rattle.ti_base.specs.declared.action.Action.{Action}
@@ -15,8 +15,9 @@ use Rattle.ti_align.specs.Alignment.{ArrivalsAgree, NoneAfterEnd, OfEveryRun}
 use Rattle.ti_align.specs.Stopping.{is_delete, RoundsBalance}
 use Rattle.ti_align.proofs.Stopping.{NoneWaits}
 use Rattle.ti_align.proofs.Possible.{never}
-use Rattle.ti_align.specs.Literals.{LiteralsFit}
-use Rattle.ti_align.specs.Typed.{RunTyped}
+use Rattle.ti_align.specs.Mirrors.Literals.{LiteralsFit}
+use Rattle.ti_align.specs.Typed.{RunTyped, TakenAsGiven}
+use Rattle.ti_align.specs.Scoped.{VariablesInScope}
 use Rattle.ti_align.specs.Formed.{ActionsFormed}
 use Rattle.ti_align.specs.Slice.{SliceTells}
 use Rattle.ti_align.specs.Answering.{AnswersFit}
@@ -30,6 +31,9 @@ use Rattle.ti_align.proofs.Aligning as aligning
 use Rattle.ti_align.proofs.Rounds.{same_departures}
 use Rattle.ti_align.proofs.Programs.{checked_fits}
 use Rattle.ti_align.proofs.Holding as holding
+use Rattle.ti_align.proofs.Taking as taking
+use Rattle.ti_align.proofs.Using.{frames_use, checked_stands}
+use Rattle.ti_align.proofs.Keeping.{Keeps, WaitStands, kept}
 use Rattle.ti_align.proofs.Stopping as stopping
 use Rattle.ti_align.proofs.Departed.{departure_fits}
 use Rattle.ti_align.proofs.Answered as answered
@@ -50,6 +54,16 @@ none_after_end p c procs fuel es a b d e w =
 pub run_typed : (p : NumberedProgram) → IsChecked p → LiteralsFit p → OfEveryRun RunTyped p
 run_typed p c l procs fuel es a b d e w =
     holding.run_typed (record { program = p; procs = procs; fuel = fuel }) (checked_fits p c l) (checked_fine p c) b (λ ds r. arrivals_agree p c procs fuel ds a b d e r) es w
+
+pub taken_as_given : (p : NumberedProgram) → IsChecked p → LiteralsFit p → OfEveryRun TakenAsGiven p
+taken_as_given p c l procs fuel es a b d e w =
+    taking.taken_as_given (record { program = p; procs = procs; fuel = fuel }) (checked_fits p c l) (checked_fine p c) b es w (run_typed p c l procs fuel es a b d e w).fits
+
+pub variables_in_scope : (p : NumberedProgram) → IsChecked p → LiteralsFit p → OfEveryRun VariablesInScope p
+variables_in_scope p c l procs fuel es a b d e w i q r within x y z =
+    let s : Setting = record { program = p; procs = procs; fuel = fuel } in
+    let k : Keeps s r = (let way = aligning.way_next s es i q r w x y in kept s i r way.0 (checked_stands p c l) way.1) in
+    frames_use p r.frames (subst (λ o. WaitStands p o r.frames) z k.1)
 
 pub none_waits : (p : NumberedProgram) → IsChecked p → LiteralsFit p → OfEveryRun NoneWaits p
 none_waits p c l procs fuel es a b d e w =

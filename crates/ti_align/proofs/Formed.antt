@@ -16,13 +16,13 @@ use Rattle.ti_lang.specs.Meaning.Held.{Plain, plain_of}
 use Rattle.ti_lang.specs.Meaning.Held as held
 use Rattle.ti_lang.specs.Meaning.Processes.{Setting}
 use Rattle.ti_lang.specs.Meaning.NextStep.{IsNext}
-use Rattle.ti_align.specs.Things.{Things, IsOf}
-use Rattle.ti_align.specs.Sound.{SuitsView}
-use Rattle.ti_align.specs.Work.{DepositFits}
+use Rattle.ti_align.specs.Things.{Things, IsOf, DepositFits}
+use Rattle.ti_align.specs.There.{SuitsView}
 use Rattle.ti_align.specs.Heap.{FieldsStorable}
 use Rattle.ti_align.specs.Typed.{RunTyped}
 use Rattle.ti_align.specs.Formed.{IsFormed, IsFormedDeposit, IsFormedView, IsFormedAction, ActionsFormed}
 use Rattle.ti_align.proofs.Stated.{stored_value}
+use Rattle.ti_align.proofs.Acting.{next_there, next_handed}
 
 -- a value of a type
 value_formed : (w : Things) (type : ValueType) (x : Value) → is_void type ≡ false → IsOf w type (Plain x) → IsFormed x
@@ -58,12 +58,12 @@ pub actions_formed : (s : Setting) (es : List Entry) → FieldsStorable s.progra
 actions_formed s es storable typed i p at a l x n = by a n
   where
     by : (a : Action) → IsNext p (next.Act at a) → IsFormedAction a
-    by (act.PutField obj field value) n = let k = (typed.there i p at (act.PutField obj field value) l x n).1 in value_formed _ k.0 value (stored_value k.0 (storable k.1.0 field k.0 k.1.2)) k.2
-    by (act.NewGrid zero domain region) n = let k = (typed.there i p at (act.NewGrid zero domain region) l x n).1 in k.4.form
-    by (act.GetElem grid index) n = let k = (typed.there i p at (act.GetElem grid index) l x n).1 in k.3.form
-    by (act.PutElem grid index value) n = let k = (typed.there i p at (act.PutElem grid index value) l x n).1 in (k.3.form, value_formed _ k.0 value (stored_value k.0 k.2.4) k.4)
-    by (act.MakeView grid how) n = let k = (typed.there i p at (act.MakeView grid how) l x n).1 in view_formed how k.1 k.3
-    by (act.Arrive kind arg given) n = let k = typed.handed i p at kind arg given l x n in deposit_formed _ k.0 given k.1
+    by (act.PutField obj field value) n = let k = (next_there s es typed i p at (act.PutField obj field value) l x n).1 in value_formed _ k.0 value (stored_value k.0 (storable k.1.0 field k.0 k.1.2)) k.2
+    by (act.NewGrid zero domain region) n = let k = (next_there s es typed i p at (act.NewGrid zero domain region) l x n).1 in k.4.form
+    by (act.GetElem grid index) n = let k = (next_there s es typed i p at (act.GetElem grid index) l x n).1 in k.3.form
+    by (act.PutElem grid index value) n = let k = (next_there s es typed i p at (act.PutElem grid index value) l x n).1 in (k.3.form, value_formed _ k.0 value (stored_value k.0 k.2.4) k.4)
+    by (act.MakeView grid how) n = let k = (next_there s es typed i p at (act.MakeView grid how) l x n).1 in view_formed how k.1 k.3
+    by (act.Arrive kind arg given) n = let k = next_handed s es typed i p at kind arg given l x n in deposit_formed _ k.0 given k.1
     by (act.GetField obj field) n = tt
     by (act.NewObj class region) n = tt
     by (act.DomainOf grid) n = tt

@@ -20,7 +20,7 @@ use Rattle.ti_lang.specs.Typing.Declared.{in_scope, declared_type, variable_type
 use Rattle.ti_lang.specs.Typing.Expressions.{plain, both, joined, one, all_ints, point_literal, all_points, range_of_points, rect_literal, index_type, select_type, range_count, operands, bound, bounds, operand_type}
 use Rattle.ti_base.specs.Forms.{is_dim}
 use Rattle.ti_align.specs.Things.{IsStorable, DimsFine}
-use Rattle.ti_align.specs.Work.{has_dims}
+use Rattle.ti_align.specs.Mirrors.Work.{has_dims}
 use Rattle.ti_align.proofs.Vars.{true_false, and_left, and_right}
 use Rattle.ti_align.proofs.Operating.{none_some, some_same, where_some}
 use Rattle.ti_lang.proofs.MeaningLaws.Dims.{dims_are, dim_is}

@@ -31,7 +31,7 @@ use Rattle.ti_lang.specs.Meaning.Literals.{coordinates_of, point_of_numbers, Bou
 use Rattle.ti_lang.specs.Meaning.Answers.{IsPointOf, IsRectOf}
 use Rattle.ti_lang.proofs.MeaningLaws.Dims.{dim_is}
 use Rattle.ti_align.specs.Things.{ArePoints}
-use Rattle.ti_align.specs.Sound.{SuitsView, dims_viewed}
+use Rattle.ti_align.specs.There.{SuitsView, dims_viewed}
 use Rattle.ti_align.proofs.Vars.{true_false, and_left, and_right}
 
 -- ---- numbers

@@ -8,11 +8,8 @@ use Rattle.ti_lang.specs.Meaning.Processes.{Variable}
 use Rattle.ti_lang.specs.Meaning.Scoping.{same_declaration, same_variable, with_new, with_changed, without}
 use Rattle.ti_align.proofs.Vars.{true_false, and_left, and_right, or_left, or_right}
 use Rattle.ti_align.proofs.Operating.{type_same, or_either}
-use Rattle.ti_align.proofs.Scoped.{Names, is_one, with_all, Fresh}
-
--- the variable is found among these
-abbrev pub found : VariableUse → List Variable → Bool
-found v vs = list_any (λ (w : Variable). same_variable v w.named) vs
+use Rattle.ti_align.specs.Scoped.{Names, found}
+use Rattle.ti_align.proofs.Scoped.{is_one, with_all, Fresh}
 
 -- all names are found there
 abbrev pub Holds : Names → List Variable → Type 0

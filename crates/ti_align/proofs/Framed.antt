@@ -15,16 +15,17 @@ use Rattle.ti_lang.specs.Meaning.Turns.{turns_at, point_at}
 use Rattle.ti_lang.specs.Meaning.Processes.{Process, Frame, While, Foreach, Work, Do, End, Before, Behind, Receive, CopyAll, TakeAll}
 use Rattle.ti_lang.specs.Meaning.Scoping.{Env, env_of, find_variable, value_by}
 use Rattle.ti_rules.specs.Standing.{singles_in, with_point, variables_inside}
-use Rattle.ti_align.specs.Things.{Things, IsOf, DimsFine}
-use Rattle.ti_align.specs.Fitting.{EnvFits, FieldsFit}
-use Rattle.ti_align.specs.Sound.{Sound}
-use Rattle.ti_align.specs.Heap.{FieldsStorable}
+use Rattle.ti_align.specs.Things.{Things, IsOf, DimsFine, VariablesFit, ThisFits}
+use Rattle.ti_align.specs.Mirrors.Fitting.{EnvFits}
+use Rattle.ti_align.specs.Heap.{FieldsFit, FieldsStorable}
+use Rattle.ti_align.specs.Mirrors.Sound.{Sound}
 use Rattle.ti_lang.specs.Meaning.Performing.{performed}
 use Rattle.ti_lang.specs.Meaning.Scoping as scoping
 use Rattle.ti_lang.proofs.MeaningLaws.Dims.{dims_are}
 use Rattle.ti_align.proofs.Dimmed.{this_over, text_type}
 use Rattle.ti_align.proofs.Stated.{work_fine}
-use Rattle.ti_align.specs.Work.{VariablesFit, has_dims, may_use, uses_of, scope_over, MethodsFit, ThisFits, HasNumber, given_type, taken_type, WorksFit, MoveFits}
+use Rattle.ti_align.specs.Mirrors.Work.{has_dims, may_use, uses_of, MethodsFit, HasNumber, taken_type, WorksFit, MoveFits}
+use Rattle.ti_align.specs.Given.{scope_over, given_type}
 use Rattle.ti_align.proofs.Vars.{true_false, and_left, and_right}
 use Rattle.ti_align.proofs.Operating.{none_some, some_same}
 use Rattle.ti_align.proofs.Evaluating.{mapped}

@@ -11,8 +11,8 @@ use Rattle.ti_lang.specs.Meaning.Processes.{Setting, Work, Do, End, Before, Behi
 use Rattle.ti_lang.specs.Meaning.Histories.{arrivals}
 use Rattle.ti_lang.specs.Meaning.Runs.{CanTake, IsRun}
 use Rattle.ti_align.specs.SinglePart.{single_part}
-use Rattle.ti_align.specs.Work.{scope_inside, scope_over, given_type}
-use Rattle.ti_align.specs.Typed.{given_first, given_in, given_by, GivesAt}
+use Rattle.ti_align.specs.Given.{scope_inside, scope_over, given_type, given_first, given_in, given_by}
+use Rattle.ti_align.specs.Typed.{GivesAt}
 use Rattle.ti_align.proofs.Slice.{jump_at, kept, frame_part, frame_parts, State, slice}
 use Rattle.ti_align.proofs.Vars.{if_true}
 use Rattle.ti_align.proofs.Fine.{Deep, OkWorks, kept_on}

@@ -39,11 +39,9 @@ use Rattle.ti_lang.proofs.MeaningLaws.Falling.{Giving, then_giving, guarded_givi
 use Rattle.ti_rules.specs.InitialTypes.{is_region}
 use Rattle.ti_align.proofs.Fitting.{giving_followed}
 use Rattle.ti_align.proofs.Vars.{true_false, and_left, and_right}
-use Rattle.ti_align.proofs.Scoped.{Names, KnownAs, ExpScoped, ExpsScoped, InitScoped}
-use Rattle.ti_align.proofs.Found.{found}
+use Rattle.ti_align.specs.Scoped.{Names, KnownAs, ExpScoped, ExpsScoped, InitScoped, found, StmUses, WorkUses}
 use Rattle.ti_align.proofs.Suited.{args_of}
 use Rattle.ti_align.proofs.Leading.{giving_with}
-use Rattle.ti_align.proofs.Using.{StmUses, WorkUses}
 use Rattle.ti_align.proofs.Regional.{Good, GoodAs, good_region, AllGood, find_good, changed_good, without_good, is_region_exp, IsSuch, ArgsAreSuch, target_type, received_type, ReceiverSuits, CallIsSuch, InitIsSuch, DeletesSuch, StmIsSuch, MaybeIsSuch, StmsAreSuch, LoopIsSuch, WorkIsSuch, WorksAreSuch, such_before, MethodsAreSuch}
 
 -- ---- what is given

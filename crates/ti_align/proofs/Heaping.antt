@@ -37,7 +37,7 @@ use Rattle.ti_lang.proofs.MeaningLaws.Dims.{dim_is}
 use Rattle.ti_lang.proofs.MeaningLaws.Things.{made_once, fault_then, answer_same, views_then, placed}
 use Rattle.ti_lang.proofs.MeaningLaws.NewThings.{grid_then, class_then, same_name}
 use Rattle.ti_align.specs.Things.{Things, Grows, IsStorable, IsGridOf, IsPlaced, IsOf}
-use Rattle.ti_align.specs.Sound.{SuitsView, dims_viewed, IsFieldOf, IsThere, FitsAsked}
+use Rattle.ti_align.specs.There.{SuitsView, dims_viewed, IsFieldOf, IsThere, FitsAsked}
 use Rattle.ti_align.specs.Heap.{Elements, things_of, IsBlock, FieldsStorable, HeapFits, is_of_heap, elements_behind, MayHold, KeepsTypes}
 use Rattle.ti_align.proofs.Vars.{true_false, and_left, and_right, if_true, if_false}
 use Rattle.ti_align.proofs.Operating.{none_some, some_same}
@@ -191,7 +191,8 @@ views_not (Some kind) o n z = cc
 some_not : {A : Type 0} → (o : Option A) (a : A) (go : A → Outcome) → o ≡ Some a → (go a ≡ Impossible → ⊥) → where_some o go ≡ Impossible → ⊥
 some_not o a go s n z = n (sym (ap (λ x. where_some x go) s) ∙ z)
 
-place_is : (i : ℕ) (elements : Elements) (h : History) (r : ℕ) → IsPlaced (things_of i elements h) r → is_place r h ≡ true
+-- the place of a thing is one by the test of the meaning
+pub place_is : (i : ℕ) (elements : Elements) (h : History) (r : ℕ) → IsPlaced (things_of i elements h) r → is_place r h ≡ true
 place_is i elements h r (inl z) = ap (λ b. b || is_made r h) (eq-eqb r 0 z)
 place_is i elements h r (inr z) = by (r == 0)
   where

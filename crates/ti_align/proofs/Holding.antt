@@ -21,9 +21,9 @@ use Rattle.ti_lang.specs.Program.Classes.{NumberedProgram}
 use Rattle.ti_lang.specs.Typing.Kinds.{is_local}
 use Rattle.ti_lang.specs.Meaning.Held.{Plain}
 use Rattle.ti_lang.specs.Meaning.Asking.{Wanted, ToBeDone, Request, told}
-use Rattle.ti_lang.specs.Meaning.Processes.{Setting, Wait, Process, begin}
+use Rattle.ti_lang.specs.Meaning.Processes.{Setting, Frame, Wait, Process, begin}
 use Rattle.ti_lang.specs.Meaning.Steps.{At, step}
-use Rattle.ti_lang.specs.Meaning.NextStep.{here, IsNext, After, none}
+use Rattle.ti_lang.specs.Meaning.NextStep.{Reaches, here, IsNext, After, none}
 use Rattle.ti_lang.specs.Meaning.Histories.{History, history_of, is_end, is_fault, is_arrival, is_departure, is_answered, answers_of, arrivals}
 use Rattle.ti_lang.specs.Meaning.RegionsOf.{is_made, is_gone, is_region}
 use Rattle.ti_lang.specs.Meaning.HeapOf.{grid_of, or_else, written_by, written_to, last_written}
@@ -37,12 +37,14 @@ use Rattle.ti_lang.proofs.MeaningLaws.Running.{taker, history_grows, run_answere
 use Rattle.ti_lang.proofs.MeaningLaws.Things.{answer_same}
 use Rattle.ti_align.specs.Alignment.{most_procs, ArrivalsAgree}
 use Rattle.ti_align.specs.Owners.{MadeWith}
-use Rattle.ti_align.specs.Things.{Things, Grows, IsOf}
-use Rattle.ti_align.specs.Sound.{IsThere, FitsAsked}
-use Rattle.ti_align.specs.Work.{DepositFits, IsOfRound, WantsOf}
+use Rattle.ti_align.specs.Things.{Things, Grows, IsOf, DepositFits, FramesHold}
+use Rattle.ti_align.specs.There.{IsThere, GoesThrough, SuitsWanted, FitsAsked}
+use Rattle.ti_align.specs.Given.{IsOfRound, given_by}
+use Rattle.ti_align.specs.Mirrors.Work.{WantsOf}
 use Rattle.ti_align.specs.Heap.{Elements, things_of, HeapFits, elements_behind, is_of_heap, KeepsTypes}
 use Rattle.ti_align.specs.Dangling.{handed_by, deposited_by, IfNamedLives, NamesLiving}
-use Rattle.ti_align.specs.Typed.{ProgramFits, ProcessFits, given_by, GivesAt, GivesLast, hands_in, RunFits, RunTyped}
+use Rattle.ti_align.specs.Mirrors.Processes.{ProgramFits, FramesFit, ProcessFits}
+use Rattle.ti_align.specs.Typed.{GivesAt, GivesLast, hands_in, RunFits, RunTyped}
 use Rattle.ti_align.proofs.Steps.{ActionFits, StepFits}
 use Rattle.ti_align.proofs.Vars.{true_false, and_left}
 use Rattle.ti_align.proofs.Ways.{Asked, asking}
@@ -63,7 +65,8 @@ use Rattle.ti_align.proofs.Giving.{given_same, gives_more, gives_now}
 use Rattle.ti_align.proofs.Possible.{ThingsThere, by_kind}
 use Rattle.ti_align.proofs.Aligning.{way_next}
 use Rattle.ti_align.proofs.Computing.{grows_then, grows_for, of_stays, seen_from}
-use Rattle.ti_align.proofs.Heaping.{pair_second, keeps_types}
+use Rattle.ti_align.proofs.Heaping.{pair_second, field_value, block_value, keeps_types}
+use Rattle.ti_align.proofs.Acting as acting
 use Rattle.ti_align.proofs.Making.{MadeNow, made_cases, made_elements}
 use Rattle.ti_align.proofs.Staying.{there_stays, stays, other_round}
 use Rattle.ti_align.proofs.Kept.{Performs, Known, begin_fits, step_fits, known_here, reaches_fits}
@@ -159,6 +162,11 @@ makes_formed p w (act.Fault kind) wanted k = tt
 no_departure : (a : Action) → is_of_heap a ≡ true → is_departure a ≡ false
 no_departure act.Depart z = absurd (true_false (sym z))
 no_departure _ z = refl
+
+-- what calls in progress hold
+frames_hold : (p : NumberedProgram) (w : Things) (fs : List Frame) → FramesFit p w fs → FramesHold w fs
+frames_hold p w [] k = tt
+frames_hold p w (f ∷ fs) k = (k.0.0, k.0.1, frames_hold p w fs k.2)
 
 module _ (s : Setting)
     (fits : ProgramFits s.program) (fine : FineMethods s.program s.program.methods) (few : s.procs ≤ most_procs) where
@@ -505,24 +513,27 @@ module _ (s : Setting)
 
   -- ---- what is named
 
+  -- what is known of a process wherever it stands between its actions, and of its step there
+  module _ (es : List Entry) (ran : IsRun s es) (w : ℕ → Things) (own : (i : ℕ) → (w i).owner ≡ i)
+      (fit : (i : ℕ) (p : Process) → i < s.procs → World s es i p → ProcessFits (w i) (GivesLast s es i) p) where
+    pub reached : (i : ℕ) (p q : Process) → i < s.procs → World s es i p → Reaches p q → ProcessFits (w i) (GivesLast s es i) q × Stands s i (last_kind i (history_of es)) q
+    reached i p q b x y =
+        let k = way_next s es i p p ran x here in
+        reaches_fits performs (w i) (GivesLast s es i) s i (last_kind i (history_of es)) p q (own i) (known_of i b) (subst (λ l. Stands s i l p) k.4 (given_facts.stands s i p k.0 k.1)) y (fit i p b x)
+
+    pub step_reached : (i : ℕ) (p q : Process) (request : Request) (go : Answer → Process) → i < s.procs → World s es i p → Reaches p q → step q ≡ At request go
+        → StepFits (w i) (GivesLast s es i) (GivesLast s es i) q (At request go)
+    step_reached i p q request go b x y z =
+        let k = reached i p q b x y in
+        let last = last_kind i (history_of es) in
+        subst (StepFits (w i) (GivesLast s es i) (GivesLast s es i) q) z
+        (step_fits performs (w i) (GivesLast s es i) (GivesLast s es i) s i last q (own i) (known_here performs s i last q (known_of i b) k.1) k.1 k.0)
+
   pub next_fits : (es : List Entry) → IsRun s es → (w : ℕ → Things) → ((i : ℕ) → (w i).owner ≡ i) → ((i : ℕ) (p : Process) → i < s.procs → World s es i p → ProcessFits (w i) (GivesLast s es i) p) → (i : ℕ) (p : Process) (at : Place) (a : Action) → i < s.procs → World s es i p → (n : IsNext p (next.Act at a))
       → (asked : Asked) × (go : Answer → Process) × (n.0.setting ≡ s) × StepFits (w i) (GivesLast s es i) (GivesLast s es i) n.0 (At (asking at a asked) go) × (step n.0 ≡ At (asking at a asked) go)
   next_fits es r w own fit i p at a b x n =
-      let q = n.0 in
-      let k = way_next s es i p p r x here in
-      let stand = given_facts.stands s i p k.0 k.1 in
-      let reached = reaches_fits performs (w i) (GivesLast s es i) s i _ p q (own i) (known_of i b) stand n.1.reaches (fit i p b x) in
-      let acts = at_action (step q) at a n.1.stands in
-      (acts.0, acts.1, reached.1.0, subst (StepFits (w i) (GivesLast s es i) (GivesLast s es i) q) acts.2 (step_fits performs (w i) (GivesLast s es i) (GivesLast s es i) s i _ q (own i) (known_here performs s i _ q (known_of i b) reached.1) reached.1 reached.0), acts.2)
-
-  next_there : (es : List Entry) → IsRun s es → (fit : RunFits s es) → (i : ℕ) (p : Process) (at : Place) (a : Action) → i < s.procs → World s es i p → IsNext p (next.Act at a) → (wanted : Wanted) × IsThere s.program (things_of i fit.elements (history_of es)) a wanted
-  next_there es r fit i p at a b x n =
-      let k = next_fits es r (λ i. things_of i fit.elements (history_of es)) (λ i. refl) fit.processes i p at a b x n in
-      (k.0.1, subst (λ (y : Setting). IsThere y.program (things_of i fit.elements (history_of es)) a k.0.1) k.2 k.3.0)
-
-  next_handed : (es : List Entry) → IsRun s es → (fit : RunFits s es) → (i : ℕ) (p : Process) (at : Place) (kind : CollKind) (arg : Option ℕ) (given : Deposit) → i < s.procs → World s es i p → IsNext p (next.Act at (act.Arrive kind arg given))
-      → (type : ValueType) × DepositFits (things_of i fit.elements (history_of es)) type given
-  next_handed es r fit i p at kind arg given b x n = let k = next_fits es r (λ i. things_of i fit.elements (history_of es)) (λ i. refl) fit.processes i p at (act.Arrive kind arg given) b x n in (k.3.2.0, k.3.2.1)
+      let acts = at_action (step n.0) at a n.1.stands in
+      (acts.0, acts.1, (reached es r w own fit i p n.0 b x n.1.reaches).1.0, step_reached es r w own fit i p n.0 (asking at a acts.0) acts.1 b x n.1.reaches acts.2, acts.2)
 
   -- what an action hands on lives
   handed : (es : List Entry) (fit : RunLives s es) (q : Process) (asked : Request) (a : Action) (wanted : Wanted) (go : Answer → Process) → (i : ℕ) → IsThere s.program (living (history_of es) (things_of i fit.elements (history_of es))) a wanted
@@ -541,12 +552,45 @@ module _ (s : Setting)
       let there : IsThere s.program (living h w) a k.0.1 = subst (λ (y : Setting). IsThere y.program (living h w) a k.0.1) k.2 k.3.0 in
       record { used = used_lives h w s.program a k.0.1 there; handed = handed es fit n.0 (asking at a k.0) a k.0.1 k.1 i there k.3.2 }
 
+  -- what an arrival hands in is of the type at which it does
+  module _ (es : List Entry) (ran : IsRun s es) (fit : RunFits s es) where
+    abbrev present : ℕ → Things
+    present i = things_of i fit.elements (history_of es)
+
+    next_handed : (i : ℕ) (p q : Process) (request : Request) (go : Answer → Process) (kind : CollKind) (arg : Option ℕ) (given : Deposit) → i < s.procs → World s es i p → Reaches p q → step q ≡ At request go
+        → request.action ≡ act.Arrive kind arg given → (type : ValueType) × DepositFits (present i) type given × IsOfRound (λ u. given_by q ≡ Some u) kind type
+    next_handed i p q request go kind arg given b x y z a =
+        let k = subst (λ (a : Action). ActionFits (present i) (GivesLast s es i) (GivesLast s es i) q request a go) a (step_reached es ran present (λ i. refl) fit.processes i p q request go b x y z).2 in
+        (k.0, k.1, k.2)
+
+    -- and what is asked for is there
+    next_there : (i : ℕ) (p q : Process) (request : Request) (go : Answer → Process) → i < s.procs → World s es i p → Reaches p q → step q ≡ At request go
+        → IsThere s.program (present i) request.action request.wanted × GoesThrough (present i) request.through request.action × SuitsWanted s.program (present i) request.action request.wanted
+    next_there i p q request go b x y z =
+        let k = step_reached es ran present (λ i. refl) fit.processes i p q request go b x y z in
+        let e = (reached es ran present (λ i. refl) fit.processes i p q b x y).1.0 in (
+          subst (λ (n : Setting). IsThere n.program (present i) request.action request.wanted) e k.0,
+          k.1,
+          subst (λ (n : Setting). SuitsWanted n.program (present i) request.action request.wanted) e k.3,
+        )
+
   pub run_typed : ((es : List Entry) → IsRun s es → ArrivalsAgree s es) → (es : List Entry) → IsRun s es → RunTyped s es
-  run_typed agree es r = let fit = run_holds agree es r in record { fits = fit; handed = next_handed es r fit; there = next_there es r fit }
+  run_typed agree es r =
+      let fit = run_holds agree es r in
+      let h = history_of es in
+      record {
+        fits = fit;
+        processes = λ i p q b x y. (reached es r (λ j. things_of j fit.elements h) (λ j. refl) fit.processes i p q b x y).0;
+        variables = λ i p q b x y. frames_hold q.setting.program (things_of i fit.elements h) q.frames (reached es r (λ j. things_of j fit.elements h) (λ j. refl) fit.processes i p q b x y).0.0;
+        fields = λ obj class field type c f. field_value s.program fit.elements h fit.heap fits.storable obj field type (class, c, f);
+        cells = λ block at element m. block_value s.program fit.elements h fit.heap fits.storable block element at m;
+        handed = next_handed es r fit;
+        there = next_there es r fit;
+      }
 
   -- so the heap answers it
   pub things_there : ((es : List Entry) → IsRun s es → ArrivalsAgree s es) → (es : List Entry) → IsRun s es → ThingsThere s es
   things_there agree es r i p at a b x n of o =
       let typed = run_typed agree es r in
-      let named = typed.there i p at a b x n in
+      let named = acting.next_there s es typed i p at a b x n in
       (keeps_types s.program typed.fits.elements (history_of es) i a named.0 fits.storable (run_answered s es r) typed.fits.heap named.1).possible of o

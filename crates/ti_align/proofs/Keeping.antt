@@ -26,7 +26,8 @@ use Rattle.ti_rules.specs.TypeRules.{ends_with_return}
 use Rattle.ti_align.proofs.Ways.{Asked, asking, Meeting, Came, Left, Way}
 use Rattle.ti_align.proofs.Ways as way
 use Rattle.ti_align.proofs.Vars.{true_false}
-use Rattle.ti_align.proofs.Scoped.{Names, is_one}
+use Rattle.ti_align.specs.Scoped.{Names}
+use Rattle.ti_align.proofs.Scoped.{is_one}
 use Rattle.ti_align.proofs.Found.{Holds, holds_some}
 use Rattle.ti_align.proofs.Suited.{StmsSuit}
 use Rattle.ti_align.proofs.Reaching.{declares, WorksStand, Standing, Awaiting, received, not_received, awaits_nothing, all_stand, from_stands, past_stands, IsReturn, Returning, returning_both, returning_from, returning_past, MethodStands, MethodsStand}

@@ -26,14 +26,15 @@ use Rattle.ti_lang.specs.Meaning.Jumps.{has_mark, from_mark, past_mark, variable
 use Rattle.ti_lang.specs.Meaning.Steps.{Step, To, Faults, spends, ticks, answered, valued, handed, most_frames, named_in, arrives, deleting, value_asked, departs, moves, works, runs, steps, step}
 use Rattle.ti_lang.specs.Meaning.NextStep.{Reaches, here, later}
 use Rattle.ti_lang.proofs.MeaningLaws.Requests.{Of}
-use Rattle.ti_align.specs.Things.{Things, Grows, IsOf}
-use Rattle.ti_align.specs.Sound.{FitsAsked, Sound}
-use Rattle.ti_align.specs.Sound as sound
-use Rattle.ti_align.specs.Work.{VariablesFit, scope_over, ReceiverFits, MethodFits, MethodsFit, ThisFits, HasNumber, DepositFits, given_type, taken_type, TakesOf, taken_behind, IsOfRound, WantsOf, WorksFit, IsAwaited, MoveFits}
-use Rattle.ti_align.specs.Typed.{ProgramFits, HandsOn, FramesFit, given_first, given_in, given_by, WorkSound, TakesFirst, WaitFits, NextFits, ProcessFits}
+use Rattle.ti_align.specs.Things.{Things, Grows, IsOf, VariablesFit, ThisFits, DepositFits}
+use Rattle.ti_align.specs.There.{FitsAsked}
+use Rattle.ti_align.specs.Mirrors.Sound.{Sound}
+use Rattle.ti_align.specs.Mirrors.Sound as sound
+use Rattle.ti_align.specs.Given.{scope_over, given_type, IsOfRound, given_first, given_in, given_by}
+use Rattle.ti_align.specs.Mirrors.Work.{ReceiverFits, MethodFits, MethodsFit, HasNumber, taken_type, TakesOf, taken_behind, WantsOf, WorksFit, IsAwaited, MoveFits}
+use Rattle.ti_align.specs.Mirrors.Processes.{ProgramFits, HandsOn, FramesFit, WorkSound, TakesFirst, WaitFits, NextFits, ProcessFits}
 use Rattle.ti_align.proofs.Steps.{ActionFits, StepFits}
-use Rattle.ti_align.proofs.Vars.{true_false}
-use Rattle.ti_align.proofs.Computing.{same_sound}
+use Rattle.ti_align.proofs.Computing.{goes_alone, same_sound}
 use Rattle.ti_align.proofs.Operating.{none_some, some_same}
 use Rattle.ti_align.proofs.Given.{HoldsNothing, LeftFine, AllFree, TopFine, WaitFine, Stands, tail_free, free_mark, free_past, step_fine}
 use Rattle.ti_align.proofs.Staying.{frames_stay}
@@ -172,7 +173,7 @@ module _ (performs : Performs) where
     arrives_fit : (left xs : List Work) → Top w pr f fs left → (wait : Wait) (given : Deposit) (type : ValueType) → WorksFit p f.method (method_scope f.method) w xs → DepositFits w type given → IsOfRound (λ u. given_by pr ≡ Some u) wait.kind type
         → IsAwaited p f.method (s xs) wait.wanted wait.receiver type → WantsOf wait.kind wait.wanted type → TakesOf (taken_behind wait.kind type) xs → StepFits w G H pr (arrives pr (record f { left = xs } ∷ fs) wait given)
     arrives_fit left xs top wait given type k d r a o i =
-        ticks_fit w G H pr wait.place _ (tt, (λ z. absurd (true_false (sym z))), (type, d, r, λ z u g answer. (frames_stay p w u (record f { left = xs } ∷ fs) g (frames_with left top f.variables xs top.variables k), ((type, a, z, o, i), refl))), refl)
+        ticks_fit w G H pr wait.place _ (tt, goes_alone w (act.Arrive wait.kind wait.arg given) refl, (type, d, r, λ z u g answer. (frames_stay p w u (record f { left = xs } ∷ fs) g (frames_with left top f.variables xs top.variables k), ((type, a, z, o, i), refl))), refl)
 
     moves_fit : (x : Work) (left : List Work) → Top w pr f fs left → TakesFirst G (x ∷ left) → given_by pr ≡ given_type p (s left) x → (move : Move) → FitsFrame p f left x w move → StepFits w G H pr (moves pr f fs left move)
     moves_fit x left top i e (Goes vs xs) k = both_fit x left top i pr.spent vs xs k.0 k.1 k.2
@@ -278,7 +279,7 @@ module _ (performs : Performs) where
     departs_fit wait (f ∷ fs) z y k i =
         ticks_fit w G H pr wait.place _ (
           tt,
-          λ q. absurd (true_false (sym q)),
+          goes_alone w act.Depart refl,
           (
             wait,
             i.0,

@@ -39,9 +39,10 @@ use Rattle.ti_lang.proofs.MeaningLaws.NewThings.{same_name}
 use Rattle.ti_align.specs.Alignment.{ArrivalsAgree}
 use Rattle.ti_align.specs.Owners.{MadeWith}
 use Rattle.ti_align.specs.Things.{Things, seen_by, IsGridOf, IsOf}
-use Rattle.ti_align.specs.Sound.{dims_viewed, IsFieldOf, IsThere, FitsAsked}
+use Rattle.ti_align.specs.There.{dims_viewed, IsFieldOf, IsThere, FitsAsked}
 use Rattle.ti_align.specs.Heap.{Elements, things_of, FieldsStorable, HeapFits, is_of_heap}
-use Rattle.ti_align.specs.Typed.{ProcessFits, GivesAt, GivesLast, hands_in}
+use Rattle.ti_align.specs.Mirrors.Processes.{ProcessFits}
+use Rattle.ti_align.specs.Typed.{GivesAt, GivesLast, hands_in}
 use Rattle.ti_align.specs.Dangling.{Lives, IfNamedLives}
 use Rattle.ti_align.proofs.Vars.{true_false, or_false, and_right, not_true}
 use Rattle.ti_align.proofs.Operating.{none_some, some_same}

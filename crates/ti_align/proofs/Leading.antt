@@ -37,10 +37,11 @@ use Rattle.ti_lang.specs.Meaning.Performing.{condition, declared_alone, declared
 use Rattle.ti_lang.proofs.MeaningLaws.Falling.{Giving, then_giving, guarded_giving}
 use Rattle.ti_align.proofs.Fitting.{giving_followed}
 use Rattle.ti_align.proofs.Vars.{true_false, or_left}
-use Rattle.ti_align.proofs.Scoped.{Names, is_one, with_all}
+use Rattle.ti_align.specs.Scoped.{Names, ReceiverScoped}
+use Rattle.ti_align.proofs.Scoped.{is_one, with_all}
 use Rattle.ti_align.proofs.Found.{Holds, Among, Apart, holds_new, holds_changed, holds_without, holds_some, fresh_apart, among_with}
 use Rattle.ti_align.proofs.Suited.{Enough, CallSuits, GivesValue, InitSuits}
-use Rattle.ti_align.proofs.Reaching.{ReceiverScoped, declares, with_received, behind, leaving, StmStands, LoopStands, WorkStands, WorksStand, Standing, Awaiting, all_stand, MethodStands, MethodsStand}
+use Rattle.ti_align.proofs.Reaching.{declares, with_received, behind, leaving, StmStands, LoopStands, WorkStands, WorksStand, Standing, Awaiting, all_stand, MethodStands, MethodsStand}
 
 -- ---- what is stored
 

@@ -65,7 +65,9 @@ pub mod Counted
 pub mod Living
 pub mod Leaving
 pub mod Lasting
+pub mod Acting
 pub mod Holding
+pub mod Taking
 pub mod Departed
 pub mod Told
 pub mod Answered

@@ -7,7 +7,7 @@ use Rattle.ti_base.specs.declared.action.Action.TheVariants as act
 use Rattle.ti_base.specs.declared.action.Deposit.{Deposit}
 use Rattle.ti_base.specs.declared.action.Deposit.TheVariants as deposit
 use Rattle.ti_base.specs.Cells.{Grid}
-use Rattle.ti_lang.specs.Program.Types.{ValueType}
+use Rattle.ti_lang.specs.Program.Types.{ValueType, Declaration, Typed, Foreach}
 use Rattle.ti_lang.specs.Program.Types as t
 use Rattle.ti_lang.specs.Program.Classes.{NumberedMethod, NumberedProgram}
 use Rattle.ti_lang.specs.Program.Scope.{ScopeContents, method_scope}
@@ -18,10 +18,10 @@ use Rattle.ti_lang.specs.Meaning.Processes.{Variable, Work, Do, End, Before, Beh
 use Rattle.ti_lang.specs.Meaning.Steps.{lies_in, named_in}
 use Rattle.ti_lang.specs.Meaning.Histories.{History}
 use Rattle.ti_lang.specs.Meaning.RegionsOf.{is_gone}
-use Rattle.ti_align.specs.Things.{Things, seen_by, Grows, IsGridOf, IsOf}
-use Rattle.ti_align.specs.Sound.{IsThere}
-use Rattle.ti_align.specs.Work.{VariablesFit, ThisFits, DepositFits, WorksFit}
-use Rattle.ti_align.specs.Typed.{FramesFit, NextFits, ProcessFits}
+use Rattle.ti_align.specs.Things.{Things, seen_by, Grows, IsGridOf, IsOf, HoldsOf, VariablesFit, ThisFits, DepositFits}
+use Rattle.ti_align.specs.There.{IsThere}
+use Rattle.ti_align.specs.Mirrors.Work.{WorksFit}
+use Rattle.ti_align.specs.Mirrors.Processes.{FramesFit, NextFits, ProcessFits}
 use Rattle.ti_align.specs.Heap.{FieldsStorable}
 use Rattle.ti_align.specs.Dangling.{used_by, deposited_by, Lives, IfNamedLives}
 use Rattle.ti_align.proofs.Vars.{true_false, if_false}
@@ -163,11 +163,15 @@ module _ (h k : History) (w : Things) (r : ℕ) (left : (n : ℕ) → is_gone n 
   value_left : (type : ValueType) (x : Held) → lies_in r (thing_of x) ≡ false → IsOf (living h w) type x → IsOf (living k w) type x
   value_left type x n f = of_living k w type x (of_stays (living h w) w type x (living_there h w) f) (λ v. named_left (thing_of x) n (value_lives h w type x v f))
 
+  held_left : (d : Declaration) (x : Held) → lies_in r (thing_of x) ≡ false → HoldsOf (living h w) d x → HoldsOf (living k w) d x
+  held_left (Typed l type) x n f = value_left type x n f
+  held_left Foreach x n f = absurd f
+
   variables_left : (xs : List Variable) → count_by (λ (x : Variable). lies_in r (thing_of x.held)) xs ≡ 0 → VariablesFit (living h w) xs → VariablesFit (living k w) xs
   variables_left [] z f = tt
   variables_left (x ∷ xs) z f =
       let y = sum_zero (cond (lies_in r (thing_of x.held)) 1 0) (count_by (λ (x : Variable). lies_in r (thing_of x.held)) xs) (sym (sum_by-cons (λ (x : Variable). cond (lies_in r (thing_of x.held)) 1 0) x xs) ∙ z) in
-      (value_left _ x.held (count_zero (lies_in r (thing_of x.held)) y.0) f.0, variables_left xs y.1 f.1)
+      (held_left x.named.declared x.held (count_zero (lies_in r (thing_of x.held)) y.0) f.0, variables_left xs y.1 f.1)
 
   this_left : (m : NumberedMethod) (this : Option Id) → lies_in r this ≡ false → ThisFits (living h w) m this → ThisFits (living k w) m this
   this_left m this n f = λ c o id z.

@@ -18,7 +18,7 @@ use Rattle.ti_lang.specs.Typing.Declared.{in_scope, field_type}
 use Rattle.ti_lang.specs.Typing.Expressions.{range_count}
 use Rattle.ti_lang.specs.Typing.TextTypes.{how_many}
 use Rattle.ti_base.specs.Forms.{is_dim}
-use Rattle.ti_align.specs.Work.{is_form_of_call}
+use Rattle.ti_align.specs.Mirrors.Work.{is_form_of_call}
 
 -- ---- types
 

@@ -30,8 +30,8 @@ use Rattle.ti_lang.specs.Typing.TextTypes.{how_many}
 use Rattle.ti_lang.specs.Numbering as number
 use Rattle.ti_lang.specs.Numbering.{IsKnownBase, NumbersType, NumbersExp, NumbersExps, NumbersRange, NumbersRanges, NumbersMaybe, NumbersDims, NumbersInit, NumbersPrint, NumbersStm, NumbersMaybeStm, NumbersStms, NumbersFields, NumbersClasses, NumbersParamList, NumbersParams, NumbersMethod, NumbersMethods, Numbers, IsNumbered}
 use Rattle.ti_base.specs.Forms.{is_dim}
-use Rattle.ti_align.specs.Literals.{InExp, InExps, InRange, InRanges, InOption, InDims, InInit, InPrint}
-use Rattle.ti_align.specs.Work.{is_form_of_call}
+use Rattle.ti_align.specs.Mirrors.Literals.{InExp, InExps, InRange, InRanges, InOption, InDims, InInit, InPrint}
+use Rattle.ti_align.specs.Mirrors.Work.{is_form_of_call}
 use Rattle.ti_align.proofs.Vars.{true_false, not_true, and_left, and_right}
 use Rattle.ti_align.proofs.Operating.{none_some, some_same}
 use Rattle.ti_align.proofs.Meant.{storable, formed, among, means, covers, serves, is_place, ExpMeant, ExpsMeant, RangeMeant, RangesMeant, OptionMeant, DimsMeant, InitMeant, PrintMeant, TargetMeant}

@@ -34,7 +34,7 @@ use Rattle.ti_lang.specs.Meaning.Operators.{added, subtracted, multiplied, divid
 use Rattle.ti_lang.specs.Meaning.Evaluation.{is_own, unless_settled, with_right}
 use Rattle.ti_align.specs.Things.{IsDomainOf, IsOf}
 use Rattle.ti_align.specs.Things as there
-use Rattle.ti_align.specs.Sound.{Sound}
+use Rattle.ti_align.specs.Mirrors.Sound.{Sound}
 use Rattle.ti_align.proofs.Vars.{true_false, and_left, and_right}
 use Rattle.ti_align.proofs.Computing.{sound_then, weaker, sound_value, sound_guarded, sound_tested}
 use Rattle.ti_align.proofs.Forms.{wraps_fit, widens, remainder_fits, rounded_fits, complement_fits, sum_point, difference_point, KeepsPoints, meet_points_kept, minus_points_kept, union_points_kept, points_placed, meet_form}

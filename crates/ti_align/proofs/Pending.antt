@@ -20,9 +20,10 @@ use Rattle.ti_lang.specs.Meaning.Performing.{declared_in, performed}
 use Rattle.ti_lang.specs.Meaning.Jumps.{from_mark, past_mark, variables_at_mark}
 use Rattle.ti_lang.specs.Meaning.Steps.{handed}
 use Rattle.ti_lang.proofs.MeaningLaws.Requests.{Each, Of, performed_asks}
-use Rattle.ti_align.specs.Things.{Things}
-use Rattle.ti_align.specs.Work.{VariablesFit, scope_inside, scope_over, StmFits, StmsFit, taken_type, TakesOf, taken_behind, IsOfRound, WorkFits, WorksFit}
-use Rattle.ti_align.specs.Typed.{TakesFirst}
+use Rattle.ti_align.specs.Things.{Things, VariablesFit}
+use Rattle.ti_align.specs.Given.{scope_inside, scope_over, IsOfRound}
+use Rattle.ti_align.specs.Mirrors.Work.{StmFits, StmsFit, taken_type, TakesOf, taken_behind, WorkFits, WorksFit}
+use Rattle.ti_align.specs.Mirrors.Processes.{TakesFirst}
 use Rattle.ti_align.proofs.Operating.{none_some, some_same}
 use Rattle.ti_align.proofs.Storing.{without_fits}
 use Rattle.ti_align.proofs.Given.{HoldsNothing, AllFree}

@@ -29,11 +29,11 @@ use Rattle.ti_lang.specs.Meaning.Moves.{Move, receives}
 use Rattle.ti_lang.specs.Meaning.Calls as call
 use Rattle.ti_lang.specs.Meaning.Calls.{Call, call_of, parameters_from, parameters_of, bound, maybe_eval, maybe_needed, calling}
 use Rattle.ti_lang.specs.Meaning.Statements.{valued_or_called}
-use Rattle.ti_align.specs.Things.{Things, Grows, IsOf}
-use Rattle.ti_align.specs.Sound.{Sound}
-use Rattle.ti_align.specs.Fitting.{EnvFits, FieldsFit, IsWritten, AreWritten}
-use Rattle.ti_align.specs.Heap.{FieldsStorable}
-use Rattle.ti_align.specs.Work.{VariablesFit, uses_of, WholeFits, ReceiverFits, MethodFits, MethodsFit, ThisFits, MoveFits}
+use Rattle.ti_align.specs.Things.{Things, Grows, IsOf, VariablesFit, ThisFits}
+use Rattle.ti_align.specs.Mirrors.Sound.{Sound}
+use Rattle.ti_align.specs.Mirrors.Fitting.{EnvFits, IsWritten, AreWritten}
+use Rattle.ti_align.specs.Heap.{FieldsFit, FieldsStorable}
+use Rattle.ti_align.specs.Mirrors.Work.{uses_of, WholeFits, ReceiverFits, MethodFits, MethodsFit, MoveFits}
 use Rattle.ti_align.proofs.Vars.{true_false, and_left, and_right}
 use Rattle.ti_align.proofs.Computing.{grows_then, sound_then, sound_value, Names, needed_as}
 use Rattle.ti_align.proofs.Operating.{none_some, some_same, where_some, seen_same, converted_fine}

@@ -26,11 +26,13 @@ use Rattle.ti_lang.specs.Meaning.HeapAnswers as heap
 use Rattle.ti_lang.specs.Meaning.Runs.{World, IsRun}
 use Rattle.ti_lang.proofs.MeaningLaws.Falling.{Giving}
 use Rattle.ti_align.specs.Things.{Things, IsPlaced}
-use Rattle.ti_align.specs.Sound.{Sound}
-use Rattle.ti_align.specs.Sound as sound
-use Rattle.ti_align.specs.Work.{scope_over, given_type, taken_type, MoveFits}
+use Rattle.ti_align.specs.Mirrors.Sound.{Sound}
+use Rattle.ti_align.specs.Mirrors.Sound as sound
+use Rattle.ti_align.specs.Given.{scope_over, given_type}
+use Rattle.ti_align.specs.Mirrors.Work.{taken_type, MoveFits}
 use Rattle.ti_align.specs.Heap.{things_of}
-use Rattle.ti_align.specs.Typed.{NextFits, WorkSound, GivesLast, RunFits}
+use Rattle.ti_align.specs.Mirrors.Processes.{NextFits, WorkSound}
+use Rattle.ti_align.specs.Typed.{GivesLast, RunFits}
 use Rattle.ti_align.specs.Stopping.{is_delete}
 use Rattle.ti_align.proofs.Stopping.{DeletesNothing}
 use Rattle.ti_align.proofs.Vars.{true_false}
@@ -44,7 +46,8 @@ use Rattle.ti_align.proofs.Aligning.{way_next}
 use Rattle.ti_align.proofs.Kept.{Known, reaches_fits}
 use Rattle.ti_align.proofs.Holding.{performs}
 use Rattle.ti_align.proofs.Keeping.{ProgramStands, WaitStands, Keeps}
-use Rattle.ti_align.proofs.Using.{FirstUses, frames_use}
+use Rattle.ti_align.specs.Scoped.{FirstUses}
+use Rattle.ti_align.proofs.Using.{frames_use}
 use Rattle.ti_align.proofs.Regional.{AllGood, WorksAreSuch, MethodsAreSuch}
 use Rattle.ti_align.proofs.Handing.{MoveIsSuch, performed_good}
 use Rattle.ti_align.proofs.Deleting.{AllSuch, Hands, reaches_hands}

@@ -8,11 +8,10 @@ use Rattle.ti_rules.specs.Broken.Statements.{standing_refusals}
 use Rattle.ti_rules.specs.TypeRules.{class_refusals, head_refusals, end_refusals, method_refusals}
 use Rattle.ti_rules.specs.ProgramRefusals.{IsChecked}
 use Rattle.ti_rules.proofs.Sound.Refused.{nil_left, nil_right}
-use Rattle.ti_align.specs.Fitting.{FieldsFit}
-use Rattle.ti_align.specs.Literals.{LiteralsFit}
-use Rattle.ti_align.specs.Work.{MethodFits, MethodsFit}
-use Rattle.ti_align.specs.Heap.{FieldsStorable}
-use Rattle.ti_align.specs.Typed.{ProgramFits}
+use Rattle.ti_align.specs.Heap.{FieldsFit, FieldsStorable}
+use Rattle.ti_align.specs.Mirrors.Literals.{LiteralsFit}
+use Rattle.ti_align.specs.Mirrors.Work.{MethodFits, MethodsFit}
+use Rattle.ti_align.specs.Mirrors.Processes.{ProgramFits}
 use Rattle.ti_align.proofs.Vars.{and_right}
 use Rattle.ti_align.proofs.Meant.{storable, formed, StmsMeant, MethodsMeant, FieldsMeant, methods_prop, fields_prop}
 use Rattle.ti_align.proofs.Forming.{formed_fine, storable_is}

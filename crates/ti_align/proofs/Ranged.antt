@@ -42,11 +42,11 @@ use Rattle.ti_lang.proofs.MeaningLaws.Running.{history_grows, run_answered, take
 use Rattle.ti_lang.proofs.MeaningLaws.Things.{answer_same}
 use Rattle.ti_lang.proofs.MeaningLaws.NewThings.{same_name}
 use Rattle.ti_align.specs.Names.{NamesFit}
-use Rattle.ti_align.specs.Things.{Things, IsPlaced, IsOf}
+use Rattle.ti_align.specs.Things.{Things, IsPlaced, IsOf, DepositFits}
 use Rattle.ti_align.specs.Typed.{RunTyped}
 use Rattle.ti_align.specs.Heap.{things_of}
-use Rattle.ti_align.specs.Work.{DepositFits}
 use Rattle.ti_align.proofs.Vars.{true_false, and_left, and_right}
+use Rattle.ti_align.proofs.Acting.{next_handed}
 use Rattle.ti_align.proofs.Arrived.{Comes, before, now, comes, made_all}
 use Rattle.ti_align.proofs.Rounds.{Told, RoundAnswer, told_now, acts_as, arrive_answered, arrival_is, said}
 use Rattle.ti_align.proofs.Paying.{at_most_fuel}
@@ -331,7 +331,7 @@ ranged s all (run.more {es = es} {i = i} {e = e} w c z) p f typed =
     given_count k kind arg d r a y =
         let n : c.next ≡ next.Act e.place (act.Arrive kind arg d) = acts_as s es i c.next e c.entry (arrive_answered e (ap is_arrival a)) ∙ ap (next.Act e.place) a in
         let ty = typed es w in
-        let x = ty.handed i c.process e.place kind arg d c.within c.world (subst (λ x. IsNext c.process x) n c.is_next) in
+        let x = next_handed s es ty i c.process e.place kind arg d c.within c.world (subst (λ x. IsNext c.process x) n c.is_next) in
         let u = subst (DepositFits (things_of i ty.fits.elements (history_of es)) x.0) (one_value d (v.Region r) y) x.1 in
         by (region_placed (things_of i ty.fits.elements (history_of es)) x.0 r u.0 u.1)
       where

@@ -13,16 +13,12 @@ use Rattle.ti_lang.specs.Meaning.Calls.{parameters_of}
 use Rattle.ti_lang.specs.Meaning.Performing.{declared_alone, declared_in}
 use Rattle.ti_lang.specs.Meaning.Jumps.{has_mark, from_mark, past_mark, variables_at_mark}
 use Rattle.ti_rules.specs.TypeRules.{ends_with_return}
-use Rattle.ti_align.proofs.Scoped.{Names, is_one, with_all, ExpScoped, OptionScoped, StmScoped, MaybeScoped, StmsScoped}
+use Rattle.ti_align.specs.Scoped.{Names, OptionScoped, ReceiverScoped}
+use Rattle.ti_align.proofs.Scoped.{is_one, with_all, StmScoped, MaybeScoped, StmsScoped}
 use Rattle.ti_align.proofs.Found.{Holds, Among, Apart, holds_some, holds_without, among_with}
 use Rattle.ti_align.proofs.Suited.{StmSuits, MaybeSuits, StmsSuit}
 
 -- ---- receivers
-
-abbrev pub ReceiverScoped : Names → Receiver → Type 0
-ReceiverScoped names (Assigned at target) = ExpScoped names target
-ReceiverScoped names (Updated at op target) = ExpScoped names target
-ReceiverScoped names receiver = Unit {0}
 
 -- the receiver is a new variable
 abbrev pub declares : Receiver → Bool

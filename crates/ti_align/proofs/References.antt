@@ -20,8 +20,8 @@ use Rattle.ti_lang.specs.Typing.Expressions.{plain, operand, both, all_ints, poi
 use Rattle.ti_lang.specs.Typing.TextTypes.{used_type, joined_type, product_type, operator_type, field_seen, element_seen, sliced, built_in_type, member_seen, type_in_text}
 use Rattle.ti_lang.specs.Typing.Fits.{casts}
 use Rattle.ti_rules.specs.Standing.{with_point, variables_inside}
-use Rattle.ti_align.specs.Fitting.{IsWritten}
-use Rattle.ti_align.specs.Work.{may_use, uses_of}
+use Rattle.ti_align.specs.Mirrors.Fitting.{IsWritten}
+use Rattle.ti_align.specs.Mirrors.Work.{may_use, uses_of}
 use Rattle.ti_align.proofs.Vars.{true_false, and_left}
 use Rattle.ti_align.proofs.Operating.{none_some, some_same, where_some}
 use Rattle.ti_align.proofs.Results.{NoneOf, either}

@@ -21,7 +21,8 @@ use Rattle.ti_lang.specs.Meaning.Performing.{declared_in}
 use Rattle.ti_lang.specs.Meaning.Jumps.{from_mark, past_mark, variables_at_mark}
 use Rattle.ti_rules.specs.InitialTypes.{is_region}
 use Rattle.ti_align.proofs.Vars.{true_false}
-use Rattle.ti_align.proofs.Found.{found, variable_is}
+use Rattle.ti_align.specs.Scoped.{found}
+use Rattle.ti_align.proofs.Found.{variable_is}
 use Rattle.ti_align.proofs.Suited.{args_of}
 
 -- ---- values

@@ -28,8 +28,8 @@ use Rattle.ti_rules.specs.InitialTypes.{can_broadcast, is_region}
 use Rattle.ti_rules.specs.Broken.Statements.{narrows}
 use Rattle.ti_rules.specs.Standing.{variables_inside}
 use Rattle.ti_rules.specs.ProgramRefusals.{IsChecked}
-use Rattle.ti_align.specs.Literals.{LiteralsFit}
-use Rattle.ti_align.specs.Work.{ReceiverFits, WholeFits, InitFits, StmFits, MaybeFits, StmsFit, MethodsFit}
+use Rattle.ti_align.specs.Mirrors.Literals.{LiteralsFit}
+use Rattle.ti_align.specs.Mirrors.Work.{ReceiverFits, WholeFits, InitFits, StmFits, MaybeFits, StmsFit, MethodsFit}
 use Rattle.ti_align.proofs.Vars.{true_false, and_left, and_right}
 use Rattle.ti_align.proofs.Operating.{none_some, some_same, where_some, or_either}
 use Rattle.ti_align.proofs.Evaluating.{and_then, mapped, both_there, no_call, named_field, member_there, joined_there, one_there}

@@ -1,5 +1,5 @@
 -- Statements that use such variables alone as are in scope.
-use Rattle.std.specs.Prelude.{◌≡◌, Bool, true, false, ◌||◌, List, [], ◌∷◌, Option, Some, None}
+use Rattle.std.specs.Prelude.{◌≡◌, Bool, false, ◌||◌, List, [], ◌∷◌, Option, Some, None}
 use Rattle.std.specs.List.{list_any}
 use Rattle.std.proofs.Math.Bool.{Bool-set}
 use Rattle.ti_lang.specs.Program.Types.{Declaration, Typed, Foreach, VariableUse}
@@ -9,12 +9,7 @@ use Rattle.ti_lang.specs.Program.Statements.{NumberedDims, NumberedInit, Numbere
 use Rattle.ti_lang.specs.Program.Statements as s
 use Rattle.ti_lang.specs.Meaning.Scoping.{same_variable}
 use Rattle.ti_lang.specs.Meaning.Performing.{declared_alone, declared_among, declared_maybe}
-
--- ---- names
-
--- which variables are in scope; those of a foreach are no part of it
-abbrev pub Names : Type 0
-Names = VariableUse → Bool
+use Rattle.ti_align.specs.Scoped.{Names, KnownAs, ExpScoped, ExpsScoped, RangeScoped, RangesScoped, OptionScoped, DimsScoped, InitScoped, PrintScoped}
 
 -- the variable is one of these
 abbrev pub is_one : List VariableUse → VariableUse → Bool
@@ -28,64 +23,6 @@ with_all ds names = λ v. is_one ds v || names v
 abbrev pub Fresh : Names → List VariableUse → Type 0
 Fresh names [] = Unit {0}
 Fresh names (d ∷ ds) = (names d ≡ false) × Fresh names ds
-
--- a variable that is used is in scope, or is that of a foreach
-abbrev pub KnownAs : Names → VariableUse → Declaration → Type 0
-KnownAs names v (Typed is_single type) = names v ≡ true
-KnownAs names v Foreach = Unit {0}
-
--- ---- expressions
-
-module _ (names : Names) where
-  abbrev mutual
-    -- the variables of an expression are in scope
-    pub ExpScoped : NumberedExp → Type 0
-    ExpScoped (e.Variable at v) = KnownAs names v v.declared
-    ExpScoped (e.Call at method args) = ExpsScoped args
-    ExpScoped (e.OwnCall at method args) = ExpsScoped args
-    ExpScoped (e.Point at parts) = ExpsScoped parts
-    ExpScoped (e.Rect at ranges) = RangesScoped ranges
-    ExpScoped (e.Unary at op x) = ExpScoped x
-    ExpScoped (e.Binary at op x y) = ExpScoped x × ExpScoped y
-    ExpScoped (e.Cast at to x) = ExpScoped x
-    ExpScoped (e.Select at x name) = ExpScoped x
-    ExpScoped (e.Member at x name args) = ExpScoped x × ExpsScoped args
-    ExpScoped (e.Index at x parts) = ExpScoped x × ExpsScoped parts
-    ExpScoped x = Unit {0}
-
-    pub ExpsScoped : NumberedExps → Type 0
-    ExpsScoped e.NoExp = Unit {0}
-    ExpsScoped (e.MoreExp x rest) = ExpScoped x × ExpsScoped rest
-
-    pub RangeScoped : NumberedRange → Type 0
-    RangeScoped (e.Plain low high) = ExpScoped low × ExpScoped high
-    RangeScoped (e.Stepped low high step) = ExpScoped low × ExpScoped high × ExpScoped step
-
-    pub RangesScoped : NumberedRanges → Type 0
-    RangesScoped e.NoRange = Unit {0}
-    RangesScoped (e.MoreRange r rest) = RangeScoped r × RangesScoped rest
-
-  -- an expression, if there is one
-  abbrev pub OptionScoped : Option NumberedExp → Type 0
-  OptionScoped None = Unit {0}
-  OptionScoped (Some x) = ExpScoped x
-
-  abbrev pub DimsScoped : NumberedDims → Type 0
-  DimsScoped (s.Domain x) = ExpScoped x
-  DimsScoped (s.Ranges ranges) = RangesScoped (numbered_ranges ranges)
-
-  abbrev pub InitScoped : NumberedInit → Type 0
-  InitScoped (s.Value x) = ExpScoped x
-  InitScoped (s.NewRegion at) = Unit {0}
-  InitScoped (s.NewObject at region class) = OptionScoped region
-  InitScoped (s.NewGrid at region element dims_at dims) = OptionScoped region × DimsScoped dims
-  InitScoped (s.Broadcast at x root) = ExpScoped x × ExpScoped root
-
-  abbrev pub PrintScoped : NumberedPrint → Type 0
-  PrintScoped s.Nothing = Unit {0}
-  PrintScoped (s.Text literal) = Unit {0}
-  PrintScoped (s.Expression x) = ExpScoped x
-  PrintScoped (s.TextAndExpression literal x) = ExpScoped x
 
 -- ---- statements
 

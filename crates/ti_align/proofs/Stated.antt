@@ -1,5 +1,5 @@
 -- Statements that fit come to moves that fit, and so does all work.
-use Rattle.std.proofs.Common.{◌≡◌, ℕ, zero, suc, ◌+◌, ◌<◌, ◌^◌, arith, ◌==◌, slice_index_or, Bool, true, false, not, ◌&&◌, ◌||◌, inl, inr, if◌then◌else◌, option_map, option_and_then, Option, Some, None, List, [], ◌∷◌, ◌++◌, refl, ap, sym, ◌∙◌, subst, eqb-true}
+use Rattle.std.proofs.Common.{◌≡◌, ℕ, zero, suc, ◌+◌, ◌<◌, ◌^◌, arith, ◌==◌, slice_index_or, Bool, true, false, not, ◌&&◌, ◌||◌, inl, inr, if◌then◌else◌, option_map, option_and_then, Option, Some, None, List, [], ◌∷◌, ◌++◌, refl, ap, ap₂, sym, ◌∙◌, subst, eqb-true}
 use Rattle.ti_base.specs.declared.place.Place.{Place}
 use Rattle.ti_base.specs.declared.fault.FaultKind.TheVariants as faults
 use Rattle.ti_base.specs.declared.point.Point.{Point}
@@ -36,11 +36,12 @@ use Rattle.ti_lang.specs.Meaning.Statements.{declared_as, member_alone, alone, s
 use Rattle.ti_lang.specs.Meaning.Performing.{declared_in, performed}
 use Rattle.ti_lang.specs.Meaning.Answers.{IsRectOf}
 use Rattle.ti_align.specs.Things.{Things, Grows, ArePoints, IsStorable, IsGridOf, IsPlaced, IsOf}
-use Rattle.ti_align.specs.Sound.{Sound, value, fault, asks}
-use Rattle.ti_align.specs.Fitting.{IsWritten, AreWritten}
-use Rattle.ti_align.specs.Work.{uses_of, is_form_of_call, WholeFits, StmFits, given_type, taken_type, AreCounted, WorkFits}
+use Rattle.ti_align.specs.Mirrors.Sound.{ReferenceFits, Sound, value, fault, asks}
+use Rattle.ti_align.specs.Mirrors.Fitting.{IsWritten, AreWritten}
+use Rattle.ti_align.specs.Mirrors.Work.{uses_of, is_form_of_call, WholeFits, StmFits, taken_type, AreCounted, WorkFits}
+use Rattle.ti_align.specs.Given.{given_type}
 use Rattle.ti_align.proofs.Vars.{true_false, and_left, and_right}
-use Rattle.ti_align.proofs.Computing.{grows_then, own_stays, grid_stays, of_stays, own_of, sound_then, sound_value, sound_guarded, Names, needed_as}
+use Rattle.ti_align.proofs.Computing.{grows_then, own_stays, grid_stays, of_stays, reference_stays, own_of, sound_then, sound_value, sound_guarded, Names, names_thing, needed_as}
 use Rattle.ti_align.proofs.Operating.{none_some, some_same, where_some, type_same, Seen, seen_same, converted_fine}
 use Rattle.ti_align.proofs.Forms.{natural_fits, one_fits, natural_from, points_placed, meet_form}
 use Rattle.ti_align.proofs.Evaluating.{and_then, joined_there, one_there, AllOfTypes, seen_form, domain_fine, grid_in, not_object, eval_fine, all_fine}
@@ -181,8 +182,10 @@ module _ (s : ScopeContents) (env : Env) where
       sound_then p (λ u g. Names (λ u id. IsGridOf u d n id) (first_type env args) u g) _ f (needed at (first_type env args) (slice_index_or hs 0 nothing)) _
       (needed_as p f at (first_type env args) (slice_index_or hs 0 nothing) (λ u id. IsGridOf u d n id) (λ id id_is. subst (λ n. IsGridOf f d n id) n_is (subst (λ d. IsGridOf f d m id) d_is (grid_in f c m i _ from_of id id_is)))
       (λ z. own_of f (t.Grid c m i) _ from_of (sym (ap is_local from_seen) ∙ z))) (λ f2 v2 from z2.
-      sound_then p (λ u h. IsOf u (t.Rc n) h) _ f2 (domain_asked at to) _ (domain_fine p f2 at to d n (grid_stays f f2 d n to.thing v2 z.thing) (own_stays f f2 (is_local to.type) (Some to.thing) v2 z.own) (ap dim_of_type (z.type ∙ to_seen))) (λ f3 v3 h3 y3.
-      sound_then p (λ u h. IsOf u (t.Rc n) h) _ f3 (domain_asked at from) _ (domain_fine p f3 at from d n (grid_stays f2 f3 d n from.thing v3 z2.thing) (own_stays f2 f3 (is_local from.type) (Some from.thing) v3 z2.own) (ap dim_of_type (z2.type ∙ from_seen) ∙ n_is)) (λ f4 v4 h4 y4.
+      let to_fits : ReferenceFits f to = names_thing _ (type_of env x) (t.Grid d n l) f to to_seen z z.thing in
+      let from_fits : ReferenceFits f2 from = names_thing _ (first_type env args) (t.Grid d n i) f2 from (from_seen ∙ ap₂ (λ a b. t.Grid a b i) d_is n_is) z2 z2.thing in
+      sound_then p (λ u h. IsOf u (t.Rc n) h) _ f2 (domain_asked at to) _ (domain_fine p f2 at to d n (grid_stays f f2 d n to.thing v2 z.thing) (reference_stays f f2 to v2 to_fits) (ap dim_of_type (z.type ∙ to_seen))) (λ f3 v3 h3 y3.
+      sound_then p (λ u h. IsOf u (t.Rc n) h) _ f3 (domain_asked at from) _ (domain_fine p f3 at from d n (grid_stays f2 f3 d n from.thing v3 z2.thing) (reference_stays f2 f3 from v3 from_fits) (ap dim_of_type (z2.type ∙ from_seen) ∙ n_is)) (λ f4 v4 h4 y4.
       let all = grows_then f f3 f4 (grows_then f f2 f3 v2 v3) v4 in
       let from_there = grows_then f2 f3 f4 v3 v4 in
       let from_w = grows_then w b f4 (grows_then w a b g o) (grows_then b f f4 v all) in
@@ -196,8 +199,8 @@ module _ (s : ScopeContents) (env : Env) where
             grid_stays f f4 d n to.thing all z.thing,
             grid_stays f2 f4 d n from.thing from_there z2.thing,
             common_points ((rect_of h3).dim == (rect_of h4).dim) n _ (points_placed n (meet (rect_of h3) (rect_of h4)) both).0,
-            own_stays f f4 (is_local to.type) (Some to.thing) all z.own,
-            own_stays f2 f4 (is_local from.type) (Some from.thing) from_there z2.own,
+            reference_stays f f4 to all to_fits,
+            reference_stays f2 f4 from from_there from_fits,
             λ e. own_stays f f4 (is_local to.type) (Some to.thing) all z.own (ap is_local (z.type ∙ to_seen) ∙ (here e).0),
             λ e. own_stays f2 f4 (is_local from.type) (Some from.thing) from_there z2.own (ap is_local (z2.type ∙ from_seen) ∙ (here e).1),
             seen_form (element_seen from.type) d i (ap element_seen (z2.type ∙ from_seen) ∙ ap (read_through i) d_is),
@@ -224,14 +227,15 @@ module _ (s : ScopeContents) (env : Env) where
       let grid_of = of_stays a b (t.Grid d n l) h o y in
       sound_then p (λ u g. Names (λ u id. IsGridOf u d n id) (type_of env x) u g) _ b (needed at (type_of env x) h) _
       (needed_as p b at (type_of env x) h (λ u id. IsGridOf u d n id) (grid_in b d n l h grid_of) (λ z. own_of b (t.Grid d n l) h grid_of (sym (ap is_local seen) ∙ z))) (λ f v to z.
-      sound_then p (λ u h. IsOf u (t.Rc n) h) _ f (domain_asked at to) _ (domain_fine p f at to d n z.thing z.own (ap dim_of_type (z.type ∙ seen))) (λ f2 v2 h2 y2.
+      let to_fits : ReferenceFits f to = names_thing _ (type_of env x) (t.Grid d n l) f to seen z z.thing in
+      sound_then p (λ u h. IsOf u (t.Rc n) h) _ f (domain_asked at to) _ (domain_fine p f at to d n z.thing to_fits (ap dim_of_type (z.type ∙ seen))) (λ f2 v2 h2 y2.
       let grid = grid_stays f f2 d n to.thing v2 z.thing in
       let of : element_of (type_of env x) ≡ d = ap element_of seen in
       let of_to : element_of to.type ≡ element_of (type_of env x) = ap element_of z.type in
       let held = of_stays b f2 c _ (grows_then b f f2 v v2) (one_held b c hs ys) in
       sound_guarded p _ f2 _ faults.ExchangeDomain at _ (
         (d, tt, (subst (λ b. IsOf f2 d (Plain (plain_of (as_type b (slice_index_or hs 0 nothing))))) (sym of) (plain_is f2 d _ grid.4 (as_fine p f2 c d _ grid.4 (and_right (n == 1) (fits c d) can) held)), stored_value d grid.4, global), ap (option_map element_of) j, refl, (ap Some (sym (of_to ∙ of)), tt)),
-        ((subst (λ d. IsGridOf f2 d 1 to.thing) (sym (of_to ∙ of)) (subst (λ n. IsGridOf f2 d n to.thing) n_is grid), counted_fit 0 env.procs (omega (arith, natural_from env.procs r.fits.procs)), own_stays f f2 (is_local to.type) (Some to.thing) v2 z.own, ap is_local (of_to ∙ of) ∙ global), tt),
+        ((subst (λ d. IsGridOf f2 d 1 to.thing) (sym (of_to ∙ of)) (subst (λ n. IsGridOf f2 d n to.thing) n_is grid), counted_fit 0 env.procs (omega (arith, natural_from env.procs r.fits.procs)), reference_stays f f2 to v2 to_fits, ap is_local (of_to ∙ of) ∙ global), tt),
       )))))
   exchanges_fine untaken w r at x args _ u (y ∷ []) z k j q = absurd (true_false (sym (where_some _ t.Void u z).0))
   exchanges_fine untaken w r at x args _ u [] z k j q = absurd (none_some u z)

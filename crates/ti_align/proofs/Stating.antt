@@ -26,7 +26,7 @@ use Rattle.ti_rules.specs.Broken.RightSides.{inner_refusals, value_refusals, ini
 use Rattle.ti_rules.specs.Broken.Targets.{write_refusals}
 use Rattle.ti_rules.specs.Broken.Statements.{update_refusals, operator_of, is_boolean, condition_refusals, maybe_condition_refusals, is_printed, printed_refusals, print_refusals, given_back, statement_refusals, standing_refusals}
 use Rattle.ti_rules.proofs.Sound.Refused.{nil_left, nil_right, each_left, each_right, not_refused, not_mistaken, no_misfit, there_is}
-use Rattle.ti_align.specs.Work.{IsInner, ReceiverFits, PrintFits, ConditionFits, DomainFits, StmFits, MaybeFits, StmsFit}
+use Rattle.ti_align.specs.Mirrors.Work.{IsInner, ReceiverFits, PrintFits, ConditionFits, DomainFits, StmFits, MaybeFits, StmsFit}
 use Rattle.ti_align.proofs.Vars.{true_false}
 use Rattle.ti_align.proofs.Meant.{among, ExpMeant, OptionMeant, PrintMeant, StmMeant, MaybeMeant, StmsMeant, FieldsMeant}
 use Rattle.ti_align.proofs.Forming.{dim_in, Surrounds, exp_formed}

@@ -18,12 +18,13 @@ use Rattle.ti_lang.specs.Meaning.Processes.{Work, Do, End, Before, Behind, Recei
 use Rattle.ti_lang.specs.Meaning.Scoping.{env_of}
 use Rattle.ti_lang.specs.Meaning.Moves.{Move, Goes, Turns, Breaks, Continues, Calls, Returns, Meets, Deletes}
 use Rattle.ti_lang.specs.Meaning.Performing.{performed}
-use Rattle.ti_align.specs.Dangling.{used_by}
-use Rattle.ti_align.specs.Things.{Things, seen_by, Grows}
-use Rattle.ti_align.specs.Sound.{IsThere, SuitsWanted, Sound, value, fault, asks}
-use Rattle.ti_align.specs.Work.{scope_over, ThisFits, DepositFits, given_type, taken_type, IsOfRound, WorkFits, WorksFit, MoveFits}
-use Rattle.ti_align.specs.Typed.{FrameFits, FramesFit, WorkSound, TakesFirst, WaitFits, NextFits, ProcessFits}
-use Rattle.ti_align.proofs.Computing.{grows_then, grows_for, own_stays, grid_stays, place_stays, of_stays, same_owner}
+use Rattle.ti_align.specs.Things.{Things, seen_by, Grows, ThisFits, DepositFits}
+use Rattle.ti_align.specs.There.{IsThere, SuitsWanted}
+use Rattle.ti_align.specs.Mirrors.Sound.{Sound, value, fault, asks}
+use Rattle.ti_align.specs.Given.{scope_over, given_type, IsOfRound}
+use Rattle.ti_align.specs.Mirrors.Work.{taken_type, WorkFits, WorksFit, MoveFits}
+use Rattle.ti_align.specs.Mirrors.Processes.{FrameFits, FramesFit, WorkSound, TakesFirst, WaitFits, NextFits, ProcessFits}
+use Rattle.ti_align.proofs.Computing.{grows_then, grows_for, own_stays, grid_stays, place_stays, of_stays, reference_stays, goes_stays}
 use Rattle.ti_align.proofs.Storing.{variables_stay}
 
 -- ---- work and moves
@@ -49,13 +50,13 @@ module _ (p : NumberedProgram) (m : NumberedMethod) where
     grid_stays u w k.0 k.1 to.thing g k.2,
     grid_stays u w k.0 k.1 from.thing g k.3,
     k.4,
-    own_stays u w (is_local to.type) (Some to.thing) g k.5,
-    own_stays u w (is_local from.type) (Some from.thing) g k.6,
+    reference_stays u w to g k.5,
+    reference_stays u w from g k.6,
     own_stays u w (is_local k.0) (Some to.thing) g k.7,
     own_stays u w (is_local k.0) (Some from.thing) g k.8,
     k.9,
   )
-  work_stays s u w (TakeAll at grid procs) g k = (grid_stays u w (element_of grid.type) 1 grid.thing g k.0, k.1, own_stays u w (is_local grid.type) (Some grid.thing) g k.2, k.3)
+  work_stays s u w (TakeAll at grid procs) g k = (grid_stays u w (element_of grid.type) 1 grid.thing g k.0, k.1, reference_stays u w grid g k.2, k.3)
 
   pub works_stay : (s : ScopeContents) (u w : Things) (xs : List Work) → Grows u w → WorksFit p m s u xs → WorksFit p m s w xs
   works_stay s u w [] g k = tt
@@ -95,7 +96,7 @@ suits_stays p u w _ wanted g k = k
 sound_stays : (p : NumberedProgram) {A : Type 0} (P : Things → A → Type 0) (u w : Things) (m : Asking A) → ((a : A) → P u a → P w a) → Grows u w → Sound p P u m → Sound p P w m
 sound_stays p P u w m f g (value a h e) = value a (f a h) e
 sound_stays p P u w m f g (fault kind at e) = fault kind at e
-sound_stays p P u w m f g (asks q z i k) = asks q z (there_stays p u w q.action q.wanted g i.0, (λ l. same_owner u.owner w.owner (used_by q.action) g.owner (i.1 l)), suits_stays p u w q.action q.wanted g i.2) (λ x j r t. k x (grows_then u w x g j) r t)
+sound_stays p P u w m f g (asks q z i k) = asks q z (there_stays p u w q.action q.wanted g i.0, goes_stays u w q.through q.action g i.1, suits_stays p u w q.action q.wanted g i.2) (λ x j r t. k x (grows_then u w x g j) r t)
 
 -- ---- processes
 

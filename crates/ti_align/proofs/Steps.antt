@@ -7,11 +7,11 @@ use Rattle.ti_lang.specs.Program.Types.{ValueType}
 use Rattle.ti_lang.specs.Meaning.Asking.{ToBeDone, ValueOf, Request, told}
 use Rattle.ti_lang.specs.Meaning.Processes.{Wait, Process}
 use Rattle.ti_lang.specs.Meaning.Steps.{Step, To, At}
-use Rattle.ti_align.specs.Owners.{IsOwnAction}
-use Rattle.ti_align.specs.Things.{Things, Grows, IsOf}
-use Rattle.ti_align.specs.Sound.{IsThere, SuitsWanted, FitsAsked}
-use Rattle.ti_align.specs.Work.{DepositFits, IsOfRound, WantsOf}
-use Rattle.ti_align.specs.Typed.{ProcessFits, given_by}
+use Rattle.ti_align.specs.Things.{Things, Grows, IsOf, DepositFits}
+use Rattle.ti_align.specs.There.{IsThere, GoesThrough, SuitsWanted, FitsAsked}
+use Rattle.ti_align.specs.Given.{IsOfRound, given_by}
+use Rattle.ti_align.specs.Mirrors.Work.{WantsOf}
+use Rattle.ti_align.specs.Mirrors.Processes.{ProcessFits}
 
 -- What an action says fits, and behind an answer that fits the process does: behind an arrival with the second kind of types, as what
 -- was handed in at its last collective is then of these.
@@ -26,11 +26,11 @@ ActionFits w G H pr request (act.Take who) go =
     (type : ValueType) × G type × ((u : Things) → Grows w u → (r : Answer) → IsOf u type (told r) → ProcessFits u G (go r)) × (request.wanted ≡ ValueOf type)
 ActionFits w G H pr request a go = (u : Things) → Grows w u → (r : Answer) → FitsAsked pr.setting.program u a request.wanted r → ProcessFits u G (go r)
 
--- a step fits: what an action names is there, and is the own one of the process through a local reference, the process goes on so that
--- it fits, and what it wants is what the action gives
+-- a step fits: what an action names is there, and is used through a reference of its own type, the process goes on so that it fits, and
+-- what it wants is what the action gives
 abbrev pub StepFits : Things → (ValueType → Type 0) → (ValueType → Type 0) → Process → Step → Type 0
 StepFits w G H pr (To q) = ProcessFits w G q
 StepFits w G H pr (At request go) =
-    IsThere pr.setting.program w request.action request.wanted × IsOwnAction w.owner request.through request.action × ActionFits w G H pr request request.action go
+    IsThere pr.setting.program w request.action request.wanted × GoesThrough w request.through request.action × ActionFits w G H pr request request.action go
     × SuitsWanted pr.setting.program w request.action request.wanted
 StepFits w G H pr step = Unit {0}

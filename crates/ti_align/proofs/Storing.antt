@@ -1,6 +1,7 @@
 -- What a receiver takes: variables and cells keep to their types.
 use Rattle.std.proofs.Common.{◌≡◌, ◌⊎◌, ℕ, ℤ, ◌+◌, length, Bool, true, false, not, ◌&&◌, ◌||◌, ◌==◌, inl, inr, if◌then◌else◌, unwrap_or, option_and_then, Option, Some, List, [], ◌∷◌, refl, ap, sym, ◌∙◌, subst, arith, eqb-true}
 use Rattle.std.specs.List.{list_any}
+use Rattle.std.specs.Option.{option_map_or}
 use Rattle.ti_base.specs.declared.place.Place.{Place}
 use Rattle.ti_base.specs.declared.point.Point.{Point}
 use Rattle.ti_base.specs.declared.value.Id.{Id}
@@ -30,13 +31,14 @@ use Rattle.ti_lang.specs.Meaning.Targets.{Target, InVariable, InPart, located, h
 use Rattle.ti_rules.specs.Broken.Targets.{is_foreach_use, maybe_local, hidden_field, hidden_element}
 use Rattle.ti_rules.specs.Broken.Statements.{narrows}
 use Rattle.ti_lang.specs.Meaning.Answers.{IsPointOf, HasForm}
-use Rattle.ti_align.specs.Things.{Things, seen_by, Grows, NamesNothing, IsStorable, IsGridOf, IsOwn, IsOf, DimsFine}
-use Rattle.ti_align.specs.Sound.{SameForm, IsFieldOf, Sound}
-use Rattle.ti_align.specs.Fitting.{EnvFits, FieldsFit}
-use Rattle.ti_align.specs.Heap.{FieldsStorable}
-use Rattle.ti_align.specs.Work.{VariablesFit, uses_of, IsTarget, ReceiverFits}
+use Rattle.ti_align.specs.Things.{Things, seen_by, Grows, NamesNothing, IsStorable, IsGridOf, IsOwn, IsOf, IsThingOf, DimsFine, HoldsOf, VariablesFit}
+use Rattle.ti_align.specs.There.{SameForm, IsFieldOf}
+use Rattle.ti_align.specs.Mirrors.Sound.{Sound}
+use Rattle.ti_align.specs.Mirrors.Fitting.{EnvFits}
+use Rattle.ti_align.specs.Heap.{FieldsFit, FieldsStorable}
+use Rattle.ti_align.specs.Mirrors.Work.{uses_of, DeclaredFits, IsTarget, ReceiverFits}
 use Rattle.ti_align.proofs.Vars.{true_false, and_left, and_right}
-use Rattle.ti_align.proofs.Computing.{grows_not, grows_then, own_stays, grid_stays, of_stays, seen_from, own_of, sound_then, sound_value, sound_asked, Names, needed_as}
+use Rattle.ti_align.proofs.Computing.{grows_not, grows_then, own_stays, grid_stays, of_stays, thing_stays, seen_from, own_of, goes_through, sound_then, sound_value, sound_asked, Names, names_thing, needed_as}
 use Rattle.ti_align.proofs.Operating.{none_some, some_same, where_some, or_either, type_same, Seen, seen_same, converted_fine, cast_fine, operated_fine}
 use Rattle.ti_align.proofs.Evaluating.{and_then, mapped, both_there, no_call, named_field, this_global, object_of, grid_in, ints_count, counts, Evaluates, env_stays, Numbers, zero_fine, seen_form, select_seen, own_seen, eval_fine, numbers_fine}
 use Rattle.ti_align.proofs.Forms.{numbers_point}
@@ -97,9 +99,22 @@ has_form w t.Void value n k = absurd n
 
 -- ---- variables
 
+-- what a variable holds is of its type, and so is what it may hold
+pub held_of : (w : Things) (d : Declaration) (h : Held) → HoldsOf w d h → IsOf w (declared_type d) h
+held_of w (t.Typed l a) h k = k
+held_of w t.Foreach h k = absurd k
+
+held_instead : (w : Things) (d : Declaration) (old h : Held) → HoldsOf w d old → IsOf w (declared_type d) h → HoldsOf w d h
+held_instead w (t.Typed l a) old h k i = i
+held_instead w t.Foreach old h k i = absurd k
+
+held_stays : (u w : Things) (d : Declaration) (h : Held) → Grows u w → HoldsOf u d h → HoldsOf w d h
+held_stays u w (t.Typed l a) h g k = of_stays u w a h g k
+held_stays u w t.Foreach h g k = absurd k
+
 pub variables_stay : (u w : Things) (xs : List Variable) → Grows u w → VariablesFit u xs → VariablesFit w xs
 variables_stay u w [] g f = tt
-variables_stay u w (x ∷ xs) g f = (of_stays u w _ x.held g f.0, variables_stay u w xs g f.1)
+variables_stay u w (x ∷ xs) g f = (held_stays u w x.named.declared x.held g f.0, variables_stay u w xs g f.1)
 
 same_declared : (d c : Declaration) → same_declaration d c ≡ true → declared_type d ≡ declared_type c
 same_declared (t.Typed l a) (t.Typed m b) h = type_same a b (and_right _ _ h)
@@ -116,7 +131,7 @@ found_fits w x [] d f = by x.declared d
 found_fits w x (y ∷ ys) d f = by (same_variable x y.named) refl (found_fits w x ys d f.1)
   where
     by : (b : Bool) → same_variable x y.named ≡ b → IsOf w (declared_type x.declared) (find_variable x ys) → IsOf w (declared_type x.declared) (if b then y.held else find_variable x ys)
-    by true z k = subst (λ a. IsOf w a y.held) (sym (same_declared x.declared y.named.declared (and_right (x.number == y.named.number) _ z))) f.0
+    by true z k = subst (λ a. IsOf w a y.held) (sym (same_declared x.declared y.named.declared (and_right (x.number == y.named.number) _ z))) (held_of w y.named.declared y.held f.0)
     by false z k = k
 
 changed_fits : (w : Things) (x : VariableUse) (h : Held) (xs : List Variable) → IsOf w (declared_type x.declared) h → VariablesFit w xs → VariablesFit w (with_changed x h xs)
@@ -124,7 +139,7 @@ changed_fits w x h [] k f = tt
 changed_fits w x h (y ∷ ys) k f = by (same_variable x y.named) refl (changed_fits w x h ys k f.1)
   where
     by : (b : Bool) → same_variable x y.named ≡ b → VariablesFit w (with_changed x h ys) → VariablesFit w (if b then record y { held = h } ∷ ys else y ∷ with_changed x h ys)
-    by true z i = (subst (λ a. IsOf w a h) (same_declared x.declared y.named.declared (and_right (x.number == y.named.number) _ z)) k, f.1)
+    by true z i = (held_instead w y.named.declared y.held h f.0 (subst (λ a. IsOf w a h) (same_declared x.declared y.named.declared (and_right (x.number == y.named.number) _ z)) k), f.1)
     by false z i = (f.0, i)
 
 pub without_fits : (w : Things) (xs : List VariableUse) (ys : List Variable) → VariablesFit w ys → VariablesFit w (without xs ys)
@@ -137,26 +152,26 @@ without_fits w xs (y ∷ ys) f = by (not (list_any (λ x. same_variable x y.name
 
 -- ---- targets
 
--- A field or an element of the thing takes values of the second type, and has the first one in the text; where these are local
--- references the thing is the own one of the process.
-abbrev FieldTakes : NumberedProgram → ValueType → ValueType → ℕ → Things → Id → Type 0
-FieldTakes p a u field w id = IsFieldOf p w id field u × IsOwn w (is_local u) (Some id) × SameForm a u
+-- A field or an element of the thing, which is of the last type, takes values of the second type, and has the first one in the text; where
+-- these are local references the thing is the own one of the process.
+abbrev FieldTakes : NumberedProgram → ValueType → ValueType → ℕ → ValueType → Things → Id → Type 0
+FieldTakes p a u field through w id = IsFieldOf p w id field u × IsOwn w (is_local u) (Some id) × SameForm a u × IsThingOf w through id
 
-abbrev ElementTakes : ValueType → ValueType → Point → Things → Id → Type 0
-ElementTakes a u index w id = (n : ℕ) × IsGridOf w u n id × IsPointOf n index × IsOwn w (is_local u) (Some id) × SameForm a u
+abbrev ElementTakes : ValueType → ValueType → Point → ValueType → Things → Id → Type 0
+ElementTakes a u index through w id = (n : ℕ) × IsGridOf w u n id × IsPointOf n index × IsOwn w (is_local u) (Some id) × SameForm a u × IsThingOf w through id
 
 -- a target takes values of the second type
 abbrev TargetFits : NumberedProgram → Things → ValueType → ValueType → Target → Type 0
 TargetFits p w a u (InVariable x) = u ≡ declared_type x.declared
-TargetFits p w a u (InPart (Field object through field)) = ((id : Id) → thing_of object ≡ Some id → FieldTakes p a u field w id) × IsOwn w (is_local through) (thing_of object)
-TargetFits p w a u (InPart (Element grid through index)) = ((id : Id) → thing_of grid ≡ Some id → ElementTakes a u index w id) × IsOwn w (is_local through) (thing_of grid)
+TargetFits p w a u (InPart (Field object through field)) = ((id : Id) → thing_of object ≡ Some id → FieldTakes p a u field through w id) × IsOwn w (is_local through) (thing_of object)
+TargetFits p w a u (InPart (Element grid through index)) = ((id : Id) → thing_of grid ≡ Some id → ElementTakes a u index through w id) × IsOwn w (is_local through) (thing_of grid)
 
 target_stays : (p : NumberedProgram) (u w : Things) (a type : ValueType) (x : Target) → Grows u w → TargetFits p u a type x → TargetFits p w a type x
 target_stays p u w a type (InVariable x) g f = f
 target_stays p u w a type (InPart (Field object through field)) g f =
-    ((λ id z. let k = f.0 id z in ((k.0.0, g.classes id k.0.0 k.0.1, k.0.2), own_stays u w (is_local type) (Some id) g k.1, k.2)), own_stays u w (is_local through) (thing_of object) g f.1)
+    ((λ id z. let k = f.0 id z in ((k.0.0, g.classes id k.0.0 k.0.1, k.0.2), own_stays u w (is_local type) (Some id) g k.1, k.2, thing_stays u w through id g k.3)), own_stays u w (is_local through) (thing_of object) g f.1)
 target_stays p u w a type (InPart (Element grid through index)) g f =
-    ((λ id z. let k = f.0 id z in (k.0, grid_stays u w type k.0 id g k.1, k.2, own_stays u w (is_local type) (Some id) g k.3, k.4)), own_stays u w (is_local through) (thing_of grid) g f.1)
+    ((λ id z. let k = f.0 id z in (k.0, grid_stays u w type k.0 id g k.1, k.2, own_stays u w (is_local type) (Some id) g k.3, k.4, thing_stays u w through id g k.5)), own_stays u w (is_local through) (thing_of grid) g f.1)
 
 plainly : (o : Option ValueType) (u : ValueType) → operand (plain o) ≡ Some u → o ≡ Some u
 plainly o u h = (no_call (plain o) u h).1
@@ -179,7 +194,7 @@ module _ (s : ScopeContents) (w : Things) (env : Env) (f : EnvFits (uses_of env.
       let q = by ts z c in
       let own = own_of x (t.Grid a n l) h k in
       subst (λ b. TargetFits p x (element_seen through) b (InPart (Element h through (point_of_numbers zs)))) (sym (read_whole l a o) ∙ q.0)
-      ((λ id i. (n, grid_in x a n l h k id i, q.1, (λ j. subst (λ o. is_own x.owner o ≡ true) i (own (reached (is_local a) l o j))), seen_form (element_seen through) a l (ap element_seen e))), λ i. own (sym (ap is_local e) ∙ i))
+      ((λ id i. (n, grid_in x a n l h k id i, q.1, (λ j. subst (λ o. is_own x.owner o ≡ true) i (own (reached (is_local a) l o j))), seen_form (element_seen through) a l (ap element_seen e), subst (λ b. IsThingOf x b id) (sym e) (grid_in x a n l h k id i))), λ i. own (sym (ap is_local e) ∙ i))
     where
       by : (ts : List ValueType) → index_type (t.Grid a n l) ts ≡ Some u → Numbers (counts ts) zs → (read_through l a ≡ u) × IsPointOf n (point_of_numbers zs)
       by (t.Pt m ∷ []) z c =
@@ -201,7 +216,7 @@ module _ (s : ScopeContents) (w : Things) (env : Env) (f : EnvFits (uses_of env.
       let global : is_local q.0 ≡ false = sym (ap maybe_local q.1) ∙ k.2 in
       subst (λ b. Sound p (λ x y. TargetFits p x (type_of env (e.OwnField at field)) b y) w (located env (e.OwnField at field))) (sym (read_whole false q.0 (ap (λ b. b && true) global)) ∙ q.2)
       (sound_value p _ w _ (
-        (λ id z. ((c.0, f.this c.0 c.1 id z, c.2), (λ i. absurd (true_false (sym i ∙ global))), seen_form _ q.0 false (own_seen env at field c.0 q.0 (sym f.this_class ∙ c.1) c.2))),
+        (λ id z. ((c.0, f.this c.0 c.1 id z, c.2), (λ i. absurd (true_false (sym i ∙ global))), seen_form _ q.0 false (own_seen env at field c.0 q.0 (sym f.this_class ∙ c.1) c.2), subst (λ b. IsThingOf w b id) (sym (ap (λ o. option_map_or (λ class. t.Class class false) o t.Void) (sym f.this_class ∙ c.1))) (f.this c.0 c.1 id z))),
         λ i. absurd (true_false (sym i ∙ this_global (this_of env.method))),
       ))
   located_fine (e.Select at a name) u k =
@@ -218,7 +233,7 @@ module _ (s : ScopeContents) (w : Things) (env : Env) (f : EnvFits (uses_of env.
           let own = own_of x (t.Class c l) h y in
           subst (λ m. Sound p (λ x y. TargetFits p x (type_of env (e.Select at a name)) u y) x (gives (InPart (Field h (type_of env a) m)))) (sym number)
           (sound_value p _ x _ (subst (λ b. TargetFits p x (type_of env (e.Select at a name)) b (InPart (Field h (type_of env a) i.0))) (sym (read_whole l q.0 shown) ∙ q.2)
-          ((λ id r. ((c, object_of x c l h y id r, i.2), (λ j. subst (λ o. is_own x.owner o ≡ true) r (own (reached (is_local q.0) l shown j))), seen_form _ q.0 l (select_seen p env a name c l q.0 k.seen q.1))), λ j. own (sym (ap is_local k.seen) ∙ j)))))
+          ((λ id r. ((c, object_of x c l h y id r, i.2), (λ j. subst (λ o. is_own x.owner o ≡ true) r (own (reached (is_local q.0) l shown j))), seen_form _ q.0 l (select_seen p env a name c l q.0 k.seen q.1), subst (λ b. IsThingOf x b id) (sym k.seen) (object_of x c l h y id r))), λ j. own (sym (ap is_local k.seen) ∙ j)))))
       select _ z o k = absurd (none_some u z)
   located_fine (e.Index at a parts) u k =
       let q = both_there index_type (operand_type p s a) (operands p s parts) u (plainly _ u k.0.1) in
@@ -232,28 +247,28 @@ module _ (s : ScopeContents) (w : Things) (env : Env) (f : EnvFits (uses_of env.
   held_fine : (at : Place) (u type : ValueType) (x : Target) → DimsFine u → TargetFits p w type u x → VariablesFit w env.variables → Sound p (λ y h. IsOf y u h) w (held_in env at type x)
   held_fine at u type (InVariable x) d k v = sound_value p _ w _ (subst (λ a. IsOf w a (find_variable x env.variables)) (sym k) (found_fits w x env.variables (subst DimsFine k d) v))
   held_fine at u type (InPart (Field object through field)) d k v =
-      sound_then p (λ x r. Names (FieldTakes p type u field) through x r) _ w (needed at through object) _ (needed_as p w at through object (FieldTakes p type u field) k.0 k.1) (λ x j r z.
-      sound_asked p _ x (request_through r at (act.GetField r.thing field) (ValueOf type)) ((u, z.thing.0), z.own, (u, type, z.thing.0, refl, z.thing.2)) (λ y l answer q.
+      sound_then p (λ x r. Names (FieldTakes p type u field through) through x r) _ w (needed at through object) _ (needed_as p w at through object (FieldTakes p type u field through) k.0 k.1) (λ x j r z.
+      sound_asked p _ x (request_through r at (act.GetField r.thing field) (ValueOf type)) ((u, z.thing.0), goes_through x r (act.GetField r.thing field) refl (names_thing _ through through x r refl z z.thing.3), (u, type, z.thing.0, refl, z.thing.2)) (λ y l answer q.
       seen_from (seen_by r.thing.owner y) y.owner u _ (λ i. eqb-true r.thing.owner x.owner (z.thing.1 i) ∙ l.owner) (q u (z.thing.0.0, l.classes r.thing z.thing.0.0 z.thing.0.1, z.thing.0.2))))
   held_fine at u type (InPart (Element grid through index)) d k v =
-      sound_then p (λ x r. Names (ElementTakes type u index) through x r) _ w (needed at through grid) _ (needed_as p w at through grid (ElementTakes type u index) k.0 k.1) (λ x j r z.
-      sound_asked p _ x (request_through r at (act.GetElem r.thing index) (ValueOf type)) ((u, z.thing.0, z.thing.1, z.thing.2), z.own, (u, type, z.thing.0, z.thing.1, refl, z.thing.4)) (λ y l answer q.
+      sound_then p (λ x r. Names (ElementTakes type u index through) through x r) _ w (needed at through grid) _ (needed_as p w at through grid (ElementTakes type u index through) k.0 k.1) (λ x j r z.
+      sound_asked p _ x (request_through r at (act.GetElem r.thing index) (ValueOf type)) ((u, z.thing.0, z.thing.1, z.thing.2), goes_through x r (act.GetElem r.thing index) refl (names_thing _ through through x r refl z z.thing.5), (u, type, z.thing.0, z.thing.1, refl, z.thing.4)) (λ y l answer q.
       seen_from (seen_by r.thing.owner y) y.owner u _ (λ i. eqb-true r.thing.owner x.owner (z.thing.3 i) ∙ l.owner) (q u z.thing.0 (grid_stays x y u z.thing.0 r.thing l z.thing.1))))
 
   -- what a target takes
   stored_fine : FieldsStorable p → (at : Place) (type u : ValueType) (x : Target) (h : Held) → TargetFits p w type u x → VariablesFit w env.variables → IsOf w u h → Sound p (λ y vs. VariablesFit y vs) w (stored env at x h)
   stored_fine d at type u (InVariable x) h k v i = sound_value p _ w _ (changed_fits w x h env.variables (subst (λ a. IsOf w a h) k i) v)
   stored_fine d at type u (InPart (Field object through field)) h k v i =
-      sound_then p (λ x r. Names (FieldTakes p type u field) through x r) _ w (needed at through object) _ (needed_as p w at through object (FieldTakes p type u field) k.0 k.1) (λ x j r z.
+      sound_then p (λ x r. Names (FieldTakes p type u field through) through x r) _ w (needed at through object) _ (needed_as p w at through object (FieldTakes p type u field through) k.0 k.1) (λ x j r z.
       let held = plain_is x u h (d z.thing.0.0 field u z.thing.0.2) (of_stays w x u h j i) in
       sound_then p (λ y o. Unit {0}) _ x (asked (request_through r at (act.PutField r.thing field (plain_of h)) ToBeDone)) _
-      (sound_asked p _ x (request_through r at (act.PutField r.thing field (plain_of h)) ToBeDone) ((u, z.thing.0, seen_from x r.thing.owner u _ (λ i. sym (eqb-true r.thing.owner x.owner (z.thing.1 i))) held), z.own, refl) (λ y l answer q. tt)) (λ y l o q.
+      (sound_asked p _ x (request_through r at (act.PutField r.thing field (plain_of h)) ToBeDone) ((u, z.thing.0, seen_from x r.thing.owner u _ (λ i. sym (eqb-true r.thing.owner x.owner (z.thing.1 i))) held), goes_through x r (act.PutField r.thing field (plain_of h)) refl (names_thing _ through through x r refl z z.thing.3), refl) (λ y l answer q. tt)) (λ y l o q.
       sound_value p _ y _ (variables_stay x y env.variables l (variables_stay w x env.variables j v))))
   stored_fine d at type u (InPart (Element grid through index)) h k v i =
-      sound_then p (λ x r. Names (ElementTakes type u index) through x r) _ w (needed at through grid) _ (needed_as p w at through grid (ElementTakes type u index) k.0 k.1) (λ x j r z.
+      sound_then p (λ x r. Names (ElementTakes type u index through) through x r) _ w (needed at through grid) _ (needed_as p w at through grid (ElementTakes type u index through) k.0 k.1) (λ x j r z.
       let held = plain_is x u h z.thing.1.4 (of_stays w x u h j i) in
       sound_then p (λ y o. Unit {0}) _ x (asked (request_through r at (act.PutElem r.thing index (plain_of h)) ToBeDone)) _
-      (sound_asked p _ x (request_through r at (act.PutElem r.thing index (plain_of h)) ToBeDone) ((u, z.thing.0, z.thing.1, z.thing.2, seen_from x r.thing.owner u _ (λ i. sym (eqb-true r.thing.owner x.owner (z.thing.3 i))) held), z.own, refl) (λ y l answer q. tt)) (λ y l o q.
+      (sound_asked p _ x (request_through r at (act.PutElem r.thing index (plain_of h)) ToBeDone) ((u, z.thing.0, z.thing.1, z.thing.2, seen_from x r.thing.owner u _ (λ i. sym (eqb-true r.thing.owner x.owner (z.thing.3 i))) held), goes_through x r (act.PutElem r.thing index (plain_of h)) refl (names_thing _ through through x r refl z z.thing.5), refl) (λ y l answer q. tt)) (λ y l o q.
       sound_value p _ y _ (variables_stay x y env.variables l (variables_stay w x env.variables j v))))
 
 grows_two : (u w x : Things) → Grows u w → Grows w x → Grows u x
@@ -275,6 +290,14 @@ into_fine_update p w at r u seen h z i k = by (or_either _ _ z)
     by (inl z) = narrow r u z i k
     by (inr z) = converted_fine p w at r u seen h z i k
 
+declared_fits : (d : Declaration) (type : ValueType) → DeclaredFits d type → fits type (declared_type d) ≡ true
+declared_fits (t.Typed l a) type k = k
+declared_fits t.Foreach type k = absurd k
+
+declared_holds : (w : Things) (d : Declaration) (type : ValueType) (h : Held) → DeclaredFits d type → IsOf w (declared_type d) h → HoldsOf w d h
+declared_holds w (t.Typed l a) type h k i = i
+declared_holds w t.Foreach type h k i = absurd k
+
 -- a value on its way to a receiver
 pub into_fine : (s : ScopeContents) (w : Things) (env : Env) → EnvFits (uses_of env.method) s w env → FieldsFit env.program → FieldsStorable env.program → VariablesFit w env.variables
     → (receiver : Receiver) (type : ValueType) (right : Asking Held) → ReceiverFits env.program env.method s receiver type
@@ -283,8 +306,8 @@ into_fine s w env f g d v Nowhere type right k r = sound_then env.program _ _ w 
 into_fine s w env f g d v (Declared at variable) type right k r =
     let p = env.program in
     sound_then p (λ x h. IsOf x type h) _ w right _ (r w (grows_not w)) (λ x j h y.
-    sound_then p (λ x h. IsOf x (declared_type variable.declared) h) _ x (converted at (declared_type variable.declared) h) _ (converted_fine p x at type _ _ h k (seen_same _) y) (λ z l i o.
-    sound_value p _ z _ (o, variables_stay x z env.variables l (variables_stay w x env.variables j v))))
+    sound_then p (λ x h. IsOf x (declared_type variable.declared) h) _ x (converted at (declared_type variable.declared) h) _ (converted_fine p x at type _ _ h (declared_fits variable.declared type k) (seen_same _) y) (λ z l i o.
+    sound_value p _ z _ (declared_holds z variable.declared type i k o, variables_stay x z env.variables l (variables_stay w x env.variables j v))))
 into_fine s w env f g d v (Assigned at target) type right k r =
     let p = env.program in
     let seen = (eval_fine (uses_of env.method) s w env f g target k.1.0.0 k.0 k.1.0.1).seen in

@@ -22,7 +22,7 @@ use Rattle.ti_rules.specs.Broken.Statements.{statement_refusals, standing_refusa
 use Rattle.ti_rules.specs.TypeRules.{ends_with_return, head_refusals, end_refusals, method_refusals, class_refusals}
 use Rattle.ti_rules.specs.ProgramRefusals.{IsChecked}
 use Rattle.ti_rules.proofs.Sound.Refused.{nil_left, nil_right, each_left, each_right, not_refused}
-use Rattle.ti_align.specs.Work.{WholeFits, InitFits, StmFits, MaybeFits, StmsFit, MethodsFit}
+use Rattle.ti_align.specs.Mirrors.Work.{WholeFits, InitFits, StmFits, MaybeFits, StmsFit, MethodsFit}
 use Rattle.ti_align.proofs.Vars.{true_false, and_right}
 use Rattle.ti_align.proofs.Operating.{none_some, some_same, where_some}
 use Rattle.ti_align.proofs.Evaluating.{joined_there, one_there}

@@ -26,7 +26,7 @@ use Rattle.ti_lang.specs.Meaning.HeapAnswers.{Answers, at_point, arrives, where_
 use Rattle.ti_lang.proofs.MeaningLaws.Things.{fault_then, answer_same, views_then, placed}
 use Rattle.ti_rules.specs.InitialTypes.{can_broadcast}
 use Rattle.ti_align.specs.Things.{Grows, IsStorable, IsOf}
-use Rattle.ti_align.specs.Sound.{IsThere, SameForm, WantsGrid, SuitsWanted}
+use Rattle.ti_align.specs.There.{IsThere, SameForm, WantsGrid, SuitsWanted}
 use Rattle.ti_align.specs.Heap.{Elements, things_of, FieldsStorable, HeapFits, elements_behind, is_of_heap, KeepsTypes}
 use Rattle.ti_align.specs.Names.{NamesFit}
 use Rattle.ti_align.proofs.Vars.{true_false}

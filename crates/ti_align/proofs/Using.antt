@@ -8,46 +8,15 @@ use Rattle.ti_lang.specs.Program.Statements as s
 use Rattle.ti_lang.specs.Program.Classes.{NumberedMethod, NumberedProgram}
 use Rattle.ti_lang.specs.Meaning.Processes.{Variable, Receiver, Nowhere, Declared, Assigned, Updated, While, Foreach, Work, Do, End, Before, Behind, Receive, CopyAll, TakeAll, Frame}
 use Rattle.ti_rules.specs.ProgramRefusals.{IsChecked}
-use Rattle.ti_align.specs.Literals.{LiteralsFit}
-use Rattle.ti_align.specs.Fitting.{IsWritten, AreWritten, IsRangeWritten, AreRangesWritten}
-use Rattle.ti_align.proofs.Scoped.{Names, KnownAs, ExpScoped, ExpsScoped, RangeScoped, RangesScoped, OptionScoped, DimsScoped, InitScoped, PrintScoped, StmScoped}
-use Rattle.ti_align.proofs.Found.{found, Holds, Among}
-use Rattle.ti_align.proofs.Reaching.{ReceiverScoped, WorkStands, WorksStand}
+use Rattle.ti_align.specs.Mirrors.Literals.{LiteralsFit}
+use Rattle.ti_align.specs.Mirrors.Fitting.{IsWritten, AreWritten, IsRangeWritten, AreRangesWritten}
+use Rattle.ti_align.specs.Scoped.{Names, KnownAs, ExpScoped, ExpsScoped, RangeScoped, RangesScoped, OptionScoped, DimsScoped, InitScoped, PrintScoped, found, ReceiverScoped, StmUses, WorkUses, FirstUses, FramesUse}
+use Rattle.ti_align.proofs.Scoped.{StmScoped}
+use Rattle.ti_align.proofs.Found.{Holds, Among}
+use Rattle.ti_align.proofs.Reaching.{WorkStands, WorksStand}
 use Rattle.ti_align.proofs.Keeping.{ProgramStands, FramesStand}
 use Rattle.ti_align.proofs.Suiting.{program_stands}
 use Rattle.ti_align.proofs.Programs.{checked_fits}
-
--- ---- what is used next
-
--- the variables that a statement uses itself are in scope
-abbrev pub StmUses : Names → NumberedStm → Type 0
-StmUses names (s.Declare at type variable value) = InitScoped names value
-StmUses names (s.Assign at target value) = ExpScoped names target × InitScoped names value
-StmUses names (s.Update at op target x) = ExpScoped names target × ExpScoped names x
-StmUses names (s.Step at op target) = ExpScoped names target
-StmUses names (s.Call x) = ExpScoped names x
-StmUses names (s.Print at what) = PrintScoped names what
-StmUses names (s.Return at value) = OptionScoped names value
-StmUses names (s.If at c x) = ExpScoped names c
-StmUses names (s.IfElse at c x y) = ExpScoped names c
-StmUses names (s.Foreach at variable domain body) = ExpScoped names domain
-StmUses names x = Unit {0}
-
--- those that a piece of work uses
-abbrev pub WorkUses : Names → Work → Type 0
-WorkUses names (Do x) = StmUses names x
-WorkUses names (Before (While at c update body)) = OptionScoped names c
-WorkUses names (Receive receiver h) = ReceiverScoped names receiver
-WorkUses names w = Unit {0}
-
--- those that the first piece of work of the innermost frame uses are found there
-abbrev pub FirstUses : List Variable → List Work → Type 0
-FirstUses vs [] = Unit {0}
-FirstUses vs (w ∷ left) = WorkUses (λ v. found v vs) w
-
-abbrev pub FramesUse : List Frame → Type 0
-FramesUse [] = Unit {0}
-FramesUse (f ∷ fs) = FirstUses f.variables f.left
 
 -- ---- more names
 

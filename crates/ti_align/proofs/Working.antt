@@ -32,12 +32,12 @@ use Rattle.ti_lang.specs.Meaning.Copies.{element_at, copied, taken}
 use Rattle.ti_lang.specs.Meaning.Statements.{made_first, initialized, prints, printed, returns}
 use Rattle.ti_lang.specs.Meaning.Performing.{condition, before_turn, update_of, turned}
 use Rattle.ti_rules.specs.InitialTypes.{can_broadcast}
-use Rattle.ti_align.specs.Things.{Things, seen_by, Grows, ArePoints, IsPlaced, IsOf}
-use Rattle.ti_align.specs.Sound.{Sound}
-use Rattle.ti_align.specs.Work
+use Rattle.ti_align.specs.Things.{Things, seen_by, Grows, ArePoints, IsPlaced, IsOf, DepositFits}
+use Rattle.ti_align.specs.Mirrors.Sound.{Sound}
 use Rattle.ti_lang.specs.Meaning.Processes
-use Rattle.ti_align.specs.Work.{VariablesFit, uses_of, scope_inside, scope_over, domain_written, IsInner, ReceiverFits, RegionFits, InitFits, PrintFits, ConditionFits, DomainFits, StmFits, MaybeFits, StmsFit, LoopFits, given_at, TakesOf, WorksFit}
-use Rattle.ti_align.proofs.Computing.{grows_then, own_stays, grid_stays, place_stays, of_stays, seen_from, sound_then, sound_value, sound_guarded, sound_request, sound_asked}
+use Rattle.ti_align.specs.Mirrors.Work.{uses_of, domain_written, IsInner, ReceiverFits, RegionFits, InitFits, PrintFits, ConditionFits, StmFits, StmsFit, LoopFits, TakesOf, WorksFit, WorkFits}
+use Rattle.ti_align.specs.Given.{scope_over, given_at}
+use Rattle.ti_align.proofs.Computing.{grows_then, own_stays, grid_stays, place_stays, of_stays, reference_stays, seen_from, goes_through, sound_then, sound_value, sound_guarded, sound_request, sound_asked}
 use Rattle.ti_align.proofs.Vars.{true_false}
 use Rattle.ti_align.proofs.Operating.{some_same, none_some, seen_same, to_global, global_type, converted_fine}
 use Rattle.ti_align.proofs.Forms.{numbers_point, points_placed}
@@ -104,10 +104,10 @@ module _ (s : ScopeContents) (env : Env) where
   -- ---- right sides
 
   root_fine : (w : Things) → Ready s w env → (root : ℕ) (x : NumberedExp) (u : ValueType) → IsInner p env.method s x u → can_broadcast u ≡ true
-      → Sound p (λ x given. Work.DepositFits x (as_global u) given) w (root_deposit env root x)
+      → Sound p (λ x given. DepositFits x (as_global u) given) w (root_deposit env root x)
   root_fine w r root x u k z = by (env.number == root)
     where
-      by : (b : Bool) → Sound p (λ x given. Work.DepositFits x (as_global u) given) w (if b then (eval env x >>= λ h. gives (deposit.One (plain_of h))) else gives deposit.Nothing)
+      by : (b : Bool) → Sound p (λ x given. DepositFits x (as_global u) given) w (if b then (eval env x >>= λ h. gives (deposit.One (plain_of h))) else gives deposit.Nothing)
       by true = sound_then p (λ u' h. IsOf u' u h) _ w (eval env x) _ (inner_fine s env w r x u k.0 k.1) (λ a g h y. sound_value p _ a _ (sent a u h z y, given_value u z, global_type u))
       by false = sound_value p _ w _ tt
 
@@ -117,7 +117,7 @@ module _ (s : ScopeContents) (env : Env) where
   init_fine untaken w r receiver (st.NewObject at region class) type k q =
       made_fine None untaken w r receiver type (new_object env at region class) q (subst (λ y. Sound p (λ u h. IsOf u y h) w (new_object env at region class)) (sym k.0) (
       sound_then p (λ u r. IsPlaced u r) _ w (region_for env region) _ (region_fine w r region k.1) (λ u g i y.
-      sound_request p _ u at (act.NewObj class i) (NewThing (t.Class class true)) (k.2.0, k.2.1, y) refl (λ x j answer o. o))
+      sound_request p _ u at (act.NewObj class i) (NewThing (t.Class class true)) refl (k.2.0, k.2.1, y) refl (λ x j answer o. o))
       ))
   init_fine untaken w r receiver (st.NewGrid at region element dims_at dims) type k q =
       made_fine None untaken w r receiver type (new_grid env at region element.type dims_at dims) q (subst (λ y. Sound p (λ u h. IsOf u y h) w (new_grid env at region element.type dims_at dims)) (sym k.1) (
@@ -125,21 +125,21 @@ module _ (s : ScopeContents) (env : Env) where
       sound_then p (λ u h. IsOf u (t.Rc k.0) h) _ u (spread env dims_at dims) _ (spread_fine u (ready_stays s w u env g r) dims_at dims k.0 k.3) (λ x j h o.
       let is_rect : IsRectOf k.0 (rect_of h) = subst (IsRectOf k.0) (sym (ap rect_of o.1)) o.2 in
       let fine = (eval_fine (uses_of env.method) s w env r.fits r.fields (domain_written dims_at dims) k.3.0 (t.Rc k.0) k.3.1).dims in
-      sound_request p _ x at (act.NewGrid (zero_of_type element.type) (rect_of h) i) (NewThing (t.Grid element.type (rect_of h).dim true))
+      sound_request p _ x at (act.NewGrid (zero_of_type element.type) (rect_of h) i) (NewThing (t.Grid element.type (rect_of h).dim true)) refl
       (element.type, k.0, ap (λ n. NewThing (t.Grid element.type n true)) is_rect.dim_is, refl, is_rect, fine, place_stays u x i j y, k.4)
       (element.type, (rect_of h).dim, true, refl) (λ z l answer c. c element.type k.0 (ap (λ n. NewThing (t.Grid element.type n true)) is_rect.dim_is))))
       ))
   init_fine untaken w r receiver (st.Broadcast at x root) type k q =
       sound_then p (λ u h. IsOf u t.Int h) _ w (eval env root) _ (inner_fine s env w r root t.Int k.3.0 k.3.1) (λ u g h y.
       sound_then p (λ u n. Unit {0}) _ u (root_among env.procs at h) _ (sound_guarded p _ u _ fault.BadRoot at _ tt) (λ a i n o.
-      sound_then p (λ u given. Work.DepositFits u (as_global k.0) given) _ a (root_deposit env n x) _ (root_fine a (ready_stays s w a env (grows_then w u a g i) r) n x k.0 k.2 k.4) (λ b j given l.
+      sound_then p (λ u given. DepositFits u (as_global k.0) given) _ a (root_deposit env n x) _ (root_fine a (ready_stays s w a env (grows_then w u a g i) r) n x k.0 k.2 k.4) (λ b j given l.
       sound_value p _ b _ ((as_global k.0, subst (ReceiverFits p env.method s receiver) k.1 q, l, ap (option_map as_global) k.2.1, (type_here env x, refl, ap as_global (sym (r.types x k.0 k.2.0 k.2.1)), subst (λ y. can_broadcast y ≡ true) (sym (r.types x k.0 k.2.0 k.2.1)) k.4), tt), tt))))
 
   -- ---- prints
 
   print_done : (handed untaken : Option ValueType) (w : Things) → Ready s w env → (at : Place) (literal : Option ℕ) (value : Option Value) → Fine s env handed untaken w (prints env at literal value)
   print_done handed untaken w r at literal value =
-      sound_then p (λ u h. Unit {0}) _ w (asked (request at (act.Print literal value) ToBeDone)) _ (sound_request p _ w at (act.Print literal value) ToBeDone tt refl (λ u g answer o. tt)) (λ u g h y. sound_value p _ u _ (variables_stay w u env.variables g r.variables, tt, tt))
+      sound_then p (λ u h. Unit {0}) _ w (asked (request at (act.Print literal value) ToBeDone)) _ (sound_request p _ w at (act.Print literal value) ToBeDone refl tt refl (λ u g answer o. tt)) (λ u g h y. sound_value p _ u _ (variables_stay w u env.variables g r.variables, tt, tt))
 
   pub print_fine : (handed untaken : Option ValueType) (w : Things) → Ready s w env → (at : Place) (what : NumberedPrint) → PrintFits p env.method s what → Fine s env handed untaken w (printed env at what)
   print_fine handed untaken w r at st.Nothing k = print_done handed untaken w r at None None
@@ -177,15 +177,15 @@ module _ (s : ScopeContents) (env : Env) where
 
   -- ---- copies and exchanges
 
-  pub copied_fine : (handed untaken : Option ValueType) (w : Things) → Ready s w env → (at : Place) (to from : _) (points : _) → Work.WorkFits p env.method s w (CopyAll at to from points) → Fine s env handed untaken w (copied env at to from points)
+  pub copied_fine : (handed untaken : Option ValueType) (w : Things) → Ready s w env → (at : Place) (to from : _) (points : _) → WorkFits p env.method s w (CopyAll at to from points) → Fine s env handed untaken w (copied env at to from points)
   copied_fine handed untaken w r at to from [] k = sound_value p _ w _ (r.variables, tt, tt)
   copied_fine handed untaken w r at to from (q ∷ qs) k =
       sound_then p (λ u h. IsOf (seen_by from.thing.owner u) k.0 h) _ w (asked (request_through from at (act.GetElem from.thing q) (ValueOf (element_seen from.type)))) _
-      (sound_asked p _ w (request_through from at (act.GetElem from.thing q) (ValueOf (element_seen from.type))) ((k.0, k.1, k.3, k.4.0), k.6, (k.0, element_seen from.type, k.1, k.3, refl, k.9)) (λ u g answer o. o k.0 k.1 (grid_stays w u k.0 k.1 from.thing g k.3))) (λ u g h y.
+      (sound_asked p _ w (request_through from at (act.GetElem from.thing q) (ValueOf (element_seen from.type))) ((k.0, k.1, k.3, k.4.0), goes_through w from (act.GetElem from.thing q) refl k.6, (k.0, element_seen from.type, k.1, k.3, refl, k.9)) (λ u g answer o. o k.0 k.1 (grid_stays w u k.0 k.1 from.thing g k.3))) (λ u g h y.
       let copy =
       seen_from (seen_by from.thing.owner u) to.thing.owner k.0 _ (λ z. eqb-true from.thing.owner w.owner (k.8 z) ∙ sym (eqb-true to.thing.owner w.owner (k.7 z))) (plain_is (seen_by from.thing.owner u) k.0 h k.2.4 y) in
       sound_then p (λ u h. Unit {0}) _ u (asked (request_through to at (act.PutElem to.thing q (plain_of h)) ToBeDone)) _
-      (sound_asked p _ u (request_through to at (act.PutElem to.thing q (plain_of h)) ToBeDone) ((k.0, k.1, grid_stays w u k.0 k.1 to.thing g k.2, k.4.0, copy), own_stays w u (is_local to.type) (Some to.thing) g k.5, refl) (λ a i answer o. tt)) (λ a i j o.
+      (sound_asked p _ u (request_through to at (act.PutElem to.thing q (plain_of h)) ToBeDone) ((k.0, k.1, grid_stays w u k.0 k.1 to.thing g k.2, k.4.0, copy), goes_through u to (act.PutElem to.thing q (plain_of h)) refl (reference_stays w u to g k.5), refl) (λ a i answer o. tt)) (λ a i j o.
       let all = grows_then w u a g i in
       sound_value p _ a _ (
         variables_stay w a env.variables all r.variables,
@@ -196,8 +196,8 @@ module _ (s : ScopeContents) (env : Env) where
             grid_stays w a k.0 k.1 to.thing all k.2,
             grid_stays w a k.0 k.1 from.thing all k.3,
             k.4.1,
-            own_stays w a (is_local to.type) (Some to.thing) all k.5,
-            own_stays w a (is_local from.type) (Some from.thing) all k.6,
+            reference_stays w a to all k.5,
+            reference_stays w a from all k.6,
             own_stays w a (is_local k.0) (Some to.thing) all k.7,
             own_stays w a (is_local k.0) (Some from.thing) all k.8,
             k.9,
@@ -207,15 +207,15 @@ module _ (s : ScopeContents) (env : Env) where
         tt,
       )))
 
-  pub taken_fine : (handed : Option ValueType) (w : Things) → Ready s w env → (at : Place) (grid : _) (procs : List ℕ) → Work.WorkFits p env.method s w (TakeAll at grid procs) → Fine s env handed (Some (element_of grid.type)) w (taken env at grid procs)
+  pub taken_fine : (handed : Option ValueType) (w : Things) → Ready s w env → (at : Place) (grid : _) (procs : List ℕ) → WorkFits p env.method s w (TakeAll at grid procs) → Fine s env handed (Some (element_of grid.type)) w (taken env at grid procs)
   taken_fine handed w r at grid [] k = sound_value p _ w _ (r.variables, tt, tt)
   taken_fine handed w r at grid (i ∷ is) k =
       let a = element_of grid.type in
-      sound_then p (λ u h. IsOf u a h) _ w (asked (request at (act.Take i) (ValueOf a))) _ (sound_request p _ w at (act.Take i) (ValueOf a) tt (a, refl, k.0.4) (λ u g answer o. o a refl)) (λ u g h y.
+      sound_then p (λ u h. IsOf u a h) _ w (asked (request at (act.Take i) (ValueOf a))) _ (sound_request p _ w at (act.Take i) (ValueOf a) refl tt (a, refl, k.0.4) (λ u g answer o. o a refl)) (λ u g h y.
       sound_then p (λ u h. Unit {0}) _ u (asked (request_through grid at (act.PutElem grid.thing (element_at i) (plain_of h)) ToBeDone)) _
-      (sound_asked p _ u (request_through grid at (act.PutElem grid.thing (element_at i) (plain_of h)) ToBeDone) ((a, 1, grid_stays w u a 1 grid.thing g k.0, element_point i k.1.0, seen_from u grid.thing.owner a _ (λ z. absurd (true_false (sym z ∙ k.3))) (plain_is u a h k.0.4 y)), own_stays w u (is_local grid.type) (Some grid.thing) g k.2, refl) (λ b j answer o. tt)) (λ b j z o.
+      (sound_asked p _ u (request_through grid at (act.PutElem grid.thing (element_at i) (plain_of h)) ToBeDone) ((a, 1, grid_stays w u a 1 grid.thing g k.0, element_point i k.1.0, seen_from u grid.thing.owner a _ (λ z. absurd (true_false (sym z ∙ k.3))) (plain_is u a h k.0.4 y)), goes_through u grid (act.PutElem grid.thing (element_at i) (plain_of h)) refl (reference_stays w u grid g k.2), refl) (λ b j answer o. tt)) (λ b j z o.
       let all = grows_then w u b g j in
-      sound_value p _ b _ (variables_stay w b env.variables all r.variables, ((grid_stays w b a 1 grid.thing all k.0, k.1.1, own_stays w b (is_local grid.type) (Some grid.thing) all k.2, k.3), tt), (refl, tt))))
+      sound_value p _ b _ (variables_stay w b env.variables all r.variables, ((grid_stays w b a 1 grid.thing all k.0, k.1.1, reference_stays w b grid all k.2, k.3), tt), (refl, tt))))
 
   -- ---- blocks
 

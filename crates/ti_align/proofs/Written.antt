@@ -42,8 +42,8 @@ use Rattle.ti_rules.specs.Broken.Targets.{is_foreach_variable, is_coordinate, is
 use Rattle.ti_rules.specs.Broken.Statements.{narrows, result_refusals, update_refusals, operator_of}
 use Rattle.ti_rules.proofs.Sound.Refused.{nil_left, nil_right, not_refused, not_mistaken, no_misfit, there_is, operand_there}
 use Rattle.ti_rules.proofs.Sound.Expressions.{has_type}
-use Rattle.ti_align.specs.Fitting.{IsWritten, AreWritten, IsRangeWritten, AreRangesWritten}
-use Rattle.ti_align.specs.Work.{may_use, uses_of, domain_written, IsInner, IsWhole, WholeFits, ReceiverFits, RegionFits, InitFits}
+use Rattle.ti_align.specs.Mirrors.Fitting.{IsWritten, AreWritten, IsRangeWritten, AreRangesWritten}
+use Rattle.ti_align.specs.Mirrors.Work.{may_use, uses_of, domain_written, IsInner, IsWhole, WholeFits, ReceiverFits, RegionFits, InitFits}
 use Rattle.ti_align.proofs.Vars.{true_false, or_false, and_left, and_right}
 use Rattle.ti_align.proofs.Operating.{none_some, some_same}
 use Rattle.ti_align.proofs.Evaluating.{and_then, mapped, both_there}

@@ -1,27 +1,27 @@
 -- When what the heap of a history holds is of the types that the program gives it.
-use Rattle.std.specs.Prelude.{◌≡◌, ℕ, ◌∷◌, Bool, true, false, if◌then◌else◌, Option, Some}
+use Rattle.std.specs.Prelude.{◌≡◌, ℕ, Bool, true, false, ◌∷◌, Option, Some, if◌then◌else◌}
+use Rattle.ti_base.specs.declared.place.Place.{Place}
 use Rattle.ti_base.specs.declared.value.Id.{Id}
 use Rattle.ti_base.specs.declared.value.Value.{Value}
-use Rattle.ti_base.specs.declared.value.Value.TheVariants as v
 use Rattle.ti_base.specs.declared.action.Action.{Action}
-use Rattle.ti_base.specs.declared.action.Action.TheVariants as act
 use Rattle.ti_base.specs.declared.entry.Answer.{Answer}
+use Rattle.ti_base.specs.Cells.{Field, Element, Cell, thing_of, Grid, same_id}
 use Rattle.ti_base.specs.declared.entry.Answer.TheVariants.{Val}
-use Rattle.ti_base.specs.declared.place.Place.{Place}
-use Rattle.ti_base.specs.Cells.{Cell, Field, Element, thing_of, Grid, same_id}
+use Rattle.ti_base.specs.declared.action.Action.TheVariants as act
+use Rattle.ti_base.specs.declared.value.Value.TheVariants as v
 use Rattle.ti_lang.specs.Program.Types.{ValueType}
-use Rattle.ti_lang.specs.Program.Types as t
 use Rattle.ti_lang.specs.Program.Classes.{NumberedProgram}
-use Rattle.ti_lang.specs.Typing.Declared.{field_type}
 use Rattle.ti_lang.specs.Meaning.Held.{Plain}
-use Rattle.ti_lang.specs.Meaning.Zeros.{zero_of_type}
 use Rattle.ti_lang.specs.Meaning.Asking.{Wanted, NewThing}
+use Rattle.ti_lang.specs.Typing.Declared.{field_type}
+use Rattle.ti_lang.specs.Meaning.HeapOf.{class_of, grid_of, last_written}
+use Rattle.ti_lang.specs.Meaning.Zeros.{zero_of_type}
 use Rattle.ti_lang.specs.Meaning.Histories.{History}
 use Rattle.ti_lang.specs.Meaning.RegionsOf.{is_made}
-use Rattle.ti_lang.specs.Meaning.HeapOf.{class_of, grid_of, last_written}
 use Rattle.ti_lang.specs.Meaning.HeapAnswers.{Answers, Impossible, heap_answer}
-use Rattle.ti_align.specs.Things.{Things, Grows, IsStorable, IsOf}
-use Rattle.ti_align.specs.Sound.{IsFieldOf, FitsAsked}
+use Rattle.ti_lang.specs.Program.Types as t
+use Rattle.ti_align.specs.Things.{Things, IsStorable, IsOf, Grows, DimsFine}
+use Rattle.ti_align.specs.There.{IsFieldOf, FitsAsked}
 
 -- the types of the elements of blocks
 abbrev pub Elements : Type 0
@@ -35,7 +35,11 @@ things_of i elements h = record { owner = i; class_at = λ id. class_of id h; gr
 abbrev pub IsBlock : History → Id → ValueType → Type 0
 IsBlock h block type = (g : Grid) × (grid_of block h ≡ Some g) × (g.zero ≡ zero_of_type type) × IsStorable type
 
--- all fields have such types
+-- the fields of all classes have one to three dimensions, wherever they have any
+abbrev pub FieldsFit : NumberedProgram → Type 0
+FieldsFit p = (class field : ℕ) (type : ValueType) → field_type p class field ≡ Some type → DimsFine type
+
+-- the types of fields are such that fields may have
 abbrev pub FieldsStorable : NumberedProgram → Type 0
 FieldsStorable p = (class field : ℕ) (type : ValueType) → field_type p class field ≡ Some type → IsStorable type
 

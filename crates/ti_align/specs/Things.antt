@@ -1,20 +1,26 @@
 -- What is there at a moment of a run, and which values are of which type then.
-use Rattle.std.specs.Prelude.{◌≡◌, ◌⊎◌, ◌≤◌, ℕ, ℤ, Bool, true, List, [], ◌∷◌, length, Option, Some, None}
+use Rattle.std.specs.Prelude.{◌≡◌, ℕ, Bool, true, false, List, [], ◌∷◌, Option, Some, None, ◌⊎◌, ◌≤◌, ℤ, length}
 use Rattle.std.specs.Int.{w32, w64}
-use Rattle.ti_base.specs.declared.point.Point.{Point}
-use Rattle.ti_base.specs.declared.point.Rect.{Rect}
 use Rattle.ti_base.specs.declared.value.Id.{Id}
-use Rattle.ti_base.specs.declared.value.Value.TheVariants as v
-use Rattle.ti_base.specs.WholeNumbers.{Fits}
-use Rattle.ti_base.specs.PointSets.{Rises}
+use Rattle.ti_base.specs.declared.action.Deposit.{Deposit}
 use Rattle.ti_base.specs.Points.{IsDim}
+use Rattle.ti_base.specs.WholeNumbers.{Fits}
+use Rattle.ti_base.specs.declared.point.Point.{Point}
 use Rattle.ti_base.specs.Cells.{Grid}
-use Rattle.ti_lang.specs.Program.Types.{ValueType}
-use Rattle.ti_lang.specs.Program.Types as t
+use Rattle.ti_base.specs.declared.point.Rect.{Rect}
+use Rattle.ti_base.specs.PointSets.{Rises}
+use Rattle.ti_base.specs.declared.action.Deposit.TheVariants as deposit
+use Rattle.ti_base.specs.declared.value.Value.TheVariants as v
+use Rattle.ti_lang.specs.Program.Types.{ValueType, Declaration}
+use Rattle.ti_lang.specs.Program.Classes.{NumberedMethod}
+use Rattle.ti_lang.specs.Program.Scope.{this_of}
+use Rattle.ti_lang.specs.Typing.Kinds.{is_local, is_void}
 use Rattle.ti_lang.specs.Meaning.Held.{Held, Plain, Dm}
+use Rattle.ti_lang.specs.Meaning.Processes.{Variable, Frame}
 use Rattle.ti_lang.specs.Meaning.Answers.{IsPointOf, IsRectOf}
 use Rattle.ti_lang.specs.Meaning.Conversions.{most_points}
 use Rattle.ti_lang.specs.Meaning.Evaluation.{is_own}
+use Rattle.ti_lang.specs.Program.Types as t
 
 -- ---- things
 
@@ -66,7 +72,7 @@ IsStorable type = Unit {0}
 abbrev pub IsGridOf : Things → ValueType → ℕ → Id → Type 0
 IsGridOf w element n id = (g : Grid) × (w.grid_at id ≡ Some g) × IsRectOf n g.domain × (w.element_at g.block ≡ Some element) × IsStorable element × (g.block.owner ≡ id.owner)
 
--- things are placed there: in none, or in a region that was made
+-- things can be placed there: in none, or in a region that was made (`is_place`, of a history)
 abbrev pub IsPlaced : Things → ℕ → Type 0
 IsPlaced w r = (r ≡ 0) ⊎ (w.is_made r ≡ true)
 
@@ -89,6 +95,12 @@ IsOf w (t.Grid element n is_local) h = (o : Option Id) × (h ≡ Plain (v.Grid o
 IsOf w t.Null h = h ≡ Plain (v.Obj None)
 IsOf w t.Void h = Unit {0}
 
+-- the thing is one that a reference of the type may name: an object of the class, or a grid of the element type and dimensions
+abbrev pub IsThingOf : Things → ValueType → Id → Type 0
+IsThingOf w (t.Class class is_local) id = w.class_at id ≡ Some class
+IsThingOf w (t.Grid element n is_local) id = IsGridOf w element n id
+IsThingOf w type id = ⊥
+
 -- a type whose values name no thing and no region
 abbrev pub NamesNothing : ValueType → Type 0
 NamesNothing t.Int = Unit {0}
@@ -105,3 +117,29 @@ DimsFine (t.Rc n) = IsDim n
 DimsFine (t.Dm n) = IsDim n
 DimsFine (t.Grid element n is_local) = IsDim n × DimsFine element
 DimsFine type = Unit {0}
+
+-- ---- variables and deposits
+
+-- a variable that is declared so holds a value of its type; none is declared without a type
+abbrev pub HoldsOf : Things → Declaration → Held → Type 0
+HoldsOf w (t.Typed is_single type) h = IsOf w type h
+HoldsOf w t.Foreach h = ⊥
+
+-- each variable does
+abbrev pub VariablesFit : Things → List Variable → Type 0
+VariablesFit w [] = Unit {0}
+VariablesFit w (x ∷ xs) = HoldsOf w x.named.declared x.held × VariablesFit w xs
+
+-- the object that `this` is, where there is one, is of the class of the method
+abbrev pub ThisFits : Things → NumberedMethod → Option Id → Type 0
+ThisFits w m this = (class : ℕ) → this_of m ≡ Some class → (id : Id) → this ≡ Some id → w.class_at id ≡ Some class
+
+-- so with each call in progress
+abbrev pub FramesHold : Things → List Frame → Type 0
+FramesHold w [] = Unit {0}
+FramesHold w (f ∷ fs) = VariablesFit w f.variables × ThisFits w f.method f.this × FramesHold w fs
+
+-- a deposit of this type, which isn't local
+abbrev pub DepositFits : Things → ValueType → Deposit → Type 0
+DepositFits w type (deposit.One value) = IsOf w type (Plain value) × (is_void type ≡ false) × (is_local type ≡ false)
+DepositFits w type given = Unit {0}

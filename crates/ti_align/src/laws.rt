@@ -1,34 +1,26 @@
 // Laws of the alignment: functions whose contracts are the laws; they do nothing, but that some read the numbers of the program.
-ghost use Rattle.std.specs.Prelude.{◌≡◌, ◌∷◌, ℕ, Bool, List, Some};
+ghost use Rattle.std.specs.Prelude.{ℕ};
 ghost use Rattle.ti_base.specs.declared.action.Action.{Action};
 ghost use Rattle.ti_base.specs.declared.value.Value.{Value};
-ghost use Rattle.ti_lang.specs.Program.Types.{ValueType, VariableUse};
-ghost use Rattle.ti_lang.specs.Program.Expressions.{NumberedExp};
+ghost use Rattle.ti_lang.specs.Program.Types.{ValueType};
 ghost use Rattle.ti_lang.specs.Program.Classes.{NumberedProgram};
-ghost use Rattle.ti_lang.specs.Program.Scope.{ScopeContents, method_scope};
 ghost use Rattle.ti_lang.specs.Program.Views.{program_of};
-ghost use Rattle.ti_lang.specs.Typing.Expressions.{operand_type};
-ghost use Rattle.ti_lang.specs.Meaning.Scoping.{Env, env_of};
-ghost use Rattle.ti_lang.specs.Meaning.Evaluation.{eval};
 ghost use Rattle.ti_lang.specs.Meaning.Held.{Plain};
 ghost use Rattle.ti_lang.specs.Meaning.Answers.{HasForm};
 ghost use Rattle.ti_lang.specs.Meaning.Asking.{Wanted};
-ghost use Rattle.ti_lang.specs.Meaning.Processes.{Process, Frame, Work};
-ghost use Rattle.ti_lang.specs.Meaning.Performing.{performed};
 ghost use Rattle.ti_lang.specs.Meaning.Histories.{History, history_of};
 ghost use Rattle.ti_lang.specs.Meaning.HeapAnswers.{IsAnswered};
 ghost use Rattle.ti_align.specs.Alignment.{ArrivalsAgree, NoneAfterEnd, OfEveryRun, IsAligned};
 ghost use Rattle.ti_align.specs.Stopping.{NoneImpossible, RoundsBalance, RegionsMade};
 ghost use Rattle.ti_align.specs.Owners.{OwnersKept};
 ghost use Rattle.ti_align.specs.Things.{Things, IsOf, NamesNothing};
-ghost use Rattle.ti_align.specs.Sound.{IsThere, Sound};
-ghost use Rattle.ti_align.specs.Fitting.{EnvFits, FieldsFit, IsWritten};
-ghost use Rattle.ti_align.specs.Work.{VariablesFit, scope_over, MethodsFit, ThisFits, HasNumber, given_type, taken_type, WorksFit, MoveFits};
-ghost use Rattle.ti_align.specs.Typed.{RunTyped};
+ghost use Rattle.ti_align.specs.There.{IsThere};
+ghost use Rattle.ti_align.specs.Heap.{FieldsFit, Elements, things_of, FieldsStorable, HeapFits, KeepsTypes};
+ghost use Rattle.ti_align.specs.Typed.{RunTyped, TakenAsGiven};
+ghost use Rattle.ti_align.specs.Scoped.{VariablesInScope};
 ghost use Rattle.ti_align.specs.Formed.{ActionsFormed};
 ghost use Rattle.ti_align.specs.Dangling.{NothingDangles};
 ghost use Rattle.ti_align.specs.Counted.{CellsCounted};
-ghost use Rattle.ti_align.specs.Heap.{Elements, things_of, FieldsStorable, HeapFits, KeepsTypes};
 
 use crate::reading::literals_fit;
 use ti_rules::Checked;
@@ -48,9 +40,13 @@ pub fn none_after_end(c: &Checked)
 
 /// A checked program is aligned: in every run all processes meet the same collectives, with the same
 /// single values, none arrives more often than one that has its end, and where there is no fault and
-/// no process can take an entry, all have their end. A region that a process comes to delete was made.
+/// no process can take an entry, all have their end. In every run, too, each thing that a local reference
+/// names lies in the memory of its own process, and no process uses or hands on a thing in a region that
+/// is gone.
 pub fn aligned(c: &Checked)
-    ensures { IsAligned (program_of c.now.program.parts) }
+    ensures aligned { IsAligned (program_of c.now.program.parts) }
+    ensures owners { OfEveryRun OwnersKept (program_of c.now.program.parts) }
+    ensures regions { OfEveryRun NothingDangles (program_of c.now.program.parts) }
 {
     literals_fit(c.program());
 }
@@ -87,13 +83,31 @@ pub fn rounds_balance(c: &Checked)
     ensures { OfEveryRun RoundsBalance (program_of c.now.program.parts) }
 {}
 
-/// In every run of a checked program all that is there is as the types say: each field, each element
-/// and each variable holds a value of its type, in the form of this type, what is handed in at a
-/// broadcast or an exchange is of the type at which it is taken, and what a process names in the action
-/// that it has next is there: an object of a class with that field, a grid of these elements and
-/// dimensions, a region that was made or none. Its points and domains are in their forms.
+/// In every run of a checked program all that is there is as the types say, wherever processes stand
+/// between their actions: each field, each element and each variable holds a value of its type, in the
+/// form of this type, be it written or still zero. What is handed in at a broadcast or an exchange is of
+/// the type at which its process hands it in. What a process names in an action that it asks for is there:
+/// an object of a class with that field, a grid of these elements and dimensions, a region that was made
+/// or none. The thing that it uses is of the type of the reference through which it does, and what it
+/// wants is what the action gives. Its points and domains are in their forms.
 pub fn run_typed(c: &Checked)
     ensures { OfEveryRun RunTyped (program_of c.now.program.parts) }
+{
+    literals_fit(c.program());
+}
+
+/// In every run of a checked program all processes hand in values of one type at their nth arrivals, and
+/// what a process takes behind a broadcast or an exchange it takes at that type.
+pub fn taken_as_given(c: &Checked)
+    ensures { OfEveryRun TakenAsGiven (program_of c.now.program.parts) }
+{
+    literals_fit(c.program());
+}
+
+/// In every run of a checked program the variables that a process uses in the work that it does next are
+/// in scope in its frame.
+pub fn variables_in_scope(c: &Checked)
+    ensures { OfEveryRun VariablesInScope (program_of c.now.program.parts) }
 {
     literals_fit(c.program());
 }
@@ -138,25 +152,9 @@ pub fn values_have_forms()
     ensures { (w : Things) (type : ValueType) (value : Value) → NamesNothing type → IsOf w type (Plain value) → HasForm type value }
 {}
 
-/// What an expression comes to inside another is a value of the type that the rules give it, and all
-/// that it asks for is there, whatever fitting answers it gets: where the variables that are used
-/// hold values of their types.
-pub fn expressions_fit()
-    ensures { (uses : VariableUse → Bool) (s : ScopeContents) (w : Things) (env : Env) (x : NumberedExp) (type : ValueType) → EnvFits uses s w env → FieldsFit env.program
-        → IsWritten uses x → operand_type env.program s x ≡ Some type → Sound env.program (λ u h. IsOf u type h) w (eval env x) }
-{}
-
 /// What an action of the heap names is there: then it is possible, behind it what was written to
 /// fields and elements is of their types, and its answer fits.
 pub fn heap_fits()
     ensures { (p : NumberedProgram) (elements : Elements) (h : History) (i : ℕ) (a : Action) (wanted : Wanted) → FieldsStorable p → IsAnswered p h → HeapFits p elements h
         → IsThere p (things_of i elements h) a wanted → KeepsTypes p elements h i a wanted }
-{}
-
-/// What is to be done next in a frame that fits the types comes to a move that fits them, whatever
-/// fitting answers it gets: variables keep to their types, and so do parameters, results and deposits.
-pub fn work_fits()
-    ensures { (p : Process) (f : Frame) (left : List Work) (w : Things) (x : Work) → w.owner ≡ p.number → HasNumber p → VariablesFit w f.variables → ThisFits w f.method f.this → FieldsFit p.setting.program
-        → FieldsStorable p.setting.program → MethodsFit p.setting.program p.setting.program.methods → WorksFit p.setting.program f.method (method_scope f.method) w (x ∷ left)
-        → Sound p.setting.program (λ u move. MoveFits p.setting.program f.method (given_type p.setting.program (scope_over p.setting.program (method_scope f.method) left) x) (taken_type x) (scope_over p.setting.program (method_scope f.method) left) u move) w (performed (env_of p f left) x) }
 {}

@@ -7,9 +7,9 @@ mod reading;
 mod slices;
 
 pub use laws::{
-    actions_formed, aligned, arrivals_agree, cells_are_counted, expressions_fit, fields_fit,
-    fields_storable, heap_fits, none_after_end, none_impossible, nothing_dangles, owners_kept,
-    regions_made, rounds_balance, run_typed, values_have_forms, work_fits,
+    actions_formed, aligned, arrivals_agree, cells_are_counted, fields_fit, fields_storable,
+    heap_fits, none_after_end, none_impossible, nothing_dangles, owners_kept, regions_made,
+    rounds_balance, run_typed, taken_as_given, values_have_forms, variables_in_scope,
 };
 pub use names::{answers_fit, names_fit, regions_named};
 pub use reading::literals_fit;

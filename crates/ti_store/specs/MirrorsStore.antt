@@ -6,10 +6,9 @@ use Rattle.ti_lang.specs.Meaning.Histories.{has_fault}
 use Rattle.ti_lang.specs.Meaning.Runs.{IsRun}
 use Rattle.ti_align.specs.Alignment.{ArrivalsAgree, OfEveryRun}
 use Rattle.ti_align.specs.Stopping.{RoundsBalance, NoneImpossible}
-use Rattle.ti_align.specs.Fitting.{FieldsFit}
+use Rattle.ti_align.specs.Heap.{FieldsFit, FieldsStorable}
 use Rattle.ti_align.specs.Typed.{RunTyped}
 use Rattle.ti_align.specs.Formed.{ActionsFormed}
-use Rattle.ti_align.specs.Heap.{FieldsStorable}
 use Rattle.ti_align.specs.Dangling.{NothingDangles}
 use Rattle.ti_store.specs.declared.ledger.Ledger.{Ledger}
 use Rattle.ti_store.specs.declared.store.Store.TheInside.{Inside}

@@ -1,11 +1,23 @@
 use Rattle.std.proofs.Common.{subst}
 use Rattle.ti_lang.specs.declared.program.numbered.Program.{Program}
 use Rattle.ti_lang.specs.Program.Views.{program_of}
-use Rattle.ti_align.specs.Literals.{LiteralsFit}
+use Rattle.ti_align.specs.Mirrors.Literals.{LiteralsFit}
 use Rattle.ti_align.proofs.Ended as ended
+use Rattle.ti_align.proofs.Owned as owned
+use Rattle.ti_align.proofs.Dangling as dangling
 use Rattle.ti_align.proofs.laws.aligned.Goals as goal
 
-pub returns : goal.returns
-returns c =
+pub returns-clause-aligned : goal.returns-clause-aligned
+returns-clause-aligned c =
     ended.aligned (program_of c.args.c.now.program.parts) (record { numbered = c.args.c.now.program.numbered; unbroken = c.args.c.now.unbroken })
+    (subst (λ (p : Program). LiteralsFit (program_of p.parts)) c.program.ensures.program c.literals_fit.ensures)
+
+pub returns-clause-owners : goal.returns-clause-owners
+returns-clause-owners c =
+    owned.owners_kept (program_of c.args.c.now.program.parts) (record { numbered = c.args.c.now.program.numbered; unbroken = c.args.c.now.unbroken })
+    (subst (λ (p : Program). LiteralsFit (program_of p.parts)) c.program.ensures.program c.literals_fit.ensures)
+
+pub returns-clause-regions : goal.returns-clause-regions
+returns-clause-regions c =
+    dangling.nothing_dangles (program_of c.args.c.now.program.parts) (record { numbered = c.args.c.now.program.numbered; unbroken = c.args.c.now.unbroken })
     (subst (λ (p : Program). LiteralsFit (program_of p.parts)) c.program.ensures.program c.literals_fit.ensures)

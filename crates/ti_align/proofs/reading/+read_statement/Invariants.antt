@@ -1,7 +1,7 @@
 use Rattle.std.proofs.Common.{map, drop}
 use Rattle.ti_lang.specs.Program.Statements.{numbered_stms}
 use Rattle.ti_lang.specs.Program.Views.{statement_of}
-use Rattle.ti_align.specs.Literals.{InStms}
+use Rattle.ti_align.specs.Mirrors.Literals.{InStms}
 use Rattle.ti_align.proofs.reading.+read_statement.Given as goal
 
 abbrev pub invariant-read_statements-loop-x : goal.invariant-read_statements-loop-x

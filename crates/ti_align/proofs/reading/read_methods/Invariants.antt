@@ -1,6 +1,6 @@
 use Rattle.std.proofs.Common.{map, drop}
 use Rattle.ti_lang.specs.Program.Views.{numbered_method_of}
-use Rattle.ti_align.specs.Literals.{InMethods}
+use Rattle.ti_align.specs.Mirrors.Literals.{InMethods}
 use Rattle.ti_align.proofs.reading.read_methods.Given as goal
 
 abbrev pub invariant-loop-method : goal.invariant-loop-method

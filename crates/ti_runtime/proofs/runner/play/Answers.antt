@@ -15,6 +15,6 @@ returns c =
     let s = setting_of store in
     let same = c.turns.invariant.same in
     let within = subst (λ (s : Setting). IsWithin s.procs s.fuel) (sym same) c.requires.within in
-    let aligned = law_of IsAlignedRun s store.entries (subst (OfEveryRun IsAlignedRun) (sym c.turns.invariant.open_still.program_is) c.aligned.ensures) within c.turns.invariant.stands.solo in
+    let aligned = law_of IsAlignedRun s store.entries (subst (OfEveryRun IsAlignedRun) (sym c.turns.invariant.open_still.program_is) c.aligned.ensures.aligned) within c.turns.invariant.stands.solo in
     let past : length c.turns.team.seats.items ≤ c.turns.team.cursor.at = omega arith in
     subst (λ s. CameTo s store.entries how.Ended) same (ends s store.entries c.turns.team.seats.items c.turns.team.cursor c.turns.invariant.stands past aligned.none_stuck)

@@ -46,4 +46,4 @@ returns c =
     let program = program_of c.in_ok-program.program.parts in
     let has = has_tree c.args.text.now c.in_ok-tokens.tokens c.in_ok-tree.tree c.in_ok-tokens.ensures.answer parsed in
     let named = c.one_program.ensures.unbroken tree program c.in_ok-program.ensures.resolves in
-    compiled known c.args.text.now c.in_ok-checked.checked (has_program c.args.text.now c.in_ok-tree.tree c.in_ok-program.program c.in_ok-checked.checked has named c.in_ok-program.ensures.resolves c.in_ok-checked.ensures) c.aligned.ensures
+    compiled known c.args.text.now c.in_ok-checked.checked (has_program c.args.text.now c.in_ok-tree.tree c.in_ok-program.program c.in_ok-checked.checked has named c.in_ok-program.ensures.resolves c.in_ok-checked.ensures) c.aligned.ensures.aligned

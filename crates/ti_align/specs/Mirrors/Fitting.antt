@@ -2,18 +2,17 @@
 use Rattle.std.specs.Prelude.{◌≡◌, ℕ, pos, Bool, true, Some}
 use Rattle.std.specs.Int.{w32, w64}
 use Rattle.ti_base.specs.declared.value.Id.{Id}
-use Rattle.ti_base.specs.WholeNumbers.{Fits}
 use Rattle.ti_base.specs.Points.{IsDim}
+use Rattle.ti_base.specs.WholeNumbers.{Fits}
 use Rattle.ti_lang.specs.Program.Types.{ValueType, Foreach, VariableUse}
-use Rattle.ti_lang.specs.Program.Types as t
 use Rattle.ti_lang.specs.Program.Expressions.{NumberedExp, NumberedExps, NumberedRange, NumberedRanges}
-use Rattle.ti_lang.specs.Program.Expressions as e
-use Rattle.ti_lang.specs.Program.Classes.{NumberedProgram}
 use Rattle.ti_lang.specs.Program.Scope.{ScopeContents, this_of}
-use Rattle.ti_lang.specs.Typing.Declared.{variable_type, field_type}
+use Rattle.ti_lang.specs.Typing.Declared.{variable_type}
 use Rattle.ti_lang.specs.Typing.TextTypes.{how_many}
 use Rattle.ti_lang.specs.Typing.Expressions.{range_count}
 use Rattle.ti_lang.specs.Meaning.Scoping.{Env, value_by}
+use Rattle.ti_lang.specs.Program.Types as t
+use Rattle.ti_lang.specs.Program.Expressions as e
 use Rattle.ti_align.specs.Things.{Things, IsOf, DimsFine}
 
 -- What is there is told for the process. Its number and how many there are have 32 bits, `this` is an object of its class, and each
@@ -27,10 +26,6 @@ pub record EnvFits (uses : VariableUse → Bool) (s : ScopeContents) (w : Things
   pub variables : (x : VariableUse) (type : ValueType) → uses x ≡ true → variable_type s x ≡ Some type → IsOf w type (value_by x.declared env x)
   pub dims : (x : VariableUse) (type : ValueType) → uses x ≡ true → variable_type s x ≡ Some type → DimsFine type
   pub points : (x : VariableUse) (type : ValueType) → uses x ≡ true → x.declared ≡ Foreach → variable_type s x ≡ Some type → (n : ℕ) × (type ≡ t.Pt n)
-
--- the fields of all classes have one to three dimensions, wherever they have any
-abbrev pub FieldsFit : NumberedProgram → Type 0
-FieldsFit p = (class field : ℕ) (type : ValueType) → field_type p class field ≡ Some type → DimsFine type
 
 module _ (uses : VariableUse → Bool) where
   abbrev mutual

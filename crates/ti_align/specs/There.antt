@@ -1,27 +1,26 @@
--- Computations that ask only for what is there, and come to what they should, whatever fitting answers they get.
-use Rattle.std.specs.Prelude.{◌≡◌, ℕ, ◌<◌, ◌-◌, Bool, true, List, [], ◌∷◌, Some}
+-- What is there for an action, and what it is answered.
+use Rattle.std.specs.Prelude.{◌≡◌, ℕ, Bool, true, List, Some, ◌<◌, ◌-◌}
 use Rattle.std.specs.Int.{w32}
-use Rattle.ti_base.specs.declared.place.Place.{Place}
 use Rattle.ti_base.specs.declared.value.Id.{Id}
-use Rattle.ti_base.specs.declared.fault.FaultKind.{FaultKind}
+use Rattle.ti_base.specs.declared.value.Zero.{Zero}
+use Rattle.ti_base.specs.Points.{IsDim}
+use Rattle.ti_base.specs.WholeNumbers.{Fits}
 use Rattle.ti_base.specs.declared.action.Action.{Action}
-use Rattle.ti_base.specs.declared.action.Action.TheVariants as act
+use Rattle.ti_base.specs.declared.entry.Answer.{Answer}
 use Rattle.ti_base.specs.declared.action.ViewHow.{ViewHow}
 use Rattle.ti_base.specs.declared.action.ViewHow.TheVariants.{Restrict, Translate, Slice}
-use Rattle.ti_base.specs.declared.entry.Answer.{Answer}
-use Rattle.ti_base.specs.declared.value.Zero.{Zero}
-use Rattle.ti_base.specs.WholeNumbers.{Fits}
-use Rattle.ti_base.specs.Points.{IsDim}
+use Rattle.ti_base.specs.declared.action.Action.TheVariants as act
 use Rattle.ti_lang.specs.Program.Types.{ValueType}
-use Rattle.ti_lang.specs.Program.Types as t
 use Rattle.ti_lang.specs.Program.Classes.{NumberedProgram}
-use Rattle.ti_lang.specs.Typing.Kinds.{is_local, as_global}
-use Rattle.ti_lang.specs.Typing.Declared.{field_type}
+use Rattle.ti_lang.specs.Typing.Kinds.{as_global}
 use Rattle.ti_lang.specs.Meaning.Held.{Plain}
+use Rattle.ti_lang.specs.Meaning.Asking.{Wanted, ToBeDone, ValueOf, NewThing, told}
 use Rattle.ti_lang.specs.Meaning.Zeros.{zeros_of_class, zero_of_type}
+use Rattle.ti_lang.specs.Typing.Declared.{field_type}
 use Rattle.ti_lang.specs.Meaning.Answers.{IsPointOf, IsRectOf}
-use Rattle.ti_lang.specs.Meaning.Asking.{Wanted, ToBeDone, ValueOf, NewThing, Reference, Request, Asking, Gives, Asks, Fails, told}
-use Rattle.ti_align.specs.Things.{Things, seen_by, Grows, IsStorable, IsGridOf, IsPlaced, IsOwn, IsOf}
+use Rattle.ti_lang.specs.Program.Types as t
+use Rattle.ti_align.specs.Things.{Things, IsStorable, IsGridOf, IsPlaced, IsOf, seen_by, IsThingOf}
+use Rattle.ti_align.specs.Dangling.{used_by}
 use Rattle.ti_align.specs.Owners.{IsOwnAction}
 
 -- ---- what is asked for
@@ -75,9 +74,10 @@ SuitsWanted p w (act.Take who) wanted = (type : ValueType) × (wanted ≡ ValueO
 SuitsWanted p w act.Depart wanted = Unit {0}
 SuitsWanted p w a wanted = wanted ≡ ToBeDone
 
--- what the reference names lies in the memory of the process, where the reference is local
-abbrev pub IsOwnReference : Things → Reference → Type 0
-IsOwnReference w r = IsOwn w (is_local r.type) (Some r.thing)
+-- the action goes through a reference of this type: it uses a thing of the type, which lies in the memory of the process where the type
+-- is local
+abbrev pub GoesThrough : Things → ValueType → Action → Type 0
+GoesThrough w through a = IsOwnAction w.owner through a × ((id : Id) → used_by a ≡ Some id → IsThingOf w through id)
 
 -- ---- what is answered
 
@@ -91,14 +91,3 @@ FitsAsked p w (act.MakeView grid how) wanted r = (element : ValueType) (n : ℕ)
 FitsAsked p w (act.DomainOf grid) wanted r = (element : ValueType) (n : ℕ) → IsGridOf w element n grid → IsOf w (t.Rc n) (told r)
 FitsAsked p w (act.Take who) wanted r = (type : ValueType) → wanted ≡ ValueOf type → IsOf w type (told r)
 FitsAsked p w a wanted r = Unit {0}
-
--- ---- computations
-
--- The computation comes to what the fact holds of, or to a fault, or asks for what is there, and through a local reference for what is
--- there in the memory of its process, and wants of it what it gives; and where the answer fits, in whatever is there by then, so does
--- what is left of it.
-pub data Sound (p : NumberedProgram) {A : Type 0} (P : Things → A → Type 0) : Things → Asking A → Type 0 where
-  value : {w : Things} {m : Asking A} (a : A) → P w a → ((rest : List Answer) → m rest ≡ Gives a rest) → Sound p P w m
-  fault : {w : Things} {m : Asking A} (kind : FaultKind) (at : Place) → ((rest : List Answer) → m rest ≡ Fails kind at) → Sound p P w m
-  asks : {w : Things} {m : Asking A} (q : Request) → m [] ≡ Asks q → IsThere p w q.action q.wanted × IsOwnAction w.owner q.through q.action × SuitsWanted p w q.action q.wanted
-      → ((u : Things) → Grows w u → (r : Answer) → FitsAsked p u q.action q.wanted r → Sound p P u (λ rest. m (r ∷ rest))) → Sound p P w m

@@ -1,21 +1,15 @@
 -- Work that fits the types: pieces of work that are left in a frame, and the moves that they come to.
-use Rattle.std.specs.Prelude.{◌≡◌, ℕ, pos, Bool, true, false, ◌&&◌, ◌||◌, is_none, List, [], ◌∷◌, Option, Some, None, option_map, slice_get}
+use Rattle.std.specs.Prelude.{◌≡◌, ℕ, pos, Bool, true, false, ◌&&◌, ◌||◌, is_none, List, [], ◌∷◌, Option, Some, None, slice_get}
+use Rattle.std.specs.Int.{w32}
 use Rattle.ti_base.specs.declared.place.Place.{Place}
-use Rattle.ti_base.specs.declared.value.Id.{Id}
 use Rattle.ti_base.specs.declared.value.Zero.{Zero}
 use Rattle.ti_base.specs.declared.action.CollKind.{CollKind}
-use Rattle.ti_base.specs.declared.action.CollKind.TheVariants as coll
-use Rattle.ti_base.specs.declared.action.Deposit.{Deposit}
-use Rattle.ti_base.specs.declared.action.Deposit.TheVariants as deposit
 use Rattle.ti_base.specs.Points.{IsDim}
-use Rattle.std.specs.Int.{w32}
 use Rattle.ti_base.specs.WholeNumbers.{Fits}
+use Rattle.ti_base.specs.declared.action.CollKind.TheVariants as coll
 use Rattle.ti_lang.specs.Program.Types.{ValueType, Declaration, VariableUse}
-use Rattle.ti_lang.specs.Program.Types as t
 use Rattle.ti_lang.specs.Program.Expressions.{NumberedExp, numbered_ranges}
-use Rattle.ti_lang.specs.Program.Expressions as e
 use Rattle.ti_lang.specs.Program.Statements.{NumberedDims, NumberedInit, NumberedPrint, NumberedStm, MaybeNumbered, NumberedStms, numbered_stms}
-use Rattle.ti_lang.specs.Program.Statements as st
 use Rattle.ti_lang.specs.Program.Classes.{NumberedMethod, NumberedProgram}
 use Rattle.ti_lang.specs.Program.Scope.{ScopeContents, this_of, method_scope}
 use Rattle.ti_lang.specs.Typing.Declared.{in_scope, result_type}
@@ -25,27 +19,25 @@ use Rattle.ti_lang.specs.Typing.Fits.{fits}
 use Rattle.ti_lang.specs.Typing.Operators.{binary_type}
 use Rattle.ti_lang.specs.Typing.Expressions.{typed, operand_type}
 use Rattle.ti_base.specs.Forms.{is_dim}
-use Rattle.ti_lang.specs.Meaning.Held.{Plain}
 use Rattle.ti_lang.specs.Meaning.Asking.{Wanted, ToBeDone, ValueOf, NewThing}
 use Rattle.ti_lang.specs.Meaning.Zeros.{zeros_of_class}
-use Rattle.ti_lang.specs.Meaning.Processes.{Variable, Receiver, Nowhere, Declared, Assigned, Updated, Loop, While, Foreach, Work, Do, End, Before, Behind, Receive, CopyAll, TakeAll, Process}
-use Rattle.ti_lang.specs.Meaning.Scoping.{declared_type}
+use Rattle.ti_lang.specs.Meaning.Processes.{Receiver, Nowhere, Declared, Assigned, Updated, Loop, While, Foreach, Work, Do, End, Before, Behind, Receive, CopyAll, TakeAll, Process}
 use Rattle.ti_lang.specs.Meaning.Statements.{one_more}
 use Rattle.ti_lang.specs.Meaning.Moves.{Move, Goes, Turns, Calls, Returns, Meets, Deletes}
+use Rattle.ti_lang.specs.Program.Types as t
+use Rattle.ti_lang.specs.Program.Expressions as e
+use Rattle.ti_lang.specs.Program.Statements as st
 use Rattle.ti_rules.specs.InitialTypes.{can_broadcast}
 use Rattle.ti_rules.specs.Standing.{variables_inside}
 use Rattle.ti_rules.specs.Broken.Targets.{is_foreach_variable, is_hidden_local}
 use Rattle.ti_rules.specs.Broken.Statements.{narrows}
-use Rattle.ti_align.specs.Things.{Things, ArePoints, IsStorable, IsGridOf, IsPlaced, IsOwn, IsOf}
-use Rattle.ti_align.specs.Sound.{SameForm, IsOwnReference}
-use Rattle.ti_align.specs.Fitting.{IsWritten, AreWritten}
+use Rattle.ti_align.specs.Things.{Things, ArePoints, IsStorable, IsGridOf, IsPlaced, IsOwn, IsOf, VariablesFit, ThisFits, DepositFits}
+use Rattle.ti_align.specs.There.{SameForm}
+use Rattle.ti_align.specs.Mirrors.Sound.{ReferenceFits}
+use Rattle.ti_align.specs.Mirrors.Fitting.{IsWritten, AreWritten}
+use Rattle.ti_align.specs.Given.{scope_over, IsOfRound}
 
 -- ---- variables
-
--- each variable holds a value of its type
-abbrev pub VariablesFit : Things → List Variable → Type 0
-VariablesFit w [] = Unit {0}
-VariablesFit w (x ∷ xs) = IsOf w (declared_type x.named.declared) x.held × VariablesFit w xs
 
 -- one to three dimensions, wherever there are any
 abbrev pub has_dims : ValueType → Bool
@@ -63,19 +55,6 @@ may_use m number t.Foreach = is_none (in_scope (method_scope m) number)
 abbrev pub uses_of : NumberedMethod → VariableUse → Bool
 uses_of m v = may_use m v.number v.declared
 
--- ---- scopes
-
--- what is in scope in the turns of a loop
-abbrev pub scope_inside : NumberedProgram → ScopeContents → Loop → ScopeContents
-scope_inside p s (While at c update body) = s
-scope_inside p s (Foreach at number domain points body) = record s { variables = variables_inside p s number domain }
-
--- what is in scope before the work that is left, over what is in scope behind it
-abbrev pub scope_over : NumberedProgram → ScopeContents → List Work → ScopeContents
-scope_over p s [] = s
-scope_over p s (Behind loop ∷ left) = scope_inside p (scope_over p s left) loop
-scope_over p s (w ∷ left) = scope_over p s left
-
 -- ---- the text
 
 -- the domain over which a new grid spreads
@@ -89,6 +68,11 @@ is_form_of_call (e.Call at method args) = true
 is_form_of_call (e.OwnCall at method args) = true
 is_form_of_call (e.Member at x name args) = true
 is_form_of_call x = false
+
+-- a variable that is declared so, with a type, takes values of this type
+abbrev pub DeclaredFits : Declaration → ValueType → Type 0
+DeclaredFits (t.Typed is_single u) type = fits type u ≡ true
+DeclaredFits t.Foreach type = ⊥
 
 module _ (p : NumberedProgram) (m : NumberedMethod) where
   -- an expression inside another has this type
@@ -113,7 +97,7 @@ module _ (p : NumberedProgram) (m : NumberedMethod) where
   -- the receiver takes a value of this type
   abbrev pub ReceiverFits : ScopeContents → Receiver → ValueType → Type 0
   ReceiverFits s Nowhere type = Unit {0}
-  ReceiverFits s (Declared at v) type = fits type (declared_type v.declared) ≡ true
+  ReceiverFits s (Declared at v) type = DeclaredFits v.declared type
   ReceiverFits s (Assigned at target) type = (u : ValueType) × IsTarget s target u × (fits type u ≡ true)
   ReceiverFits s (Updated at op target) type = (u : ValueType) × (r : ValueType) × IsTarget s target u × (binary_type op u type ≡ Some r) × ((narrows r u || fits r u) ≡ true)
 
@@ -194,35 +178,13 @@ MethodsFit p (m ∷ ms) = MethodFits p m × MethodsFit p ms
 
 -- ---- work and moves
 
--- the object that `this` is, where there is one, is of the class of the method
-abbrev pub ThisFits : Things → NumberedMethod → Option Id → Type 0
-ThisFits w m this = (class : ℕ) → this_of m ≡ Some class → (id : Id) → this ≡ Some id → w.class_at id ≡ Some class
-
--- a deposit of this type, which isn't local
-abbrev pub DepositFits : Things → ValueType → Deposit → Type 0
-DepositFits w type (deposit.One value) = IsOf w type (Plain value) × (is_void type ≡ false) × (is_local type ≡ false)
-DepositFits w type given = Unit {0}
-
 -- ---- processes
 
 -- the number of a process, and how many there are, have 32 bits
 abbrev pub HasNumber : Process → Type 0
 HasNumber pr = Fits w32 (pos pr.number) × Fits w32 (pos pr.setting.procs)
 
--- ---- what is handed in at collectives, and taken
-
--- the type of the values that processes hand in at a right side, if it is a broadcast
-abbrev pub given_at : NumberedProgram → ScopeContents → NumberedInit → Option ValueType
-given_at p s (st.Broadcast at x root) = option_map as_global (operand_type p s x)
-given_at p s value = None
-
--- the type of the values that processes hand in at the collective at which a piece of work arrives: at a broadcast that of its value,
--- at an exchange that of the elements of its grid
-abbrev pub given_type : NumberedProgram → ScopeContents → Work → Option ValueType
-given_type p s (Do (st.Declare at type variable value)) = given_at p s value
-given_type p s (Do (st.Assign at target value)) = given_at p s value
-given_type p s (Do (st.Call (e.Member at x name args))) = option_map element_of (operand_type p s x)
-given_type p s x = None
+-- ---- what is taken
 
 -- the type of the values that are left to be taken, if any are
 abbrev pub taken_type : Work → Option ValueType
@@ -239,13 +201,6 @@ TakesOf takes (w ∷ works) = TakesOf takes works
 abbrev pub taken_behind : CollKind → ValueType → Option ValueType
 taken_behind coll.Exchange type = Some type
 taken_behind kind type = None
-
--- a collective at which values of such a type are handed in, or which gives a region, or neither
-abbrev pub IsOfRound : (ValueType → Type 0) → CollKind → ValueType → Type 0
-IsOfRound G coll.Broadcast type = G type
-IsOfRound G coll.Exchange type = G type
-IsOfRound G coll.MakeRegion type = type ≡ t.Region
-IsOfRound G kind type = Unit {0}
 
 -- What is wanted at a collective with values of this type: at a broadcast one of the type of its value, which is handed in as a global
 -- one, and a region where one is made. Nothing else is.
@@ -269,10 +224,10 @@ module _ (p : NumberedProgram) (m : NumberedMethod) where
   WorkFits s w (Receive receiver h) = (type : ValueType) × IsOf w type h × ReceiverFits p m s receiver type
   WorkFits s w (CopyAll at to from points) =
       (element : ValueType) × (n : ℕ) × IsGridOf w element n to.thing × IsGridOf w element n from.thing × ArePoints n points
-      × IsOwnReference w to × IsOwnReference w from × IsOwn w (is_local element) (Some to.thing) × IsOwn w (is_local element) (Some from.thing)
+      × ReferenceFits w to × ReferenceFits w from × IsOwn w (is_local element) (Some to.thing) × IsOwn w (is_local element) (Some from.thing)
       × SameForm (element_seen from.type) element
   WorkFits s w (TakeAll at grid procs) =
-      IsGridOf w (element_of grid.type) 1 grid.thing × AreCounted procs × IsOwnReference w grid × (is_local (element_of grid.type) ≡ false)
+      IsGridOf w (element_of grid.type) 1 grid.thing × AreCounted procs × ReferenceFits w grid × (is_local (element_of grid.type) ≡ false)
 
   -- all that is left
   abbrev pub WorksFit : ScopeContents → Things → List Work → Type 0

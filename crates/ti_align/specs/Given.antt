@@ -1,0 +1,63 @@
+-- The types of the values that processes hand in at collectives.
+use Rattle.std.specs.Prelude.{◌≡◌, List, [], ◌∷◌, Option, None, option_map}
+use Rattle.ti_base.specs.declared.action.CollKind.{CollKind}
+use Rattle.ti_base.specs.declared.action.CollKind.TheVariants as coll
+use Rattle.ti_lang.specs.Program.Types.{ValueType}
+use Rattle.ti_lang.specs.Program.Statements.{NumberedInit}
+use Rattle.ti_lang.specs.Program.Classes.{NumberedProgram}
+use Rattle.ti_lang.specs.Program.Scope.{ScopeContents, method_scope}
+use Rattle.ti_lang.specs.Typing.Kinds.{element_of, as_global}
+use Rattle.ti_lang.specs.Typing.Expressions.{operand_type}
+use Rattle.ti_lang.specs.Meaning.Processes.{Loop, While, Foreach, Work, Do, Behind, Process, Frame}
+use Rattle.ti_lang.specs.Program.Types as t
+use Rattle.ti_lang.specs.Program.Expressions as e
+use Rattle.ti_lang.specs.Program.Statements as st
+use Rattle.ti_rules.specs.Standing.{variables_inside}
+
+-- ---- scopes
+
+-- what is in scope in the turns of a loop
+abbrev pub scope_inside : NumberedProgram → ScopeContents → Loop → ScopeContents
+scope_inside p s (While at c update body) = s
+scope_inside p s (Foreach at number domain points body) = record s { variables = variables_inside p s number domain }
+
+-- what is in scope before the work that is left, over what is in scope behind it
+abbrev pub scope_over : NumberedProgram → ScopeContents → List Work → ScopeContents
+scope_over p s [] = s
+scope_over p s (Behind loop ∷ left) = scope_inside p (scope_over p s left) loop
+scope_over p s (w ∷ left) = scope_over p s left
+
+-- ---- what is handed in
+
+-- the type of the values that processes hand in at a right side, if it is a broadcast
+abbrev pub given_at : NumberedProgram → ScopeContents → NumberedInit → Option ValueType
+given_at p s (st.Broadcast at x root) = option_map as_global (operand_type p s x)
+given_at p s value = None
+
+-- the type of the values that processes hand in at the collective at which a piece of work arrives: at a broadcast that of its value,
+-- at an exchange that of the elements of its grid
+abbrev pub given_type : NumberedProgram → ScopeContents → Work → Option ValueType
+given_type p s (Do (st.Declare at type variable value)) = given_at p s value
+given_type p s (Do (st.Assign at target value)) = given_at p s value
+given_type p s (Do (st.Call (e.Member at x name args))) = option_map element_of (operand_type p s x)
+given_type p s x = None
+
+-- the type of the values that are handed in at the collective at which the work that is left arrives first
+abbrev pub given_first : NumberedProgram → Frame → List Work → Option ValueType
+given_first p f [] = None
+given_first p f (x ∷ left) = given_type p (scope_over p (method_scope f.method) left) x
+
+abbrev pub given_in : NumberedProgram → List Frame → Option ValueType
+given_in p [] = None
+given_in p (f ∷ fs) = given_first p f f.left
+
+-- that of the collective at which a process arrives next, where values are handed in there
+abbrev pub given_by : Process → Option ValueType
+given_by pr = given_in pr.setting.program pr.frames
+
+-- a collective at which values of such a type are handed in, or which gives a region, or neither
+abbrev pub IsOfRound : (ValueType → Type 0) → CollKind → ValueType → Type 0
+IsOfRound G coll.Broadcast type = G type
+IsOfRound G coll.Exchange type = G type
+IsOfRound G coll.MakeRegion type = type ≡ t.Region
+IsOfRound G kind type = Unit {0}

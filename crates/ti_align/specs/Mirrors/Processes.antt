@@ -1,0 +1,70 @@
+-- Processes that fit the types: their frames, and what they do next.
+use Rattle.std.specs.Prelude.{◌≡◌, List, [], ◌∷◌, Option, Some, None, ◌++◌}
+use Rattle.ti_lang.specs.Program.Types.{ValueType}
+use Rattle.ti_lang.specs.Program.Classes.{NumberedProgram}
+use Rattle.ti_lang.specs.Program.Scope.{method_scope}
+use Rattle.ti_lang.specs.Typing.Declared.{result_type}
+use Rattle.ti_lang.specs.Typing.Kinds.{element_of}
+use Rattle.ti_lang.specs.Meaning.Processes.{Work, TakeAll, Process, Frame, Wait}
+use Rattle.ti_lang.specs.Meaning.Scoping.{env_of}
+use Rattle.ti_lang.specs.Meaning.Performing.{performed}
+use Rattle.ti_align.specs.Things.{Things, VariablesFit, ThisFits}
+use Rattle.ti_align.specs.Mirrors.Sound.{Sound}
+use Rattle.ti_align.specs.Heap.{FieldsFit, FieldsStorable}
+use Rattle.ti_align.specs.Given.{scope_over, given_type, IsOfRound}
+use Rattle.ti_align.specs.Mirrors.Work.{MethodsFit, ReceiverFits, taken_type, TakesOf, taken_behind, WantsOf, WorksFit, IsAwaited, MoveFits}
+
+-- ---- programs
+
+-- what the rules have said of the types of a program
+pub record ProgramFits (p : NumberedProgram) : Type 0 where
+  pub fields : FieldsFit p
+  pub storable : FieldsStorable p
+  pub methods : MethodsFit p p.methods
+
+-- ---- frames
+
+-- `this`, the variables and the work that is left fit the types
+abbrev pub FrameFits : NumberedProgram → Things → Frame → Type 0
+FrameFits p w f = VariablesFit w f.variables × ThisFits w f.method f.this × WorksFit p f.method (method_scope f.method) w f.left
+
+-- what a frame hands on when it returns suits the frame below it, if there is one
+abbrev pub HandsOn : NumberedProgram → Frame → List Frame → Type 0
+HandsOn p f [] = Unit {0}
+HandsOn p f (g ∷ fs) = ReceiverFits p g.method (scope_over p (method_scope g.method) g.left) f.receiver (result_type f.method)
+
+-- all frames fit, each above the next
+abbrev pub FramesFit : NumberedProgram → Things → List Frame → Type 0
+FramesFit p w [] = Unit {0}
+FramesFit p w (f ∷ fs) = FrameFits p w f × HandsOn p f fs × FramesFit p w fs
+
+-- ---- processes
+
+-- what the first piece of work comes to fits, after the answers that it has got so far
+abbrev pub WorkSound : Things → Process → Frame → List Work → Type 0
+WorkSound w pr f [] = Unit {0}
+WorkSound w pr f (x ∷ left) =
+    Sound pr.setting.program (λ u move. MoveFits pr.setting.program f.method (given_type pr.setting.program (scope_over pr.setting.program (method_scope f.method) left) x) (taken_type x) (scope_over pr.setting.program (method_scope f.method) left) u move) w
+    (λ rest. performed (env_of pr f left) x (pr.answers ++ rest))
+
+-- the values that are taken first are of such a type
+abbrev pub TakesFirst : (ValueType → Type 0) → List Work → Type 0
+TakesFirst G (TakeAll at grid procs ∷ left) = G (element_of grid.type)
+TakesFirst G left = Unit {0}
+
+-- what a process that waits is given, or takes behind the collective, suits the frame in which it waits
+abbrev pub WaitFits : NumberedProgram → (ValueType → Type 0) → Wait → List Frame → Type 0
+WaitFits p G wait [] = ⊥
+WaitFits p G wait (f ∷ fs) =
+    (type : ValueType) × IsAwaited p f.method (scope_over p (method_scope f.method) f.left) wait.wanted wait.receiver type
+    × IsOfRound G wait.kind type × WantsOf wait.kind wait.wanted type × TakesOf (taken_behind wait.kind type) f.left
+
+-- what the process does next fits
+abbrev pub NextFits : Things → (ValueType → Type 0) → Process → Option Wait → List Frame → Type 0
+NextFits w G pr (Some wait) fs = WaitFits pr.setting.program G wait fs × (pr.answers ≡ [])
+NextFits w G pr None [] = Unit {0}
+NextFits w G pr None (f ∷ fs) = WorkSound w pr f f.left × TakesFirst G f.left
+
+-- A process fits the types, where values of such a type were handed in at its last collective, if any were.
+abbrev pub ProcessFits : Things → (ValueType → Type 0) → Process → Type 0
+ProcessFits w G pr = FramesFit pr.setting.program w pr.frames × NextFits w G pr pr.wait pr.frames

@@ -1,0 +1,25 @@
+-- Computations that ask only for what is there, and come to what they should, whatever fitting answers they get.
+use Rattle.std.specs.Prelude.{◌≡◌, List, [], ◌∷◌, Some}
+use Rattle.ti_base.specs.declared.place.Place.{Place}
+use Rattle.ti_base.specs.declared.entry.Answer.{Answer}
+use Rattle.ti_base.specs.declared.fault.FaultKind.{FaultKind}
+use Rattle.ti_lang.specs.Program.Classes.{NumberedProgram}
+use Rattle.ti_lang.specs.Typing.Kinds.{is_local}
+use Rattle.ti_lang.specs.Meaning.Asking.{Request, Reference, Asking, Gives, Asks, Fails}
+use Rattle.ti_align.specs.Things.{Things, IsOwn, Grows, IsThingOf}
+use Rattle.ti_align.specs.There.{IsThere, GoesThrough, SuitsWanted, FitsAsked}
+
+-- what the reference names is a thing of its type, and lies in the memory of the process where the reference is local
+abbrev pub ReferenceFits : Things → Reference → Type 0
+ReferenceFits w r = IsOwn w (is_local r.type) (Some r.thing) × IsThingOf w r.type r.thing
+
+-- ---- computations
+
+-- The computation comes to what the fact holds of, or to a fault, or asks for what is there, through a reference for a thing of its type,
+-- which lies in the memory of its process where the type is local, and wants of it what it gives; and where the answer fits, in whatever
+-- is there by then, so does what is left of it.
+pub data Sound (p : NumberedProgram) {A : Type 0} (P : Things → A → Type 0) : Things → Asking A → Type 0 where
+  value : {w : Things} {m : Asking A} (a : A) → P w a → ((rest : List Answer) → m rest ≡ Gives a rest) → Sound p P w m
+  fault : {w : Things} {m : Asking A} (kind : FaultKind) (at : Place) → ((rest : List Answer) → m rest ≡ Fails kind at) → Sound p P w m
+  asks : {w : Things} {m : Asking A} (q : Request) → m [] ≡ Asks q → IsThere p w q.action q.wanted × GoesThrough w q.through q.action × SuitsWanted p w q.action q.wanted
+      → ((u : Things) → Grows w u → (r : Answer) → FitsAsked p u q.action q.wanted r → Sound p P u (λ rest. m (r ∷ rest))) → Sound p P w m
