@@ -1,5 +1,5 @@
 -- What programs are refused for.
-use Rattle.std.specs.Prelude.{◌≡◌, List, Some, is_none, Bool, true}
+use Rattle.std.specs.Prelude.{◌≡◌, List, Some, is_none, true}
 use Rattle.std.specs.List.{list_all}
 use Rattle.ti_base.specs.declared.place.Place.{Place}
 use Rattle.ti_lang.specs.Program.Classes.{NumberedProgram}

@@ -16,11 +16,11 @@ use Rattle.ti_base.specs.declared.entry.Entry.{Entry}
 use Rattle.ti_rows.specs.Texts.{pl}
 
 -- an entry of a process
-abbrev entry : ℕ → Place → Action → Answer → Entry
+abbrev pub entry : ℕ → Place → Action → Answer → Entry
 entry i at a r = record { proc = i; place = at; act = a; answer = r }
 
 -- a thing in the memory of its maker, in a region
-abbrev thing : ℕ → ℕ → ℕ → Id
+abbrev pub thing : ℕ → ℕ → ℕ → Id
 thing i serial region = record { maker = i; serial = serial; owner = i; region = region }
 
 -- a point of one coordinate

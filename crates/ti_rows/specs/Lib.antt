@@ -1,7 +1,9 @@
 pub mod Answers
+pub mod Failing
 pub mod Histories
 pub mod Outcomes
 pub mod Refused
+pub mod Refuted
 pub mod Rows
 pub mod Simulation
 pub mod Slices

@@ -9,7 +9,7 @@ use Rattle.ti_lang.specs.Program.Expressions as x
 use Rattle.ti_lang.specs.Program.Statements as s
 use Rattle.ti_lang.specs.Program.Classes.{NumberedProgram}
 use Rattle.ti_lang.specs.Program.Classes as c
-use Rattle.ti_rows.specs.Texts.{pl, names_with}
+use Rattle.ti_rows.specs.Texts.{pl}
 use Rattle.ti_rows.specs.Words.{qualifier, modifier, type_with, used, field_with, class_with, param_with, method_with, program_of}
 
 -- class Main { public static single void main(String[] args) { if (Ti.thisProc() == 0) { Ti.barrier(); } } }

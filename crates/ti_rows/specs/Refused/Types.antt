@@ -1,7 +1,6 @@
 -- Programs that are refused by the rules of types and qualifiers.
 use Rattle.std.specs.Prelude.{pos, true, false, [], ◌∷◌, None, Some, codes}
 use Rattle.ti_syntax.specs.declared.tree.exprs.BinaryOperator.TheVariants as b
-use Rattle.ti_syntax.specs.declared.tree.stmts.StepOperator.TheVariants as step
 use Rattle.ti_syntax.specs.declared.tree.types.QualifierWord.TheVariants as word
 use Rattle.ti_syntax.specs.declared.tree.classes.ModifierWord.TheVariants as mw
 use Rattle.ti_lang.specs.Program.Types as ty
@@ -9,7 +8,7 @@ use Rattle.ti_lang.specs.Program.Expressions as x
 use Rattle.ti_lang.specs.Program.Statements as s
 use Rattle.ti_lang.specs.Program.Classes.{NumberedProgram}
 use Rattle.ti_lang.specs.Program.Classes as c
-use Rattle.ti_rows.specs.Texts.{pl, names_with}
+use Rattle.ti_rows.specs.Texts.{pl}
 use Rattle.ti_rows.specs.Words.{qualifier, modifier, type_with, used, bracket, field_with, class_with, param_with, method_with, program_of}
 
 -- class Main { public static single void main(String[] args) { boolean b = true + 1; } }

@@ -1,0 +1,125 @@
+use Rattle.std.proofs.Common.{◌≡◌, ℕ, ◌<◌, pos, List, [], ◌∷◌, ◌++◌, None, Some, refl, sym, ◌∙◌, ap, subst, arith}
+use Rattle.std.specs.Int.{int_wrap}
+use Rattle.ti_base.specs.declared.action.Action.{Action}
+use Rattle.ti_base.specs.declared.action.Action.TheVariants as act
+use Rattle.ti_base.specs.declared.action.CollKind.TheVariants as coll
+use Rattle.ti_base.specs.declared.action.Deposit.TheVariants as deposit
+use Rattle.ti_base.specs.declared.entry.Answer.TheVariants.{Done, Val}
+use Rattle.ti_base.specs.declared.entry.Entry.{Entry}
+use Rattle.ti_base.specs.declared.entry.Next.TheVariants as next
+use Rattle.ti_base.specs.declared.value.Value.TheVariants as v
+use Rattle.ti_lang.specs.Typing.BuiltIn.{built_in}
+use Rattle.ti_lang.specs.Typing.Declared.{named_field_type, instance_method}
+use Rattle.ti_lang.specs.Program.Classes.{NumberedProgram}
+use Rattle.ti_lang.specs.Meaning.Processes.{Setting}
+use Rattle.ti_lang.specs.Meaning.Histories.{History}
+use Rattle.ti_lang.specs.Meaning.HeapAnswers.{Outcome, Answers, Impossible, heap_answer, IsAnswered}
+use Rattle.ti_lang.specs.Meaning.HeapAnswers as heap
+use Rattle.ti_lang.specs.Meaning.Runs.{CanTake, IsRun, IsSolo}
+use Rattle.ti_lang.specs.Meaning.Runs as r
+use Rattle.ti_lang.proofs.MeaningLaws.Running.{decided, solo_run, taker}
+use Rattle.ti_rows.specs.Texts.{pl}
+use Rattle.ti_rows.specs.Histories.{thing}
+use Rattle.ti_rows.specs.Failing.{by_two}
+use Rattle.ti_rows.specs.Simulation.{solo}
+use Rattle.ti_rows.specs.Refuted.Programs as programs
+use Rattle.ti_rows.specs.Refuted.Entries as entries
+use Rattle.ti_rows.proofs.Reached.{has_next}
+use Rattle.ti_rows.proofs.Simulated as simulated
+use Rattle.ti_rows.proofs.refutations.runs.Goals as goal
+
+-- two processes at a barrier
+abbrev both : Setting
+both = by_two 1000 programs.one_barrier
+
+-- ---- a process ends that stands at a barrier
+
+abbrev acts_of : List Entry → Action
+acts_of [] = act.End
+acts_of (e ∷ es) = e.act
+
+no_arrival : act.End ≡ act.Arrive coll.Barrier None deposit.Nothing → ⊥
+no_arrival e = cc
+
+pub returns-clause-an_end_too_early : goal.returns-clause-an_end_too_early
+unfolding int_wrap built_in named_field_type instance_method
+returns-clause-an_end_too_early c = λ run.
+    no_arrival (ap acts_of (decided both entries.an_end_too_early (solo both 1) run (solo_run both _ (simulated.solo_run both 1)) refl))
+
+-- ---- process 1 goes first
+
+first_of : (e x : Entry) (xs : List Entry) → e ∷ [] ≡ xs ++ x ∷ [] → (xs ≡ []) × (x ≡ e)
+first_of e x [] k = (refl, same e x [] [] k)
+  where
+    same : (a b : Entry) (ks ls : List Entry) → a ∷ ks ≡ b ∷ ls → b ≡ a
+    same a b ks ls k = cc
+first_of e x (y ∷ []) k = absurd (longer e y x [] k)
+  where
+    longer : (e y x : Entry) (xs : List Entry) → e ∷ [] ≡ y ∷ x ∷ xs → ⊥
+    longer e y x xs k = cc
+first_of e x (y ∷ z ∷ xs) k = absurd (longer e y z (xs ++ x ∷ []) k)
+  where
+    longer : (e y x : Entry) (xs : List Entry) → e ∷ [] ≡ y ∷ x ∷ xs → ⊥
+    longer e y x xs k = cc
+
+-- the only entry of a run is that of the lowest-numbered process that can take one
+only_entry : (s : Setting) (all : List Entry) (e : Entry) → IsSolo s all → all ≡ e ∷ [] → (i : ℕ) × CanTake s [] i e × ((j : ℕ) (d : Entry) → j < i → CanTake s [] j d → ⊥)
+only_entry s all e r.none k = cc
+only_entry s all e (r.more {es = before} {i = i} {e = last} run take least z) k =
+    let only = first_of e last before (sym k ∙ z) in (
+      i,
+      subst (λ x. CanTake s [] i x) only.1 (subst (λ xs. CanTake s xs i last) only.0 take),
+      λ j d l c. least j d l (subst (λ xs. CanTake s xs j d) (sym only.0) c),
+    )
+
+first_can : CanTake both [] 0 (record { proc = 0; place = pl 1 65; act = act.Arrive coll.Barrier None deposit.Nothing; answer = Done })
+unfolding int_wrap built_in named_field_type instance_method
+first_can =
+    let a = next.Act (pl 1 65) (act.Arrive coll.Barrier None deposit.Nothing) in
+    let w = has_next both [] 0 a refl in
+    record {
+      within = omega arith;
+      goes_on = refl;
+      unended = refl;
+      process = w.process;
+      world = w.world;
+      next = a;
+      is_next = w.next;
+      ready = tt;
+      entry = refl;
+    }
+
+pub returns-clause-the_second_first : goal.returns-clause-the_second_first
+unfolding int_wrap built_in named_field_type instance_method
+returns-clause-the_second_first c = λ run.
+    let e : Entry = record { proc = 1; place = pl 1 65; act = act.Arrive coll.Barrier None deposit.Nothing; answer = Done } in
+    let k = only_entry both entries.the_second_first e run refl in
+    let one : 1 ≡ k.0 = taker both [] k.0 e k.1 in
+    k.2 0 _ (omega (arith, one)) first_can
+
+-- ---- answers that nothing gives
+
+-- the last entry of an answered history got its answer
+last_answered : (p : NumberedProgram) (h : History) (e : Entry) → IsAnswered p (e ∷ h) → heap_answer p h e.proc e.act ≡ Answers e.answer
+last_answered p h e (heap.more told last) = last
+
+not_this : Answers (Val (v.Int (pos 0))) ≡ Answers (Val (v.Int (pos 1))) → ⊥
+not_this e = cc
+
+pub returns-clause-a_wrong_answer : goal.returns-clause-a_wrong_answer
+unfolding int_wrap built_in named_field_type instance_method
+returns-clause-a_wrong_answer c = λ told. not_this (last_answered programs.a_truth_in_a_number _ _ told)
+
+-- the serial number of an object that is answered
+abbrev serial_in : Outcome → ℕ
+serial_in (Answers (Val (v.Obj (Some id)))) = id.serial
+serial_in o = 0
+
+not_again : Answers (Val (v.Obj (Some (thing 0 1 0)))) ≡ Answers (Val (v.Obj (Some (thing 0 0 0)))) → ⊥
+not_again e =
+    let k : 1 ≡ 0 = ap serial_in e in
+    omega (arith, k)
+
+pub returns-clause-a_thing_made_twice : goal.returns-clause-a_thing_made_twice
+unfolding int_wrap built_in named_field_type instance_method
+returns-clause-a_thing_made_twice c = λ told. not_again (last_answered programs.a_truth_in_a_number _ _ told)

@@ -1,0 +1,18 @@
+-- Facts that fail: that a law says something, it rules this out.
+use Rattle.std.specs.Prelude.{ℕ, List}
+use Rattle.ti_base.specs.declared.entry.Entry.{Entry}
+use Rattle.ti_lang.specs.Program.Classes.{NumberedProgram}
+use Rattle.ti_lang.specs.Meaning.Processes.{Setting}
+use Rattle.ti_align.specs.Alignment.{OfEveryRun}
+
+-- a run of the program by two processes, with this many ticks each
+abbrev pub by_two : ℕ → NumberedProgram → Setting
+by_two fuel program = record { program = program; procs = 2; fuel = fuel }
+
+-- the fact doesn't hold of every run of the program
+abbrev pub FailsFor : (Setting → List Entry → Type 0) → NumberedProgram → Type 0
+FailsFor fact program = OfEveryRun fact program → ⊥
+
+-- it doesn't hold of these entries as those of two processes of the program
+abbrev pub FailsOn : (Setting → List Entry → Type 0) → NumberedProgram → List Entry → Type 0
+FailsOn fact program es = fact (by_two 1000 program) es → ⊥

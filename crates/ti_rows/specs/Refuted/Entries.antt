@@ -1,0 +1,61 @@
+-- Entries that are no run, of which facts of runs fail.
+use Rattle.std.specs.Prelude.{pos, List, [], ◌∷◌, None, Some}
+use Rattle.ti_base.specs.declared.value.Value.TheVariants as v
+use Rattle.ti_base.specs.declared.action.Action.TheVariants as act
+use Rattle.ti_base.specs.declared.action.CollKind.TheVariants as coll
+use Rattle.ti_base.specs.declared.action.Deposit.TheVariants as deposit
+use Rattle.ti_base.specs.declared.entry.Answer.TheVariants.{Done, Val}
+use Rattle.ti_base.specs.declared.entry.Entry.{Entry}
+use Rattle.ti_rows.specs.Texts.{pl}
+use Rattle.ti_rows.specs.Histories.{entry, thing}
+
+-- at a barrier a process prints, and doesn't arrive
+abbrev pub no_arrival : List Entry
+no_arrival = entry 0 (pl 1 65) (act.Print None None) Done ∷ []
+
+-- the object that is made has a name of 33 bits
+abbrev pub a_name_too_large : List Entry
+a_name_too_large = entry 0 (pl 1 87) (act.NewObj 0 0) (Val (v.Obj (Some (thing 0 4294967296 0)))) ∷ []
+
+-- the object that is made lies in a region that nobody made
+abbrev pub no_region : List Entry
+no_region = entry 0 (pl 1 87) (act.NewObj 0 1) (Val (v.Obj (Some (thing 0 0 1)))) ∷ []
+
+-- a field of an object is written that nobody made
+abbrev pub no_object : List Entry
+no_object = entry 0 (pl 1 100) (act.PutField (thing 0 0 0) 0 (v.Int (pos 1))) Done ∷ []
+
+-- an object is made
+abbrev pub an_object : List Entry
+an_object = entry 0 (pl 1 87) (act.NewObj 0 0) (Val (v.Obj (Some (thing 0 0 0)))) ∷ []
+
+-- a point of one dimension is read that has a second coordinate
+abbrev pub a_second_coordinate : List Entry
+a_second_coordinate =
+    entry 0 (pl 1 92) (act.NewObj 0 0) (Val (v.Obj (Some (thing 0 0 0)))) ∷
+    entry 0 (pl 1 109) (act.GetField (thing 0 0 0) 0) (Val (v.Pt (record { dim = 1; x1 = pos 0; x2 = pos 3; x3 = pos 0 }))) ∷
+    []
+
+-- ---- of runs
+
+-- a process that stands at a barrier has its end
+abbrev pub an_end_too_early : List Entry
+an_end_too_early = entry 0 (pl 1 75) act.End Done ∷ []
+
+-- process 1 arrives before process 0, which could have
+abbrev pub the_second_first : List Entry
+the_second_first = entry 1 (pl 1 65) (act.Arrive coll.Barrier None deposit.Nothing) Done ∷ []
+
+-- a field is read as what nobody wrote
+abbrev pub a_wrong_answer : List Entry
+a_wrong_answer =
+    entry 0 (pl 1 87) (act.NewObj 0 0) (Val (v.Obj (Some (thing 0 0 0)))) ∷
+    entry 0 (pl 1 118) (act.GetField (thing 0 0 0) 0) (Val (v.Int (pos 1))) ∷
+    []
+
+-- one object is made twice
+abbrev pub a_thing_made_twice : List Entry
+a_thing_made_twice =
+    entry 0 (pl 1 87) (act.NewObj 0 0) (Val (v.Obj (Some (thing 0 0 0)))) ∷
+    entry 0 (pl 1 87) (act.NewObj 0 0) (Val (v.Obj (Some (thing 0 0 0)))) ∷
+    []

@@ -1,0 +1,178 @@
+-- Programs with runs, or with entries that are none, of which the facts of every run fail.
+use Rattle.std.specs.Prelude.{ℕ, ◌+◌, pos, true, false, List, [], ◌∷◌, None, Some, codes}
+use Rattle.ti_base.specs.declared.place.Place.{Place}
+use Rattle.ti_syntax.specs.declared.tree.exprs.BinaryOperator.TheVariants as b
+use Rattle.ti_syntax.specs.declared.tree.types.QualifierWord.TheVariants as word
+use Rattle.ti_syntax.specs.declared.tree.classes.ModifierWord.TheVariants as mw
+use Rattle.ti_lang.specs.Program.Types.{ValueType, NumberedType}
+use Rattle.ti_lang.specs.Program.Types as ty
+use Rattle.ti_lang.specs.Program.Expressions.{NumberedExp}
+use Rattle.ti_lang.specs.Program.Expressions as x
+use Rattle.ti_lang.specs.Program.Statements.{NumberedStm}
+use Rattle.ti_lang.specs.Program.Statements as s
+use Rattle.ti_lang.specs.Program.Classes.{NumberedMethod, NumberedProgram}
+use Rattle.ti_lang.specs.Program.Classes as c
+use Rattle.ti_lang.specs.Program.Scope.{ScopeContents}
+use Rattle.ti_rows.specs.Texts.{pl, plain, var, single_var, xs, stms}
+use Rattle.ti_rows.specs.Words.{qualifier, modifier, type_with, bracket, field_with, class_with, method_with, program_of}
+
+-- a single type, with the place of the word
+abbrev single_with : ValueType → Place → NumberedType
+single_with type at = type_with type (qualifier word.Single at ∷ []) []
+
+-- objects of the class before Main
+abbrev object : ValueType
+object = ty.Class 0 false
+
+-- `public static single void main(String[] args)` at a column, in the class of a number, by the number of its name
+abbrev main_at : ℕ → ℕ → ℕ → List NumberedStm → ℕ → NumberedMethod
+main_at class name column body end =
+    method_with class
+    (modifier mw.Public (pl 1 column) ∷ modifier mw.Static (pl 1 (column + 7)) ∷ modifier mw.Single (pl 1 (column + 14)) ∷ [])
+    c.Void (pl 1 (column + 26)) name c.Words body (pl 1 end)
+
+-- a class Main alone, with these statements, which end at a column
+abbrev main_alone : List NumberedStm → ℕ → NumberedProgram
+main_alone body end = program_of (class_with [] [] ∷ []) (main_at 0 11 14 body end ∷ []) 0 (codes "main" ∷ [])
+
+-- the same behind a class with one field of a type and a name
+abbrev main_behind : ValueType → List ℕ → ℕ → List NumberedStm → ℕ → NumberedProgram
+main_behind type name column body end =
+    program_of (class_with [] (field_with [] (type_with type [] []) 11 ∷ []) ∷ class_with [] [] ∷ []) (main_at 1 12 column body end ∷ []) 0
+    (name ∷ codes "main" ∷ [])
+
+-- ---- texts
+
+-- class Main { public static single void main(String[] args) { if (Ti.thisProc() == 0) Ti.barrier(); else Ti.barrier(); } }
+-- processes meet barriers at two places
+abbrev pub barriers_at_two_places : NumberedProgram
+barriers_at_two_places =
+    main_alone (
+    s.IfElse (pl 1 62) (x.Binary (pl 1 80) b.Equal (x.ThisProc (pl 1 66)) (x.Int (pl 1 83) (pos 0)))
+    (s.Barrier (pl 1 89)) (s.Barrier (pl 1 108)) ∷
+    []
+    ) 119
+
+-- class Main { public static single void main(String[] args) { int single k = Ti.thisProc(); Ti.barrier(); } }
+-- processes meet a barrier with single variables that hold different numbers
+abbrev pub a_barrier_behind_own_numbers : NumberedProgram
+a_barrier_behind_own_numbers =
+    main_alone (
+    s.Declare (pl 1 73) (single_with ty.Int (pl 1 66)) 0 (s.Value (x.ThisProc (pl 1 77))) ∷
+    s.Barrier (pl 1 95) ∷
+    []
+    ) 106
+
+-- class Main { public static single void main(String[] args) { SharedRegion single r = null; r.delete(); } }
+-- what is deleted is no region
+abbrev pub no_region_is_deleted : NumberedProgram
+no_region_is_deleted =
+    main_alone (
+    s.Declare (pl 1 82) (single_with ty.Region (pl 1 75)) 0 (s.Value (x.Null (pl 1 86))) ∷
+    s.Call (x.Member (pl 1 94) (single_var (pl 1 92) 0 ty.Region) 10 x.NoExp) ∷
+    []
+    ) 104
+
+-- class Main { public static single void main(String[] args) { Ti.barrier(); } }
+-- all processes meet one barrier
+abbrev pub one_barrier : NumberedProgram
+one_barrier =
+    main_alone (
+    s.Barrier (pl 1 65) ∷
+    []
+    ) 76
+
+-- class C { int v; } class Main { public static single void main(String[] args) {
+--     C c = new C(); C d = broadcast c from 1; C local e = d; e.v = 1;
+-- } }
+-- a local variable names an object of another process
+abbrev pub a_local_variable_of_another_process : NumberedProgram
+a_local_variable_of_another_process =
+    main_behind ty.Int (codes "v") 33 (
+    s.Declare (pl 1 83) (plain object) 0 (s.NewObject (pl 1 87) None 0) ∷
+    s.Declare (pl 1 98) (plain object) 1 (s.Broadcast (pl 1 102) (var (pl 1 112) 0 object) (x.Int (pl 1 119) (pos 1))) ∷
+    s.Declare (pl 1 130) (type_with (ty.Class 0 true) (qualifier word.Local (pl 1 124) ∷ []) []) 2
+    (s.Value (var (pl 1 134) 1 object)) ∷
+    s.Assign (pl 1 141) (x.Select (pl 1 139) (var (pl 1 137) 2 (ty.Class 0 true)) 11) (s.Value (x.Int (pl 1 143) (pos 1))) ∷
+    []
+    ) 146
+
+-- class C { int v; } class Main { public static single void main(String[] args) {
+--     SharedRegion single r = new SharedRegion(); C c = null;
+--     if (Ti.thisProc() == 1) { c = new (r) C(); Ti.barrier(); c.v = 1; } else r.delete();
+-- } }
+-- one process deletes a region, while another meets a barrier and goes on with what lies in it
+abbrev pub a_region_is_deleted_by_one : NumberedProgram
+a_region_is_deleted_by_one =
+    main_behind ty.Int (codes "v") 33 (
+    s.Declare (pl 1 101) (single_with ty.Region (pl 1 94)) 0 (s.NewRegion (pl 1 105)) ∷
+    s.Declare (pl 1 127) (plain object) 1 (s.Value (x.Null (pl 1 131))) ∷
+    s.IfElse (pl 1 137) (x.Binary (pl 1 155) b.Equal (x.ThisProc (pl 1 141)) (x.Int (pl 1 158) (pos 1))) (s.Block (stms (
+    s.Assign (pl 1 165) (var (pl 1 163) 1 object) (s.NewObject (pl 1 167) (Some (single_var (pl 1 172) 0 ty.Region)) 0) ∷
+    s.Barrier (pl 1 183) ∷
+    s.Assign (pl 1 198) (x.Select (pl 1 196) (var (pl 1 194) 1 object) 11) (s.Value (x.Int (pl 1 200) (pos 1))) ∷
+    []
+    ))) (s.Call (x.Member (pl 1 212) (single_var (pl 1 210) 0 ty.Region) 10 x.NoExp)) ∷
+    []
+    ) 222
+
+-- class C { int v; } class Main { public static single void main(String[] args) { C c = new C(); c.v = true; println(c.v); } }
+-- a field of numbers holds a boolean
+abbrev pub a_truth_in_a_number : NumberedProgram
+a_truth_in_a_number =
+    main_behind ty.Int (codes "v") 33 (
+    s.Declare (pl 1 83) (plain object) 0 (s.NewObject (pl 1 87) None 0) ∷
+    s.Assign (pl 1 100) (x.Select (pl 1 98) (var (pl 1 96) 0 object) 11) (s.Value (x.Truth (pl 1 102) true)) ∷
+    s.Print (pl 1 108) (s.Expression (x.Select (pl 1 118) (var (pl 1 116) 0 object) 11)) ∷
+    []
+    ) 122
+
+-- class C { int v; } class Main { public static single void main(String[] args) { int [1d] a = new C(); a[0] = 1; } }
+-- a variable of grids names an object
+abbrev pub an_object_for_a_grid : NumberedProgram
+an_object_for_a_grid =
+    main_behind ty.Int (codes "v") 33 (
+    s.Declare (pl 1 90) (type_with (ty.Grid ty.Int 1 false) [] (bracket 1 [] ∷ [])) 0 (s.NewObject (pl 1 94) None 0) ∷
+    s.Assign (pl 1 108) (x.Index (pl 1 104) (var (pl 1 103) 0 (ty.Grid ty.Int 1 false)) (xs (x.Int (pl 1 105) (pos 0) ∷ [])))
+    (s.Value (x.Int (pl 1 110) (pos 1))) ∷
+    []
+    ) 113
+
+-- class C { Point<1> p; } class Main { public static single void main(String[] args) { C c = new C(); c.p = c.p; } }
+-- a field of points gets what it holds
+abbrev pub a_point_is_copied : NumberedProgram
+a_point_is_copied =
+    main_behind (ty.Pt 1) (codes "p") 38 (
+    s.Declare (pl 1 88) (plain object) 0 (s.NewObject (pl 1 92) None 0) ∷
+    s.Assign (pl 1 105) (x.Select (pl 1 103) (var (pl 1 101) 0 object) 11)
+    (s.Value (x.Select (pl 1 109) (var (pl 1 107) 0 object) 11)) ∷
+    []
+    ) 112
+
+-- ---- programs that no text has
+
+-- a number is written that has no 32 bits
+abbrev pub a_number_too_large : NumberedProgram
+a_number_too_large = main_alone (s.Print (pl 1 62) (s.Expression (x.Int (pl 1 70) (pos 2147483648))) ∷ []) 83
+
+-- a field holds points of four dimensions
+abbrev pub a_field_of_four_dimensions : NumberedProgram
+a_field_of_four_dimensions = main_behind (ty.Pt 4) (codes "p") 38 [] 87
+
+-- a field holds domains that aren't rectangular
+abbrev pub a_field_of_domains : NumberedProgram
+a_field_of_domains = main_behind (ty.Dm 1) (codes "d") 39 [] 88
+
+-- ---- expressions
+
+-- no variable is in scope
+abbrev pub no_scope : ScopeContents
+no_scope = record { this_class = None; variables = [] }
+
+-- true
+abbrev pub a_truth : NumberedExp
+a_truth = x.Truth (pl 1 1) true
+
+-- true + 1
+abbrev pub a_sum_of_a_boolean : NumberedExp
+a_sum_of_a_boolean = x.Binary (pl 1 6) b.Add (x.Truth (pl 1 1) true) (x.Int (pl 1 8) (pos 1))
