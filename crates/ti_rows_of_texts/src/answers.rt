@@ -1,11 +1,11 @@
 // What is answered to the texts of rows.
 
 use crate::commands::{Shown, command};
+use crate::evaluation::value;
 use crate::phases::{Phase, made_by};
 use crate::slices::{collectives, slice};
 use crate::tables::{Table, found_in};
 use crate::texts::{Frame, text_of};
-use crate::values::value;
 use crate::walks::walk;
 use std::alloc::{AllocError, AllocFailed, Global};
 use ti_base::Memory;

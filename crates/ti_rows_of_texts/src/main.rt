@@ -4,6 +4,7 @@
 
 mod answers;
 mod commands;
+mod evaluation;
 mod phases;
 mod rows;
 mod slices;
@@ -11,7 +12,6 @@ mod stages;
 mod tables;
 mod texts;
 mod things;
-mod values;
 mod walks;
 mod watchers;
 
