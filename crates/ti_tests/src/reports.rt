@@ -1,4 +1,4 @@
-// Reports of watchers, and the program of a seed.
+// Reports of watchers that are told entries one by one.
 
 use std::alloc::Global;
 use std::test::Fail;
@@ -6,7 +6,6 @@ use ti_base::{
     Action, Answer, CollKind, Deposit, Entry, FaultKind, Id, Memory, Place, Point, Rect, Value,
     ViewHow, Zero,
 };
-use ti_gen::gen_source;
 use ti_watch::{StatsWatch, TraceWatch, Watch};
 
 /// An act with its answer, and how the two are written.
@@ -18,13 +17,6 @@ struct Act {
 
 /// An act, and how many entries there are of it.
 struct Count(Action, u32);
-
-/// A seed, how many bytes its program has, and what `sum_of` gives of them.
-struct Seed {
-    seed: u32,
-    len: usize,
-    sum: u64,
-}
 
 const THING: Id = Id {
     maker: 1,
@@ -486,56 +478,6 @@ end 4
 fault 0
 ";
 
-const SEEDS: &[Seed] = &[
-    Seed {
-        seed: 0,
-        len: 27347,
-        sum: 629798137519777651,
-    },
-    Seed {
-        seed: 1,
-        len: 27344,
-        sum: 17962968021327176107,
-    },
-    Seed {
-        seed: 7,
-        len: 27341,
-        sum: 4833174249890627338,
-    },
-    Seed {
-        seed: 4294967295,
-        len: 27328,
-        sum: 8169800636234806302,
-    },
-];
-
-/// How the program of the seed 1 begins.
-const FIRST_LINES: &str = "class Main {
-  public static single void main(String[] args) {
-    int me = Ti.thisProc();
-    int single n = Ti.numProcs();
-    int [1d] a = new int [0:19];
-    int [1d] [1d] all = new int [0:n - 1] [1d];
-    all.exchange(a);
-    int s = 0;
-    foreach (p in a.domain()) a[p] = a[p] + 15496 * (me + p[1]);
-    Ti.barrier();
-    s = s + all[(me + 1) % n][0];
-    Ti.barrier();
-    foreach (p in a.domain()) a[p] = a[p] + 33046 * (me + p[1]);
-    Ti.barrier();
-    s = s + all[(me + 1) % n][15];
-    Ti.barrier();
-";
-
-/// How each program ends.
-const LAST_LINES: &str = "];
-    Ti.barrier();
-    println(s);
-  }
-}
-";
-
 /// The report of a watcher, behind what stands in `out`.
 fn report_on<W: Watch>(watch: W, entries: &[Entry], out: &mut Vec<u8>) -> Result<(), Memory> {
     let mut watch = watch;
@@ -564,15 +506,6 @@ fn entries_of(alloc: Global, counts: &[Count]) -> Result<Vec<Entry>, Memory> {
         }
     }
     Ok(entries)
-}
-
-/// The bytes of a text as the digits of one number, each 31 times as much as the next, modulo 2^64.
-fn sum_of(text: &[u8]) -> u64 {
-    let mut sum = 0u64;
-    for byte in text {
-        sum = sum.wrapping_mul(31).wrapping_add(u64::from(*byte));
-    }
-    sum
 }
 
 #[test]
@@ -611,17 +544,4 @@ fn acts_are_counted(rt: HostRuntime) -> Result<(), Fail> {
 fn watchers_have_kinds(rt: HostRuntime) {
     assert_eq!(rt; TraceWatch::new(rt.alloc()).kind(), 0);
     assert_eq!(rt; StatsWatch::new(rt.alloc()).kind(), 1);
-}
-
-#[test]
-fn sources_are_made(rt: HostRuntime) -> Result<(), Fail> {
-    for row in SEEDS {
-        let text = gen_source(rt.alloc(), row.seed)?;
-        assert_eq!(rt; text.len(), row.len, "{}", row.seed);
-        assert_eq!(rt; sum_of(&text), row.sum, "{}", row.seed);
-        assert!(rt; text.ends_with(LAST_LINES.as_bytes()), "{}", row.seed);
-    }
-    let text = gen_source(rt.alloc(), 1)?;
-    assert!(rt; text.starts_with(FIRST_LINES.as_bytes()));
-    Ok(())
 }

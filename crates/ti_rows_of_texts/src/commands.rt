@@ -1,0 +1,207 @@
+// Runs of the command over memory, with calls that fail where a row says so.
+
+use crate::answers::Stopped;
+use crate::stages::{Stage, staged};
+use crate::watchers::watchers_of;
+use std::alloc::{AllocError, Global};
+use ti_base::{Entry, Memory};
+use ti_io::{MemSink, MemSource};
+use ti_top::{Outcome, titan_top};
+use ti_watch::{TraceWatch, Watch};
+
+/// What is shown of what a command left.
+#[derive(Clone, Copy)]
+pub(crate) enum Shown {
+    /// The status, and what stands on out and err.
+    Ending,
+    /// The entries of the run, as the trace writes them.
+    History,
+    /// How many entries there are, and the last of them.
+    LastEntry,
+}
+
+#[derive(Drop)]
+struct Sinks {
+    out: MemSink,
+    err: MemSink,
+}
+
+#[derive(Drop)]
+struct Streams {
+    source: MemSource,
+    sinks: Sinks,
+}
+
+/// The words, and the watchers that are handed in.
+#[derive(Drop)]
+struct Orders {
+    words: Vec<String>,
+    watchers: Vec<Box<dyn Watch>>,
+}
+
+/// All that the call takes.
+#[derive(Drop)]
+struct Call {
+    streams: Streams,
+    orders: Orders,
+}
+
+/// What the call left.
+#[derive(Drop)]
+struct Left {
+    outcome: Outcome,
+    sinks: Sinks,
+}
+
+/// The numbers of the calls that fail.
+fn fails_of(alloc: Global, call: Option<u32>) -> Result<Vec<u32>, Memory> {
+    let mut fails = Vec::new(alloc);
+    if let Some(call) = call {
+        fails.push(call)?;
+    }
+    Ok(fails)
+}
+
+/// A sink that is written in pieces of 3 bytes.
+fn sink_of(alloc: Global, call: Option<u32>) -> Result<MemSink, Memory> {
+    let fails = fails_of(alloc, call)?;
+    MemSink::new(alloc, 3, 200_000, fails)
+}
+
+fn sinks_of(alloc: Global, stage: Stage) -> Result<Sinks, Memory> {
+    let out = sink_of(alloc, stage.out)?;
+    let err = sink_of(alloc, stage.err)?;
+    Ok(Sinks { out, err })
+}
+
+/// The file `a.ti`, which holds the text.
+fn files_of(alloc: Global, text: Vec<u8>) -> Result<Vec<(String, Vec<u8>)>, Memory> {
+    let name = String::from_str(alloc, "a.ti")?;
+    let mut files = Vec::new(alloc);
+    files.push((name, text))?;
+    Ok(files)
+}
+
+/// A source with this file, which is read in pieces of 8 bytes.
+fn source_of(alloc: Global, text: Vec<u8>, call: Option<u32>) -> Result<MemSource, Memory> {
+    let files = files_of(alloc, text)?;
+    let fails = fails_of(alloc, call)?;
+    Ok(MemSource::new(files, 8, fails))
+}
+
+fn streams_of(alloc: Global, stage: Stage, text: Vec<u8>) -> Result<Streams, Memory> {
+    let source = source_of(alloc, text, stage.source)?;
+    let sinks = sinks_of(alloc, stage)?;
+    Ok(Streams { source, sinks })
+}
+
+/// The words as a line of the command has them.
+fn words_of(alloc: Global, line: &str) -> Result<Vec<String>, Memory> {
+    let mut words = Vec::new(alloc);
+    for word in line.split_ascii_whitespace() {
+        words.push(String::from_str(alloc, word)?)?;
+    }
+    Ok(words)
+}
+
+fn orders_of(alloc: Global, line: &str, stage: Stage) -> Result<Orders, Stopped> {
+    let words = words_of(alloc, line)?;
+    let watchers = watchers_of(alloc, stage.first, stage.second)?;
+    Ok(Orders { words, watchers })
+}
+
+fn call_of(alloc: Global, line: &str, stage: Stage, text: Vec<u8>) -> Result<Call, Stopped> {
+    let streams = streams_of(alloc, stage, text)?;
+    let orders = orders_of(alloc, line, stage)?;
+    Ok(Call { streams, orders })
+}
+
+/// The command. This is the only function that calls it: each further one would be dear to prove.
+fn left_by(rt: &HostRuntime, call: Call) -> Left {
+    let Call { streams, orders } = call;
+    let Streams { source, sinks } = streams;
+    let Sinks { out, err } = sinks;
+    let Orders { words, watchers } = orders;
+    let mut source = source;
+    let mut out = out;
+    let mut err = err;
+    let outcome = titan_top(rt, &words, &mut source, &mut out, &mut err, watchers);
+    Left {
+        outcome,
+        sinks: Sinks { out, err },
+    }
+}
+
+/// Puts bytes behind a text and a word, where there are any.
+fn push_named(text: &mut Vec<u8>, name: &[u8], bytes: &[u8]) -> Result<(), Memory> {
+    if !bytes.is_empty() {
+        text.extend_from_slice(name)?;
+        text.extend_from_slice(bytes)?;
+    }
+    Ok(())
+}
+
+fn shown_ending(alloc: Global, status: u8, sinks: &Sinks) -> Result<Vec<u8>, Memory> {
+    let mut text = format!(in alloc; "{status}")?.into_bytes();
+    push_named(&mut text, b" out: ", sinks.out.bytes())?;
+    push_named(&mut text, b" err: ", sinks.err.bytes())?;
+    Ok(text)
+}
+
+fn told(alloc: Global, history: &[Entry]) -> Result<TraceWatch, Memory> {
+    let mut trace = TraceWatch::new(alloc);
+    for entry in history {
+        trace.see(entry)?;
+    }
+    Ok(trace)
+}
+
+/// Entries as the trace writes them.
+fn traced(alloc: Global, history: &[Entry]) -> Result<Vec<u8>, Memory> {
+    let trace = told(alloc, history)?;
+    let mut text = Vec::new(alloc);
+    trace.report(&mut text)?;
+    Ok(text)
+}
+
+/// How many entries there are, and the last as the trace writes it where it is alone.
+fn last_of(alloc: Global, history: &[Entry]) -> Result<Vec<u8>, Memory> {
+    let behind = history.len().saturating_sub(1);
+    let last = traced(alloc, &history[behind..])?;
+    let mut text = format!(in alloc; "{} entries, the last: ", history.len())?.into_bytes();
+    text.extend_from_slice(&last)?;
+    Ok(text)
+}
+
+fn part_of(alloc: Global, asked: Shown, left: &Left) -> Result<Vec<u8>, Memory> {
+    match asked {
+        Shown::Ending => shown_ending(alloc, left.outcome.status, &left.sinks),
+        Shown::History => traced(alloc, &left.outcome.history),
+        Shown::LastEntry => last_of(alloc, &left.outcome.history),
+    }
+}
+
+fn done(
+    rt: &HostRuntime,
+    asked: Shown,
+    line: &str,
+    stage: Stage,
+    text: Vec<u8>,
+) -> Result<Vec<u8>, Stopped> {
+    let call = call_of(rt.alloc(), line, stage, text)?;
+    let left = left_by(rt, call);
+    Ok(part_of(rt.alloc(), asked, &left)?)
+}
+
+/// What a command leaves over one file `a.ti` that holds a text.
+pub(crate) fn command(
+    rt: &HostRuntime,
+    asked: Shown,
+    given: &str,
+    text: Vec<u8>,
+) -> Result<Vec<u8>, Stopped> {
+    match staged(given) {
+        Some((line, stage)) => done(rt, asked, line, stage, text),
+        None => Err(Stopped::Row),
+    }
+}

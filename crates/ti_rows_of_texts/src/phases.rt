@@ -1,0 +1,330 @@
+// What the phases of the compiler make of texts.
+
+ghost use Rattle.std.specs.Prelude.{IfOk};
+ghost use Rattle.ti_parse_expr.specs.Answers.{EndsAtEnd};
+
+use crate::answers::Stopped;
+use std::alloc::{AllocError, Global};
+use std::fmt::Debug;
+use ti_base::Place;
+use ti_check::{CheckErr, check};
+use ti_lang::program::{Parts, Program, Scope, Ty};
+use ti_lex::{LexErr, lex};
+use ti_names::{NameErr, resolve};
+use ti_parse::{ParseErr, parse};
+use ti_parse_expr::{Form, parse_expr};
+use ti_rules::{Checked, Refusal, Rule};
+use ti_syntax::Token;
+use ti_syntax::tree::{Class, Expr, Member, Tree};
+
+/// What is asked of a phase.
+#[derive(Clone, Copy)]
+pub(crate) enum Phase {
+    /// The tokens with their places, such as `1:1=Plus 1:2=End`.
+    Tokens,
+    /// The tree of the longest expression of a form from a token on, where so much weight is used already; the number of the token
+    /// behind it, and the weight used then.
+    Expression { form: Form, at: usize, weight: u32 },
+    /// The same with the place of the tree alone.
+    Extent { at: usize, weight: u32 },
+    /// The tree.
+    Tree,
+    /// The trees of the statements of the only method.
+    Statements,
+    /// Whether it is accepted by the grammar.
+    Grammar,
+    /// Which fronts of the text the grammar accepts, by how many bytes they have; and behind `!` those that it refuses for another
+    /// reason than an unexpected token or an open string, or behind their end.
+    Fronts,
+    /// Whether it is accepted by the rules of names.
+    Names,
+    /// The parts of the program.
+    Program,
+    /// Whether a copy of the program has the same parts.
+    Copy,
+    /// What is in scope at the first statement of the first method and a variable 2 behind it, then the first variable alone; and
+    /// what was the innermost loop before one was set, before it was taken back, and behind that.
+    Scope,
+    /// Whether it is accepted by all rules.
+    Rules,
+}
+
+impl From<LexErr> for Stopped {
+    fn from(error: LexErr) -> Stopped {
+        match error {
+            LexErr::Refused(refusal) => Stopped::Refused(refusal),
+            LexErr::Memory => Stopped::Memory,
+        }
+    }
+}
+
+impl From<ParseErr> for Stopped {
+    fn from(error: ParseErr) -> Stopped {
+        match error {
+            ParseErr::Refused(refusal) => Stopped::Refused(refusal),
+            ParseErr::Memory => Stopped::Memory,
+        }
+    }
+}
+
+impl From<NameErr> for Stopped {
+    fn from(error: NameErr) -> Stopped {
+        match error {
+            NameErr::Refused(refusal) => Stopped::Refused(refusal),
+            NameErr::Memory => Stopped::Memory,
+        }
+    }
+}
+
+impl From<CheckErr> for Stopped {
+    fn from(error: CheckErr) -> Stopped {
+        match error {
+            CheckErr::Refused(refusal) => Stopped::Refused(refusal),
+            CheckErr::Memory => Stopped::Memory,
+        }
+    }
+}
+
+/// The tokens of a text.
+fn tokens(alloc: Global, text: &[u8]) -> Result<Vec<Token>, Stopped>
+    ensures { IfOk result (λ list. EndsAtEnd list.items) }
+{
+    Ok(lex(alloc, text)?)
+}
+
+/// The tree of a text.
+fn parsed(alloc: Global, text: &[u8]) -> Result<Tree, Stopped> {
+    let list = tokens(alloc, text)?;
+    Ok(parse(alloc, &list)?)
+}
+
+/// The program of a text.
+pub(crate) fn resolved(alloc: Global, text: &[u8]) -> Result<Program, Stopped> {
+    let tree = parsed(alloc, text)?;
+    Ok(resolve(alloc, &tree)?)
+}
+
+/// The program of a text that breaks no rule.
+pub(crate) fn checked(alloc: Global, text: &[u8]) -> Result<Checked, Stopped> {
+    let program = resolved(alloc, text)?;
+    Ok(check(alloc, program)?)
+}
+
+/// Puts a token with its place behind others.
+fn push_token(alloc: Global, listed: &mut String, token: &Token) -> Result<(), AllocError> {
+    let space = if listed.is_empty() { "" } else { " " };
+    listed.push_str(&format!(in alloc; "{space}{:?}={:?}", token.place, token.kind)?)
+}
+
+/// Tokens one behind the other.
+fn listed(alloc: Global, tokens: &[Token]) -> Result<String, AllocError> {
+    let mut listed = String::new(alloc);
+    for token in tokens {
+        push_token(alloc, &mut listed, token)?;
+    }
+    Ok(listed)
+}
+
+fn token_list(alloc: Global, text: &[u8]) -> Result<String, Stopped> {
+    let list = tokens(alloc, text)?;
+    Ok(listed(alloc, &list)?)
+}
+
+/// The longest expression of a form from a token on, the number of the token behind it, and the weight used then.
+fn read(
+    alloc: Global,
+    text: &[u8],
+    form: Form,
+    at: usize,
+    weight: u32,
+) -> Result<(Expr, usize, u32), Stopped> {
+    let list = tokens(alloc, text)?;
+    if at < list.len() {
+        Ok(parse_expr(alloc, &list, at, form, weight)?)
+    } else {
+        Err(Stopped::Row)
+    }
+}
+
+fn shown<T: Debug>(alloc: Global, value: &T) -> Result<String, AllocError> {
+    format!(in alloc; "{value:?}")
+}
+
+fn measured<T: Debug>(
+    alloc: Global,
+    value: &T,
+    behind: usize,
+    used: u32,
+) -> Result<String, AllocError> {
+    format!(in alloc; "{value:?}, {behind} tokens, weight {used}")
+}
+
+fn expression(
+    alloc: Global,
+    text: &[u8],
+    form: Form,
+    at: usize,
+    weight: u32,
+) -> Result<String, Stopped> {
+    let (tree, behind, used) = read(alloc, text, form, at, weight)?;
+    Ok(measured(alloc, &tree, behind, used)?)
+}
+
+fn extent(alloc: Global, text: &[u8], at: usize, weight: u32) -> Result<String, Stopped> {
+    let (tree, behind, used) = read(alloc, text, Form::Whole, at, weight)?;
+    Ok(measured(alloc, &tree.place(), behind, used)?)
+}
+
+/// The trees of the statements of a text with one method.
+fn body(alloc: Global, tree: &Tree) -> Result<String, AllocError> {
+    let [Class { members, .. }] = tree.classes.as_slice() else {
+        return Ok(String::new(alloc));
+    };
+    let [Member::Method(method)] = members.as_slice() else {
+        return Ok(String::new(alloc));
+    };
+    shown(alloc, &method.body)
+}
+
+fn statements(alloc: Global, text: &[u8]) -> Result<String, Stopped> {
+    let tree = parsed(alloc, text)?;
+    Ok(body(alloc, &tree)?)
+}
+
+fn tree(alloc: Global, text: &[u8]) -> Result<String, Stopped> {
+    let tree = parsed(alloc, text)?;
+    Ok(shown(alloc, &tree)?)
+}
+
+fn program(alloc: Global, text: &[u8]) -> Result<String, Stopped> {
+    let program = resolved(alloc, text)?;
+    Ok(shown(alloc, &program.parts)?)
+}
+
+/// What is shown of a copy, where it is another than what is shown of the original.
+fn compared(alloc: Global, parts: &Parts, copy: &Parts) -> Result<String, AllocError> {
+    let original = shown(alloc, parts)?;
+    let copied = shown(alloc, copy)?;
+    if copied == original {
+        String::from_str(alloc, "the same")
+    } else {
+        Ok(copied)
+    }
+}
+
+fn copy(alloc: Global, text: &[u8]) -> Result<String, Stopped> {
+    let program = resolved(alloc, text)?;
+    let copy = program.copy(alloc)?;
+    Ok(compared(alloc, &program.parts, &copy.parts)?)
+}
+
+fn accepted<T: Drop>(alloc: Global, answer: Result<T, Stopped>) -> Result<String, Stopped> {
+    answer?;
+    Ok(String::from_str(alloc, "accepted")?)
+}
+
+/// The refusal of a text by the grammar.
+fn refusal_of(alloc: Global, text: &[u8]) -> Result<Option<Refusal>, Stopped> {
+    match parsed(alloc, text) {
+        Ok(_) => Ok(None),
+        Err(Stopped::Refused(refusal)) => Ok(Some(refusal)),
+        Err(stopped) => Err(stopped),
+    }
+}
+
+/// The place behind a byte.
+fn place_behind(place: Place, byte: u8) -> Place {
+    let (line, col) = match byte {
+        b'\n' => (place.line.saturating_add(1), 1),
+        _ => (place.line, place.col.saturating_add(1)),
+    };
+    Place { line, col }
+}
+
+/// Whether a refusal is of an unexpected token or an open string, at this place or before it.
+fn stands_by(refusal: Refusal, end: Place) -> bool {
+    matches!(refusal.rule, Rule::G1 | Rule::X3) && !end.is_before(refusal.place)
+}
+
+/// Puts the number of a front behind those before it, if it is accepted, or refused elsewhere than by its end.
+fn push_front(
+    alloc: Global,
+    fronts: &mut String,
+    count: usize,
+    refusal: Option<Refusal>,
+    end: Place,
+) -> Result<(), AllocError> {
+    match refusal {
+        None => fronts.push_str(&format!(in alloc; " {count}")?),
+        Some(refusal) if stands_by(refusal, end) => Ok(()),
+        Some(_) => fronts.push_str(&format!(in alloc; " !{count}")?),
+    }
+}
+
+fn fronts(alloc: Global, text: &[u8]) -> Result<String, Stopped> {
+    let mut fronts = String::from_str(alloc, "accepted")?;
+    let mut end = Place::first();
+    for count in 0..=text.len() {
+        let refusal = refusal_of(alloc, &text[..count])?;
+        push_front(alloc, &mut fronts, count, refusal, end)?;
+        if let Some(byte) = text.get(count) {
+            end = place_behind(end, *byte);
+        }
+    }
+    Ok(fronts)
+}
+
+/// What is in scope at the first statement of the first method.
+fn scope_of(alloc: Global, program: &Program) -> Result<Scope, Stopped> {
+    if program.parts.methods.is_empty() {
+        Err(Stopped::Row)
+    } else {
+        Ok(Scope::begin(alloc, program, 0)?)
+    }
+}
+
+fn first_scope(alloc: Global, text: &[u8]) -> Result<Scope, Stopped> {
+    let program = resolved(alloc, text)?;
+    scope_of(alloc, &program)
+}
+
+fn grown(alloc: Global, scope: &mut Scope) -> Result<String, Stopped> {
+    scope.push(2, Ty::Bool, false)?;
+    Ok(shown(alloc, scope)?)
+}
+
+/// What is shown of a scope that was cut and in which a loop was set and taken back, behind what was shown before.
+fn cut(alloc: Global, scope: &mut Scope, grown: &str) -> Result<String, AllocError> {
+    scope.cut(1);
+    let none = scope.set_loop(Some(Place { line: 2, col: 3 }));
+    let set = scope.set_loop(None);
+    format!(in alloc; "{grown}; {scope:?}; {none:?} {set:?} {:?}", scope.innermost_loop)
+}
+
+fn scope(alloc: Global, text: &[u8]) -> Result<String, Stopped> {
+    let mut scope = first_scope(alloc, text)?;
+    let grown = grown(alloc, &mut scope)?;
+    Ok(cut(alloc, &mut scope, grown.as_str())?)
+}
+
+fn shown_phase(alloc: Global, asked: Phase, text: &[u8]) -> Result<String, Stopped> {
+    match asked {
+        Phase::Tokens => token_list(alloc, text),
+        Phase::Expression { form, at, weight } => expression(alloc, text, form, at, weight),
+        Phase::Extent { at, weight } => extent(alloc, text, at, weight),
+        Phase::Tree => tree(alloc, text),
+        Phase::Statements => statements(alloc, text),
+        Phase::Grammar => accepted(alloc, parsed(alloc, text)),
+        Phase::Fronts => fronts(alloc, text),
+        Phase::Names => accepted(alloc, resolved(alloc, text)),
+        Phase::Program => program(alloc, text),
+        Phase::Copy => copy(alloc, text),
+        Phase::Scope => scope(alloc, text),
+        Phase::Rules => accepted(alloc, checked(alloc, text)),
+    }
+}
+
+/// What a phase makes of a text.
+pub(crate) fn made_by(alloc: Global, asked: Phase, text: &[u8]) -> Result<Vec<u8>, Stopped> {
+    Ok(shown_phase(alloc, asked, text)?.into_bytes())
+}

@@ -1,0 +1,185 @@
+// What stands in tables: the jobs of words, rules, faults, and the texts of seeds.
+
+use crate::answers::Stopped;
+use crate::texts::bytes_of;
+use std::alloc::{AllocError, Global};
+use ti_base::{FaultKind, fault_name};
+use ti_gen::gen_source;
+use ti_rules::{Rule, rule_text};
+use ti_words::{Job, WordsErr, read_words};
+
+/// What is asked of a table.
+#[derive(Clone, Copy)]
+pub(crate) enum Table {
+    /// The job that words ask for.
+    Job,
+    /// The code and the text of the rule of a number.
+    Rule,
+    /// The name of the fault of a number.
+    Fault,
+    /// How long the text of a seed is, and its bytes as the digits of one number.
+    Seed,
+    /// The text of a seed.
+    Source,
+}
+
+const RULES: &[Rule] = &[
+    Rule::X1,
+    Rule::X2,
+    Rule::X3,
+    Rule::X4,
+    Rule::X5,
+    Rule::G1,
+    Rule::G2,
+    Rule::N1,
+    Rule::N2,
+    Rule::N3,
+    Rule::N4,
+    Rule::Y1,
+    Rule::Y2,
+    Rule::Y3,
+    Rule::Y4,
+    Rule::Y5,
+    Rule::Y6,
+    Rule::Y7,
+    Rule::Y8,
+    Rule::Q1,
+    Rule::Q2,
+    Rule::Q3,
+    Rule::S1,
+    Rule::S2,
+    Rule::S3,
+    Rule::S4,
+    Rule::S5,
+    Rule::S6,
+    Rule::S7,
+    Rule::S8,
+    Rule::S9,
+];
+
+const FAULTS: &[FaultKind] = &[
+    FaultKind::DivZero,
+    FaultKind::NullRef,
+    FaultKind::Bounds,
+    FaultKind::NotLocal,
+    FaultKind::BadRoot,
+    FaultKind::ExchangeDomain,
+    FaultKind::BadStride,
+    FaultKind::EmptyDomain,
+    FaultKind::DomainSize,
+    FaultKind::Range,
+    FaultKind::HeapFull,
+    FaultKind::RegionInUse,
+    FaultKind::RegionGone,
+    FaultKind::Depth,
+    FaultKind::Fuel,
+];
+
+/// The rule of a number.
+fn rule_of(number: u32) -> Option<Rule> {
+    for rule in RULES {
+        if u32::from(rule.number()) == number {
+            return Some(*rule);
+        }
+    }
+    None
+}
+
+/// The fault of a number.
+fn fault_of(number: u32) -> Option<FaultKind> {
+    for kind in FAULTS {
+        if *kind as u32 == number {
+            return Some(*kind);
+        }
+    }
+    None
+}
+
+fn rule(alloc: Global, number: u32) -> Result<Vec<u8>, Stopped> {
+    match rule_of(number) {
+        Some(rule) => Ok([rule.code(), " ", rule_text(rule)].concat(alloc)?.into_bytes()),
+        None => Err(Stopped::Row),
+    }
+}
+
+fn fault(alloc: Global, number: u32) -> Result<Vec<u8>, Stopped> {
+    match fault_of(number) {
+        Some(kind) => Ok(fault_name(kind).as_bytes().to_vec(alloc)?),
+        None => Err(Stopped::Row),
+    }
+}
+
+/// The bytes of a text as the digits of one number, each 31 times as much as the next, modulo 2^64.
+fn sum_of(text: &[u8]) -> u64 {
+    let mut sum = 0u64;
+    for byte in text {
+        sum = sum.wrapping_mul(31).wrapping_add(u64::from(*byte));
+    }
+    sum
+}
+
+fn seed(alloc: Global, number: u32) -> Result<Vec<u8>, Stopped> {
+    let text = gen_source(alloc, number)?;
+    let shown = format!(in alloc; "{} bytes, sum {}", text.len(), sum_of(&text))?;
+    Ok(shown.into_bytes())
+}
+
+/// A word as it is written in a row, where `""` stands for the empty one.
+fn word_of(alloc: Global, escaped: &str) -> Result<String, Stopped> {
+    if escaped == "\"\"" {
+        return Ok(String::new(alloc));
+    }
+    match String::from_utf8(bytes_of(alloc, escaped)?) {
+        Ok(word) => Ok(word),
+        Err(_) => Err(Stopped::Row),
+    }
+}
+
+/// Words with one space between two of them.
+fn words_of(alloc: Global, row: &str) -> Result<Vec<String>, Stopped> {
+    let mut words = Vec::new(alloc);
+    for word in row.split_ascii_whitespace() {
+        words.push(word_of(alloc, word)?)?;
+    }
+    Ok(words)
+}
+
+fn shown_job(alloc: Global, job: &Job) -> Result<String, AllocError> {
+    let trace = if job.trace { " trace" } else { "" };
+    let stats = if job.stats { " stats" } else { "" };
+    format!(in alloc;
+        "{:?} procs {} workers {} fuel {} seed {}{trace}{stats} file \"{}\"",
+        job.mode, job.procs, job.workers, job.fuel, job.seed, job.file.as_str()
+    )
+}
+
+fn job(alloc: Global, row: &str) -> Result<String, Stopped> {
+    let words = words_of(alloc, row)?;
+    match read_words(alloc, &words) {
+        Ok(job) => Ok(shown_job(alloc, &job)?),
+        Err(WordsErr::Usage) => Ok(String::from_str(alloc, "no command")?),
+        Err(WordsErr::Memory) => Err(Stopped::Memory),
+    }
+}
+
+/// What stands in a table for a number.
+fn numbered(alloc: Global, asked: Table, number: u32) -> Result<Vec<u8>, Stopped> {
+    match asked {
+        Table::Rule => rule(alloc, number),
+        Table::Fault => fault(alloc, number),
+        Table::Seed => seed(alloc, number),
+        Table::Source => Ok(gen_source(alloc, number)?),
+        Table::Job => Err(Stopped::Row),
+    }
+}
+
+/// What stands in a table for the words or the number of a row.
+pub(crate) fn found_in(alloc: Global, asked: Table, row: &str) -> Result<Vec<u8>, Stopped> {
+    if matches!(asked, Table::Job) {
+        return Ok(job(alloc, row)?.into_bytes());
+    }
+    match row.parse::<u32>() {
+        Ok(number) => numbered(alloc, asked, number),
+        Err(_) => Err(Stopped::Row),
+    }
+}

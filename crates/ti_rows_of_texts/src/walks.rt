@@ -1,0 +1,172 @@
+// Processes that walk over the trees of their programs, driven by hand: what each asks for is answered from a row, and behind the row by
+// nothing but that it was done.
+
+ghost use Rattle.std.specs.Prelude.{◌≡◌, IfOk, IfSome};
+ghost use Rattle.ti_eval.specs.Forms.{IsFormedAnswer};
+ghost use Rattle.ti_lang.specs.Program.Views.{program_of};
+
+use crate::answers::Stopped;
+use crate::phases::checked;
+use crate::things::answer_of;
+use std::alloc::{AllocError, Global};
+use ti_base::{Action, Answer, CollKind, Deposit, Memory, Next, Value, fault_name};
+use ti_exec::TreeProc;
+use ti_rules::Checked;
+
+fn say(text: &mut String, piece: String) -> Result<(), AllocError> {
+    text.push_str(piece.as_str())
+}
+
+fn shown_print(
+    alloc: Global,
+    literal: Option<u32>,
+    value: Option<Value>,
+) -> Result<String, AllocError> {
+    match (literal, value) {
+        (None, None) => format!(in alloc; "print"),
+        (Some(n), None) => format!(in alloc; "print text {n}"),
+        (None, Some(v)) => format!(in alloc; "print {v:?}"),
+        (Some(n), Some(v)) => format!(in alloc; "print text {n} {v:?}"),
+    }
+}
+
+pub(crate) fn collective(kind: CollKind) -> &'static str {
+    match kind {
+        CollKind::Barrier => "Barrier",
+        CollKind::Broadcast => "Broadcast",
+        CollKind::Exchange => "Exchange",
+        CollKind::MakeRegion => "MakeRegion",
+        CollKind::DeleteRegion => "DeleteRegion",
+    }
+}
+
+/// A collective with its argument.
+fn shown_collective(alloc: Global, kind: CollKind, arg: Option<u32>) -> Result<String, AllocError> {
+    let name = collective(kind);
+    match arg {
+        Some(n) => format!(in alloc; "arrive {name} {n}"),
+        None => format!(in alloc; "arrive {name}"),
+    }
+}
+
+fn shown_arrival(
+    alloc: Global,
+    kind: CollKind,
+    arg: Option<u32>,
+    deposit: Deposit,
+) -> Result<String, AllocError> {
+    let arrives = shown_collective(alloc, kind, arg)?;
+    match deposit {
+        Deposit::Nothing => Ok(arrives),
+        Deposit::One(v) => format!(in alloc; "{arrives} {v:?}"),
+        Deposit::Count(n) => format!(in alloc; "{arrives} count {n}"),
+    }
+}
+
+/// What is done with a cell or a grid, by serial numbers and the first coordinate.
+fn shown_access(alloc: Global, action: Action) -> Result<String, AllocError> {
+    match action {
+        Action::GetField { obj, field } => {
+            let n = obj.serial;
+            format!(in alloc; "get {field} of {n}")
+        }
+        Action::PutField { obj, field, value } => {
+            let n = obj.serial;
+            format!(in alloc; "put {value:?} in {field} of {n}")
+        }
+        Action::GetElem { grid, at } => {
+            let (n, x) = (grid.serial, at.x1);
+            format!(in alloc; "get at {x} of {n}")
+        }
+        Action::PutElem { grid, at, value } => {
+            let (n, x) = (grid.serial, at.x1);
+            format!(in alloc; "put {value:?} at {x} of {n}")
+        }
+        Action::DomainOf { grid } => {
+            let n = grid.serial;
+            format!(in alloc; "domain of {n}")
+        }
+        Action::MakeView { grid, .. } => {
+            let n = grid.serial;
+            format!(in alloc; "view of {n}")
+        }
+        _ => format!(in alloc; "another action"),
+    }
+}
+
+fn shown_action(alloc: Global, action: Action) -> Result<String, AllocError> {
+    match action {
+        Action::Print { literal, value } => shown_print(alloc, literal, value),
+        Action::Arrive { kind, arg, deposit } => shown_arrival(alloc, kind, arg, deposit),
+        Action::Depart => format!(in alloc; "depart"),
+        Action::Take { who } => format!(in alloc; "take {who}"),
+        Action::NewObj { .. } => format!(in alloc; "make an object"),
+        Action::NewGrid { .. } => format!(in alloc; "make a grid"),
+        _ => shown_access(alloc, action),
+    }
+}
+
+fn shown_next(alloc: Global, next: Next) -> Result<String, AllocError> {
+    match next {
+        Next::Act(_, action) => {
+            let shown = shown_action(alloc, action)?;
+            format!(in alloc; "{shown}; ")
+        }
+        Next::End(place) => format!(in alloc; "end {place:?}"),
+        Next::Fault(kind, place) => {
+            let name = fault_name(kind);
+            format!(in alloc; "{name} {place:?}")
+        }
+    }
+}
+
+/// The answer of this number, or that the action was done.
+fn answer_at(answers: &str, n: usize) -> Option<Answer>
+    ensures { IfSome result IsFormedAnswer }
+{
+    match answers.split_ascii_whitespace().nth(n) {
+        Some(word) => answer_of(word),
+        None => Some(Answer::Done),
+    }
+}
+
+/// What a process has next, and the answer to it.
+fn turn(
+    alloc: Global,
+    c: &Checked,
+    process: &mut TreeProc,
+    answer: Answer,
+) -> Result<Next, Memory>
+    requires same { program_of c.now.program.parts ≡ program_of process.old.program }
+    requires form { IsFormedAnswer answer }
+    ensures { IfOk result (λ _. process.new.program ≡ process.old.program) }
+{
+    let next = process.advance(alloc, c)?;
+    if let Next::Act(_, _) = next {
+        process.answer(answer);
+    }
+    Ok(next)
+}
+
+/// What process 0 of 2 asks for with 1000 ticks, one behind the other, and what ends it.
+fn walked(alloc: Global, c: &Checked, answers: &str) -> Result<String, Stopped> {
+    let mut process = TreeProc::start(alloc, c, 0, 2, 1000)?;
+    let mut shown = String::new(alloc);
+    for n in 0..1000 {
+        let Some(answer) = answer_at(answers, n) else {
+            return Err(Stopped::Row);
+        };
+        let next = turn(alloc, c, &mut process, answer)?;
+        say(&mut shown, shown_next(alloc, next)?)?;
+        if !matches!(next, Next::Act(_, _)) {
+            break;
+        }
+    }
+    Ok(shown)
+}
+
+/// What process 0 of 2 of a text asks for.
+pub(crate) fn walk(alloc: Global, answers: &str, text: &[u8]) -> Result<Vec<u8>, Stopped> {
+    let c = checked(alloc, text)?;
+    Ok(walked(alloc, &c, answers)?.into_bytes())
+}
