@@ -23,7 +23,7 @@ use Rattle.ti_align.proofs.Pacing.{rests}
 use Rattle.ti_align.proofs.Slicing.{none_wait}
 use Rattle.ti_align.proofs.Finishing.{slice_falls}
 use Rattle.ti_align.proofs.Vars.{if_true, if_false}
-use Rattle.ti_slice.specs.MirrorsAnswer.{Free, begins, goes, leaves, IsFree, IsArrival}
+use Rattle.ti_slice.specs.Mirrors.Answer.{Free, begins, goes, leaves, IsFree, IsArrival}
 
 -- a process of the slice that waits nowhere
 abbrev pub Runs : Setting → Process → Type 0

@@ -26,7 +26,7 @@ use Rattle.ti_exec.specs.Marks.{is_mark}
 use Rattle.ti_exec.specs.States.{IsAtHand, site_of, here, left_in}
 use Rattle.ti_exec.proofs.Works.{left_within}
 use Rattle.ti_slice.proofs.Spots.{none_inside}
-use Rattle.ti_slice.specs.FirstWork.{first_acts}
+use Rattle.ti_slice.specs.Mirrors.FirstWork.{first_acts}
 
 -- ---- loops
 

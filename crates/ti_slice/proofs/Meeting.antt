@@ -40,7 +40,7 @@ use Rattle.ti_exec.proofs.Asked.{left_behind, handed_on}
 use Rattle.ti_slice.specs.declared.answer.Slice.{Slice}
 use Rattle.ti_slice.specs.declared.stands.Stand.{Stand}
 use Rattle.ti_slice.specs.declared.stands.Stand.TheVariants as stand
-use Rattle.ti_slice.specs.MirrorsAnswer.{Free, begins, IsFree, Leads, IsArrival, Arrives, IsStand, GoesOn, IsWaiting, wanted_of, Fits, Leaves, Departs, Meets}
+use Rattle.ti_slice.specs.Mirrors.Answer.{Free, begins, IsFree, Leads, IsArrival, Arrives, IsStand, GoesOn, IsWaiting, wanted_of, Fits, Leaves, Departs, Meets}
 use Rattle.ti_slice.proofs.Coming.{free_arrives, leaves_free}
 use Rattle.ti_slice.proofs.Paying.{paid}
 

@@ -21,7 +21,7 @@ use Rattle.ti_eval.proofs.Steps.{then_stops}
 use Rattle.ti_eval.proofs.Evaluating.{exps_at, no_exps}
 use Rattle.ti_moves.specs.Arguments.{given}
 use Rattle.ti_moves.proofs.Calling.{from_params, variable_at}
-use Rattle.ti_slice.specs.SingleCalls.{single_found}
+use Rattle.ti_slice.specs.Mirrors.SingleCalls.{single_found}
 
 -- ---- one parameter and its argument
 

@@ -25,7 +25,7 @@ use Rattle.ti_eval.specs.Comes.{ComesAs}
 use Rattle.ti_moves.specs.declared.moves.Move.{Move}
 use Rattle.ti_moves.specs.Moves.{move_of}
 use Rattle.ti_moves.specs.Receiving.{receiver_of}
-use Rattle.ti_slice.specs.SingleCalls.{SingleCallComes}
+use Rattle.ti_slice.specs.Mirrors.SingleCalls.{SingleCallComes}
 
 -- ---- calls
 

@@ -25,7 +25,7 @@ use Rattle.ti_exec.specs.Walking.{done_with}
 use Rattle.ti_exec.proofs.Asked.{waits_at, expects_at}
 use Rattle.ti_exec.proofs.Begun.{left_here, block_done}
 use Rattle.ti_exec.proofs.Works.{walks_at, receives_at, none_left, left_inside}
-use Rattle.ti_slice.specs.MirrorsStep.{IsSliceTurn, Acts, ActsIn}
+use Rattle.ti_slice.specs.Mirrors.Step.{IsSliceTurn, Acts, ActsIn}
 
 -- ---- in general
 

@@ -1,4 +1,1 @@
-pub mod FirstWork
-pub mod MirrorsAnswer
-pub mod MirrorsStep
-pub mod SingleCalls
+pub mod Mirrors

@@ -15,7 +15,7 @@ ghost use Rattle.ti_moves.specs.Moves.{method_at};
 ghost use Rattle.ti_moves.specs.Receiving.{stm_seen, receiver_of};
 ghost use Rattle.ti_exec.specs.Marks.{is_mark as is_mark_spec};
 ghost use Rattle.ti_exec.specs.States.{IsAtHand, here, left_in};
-ghost use Rattle.ti_slice.specs.FirstWork.{first_acts};
+ghost use Rattle.ti_slice.specs.Mirrors.FirstWork.{first_acts};
 
 use ti_eval::{Level, Todo};
 use ti_exec::{Call, behind_loop, is_mark};

@@ -13,7 +13,7 @@ ghost use Rattle.ti_moves.specs.Moves.{type_received};
 ghost use Rattle.ti_moves.specs.Receiving.{stm_seen};
 ghost use Rattle.ti_exec.specs.declared.process.Pending.TheVariants.{Left};
 ghost use Rattle.ti_exec.specs.States.{process_of, wait_in, told, here};
-ghost use Rattle.ti_slice.specs.MirrorsAnswer.{IsFree, IsWaiting, wanted_of, Fits, listed, Departs, Meets};
+ghost use Rattle.ti_slice.specs.Mirrors.Answer.{IsFree, IsWaiting, wanted_of, Fits, listed, Departs, Meets};
 
 use crate::fits::{fits_departure, is_done};
 use crate::stands::{Stand, goes_on};

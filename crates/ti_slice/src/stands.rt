@@ -9,7 +9,7 @@ ghost use Rattle.ti_lang.specs.Program.Views.{program_of};
 ghost use Rattle.ti_lang.specs.Meaning.RoundsOf as rounds;
 ghost use Rattle.ti_align.specs.Slice.{deletes_one, slice_step as slice_step_spec};
 ghost use Rattle.ti_exec.specs.States.{process_of, told, Stands};
-ghost use Rattle.ti_slice.specs.MirrorsAnswer.{IsArrival, IsFree, IsStand, GoesOn};
+ghost use Rattle.ti_slice.specs.Mirrors.Answer.{IsArrival, IsFree, IsStand, GoesOn};
 
 use crate::step::slice_step;
 use std::alloc::Global;

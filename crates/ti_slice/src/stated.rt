@@ -28,7 +28,7 @@ ghost use Rattle.ti_eval.specs.Envs.{env_of};
 ghost use Rattle.ti_eval.specs.Frames.{method_seen, slot_of, slots_of};
 ghost use Rattle.ti_moves.specs.Moves.{method_at, move_of, type_given, type_received};
 ghost use Rattle.ti_moves.specs.Receiving.{stm_seen, receiver_seen, receiver_of, right_seen};
-ghost use Rattle.ti_slice.specs.SingleCalls.{SingleCallComes, single_found, single_received};
+ghost use Rattle.ti_slice.specs.Mirrors.SingleCalls.{SingleCallComes, single_found, single_received};
 
 use std::alloc::Global;
 use ti_base::{CollKind, Deposit, Place, Value};

@@ -9,7 +9,7 @@ ghost use Rattle.ti_eval.specs.Comes.{ComesAs};
 ghost use Rattle.ti_moves.specs.Moves.{move_of};
 ghost use Rattle.ti_exec.specs.declared.process.Mode.TheVariants.{Walks};
 ghost use Rattle.ti_exec.specs.States.{IsSettled, IsWalking, IsReceiving, env_in, here};
-ghost use Rattle.ti_slice.specs.MirrorsStep.{IsSliceTurn, ActsIn};
+ghost use Rattle.ti_slice.specs.Mirrors.Step.{IsSliceTurn, ActsIn};
 
 use crate::acts::{past, receives_single, work_acts};
 use crate::stated::single_statement;

@@ -3,7 +3,7 @@ use Rattle.ti_align.specs.declared.slices.SliceStep.{SliceStep}
 use Rattle.ti_align.specs.Slice.{Comes, SliceAnswers}
 use Rattle.ti_lang.specs.Program.Views.{program_of}
 use Rattle.ti_exec.specs.States.{process_of}
-use Rattle.ti_slice.specs.MirrorsAnswer.{IsFree}
+use Rattle.ti_slice.specs.Mirrors.Answer.{IsFree}
 use Rattle.ti_slice.proofs.answer.slice_next.Given as goal
 
 abbrev pub invariant-loop-k : goal.invariant-loop-k

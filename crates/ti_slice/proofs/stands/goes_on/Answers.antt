@@ -4,7 +4,7 @@ use Rattle.ti_lang.specs.Meaning.Steps.{To}
 use Rattle.ti_lang.proofs.MeaningLaws.Total.{fits_bound}
 use Rattle.ti_align.specs.Slice.{slice_step, judged}
 use Rattle.ti_exec.specs.States.{process_of}
-use Rattle.ti_slice.specs.MirrorsStep.{IsSliceTurn}
+use Rattle.ti_slice.specs.Mirrors.Step.{IsSliceTurn}
 use Rattle.ti_slice.proofs.Coming.{checked, goes_free, no_answers, free_falls}
 use Rattle.ti_slice.proofs.Meeting.{leads_here, leads_on, asks_arrival, stands_as, goes_there, step_of}
 use Rattle.ti_slice.proofs.stands.goes_on.Invariants.{pays}

@@ -6,7 +6,7 @@ use Rattle.ti_lang.specs.Typing.Called.{called_method}
 use Rattle.ti_lang.specs.Meaning.Calls.{call_by}
 use Rattle.ti_eval.specs.Envs.{env_of}
 use Rattle.ti_moves.specs.Moves.{method_at}
-use Rattle.ti_slice.specs.SingleCalls.{SingleCallComes}
+use Rattle.ti_slice.specs.Mirrors.SingleCalls.{SingleCallComes}
 use Rattle.ti_slice.proofs.stated.call.Goals as goal
 
 pub returns-in-Some : goal.returns-in-Some

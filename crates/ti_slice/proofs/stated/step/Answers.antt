@@ -6,7 +6,7 @@ use Rattle.ti_eval.specs.Comes.{ComesAs}
 use Rattle.ti_eval.specs.Envs.{env_of}
 use Rattle.ti_moves.specs.Moves.{move_of}
 use Rattle.ti_moves.specs.Receiving.{receiver_of}
-use Rattle.ti_slice.specs.SingleCalls.{single_received}
+use Rattle.ti_slice.specs.Mirrors.SingleCalls.{single_received}
 use Rattle.ti_slice.proofs.stated.step.Goals as goal
 
 pub returns : goal.returns

@@ -1,7 +1,7 @@
 use Rattle.std.proofs.Common.{refl}
 use Rattle.ti_lang.specs.Program.Views.{program_of}
 use Rattle.ti_exec.proofs.Works.{of_result}
-use Rattle.ti_slice.specs.MirrorsStep.{IsSliceTurn}
+use Rattle.ti_slice.specs.Mirrors.Step.{IsSliceTurn}
 use Rattle.ti_slice.proofs.Stepping.{slice_turn_at, waits_alike, expects_alike}
 use Rattle.ti_slice.proofs.step.act.Goals as goal
 

@@ -1,7 +1,7 @@
 use Rattle.ti_lang.specs.Program.Views.{program_of}
 use Rattle.ti_exec.specs.States.{IsTurn}
 use Rattle.ti_exec.proofs.Works.{of_result}
-use Rattle.ti_slice.specs.MirrorsStep.{IsSliceTurn}
+use Rattle.ti_slice.specs.Mirrors.Step.{IsSliceTurn}
 use Rattle.ti_slice.proofs.Stepping.{begun_unless, begun_turn}
 use Rattle.ti_slice.proofs.step.acts.Goals as goal
 

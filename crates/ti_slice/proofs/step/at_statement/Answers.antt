@@ -10,7 +10,7 @@ use Rattle.ti_moves.specs.Moves.{move_of}
 use Rattle.ti_exec.specs.States.{IsStep, IsMoved, process_of, env_in, here, rest}
 use Rattle.ti_exec.proofs.Asked.{valued_gives}
 use Rattle.ti_exec.proofs.Works.{of_result}
-use Rattle.ti_slice.specs.MirrorsStep.{IsSliceTurn}
+use Rattle.ti_slice.specs.Mirrors.Step.{IsSliceTurn}
 use Rattle.ti_slice.proofs.Stepping.{slice_turn_at, stating}
 use Rattle.ti_slice.proofs.step.at_statement.Goals as goal
 

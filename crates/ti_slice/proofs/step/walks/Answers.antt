@@ -5,7 +5,7 @@ use Rattle.ti_lang.specs.Program.Views.{program_of}
 use Rattle.ti_lang.specs.Meaning.Processes.{Work}
 use Rattle.ti_eval.specs.Frames.{work_of}
 use Rattle.ti_exec.specs.States.{IsAtHand, AtHandIn, site_of}
-use Rattle.ti_slice.specs.MirrorsStep.{ActsIn}
+use Rattle.ti_slice.specs.Mirrors.Step.{ActsIn}
 use Rattle.ti_slice.proofs.Stepping.{slice_ends_at, passing}
 use Rattle.ti_slice.proofs.step.walks.Goals as goal
 

@@ -2,7 +2,7 @@ use Rattle.std.proofs.Common.{subst}
 use Rattle.ti_lang.specs.Program.Views.{program_of}
 use Rattle.ti_exec.specs.States.{wait_in}
 use Rattle.ti_exec.proofs.Formed.{fits_formed}
-use Rattle.ti_slice.specs.MirrorsAnswer.{wanted_of, Fits}
+use Rattle.ti_slice.specs.Mirrors.Answer.{wanted_of, Fits}
 use Rattle.ti_slice.proofs.Meeting.{no_tick, no_fit, leaving}
 use Rattle.ti_slice.proofs.answer.Slice.departs.Goals as goal
 

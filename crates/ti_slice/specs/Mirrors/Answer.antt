@@ -1,4 +1,4 @@
--- Nobody has to believe what stands here: it mirrors the code, and only contracts of private functions speak of it.
+-- The outcomes that the slice looks at, and the collectives at which it stands.
 use Rattle.std.specs.Prelude.{◌≡◌, ℕ, ◌+◌, Bool, true, false, List, [], ◌∷◌, ◌++◌, Option, Some, None}
 use Rattle.ti_base.specs.declared.place.Place.{Place}
 use Rattle.ti_base.specs.declared.action.CollKind.{CollKind}

@@ -1,4 +1,4 @@
--- Nobody has to believe what stands here: it mirrors the code, and only contracts of private functions speak of it.
+-- A turn of the slice.
 use Rattle.std.specs.Prelude.{◌≡◌, true, List, ◌∷◌}
 use Rattle.ti_lang.specs.Program.Classes.{NumberedProgram}
 use Rattle.ti_lang.specs.Meaning.Processes.{Work}
