@@ -93,6 +93,8 @@ pub fn types()
 pub fn runs()
     ensures an_end_too_early { IsRun (by_two 1000 programs.one_barrier) entries.an_end_too_early → ⊥ }
     ensures the_second_first { IsSolo (by_two 1000 programs.one_barrier) entries.the_second_first → ⊥ }
+    ensures a_departure_too_early { IsRun (by_two 1000 programs.one_barrier) entries.a_departure_too_early → ⊥ }
+    ensures an_entry_behind_a_fault { IsRun (by_two 1000 programs.one_barrier) entries.an_entry_behind_a_fault → ⊥ }
     ensures a_wrong_answer { IsAnswered programs.a_truth_in_a_number (history_of entries.a_wrong_answer) → ⊥ }
     ensures a_thing_made_twice { IsAnswered programs.a_truth_in_a_number (history_of entries.a_thing_made_twice) → ⊥ }
 {}

@@ -1,5 +1,6 @@
 -- Entries that are no run, of which facts of runs fail.
 use Rattle.std.specs.Prelude.{pos, List, [], ◌∷◌, None, Some}
+use Rattle.ti_base.specs.declared.fault.FaultKind.TheVariants.{Fuel}
 use Rattle.ti_base.specs.declared.value.Value.TheVariants as v
 use Rattle.ti_base.specs.declared.action.Action.TheVariants as act
 use Rattle.ti_base.specs.declared.action.CollKind.TheVariants as coll
@@ -58,4 +59,18 @@ abbrev pub a_thing_made_twice : List Entry
 a_thing_made_twice =
     entry 0 (pl 1 87) (act.NewObj 0 0) (Val (v.Obj (Some (thing 0 0 0)))) ∷
     entry 0 (pl 1 87) (act.NewObj 0 0) (Val (v.Obj (Some (thing 0 0 0)))) ∷
+    []
+
+-- process 0 leaves a barrier at which process 1 hasn't arrived
+abbrev pub a_departure_too_early : List Entry
+a_departure_too_early =
+    entry 0 (pl 1 65) (act.Arrive coll.Barrier None deposit.Nothing) Done ∷
+    entry 0 (pl 1 65) act.Depart Done ∷
+    []
+
+-- behind a fault process 1 arrives
+abbrev pub an_entry_behind_a_fault : List Entry
+an_entry_behind_a_fault =
+    entry 0 (pl 1 65) (act.Fault Fuel) Done ∷
+    entry 1 (pl 1 65) (act.Arrive coll.Barrier None deposit.Nothing) Done ∷
     []

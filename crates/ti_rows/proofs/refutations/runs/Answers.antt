@@ -1,4 +1,4 @@
-use Rattle.std.proofs.Common.{◌≡◌, ℕ, ◌<◌, pos, List, [], ◌∷◌, ◌++◌, None, Some, refl, sym, ◌∙◌, ap, subst, arith}
+use Rattle.std.proofs.Common.{◌≡◌, ℕ, ◌<◌, pos, true, false, List, [], ◌∷◌, ◌++◌, None, Some, refl, sym, ◌∙◌, ap, subst, arith}
 use Rattle.std.specs.Int.{int_wrap}
 use Rattle.ti_base.specs.declared.action.Action.{Action}
 use Rattle.ti_base.specs.declared.action.Action.TheVariants as act
@@ -7,6 +7,7 @@ use Rattle.ti_base.specs.declared.action.Deposit.TheVariants as deposit
 use Rattle.ti_base.specs.declared.entry.Answer.TheVariants.{Done, Val}
 use Rattle.ti_base.specs.declared.entry.Entry.{Entry}
 use Rattle.ti_base.specs.declared.entry.Next.TheVariants as next
+use Rattle.ti_base.specs.declared.fault.FaultKind.TheVariants.{Fuel}
 use Rattle.ti_base.specs.declared.value.Value.TheVariants as v
 use Rattle.ti_lang.specs.Typing.BuiltIn.{built_in}
 use Rattle.ti_lang.specs.Typing.Declared.{named_field_type, instance_method}
@@ -24,7 +25,7 @@ use Rattle.ti_rows.specs.Failing.{by_two}
 use Rattle.ti_rows.specs.Simulation.{solo}
 use Rattle.ti_rows.specs.Refuted.Programs as programs
 use Rattle.ti_rows.specs.Refuted.Entries as entries
-use Rattle.ti_rows.proofs.Reached.{has_next}
+use Rattle.ti_rows.proofs.Reached.{has_next, can_take_next}
 use Rattle.ti_rows.proofs.Simulated as simulated
 use Rattle.ti_rows.proofs.refutations.runs.Goals as goal
 
@@ -45,6 +46,9 @@ pub returns-clause-an_end_too_early : goal.returns-clause-an_end_too_early
 unfolding int_wrap built_in named_field_type instance_method
 returns-clause-an_end_too_early c = λ run.
     no_arrival (ap acts_of (decided both entries.an_end_too_early (solo both 1) run (solo_run both _ (simulated.solo_run both 1)) refl))
+
+true_false : true ≡ false → ⊥
+true_false e = cc
 
 -- ---- process 1 goes first
 
@@ -96,6 +100,73 @@ returns-clause-the_second_first c = λ run.
     let k = only_entry both entries.the_second_first e run refl in
     let one : 1 ≡ k.0 = taker both [] k.0 e k.1 in
     k.2 0 _ (omega (arith, one)) first_can
+
+-- ---- the last entry of a run
+
+snoc_same : (xs ys : List Entry) (x y : Entry) → xs ++ x ∷ [] ≡ ys ++ y ∷ [] → (xs ≡ ys) × (x ≡ y)
+snoc_same [] [] x y k = (refl, head x y [] [] k)
+  where
+    head : (a b : Entry) (ks ls : List Entry) → a ∷ ks ≡ b ∷ ls → a ≡ b
+    head a b ks ls k = cc
+snoc_same [] (b ∷ ys) x y k = absurd (none_more ys y (tail x b [] _ k))
+  where
+    none_more : (ls : List Entry) (l : Entry) → [] ≡ ls ++ l ∷ [] → ⊥
+    none_more [] l k = cc
+    none_more (m ∷ ls) l k = cc
+
+    tail : (a b : Entry) (ks ls : List Entry) → a ∷ ks ≡ b ∷ ls → ks ≡ ls
+    tail a b ks ls k = cc
+snoc_same (a ∷ xs) [] x y k = absurd (none_more xs x (tail y a [] _ (sym k)))
+  where
+    none_more : (ls : List Entry) (l : Entry) → [] ≡ ls ++ l ∷ [] → ⊥
+    none_more [] l k = cc
+    none_more (m ∷ ls) l k = cc
+
+    tail : (a b : Entry) (ks ls : List Entry) → a ∷ ks ≡ b ∷ ls → ks ≡ ls
+    tail a b ks ls k = cc
+snoc_same (a ∷ xs) (b ∷ ys) x y k =
+    let more = snoc_same xs ys x y (tail a b _ _ k) in
+    (both a b xs ys (head a b _ _ k) more.0, more.1)
+  where
+    head : (a b : Entry) (ks ls : List Entry) → a ∷ ks ≡ b ∷ ls → a ≡ b
+    head a b ks ls k = cc
+
+    tail : (a b : Entry) (ks ls : List Entry) → a ∷ ks ≡ b ∷ ls → ks ≡ ls
+    tail a b ks ls k = cc
+
+    both : (a b : Entry) (ks ls : List Entry) → a ≡ b → ks ≡ ls → a ∷ ks ≡ b ∷ ls
+    both a b ks ls p q = cc
+
+-- its process could take it
+last_taken : (s : Setting) (all es : List Entry) (e : Entry) → IsRun s all → all ≡ es ++ e ∷ [] → CanTake s es e.proc e
+last_taken s all es e r.none k = absurd (none_more es e k)
+  where
+    none_more : (ls : List Entry) (l : Entry) → [] ≡ ls ++ l ∷ [] → ⊥
+    none_more [] l k = cc
+    none_more (m ∷ ls) l k = cc
+last_taken s all es e (r.more {es = before} {i = i} {e = last} run take z) k =
+    let same = snoc_same before es last e (sym z ∙ k) in
+    let can : CanTake s es i e = subst (λ x. CanTake s es i x) same.1 (subst (λ xs. CanTake s xs i last) same.0 take) in
+    subst (λ j. CanTake s es j e) (sym (taker s es i e can)) can
+
+-- process 0 has arrived
+abbrev arrived : List Entry
+arrived = record { proc = 0; place = pl 1 65; act = act.Arrive coll.Barrier None deposit.Nothing; answer = Done } ∷ []
+
+pub returns-clause-a_departure_too_early : goal.returns-clause-a_departure_too_early
+unfolding int_wrap built_in named_field_type instance_method
+returns-clause-a_departure_too_early c = λ run.
+    let e : Entry = record { proc = 0; place = pl 1 65; act = act.Depart; answer = Done } in
+    let can = last_taken both entries.a_departure_too_early arrived e run refl in
+    let k : 0 < 0 = can_take_next both arrived 0 (next.Act (pl 1 65) act.Depart) e (has_next both arrived 0 _ refl) can 1 (omega arith) in
+    omega (arith, k)
+
+pub returns-clause-an_entry_behind_a_fault : goal.returns-clause-an_entry_behind_a_fault
+unfolding int_wrap built_in named_field_type instance_method
+returns-clause-an_entry_behind_a_fault c = λ run.
+    let e : Entry = record { proc = 1; place = pl 1 65; act = act.Arrive coll.Barrier None deposit.Nothing; answer = Done } in
+    let can = last_taken both entries.an_entry_behind_a_fault (record { proc = 0; place = pl 1 65; act = act.Fault Fuel; answer = Done } ∷ []) e run refl in
+    true_false can.goes_on
 
 -- ---- answers that nothing gives
 
