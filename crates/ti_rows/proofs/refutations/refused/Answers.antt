@@ -1,7 +1,7 @@
 use mathlib.Core.Path.{refl}
 use Rattle.ti_lang.specs.Typing.BuiltIn.{built_in}
 use Rattle.ti_lang.specs.Typing.Declared.{named_field_type, instance_method}
-use Rattle.ti_rules.specs.First.{sooner, first_of}
+use Rattle.ti_rules.specs.Mirrors.First.{sooner, first_of}
 use Rattle.ti_rows.proofs.refutations.refused.Goals as goal
 
 pub returns-clause-barriers_at_two_places : goal.returns-clause-barriers_at_two_places

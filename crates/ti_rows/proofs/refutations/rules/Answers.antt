@@ -3,7 +3,7 @@ use Rattle.ti_lang.specs.Program.Types.{ValueType}
 use Rattle.ti_lang.specs.Typing.BuiltIn.{built_in}
 use Rattle.ti_lang.specs.Typing.Declared.{named_field_type, instance_method}
 use Rattle.ti_rules.specs.declared.refusal.Refusal.{Refusal}
-use Rattle.ti_rules.specs.First.{sooner, first_of}
+use Rattle.ti_rules.specs.Mirrors.First.{sooner, first_of}
 use Rattle.ti_rows.proofs.refutations.rules.Goals as goal
 
 some_more : (x : Refusal) (xs : List Refusal) → x ∷ xs ≡ [] → ⊥
