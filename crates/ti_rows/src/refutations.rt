@@ -20,15 +20,15 @@ ghost use Rattle.ti_align.specs.Alignment.{ArrivalsAgree, NoneAfterEnd, NoneStuc
 ghost use Rattle.ti_align.specs.Answering.{AnswersFit};
 ghost use Rattle.ti_align.specs.Counted.{CellsCounted};
 ghost use Rattle.ti_align.specs.Dangling.{NothingDangles};
-ghost use Rattle.ti_align.specs.Fitting.{FieldsFit};
+ghost use Rattle.ti_align.specs.Mirrors.Fitting.{FieldsFit};
 ghost use Rattle.ti_align.specs.Formed.{ActionsFormed};
 ghost use Rattle.ti_align.specs.Heap.{Elements, FieldsStorable, KeepsTypes};
-ghost use Rattle.ti_align.specs.Literals.{LiteralsFit};
+ghost use Rattle.ti_align.specs.Mirrors.Literals.{LiteralsFit};
 ghost use Rattle.ti_align.specs.Names.{RunNamesFit};
 ghost use Rattle.ti_align.specs.Owners.{OwnersKept};
 ghost use Rattle.ti_align.specs.Placed.{ThingsPlaced};
 ghost use Rattle.ti_align.specs.Slice.{SliceTells};
-ghost use Rattle.ti_align.specs.Sound.{Sound};
+ghost use Rattle.ti_align.specs.Mirrors.Sound.{Sound};
 ghost use Rattle.ti_align.specs.Stopping.{NoneImpossible, RoundsBalance, RegionsMade};
 ghost use Rattle.ti_align.specs.Things.{Things, IsOf};
 ghost use Rattle.ti_align.specs.Typed.{RunTyped};

@@ -20,7 +20,7 @@ use Rattle.ti_lang.specs.Meaning.Processes.{Setting}
 use Rattle.ti_lang.specs.Meaning.NextStep.{shown}
 use Rattle.ti_align.specs.Answering.{AnswersFit}
 use Rattle.ti_align.specs.Heap.{Elements, HeapFits}
-use Rattle.ti_align.specs.Sound.{Sound, value, fault, asks}
+use Rattle.ti_align.specs.Mirrors.Sound.{Sound, value, fault, asks}
 use Rattle.ti_align.specs.Stopping.{NoneImpossible}
 use Rattle.ti_align.specs.Things.{Things, IsOf}
 use Rattle.ti_align.specs.Typed.{RunTyped}
