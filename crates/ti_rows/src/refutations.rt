@@ -20,7 +20,7 @@ ghost use Rattle.ti_align.specs.Alignment.{ArrivalsAgree, NoneAfterEnd, NoneStuc
 ghost use Rattle.ti_align.specs.Answering.{AnswersFit};
 ghost use Rattle.ti_align.specs.Counted.{CellsCounted};
 ghost use Rattle.ti_align.specs.Dangling.{NothingDangles};
-ghost use Rattle.ti_align.specs.Mirrors.Fitting.{FieldsFit};
+ghost use Rattle.ti_align.specs.Heap.{FieldsFit};
 ghost use Rattle.ti_align.specs.Formed.{ActionsFormed};
 ghost use Rattle.ti_align.specs.Heap.{Elements, FieldsStorable, KeepsTypes};
 ghost use Rattle.ti_align.specs.Mirrors.Literals.{LiteralsFit};
