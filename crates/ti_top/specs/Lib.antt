@@ -1,3 +1,4 @@
+pub mod Agreement
 pub mod Call
 pub mod Clauses
 pub mod Ending

@@ -5,6 +5,7 @@ mod command;
 mod compiling;
 mod ending;
 mod fault;
+mod laws;
 mod printing;
 mod reading;
 mod reports;
@@ -14,3 +15,4 @@ mod work;
 
 pub use command::{Outcome, titan_top};
 pub use compiling::one_answer;
+pub use laws::one_ending;

@@ -1,0 +1,235 @@
+-- Two undisturbed calls that ask alike end alike.
+use Rattle.std.proofs.Common.{◌≡◌, ◌⊎◌, inl, inr, ℕ, true, List, [], take, Option, Some, None, refl, sym, ◌∙◌, ap, subst, append-nil}
+use Rattle.ti_io.specs.Source.{content_of, IsMissing, Holds}
+use Rattle.ti_io.specs.Sink.{GrewBy}
+use Rattle.ti_syntax.specs.declared.token.Token.{Token}
+use Rattle.ti_syntax.specs.Tokenizing.{IsTokenized}
+use Rattle.ti_lang.specs.Program.Classes.{NumberedProgram}
+use Rattle.ti_rules.specs.declared.refusal.Refusal.{Refusal}
+use Rattle.ti_rules.specs.RefusalOf.{HasProgram, IsRefusal}
+use Rattle.ti_words.specs.declared.job.Job.{Job}
+use Rattle.ti_words.specs.declared.job.Mode.{Mode}
+use Rattle.ti_words.specs.declared.job.Mode.TheVariants.{Run, Check, Gen}
+use Rattle.ti_words.specs.Job.{job_of}
+use Rattle.ti_top.specs.declared.fault.Fault.{Fault}
+use Rattle.ti_top.specs.Run.{HasFile, Runs, run_of, EndsWithFault}
+use Rattle.ti_top.specs.Reports.{wanted, output}
+use Rattle.ti_top.specs.Call.{most_read, Call, IsCommand, IsNoCommand, SinkRose, Yields, WantsReport}
+use Rattle.ti_top.specs.Clauses.{ReadsText, MakesText, GetsText, WritesAll, NothingFailed, IsComplete, Meets}
+use Rattle.ti_top.specs.Agreement.{IsUndisturbed, AskAlike, BothGrew, EndAlike}
+use Rattle.ti_top.proofs.EmptyText.{no_program}
+use Rattle.ti_top.proofs.OneRun.{one_run}
+
+-- ---- what an undisturbed call doesn't do
+
+no_yield : (c : Call) → IsUndisturbed c → Yields c → ⊥
+no_yield c u (inl six) = u.memory six
+no_yield c u (inr (five, inl out)) = u.out out
+no_yield c u (inr (five, inr err)) = u.err err
+
+or_not : {A B : Type 0} → (B → ⊥) → A ⊎ B → A
+or_not never (inl a) = a
+or_not never (inr b) = absurd (never b)
+
+-- both outs grew by nothing
+nothing_grew : (c d : Call) → c.out_after.taken ≡ c.out.taken → d.out_after.taken ≡ d.out.taken → (text : List ℕ) × BothGrew c d text
+nothing_grew c d x y = ([], (x ∙ sym (append-nil c.out.taken), y ∙ sym (append-nil d.out.taken)))
+
+-- that each text has one answer, and one list of tokens
+pub record OneAnswer : Type 0 where
+  pub some : (text : List ℕ) → ((program : NumberedProgram) × HasProgram text program) ⊎ ((refusal : Refusal) × IsRefusal text refusal)
+  pub one_list : (text : List ℕ) (a b : List Token) → IsTokenized text a → IsTokenized text b → a ≡ b
+  pub never_both : (text : List ℕ) (program : NumberedProgram) (refusal : Refusal) → HasProgram text program → IsRefusal text refusal → ⊥
+
+-- ---- the words are no command
+
+no_command : (c d : Call) → Meets c → Meets d → IsUndisturbed c → IsUndisturbed d → IsNoCommand c → IsNoCommand d → EndAlike c d
+no_command c d m n u v x y = record {
+  status = or_not (no_yield c u) (m.beside_err.words.everywhere x) ∙ sym (or_not (no_yield d v) (n.beside_err.words.everywhere y));
+  text = m.beside_err.words.no_text x ∙ sym (n.beside_err.words.no_text y);
+  history = m.beside_err.words.no_history x ∙ sym (n.beside_err.words.no_history y);
+  output = λ watchers told heard. nothing_grew c d (m.beside_err.output.no_command x) (n.beside_err.output.no_command y);
+}
+
+-- ---- the text is missing
+
+-- nothing is run of it
+nothing_run : OneAnswer → (job : Job) (c : Call) → Meets c → IsCommand c job → c.text ≡ [] → c.history ≡ []
+nothing_run known job c m x none =
+    (m.beside_err.run job x).none (λ program has. no_program known.one_list program (subst (λ text. HasProgram text program) none has))
+
+missing_alike : OneAnswer → (job : Job) (c d : Call) → Meets c → Meets d → IsCommand c job → IsCommand d job
+    → (c.status ≡ 4) → (d.status ≡ 4) → c.text ≡ [] → d.text ≡ [] → EndAlike c d
+missing_alike known job c d m n x y four fourth none nought = record {
+  status = four ∙ sym fourth;
+  text = none ∙ sym nought;
+  history = nothing_run known job c m x none ∙ sym (nothing_run known job d n y nought);
+  output = λ watchers told heard. nothing_grew c d (m.beside_err.output.nothing_at_four four) (n.beside_err.output.nothing_at_four fourth);
+}
+
+-- ---- the text is judged
+
+-- a call on a text that is there ends with status 0, 1 or 2
+abbrev Ends : Call → Type 0
+Ends c = (c.status ≡ 1) ⊎ ((c.status ≡ 0) ⊎ (c.status ≡ 2))
+
+ends : OneAnswer → (job : Job) (c : Call) → IsComplete job c → Ends c
+ends known job c whole = by (known.some c.text)
+  where
+    by : ((program : NumberedProgram) × HasProgram c.text program) ⊎ ((refusal : Refusal) × IsRefusal c.text refusal) → Ends c
+    by (inl found) = inr (whole.accepted (λ refusal is. known.never_both c.text found.0 refusal found.1 is))
+    by (inr found) = inl (whole.refused found.0 found.1)
+
+-- a text is refused
+refused_alike : (job : Job) (c d : Call) → Meets c → Meets d → IsCommand c job → IsCommand d job → IsComplete job c → IsComplete job d
+    → c.text ≡ d.text → (refusal : Refusal) → IsRefusal c.text refusal → EndAlike c d
+refused_alike job c d m n x y whole all same refusal is =
+    let is_too : IsRefusal d.text refusal = subst (λ text. IsRefusal text refusal) same is in
+    let one : c.status ≡ 1 = whole.refused refusal is in
+    let first : d.status ≡ 1 = all.refused refusal is_too in
+    record {
+      status = one ∙ sym first;
+      text = same;
+      history = (m.beside_err.refusal job x).no_history refusal is ∙ sym ((n.beside_err.refusal job y).no_history refusal is_too);
+      output = λ watchers told heard. nothing_grew c d (m.beside_err.output.nothing_at_one one) (n.beside_err.output.nothing_at_one first);
+    }
+
+-- a text with a program is only checked
+checked_alike : (job : Job) (c d : Call) → Meets c → Meets d → IsCommand c job → IsCommand d job → c.text ≡ d.text
+    → (c.status ≡ 0) ⊎ (c.status ≡ 2) → (d.status ≡ 0) ⊎ (d.status ≡ 2) → job.mode ≡ Check → EndAlike c d
+checked_alike job c d m n x y same a b mode = record {
+  status = done c m x a ∙ sym (done d n y b);
+  text = same;
+  history = (m.beside_err.run job x).checked mode ∙ sym ((n.beside_err.run job y).checked mode);
+  output = λ watchers told heard. nothing_grew c d (m.beside_err.output.checked job x mode) (n.beside_err.output.checked job y mode);
+}
+  where
+    done : (e : Call) → Meets e → IsCommand e job → (e.status ≡ 0) ⊎ (e.status ≡ 2) → e.status ≡ 0
+    done e k z (inl none) = none
+    done e k z (inr two) = absurd (subst Runs mode ((k.beside_err.end job z).fault_only_where two).0)
+
+-- a text with a program is run
+run_alike : OneAnswer → (job : Job) (c d : Call) → Meets c → Meets d → IsUndisturbed c → IsUndisturbed d → IsCommand c job → IsCommand d job → IsComplete job c → IsComplete job d
+    → c.text ≡ d.text → (c.status ≡ 0) ⊎ (c.status ≡ 2) → (d.status ≡ 0) ⊎ (d.status ≡ 2) → Runs job.mode
+    → (program : NumberedProgram) → HasProgram c.text program → EndAlike c d
+run_alike known job c d m n u v x y whole all same a b runs program has = record {
+  status = statuses a b;
+  text = same;
+  history = one;
+  output = λ watchers told heard. (
+    output job program c.history (wanted job c.watchers),
+    (
+      grew c m a told job x runs program has,
+      subst (λ es. GrewBy d.out d.out_after (output job program es (wanted job c.watchers))) (sym one)
+          (subst (λ ws. GrewBy d.out d.out_after (output job program d.history (wanted job ws))) (sym watchers) (grew d n b heard job y runs program has_too)),
+    ),
+  );
+}
+  where
+    has_too : HasProgram d.text program
+    has_too = subst (λ text. HasProgram text program) same has
+
+    one : c.history ≡ d.history
+    one =
+        one_run (run_of program job) c.history d.history ((m.beside_err.run job x).solo program has) (whole.ended runs program has) ((n.beside_err.run job y).solo program has_too)
+        (all.ended runs program has_too)
+
+    -- a history that ends with a fault tells the status
+    two : (e : Call) → Meets e → IsUndisturbed e → IsCommand e job → (fault : Fault) → EndsWithFault e.history fault → e.status ≡ 2
+    two e k w z fault is = by ((k.beside_err.end job z).fault_everywhere fault is)
+      where
+        by : (e.status ≡ 2) ⊎ (((e.status ≡ 5) × SinkRose e) ⊎ ((e.status ≡ 6) × WantsReport job e)) → e.status ≡ 2
+        by (inl is) = is
+        by (inr (inl five)) = absurd (no_yield e w (inr (five.0, five.1)))
+        by (inr (inr six)) = absurd (w.memory six.0)
+
+    statuses : (c.status ≡ 0) ⊎ (c.status ≡ 2) → (d.status ≡ 0) ⊎ (d.status ≡ 2) → c.status ≡ d.status
+    statuses (inl p) (inl q) = p ∙ sym q
+    statuses (inr p) (inr q) = p ∙ sym q
+    statuses (inl p) (inr q) =
+        let fault = ((n.beside_err.end job y).fault_only_where q).1 in
+        two c m u x fault.0 (subst (λ es. EndsWithFault es fault.0) (sym one) fault.1) ∙ sym q
+    statuses (inr p) (inl q) =
+        let fault = ((m.beside_err.end job x).fault_only_where p).1 in
+        p ∙ sym (two d n v y fault.0 (subst (λ es. EndsWithFault es fault.0) one fault.1))
+
+    grew : (e : Call) → Meets e → (e.status ≡ 0) ⊎ (e.status ≡ 2) → e.out.tells ≡ true → WritesAll e
+    grew e k (inl none) told = k.beside_err.output.done none told
+    grew e k (inr two) told = k.beside_err.output.faulted two told
+
+-- a text that both have read or made whole
+judged_alike : OneAnswer → (job : Job) (c d : Call) → Meets c → Meets d → IsUndisturbed c → IsUndisturbed d → IsCommand c job → IsCommand d job → IsComplete job c → IsComplete job d
+    → c.text ≡ d.text → EndAlike c d
+judged_alike known job c d m n u v x y whole all same = by (known.some c.text)
+  where
+    by_mode : (mode : Mode) → job.mode ≡ mode → (c.status ≡ 0) ⊎ (c.status ≡ 2) → (d.status ≡ 0) ⊎ (d.status ≡ 2) → (program : NumberedProgram) → HasProgram c.text program → EndAlike c d
+    by_mode Run e a b program has = run_alike known job c d m n u v x y whole all same a b (subst Runs (sym e) tt) program has
+    by_mode Check e a b program has = checked_alike job c d m n x y same a b e
+    by_mode Gen e a b program has = run_alike known job c d m n u v x y whole all same a b (subst Runs (sym e) tt) program has
+
+    by : ((program : NumberedProgram) × HasProgram c.text program) ⊎ ((refusal : Refusal) × IsRefusal c.text refusal) → EndAlike c d
+    by (inl found) =
+        let has : HasProgram d.text found.0 = subst (λ text. HasProgram text found.0) same found.1 in
+        by_mode job.mode refl (whole.accepted (λ refusal is. known.never_both c.text found.0 refusal found.1 is))
+        (all.accepted (λ refusal is. known.never_both d.text found.0 refusal has is)) found.0 found.1
+    by (inr found) = refused_alike job c d m n x y whole all same found.0 found.1
+
+-- ---- the text is read
+
+some_none : (l : List ℕ) → Some l ≡ None → ⊥
+some_none l e = cc
+
+nothing_failed : (job : Job) (c : Call) → IsUndisturbed c → (HasFile job.mode → IsMissing c.source job.file → ⊥) → NothingFailed job c
+nothing_failed job c u there = record { source = u.source; out = u.out; err = u.err; there = there; memory = u.memory }
+
+-- a text that ends so was read whole
+read_text : (job : Job) (c : Call) (bytes : List ℕ) → ReadsText job c → Holds c.source job.file bytes → Ends c → c.text ≡ take most_read bytes
+read_text job c bytes read holds (inl one) = (read.whole_at_one one).told bytes holds
+read_text job c bytes read holds (inr (inl none)) = (read.whole_at_zero none).told bytes holds
+read_text job c bytes read holds (inr (inr two)) = (read.whole_at_two two).told bytes holds
+
+read_alike : OneAnswer → (job : Job) (c d : Call) → Meets c → Meets d → AskAlike c d → IsUndisturbed c → IsUndisturbed d → IsCommand c job → IsCommand d job
+    → ReadsText job c → ReadsText job d → EndAlike c d
+read_alike known job c d m n ask u v x y read again = by (content_of c.source.files job.file) refl
+  where
+    told : d.source.tells ≡ true
+    told = ask.files.tells ∙ ask.told
+
+    by : (o : Option (List ℕ)) → content_of c.source.files job.file ≡ o → EndAlike c d
+    by None e =
+        let gone : IsMissing c.source job.file = record { tells = ask.told; none = e } in
+        let away : IsMissing d.source job.file = record { tells = told; none = ap (λ files. content_of files job.file) ask.files.files ∙ e } in
+        missing_alike known job c d m n x y (or_not (no_yield c u) (read.missing gone)) (or_not (no_yield d v) (again.missing away)) (read.nothing_of_missing gone) (again.nothing_of_missing away)
+    by (Some bytes) e =
+        let f : content_of d.source.files job.file ≡ Some bytes = ap (λ files. content_of files job.file) ask.files.files ∙ e in
+        let whole = m.completeness job x (nothing_failed job c u (λ has gone. some_none bytes (sym e ∙ gone.none))) in
+        let all = n.completeness job y (nothing_failed job d v (λ has gone. some_none bytes (sym f ∙ gone.none))) in
+        let first = read_text job c bytes read (record { tells = ask.told; some = e }) (ends known job c whole) in
+        let second = read_text job d bytes again (record { tells = told; some = f }) (ends known job d all) in
+        judged_alike known job c d m n u v x y whole all (first ∙ sym second)
+
+-- ---- the text is made
+
+made_alike : OneAnswer → (job : Job) (c d : Call) → Meets c → Meets d → IsUndisturbed c → IsUndisturbed d → IsCommand c job → IsCommand d job
+    → job.mode ≡ Gen → MakesText job c → MakesText job d → EndAlike c d
+made_alike known job c d m n u v x y e made again =
+    let no_file : HasFile job.mode → ⊥ = λ has. subst HasFile e has in
+    let whole = m.completeness job x (nothing_failed job c u (λ has. absurd (no_file has))) in
+    let all = n.completeness job y (nothing_failed job d v (λ has. absurd (no_file has))) in
+    judged_alike known job c d m n u v x y whole all (or_not (λ k. no_yield c u k.1) made.made ∙ sym (or_not (λ k. no_yield d v k.1) again.made))
+
+-- ---- all calls
+
+pub ended_alike : OneAnswer → (c d : Call) → Meets c → Meets d → AskAlike c d → IsUndisturbed c → IsUndisturbed d → EndAlike c d
+ended_alike known c d m n ask u v = by (job_of c.words) refl
+  where
+    by_mode : (job : Job) (mode : Mode) → job.mode ≡ mode → IsCommand c job → IsCommand d job → GetsText mode job c → GetsText mode job d → EndAlike c d
+    by_mode job Run e x y a b = read_alike known job c d m n ask u v x y a b
+    by_mode job Check e x y a b = read_alike known job c d m n ask u v x y a b
+    by_mode job Gen e x y a b = made_alike known job c d m n u v x y e a b
+
+    by : (o : Option Job) → job_of c.words ≡ o → EndAlike c d
+    by None e = no_command c d m n u v e (ap job_of (sym ask.words) ∙ e)
+    by (Some job) e =
+        let f : IsCommand d job = ap job_of (sym ask.words) ∙ e in
+        by_mode job job.mode refl e f (m.beside_err.text job e) (n.beside_err.text job f)
