@@ -17,7 +17,10 @@ use Rattle.ti_lang.specs.Meaning.Histories.{arrivals, answers_of}
 use Rattle.ti_lang.specs.Meaning.Runs.{World, CanTake, IsReady}
 use Rattle.ti_lang.proofs.MeaningLaws.Steps.{settled_same, settles_at, next_same, after_same}
 use Rattle.ti_lang.proofs.MeaningLaws.Running.{solo_run}
+use Rattle.ti_lang.specs.Program.Types.{ValueType}
 use Rattle.ti_align.specs.SinglePart.{single_part}
+use Rattle.ti_align.specs.Given.{given_by}
+use Rattle.ti_align.specs.Typed.{GivesAt}
 use Rattle.ti_align.specs.Alignment.{ArrivesAt}
 use Rattle.ti_rows.specs.Simulation.{settle_by, settle, most_silent, solo}
 use Rattle.ti_rows.specs.Failing.{by_two, FailsFor}
@@ -189,6 +192,13 @@ arrives s es before rest i k p at kind arg given r e n w h = record {
   settles = settles p _ h;
   single = refl;
 }
+
+-- the same of an arrival at which values of a type are handed in
+pub gives : (s : Setting) (es before rest : List Entry) (i k : ℕ) (p : Process) (at : Place) (kind : CollKind) (arg : Option ℕ) (given : Deposit) (r : Answer) (type : ValueType)
+    → es ≡ before ++ record { proc = i; place = at; act = act.Arrive kind arg given; answer = r } ∷ rest → arrivals i before ≡ k → process_after s before i ≡ Some p
+    → next_of p ≡ Some (next.Act at (act.Arrive kind arg given)) → given_by (rest_of p) ≡ Some type → GivesAt s es i k type
+unfolding arrives
+gives s es before rest i k p at kind arg given r type e n w h g = record { arrival = _; arrives = arrives s es before rest i k p at kind arg given r e n w h; gives = g }
 
 -- ---- runs
 

@@ -4,11 +4,8 @@ ghost use Rattle.std.specs.Prelude.{true, pos};
 ghost use Rattle.ti_base.specs.declared.action.Action.TheVariants as act;
 ghost use Rattle.ti_base.specs.declared.value.Value.TheVariants as v;
 ghost use Rattle.ti_lang.specs.Program.Types.{Int};
-ghost use Rattle.ti_lang.specs.Program.Classes.{NumberedProgram};
 ghost use Rattle.ti_lang.specs.Meaning.Answers.{HasForm};
 ghost use Rattle.ti_lang.specs.Meaning.Asking.{ToBeDone};
-ghost use Rattle.ti_lang.specs.Meaning.Evaluation.{eval};
-ghost use Rattle.ti_lang.specs.Meaning.Scoping.{Env};
 ghost use Rattle.ti_lang.specs.Meaning.Histories.{history_of};
 ghost use Rattle.ti_lang.specs.Meaning.HeapAnswers.{IsAnswered};
 ghost use Rattle.ti_lang.specs.Meaning.Runs.{IsRun, IsSolo};
@@ -20,18 +17,16 @@ ghost use Rattle.ti_align.specs.Alignment.{ArrivalsAgree, NoneAfterEnd, NoneStuc
 ghost use Rattle.ti_align.specs.Answering.{AnswersFit};
 ghost use Rattle.ti_align.specs.Counted.{CellsCounted};
 ghost use Rattle.ti_align.specs.Dangling.{NothingDangles};
-ghost use Rattle.ti_align.specs.Heap.{FieldsFit};
 ghost use Rattle.ti_align.specs.Formed.{ActionsFormed};
-ghost use Rattle.ti_align.specs.Heap.{Elements, FieldsStorable, KeepsTypes};
+ghost use Rattle.ti_align.specs.Heap.{Elements, FieldsFit, FieldsStorable, KeepsTypes};
 ghost use Rattle.ti_align.specs.Mirrors.Literals.{LiteralsFit};
 ghost use Rattle.ti_align.specs.Names.{RunNamesFit};
 ghost use Rattle.ti_align.specs.Owners.{OwnersKept};
 ghost use Rattle.ti_align.specs.Placed.{ThingsPlaced};
+ghost use Rattle.ti_align.specs.Scoped.{VariablesInScope};
 ghost use Rattle.ti_align.specs.Slice.{SliceTells};
-ghost use Rattle.ti_align.specs.Mirrors.Sound.{Sound};
 ghost use Rattle.ti_align.specs.Stopping.{NoneImpossible, RoundsBalance, RegionsMade};
-ghost use Rattle.ti_align.specs.Things.{Things, IsOf};
-ghost use Rattle.ti_align.specs.Typed.{RunTyped};
+ghost use Rattle.ti_align.specs.Typed.{RunTyped, TakenAsGiven};
 ghost use Rattle.ti_rows.specs.Texts.{pl};
 ghost use Rattle.ti_rows.specs.Histories.{thing};
 ghost use Rattle.ti_rows.specs.Answers.{Refuses};
@@ -50,6 +45,7 @@ pub fn refused()
     ensures a_region_is_deleted_by_one { Refuses programs.a_region_is_deleted_by_one S1 (pl 1 137) }
     ensures a_truth_in_a_number { Refuses programs.a_truth_in_a_number Y2 (pl 1 100) }
     ensures an_object_for_a_grid { Refuses programs.an_object_for_a_grid Y2 (pl 1 90) }
+    ensures two_broadcasts { Refuses programs.two_broadcasts S1 (pl 1 62) }
 {}
 
 /// What processes meet together.
@@ -76,6 +72,8 @@ pub fn things()
 /// Types and forms of what is there.
 pub fn types()
     ensures a_truth_in_a_number { FailsFor RunTyped programs.a_truth_in_a_number }
+    ensures two_types_at_a_broadcast { FailsFor TakenAsGiven programs.two_broadcasts }
+    ensures a_variable_of_nowhere { FailsFor VariablesInScope programs.a_variable_of_nowhere }
     ensures a_truth_for_a_number { FailsFor AnswersFit programs.a_truth_in_a_number }
     ensures an_element_of_an_object { FailsFor NoneImpossible programs.an_object_for_a_grid }
     ensures a_second_coordinate { FailsOn ActionsFormed programs.a_point_is_copied entries.a_second_coordinate }
@@ -83,8 +81,6 @@ pub fn types()
     ensures a_field_of_four_dimensions { FieldsFit programs.a_field_of_four_dimensions → ⊥ }
     ensures a_field_of_domains { FieldsStorable programs.a_field_of_domains → ⊥ }
     ensures a_number_without_a_form { HasForm Int (v.Int (pos 2147483648)) → ⊥ }
-    ensures a_truth_where_a_number_is_due { (p : NumberedProgram) (w : Things) (env : Env)
-        → Sound p (λ u h. IsOf u Int h) w (eval env programs.a_truth) → ⊥ }
     ensures a_truth_is_written { (elements : Elements) → KeepsTypes programs.a_truth_in_a_number elements (history_of entries.an_object) 0
         (act.PutField (thing 0 0 0) 0 (v.Bool true)) ToBeDone → ⊥ }
 {}

@@ -149,11 +149,34 @@ a_point_is_copied =
     []
     ) 112
 
+-- class Main { public static single void main(String[] args) {
+--     if (Ti.thisProc() == 0) { int a = broadcast 1 from 0; } else { boolean b = broadcast true from 0; }
+-- } }
+-- processes hand in values of two types at one round
+abbrev pub two_broadcasts : NumberedProgram
+two_broadcasts =
+    main_alone (
+    s.IfElse (pl 1 62) (x.Binary (pl 1 80) b.Equal (x.ThisProc (pl 1 66)) (x.Int (pl 1 83) (pos 0)))
+    (s.Block (stms (
+    s.Declare (pl 1 92) (plain ty.Int) 0 (s.Broadcast (pl 1 96) (x.Int (pl 1 106) (pos 1)) (x.Int (pl 1 113) (pos 0))) ∷
+    []
+    )))
+    (s.Block (stms (
+    s.Declare (pl 1 133) (plain ty.Boolean) 0 (s.Broadcast (pl 1 137) (x.Truth (pl 1 147) true) (x.Int (pl 1 157) (pos 0))) ∷
+    []
+    ))) ∷
+    []
+    ) 162
+
 -- ---- programs that no text has
 
 -- a number is written that has no 32 bits
 abbrev pub a_number_too_large : NumberedProgram
 a_number_too_large = main_alone (s.Print (pl 1 62) (s.Expression (x.Int (pl 1 70) (pos 2147483648))) ∷ []) 83
+
+-- a variable is used that nothing declares
+abbrev pub a_variable_of_nowhere : NumberedProgram
+a_variable_of_nowhere = main_alone (s.Print (pl 1 62) (s.Expression (var (pl 1 70) 0 ty.Int)) ∷ []) 74
 
 -- a field holds points of four dimensions
 abbrev pub a_field_of_four_dimensions : NumberedProgram
@@ -168,10 +191,6 @@ a_field_of_domains = main_behind (ty.Dm 1) (codes "d") 39 [] 88
 -- no variable is in scope
 abbrev pub no_scope : ScopeContents
 no_scope = record { this_class = None; variables = [] }
-
--- true
-abbrev pub a_truth : NumberedExp
-a_truth = x.Truth (pl 1 1) true
 
 -- true + 1
 abbrev pub a_sum_of_a_boolean : NumberedExp

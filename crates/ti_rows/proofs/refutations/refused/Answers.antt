@@ -31,3 +31,7 @@ returns-clause-a_truth_in_a_number c = refl
 pub returns-clause-an_object_for_a_grid : goal.returns-clause-an_object_for_a_grid
 unfolding first_of sooner built_in named_field_type instance_method
 returns-clause-an_object_for_a_grid c = refl
+
+pub returns-clause-two_broadcasts : goal.returns-clause-two_broadcasts
+unfolding first_of sooner built_in named_field_type instance_method
+returns-clause-two_broadcasts c = refl

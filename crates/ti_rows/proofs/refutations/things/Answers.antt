@@ -50,13 +50,9 @@ returns-clause-a_region_that_is_none c = fails RegionsMade programs.no_region_is
     let k = f.deleted 0 w.process (pl 1 94) (Some 0) (deposit.Count 0) (omega arith) w.world w.next in
     false_true k.2)
 
-made_nowhere : (◌≡◌ {A = ℕ} 1 0) ⊎ (false ≡ true) → ⊥
-made_nowhere (inl e) = omega (arith, e)
-made_nowhere (inr e) = false_true e
-
 pub returns-clause-a_thing_in_no_region : goal.returns-clause-a_thing_in_no_region
 unfolding int_wrap built_in named_field_type instance_method
-returns-clause-a_thing_in_no_region c = λ f. made_nowhere (f.objects (thing 0 0 1) 0 refl)
+returns-clause-a_thing_in_no_region c = λ f. false_true (f.objects (thing 0 0 1) 0 refl)
 
 pub returns-clause-a_name_too_large : goal.returns-clause-a_name_too_large
 unfolding int_wrap built_in named_field_type instance_method

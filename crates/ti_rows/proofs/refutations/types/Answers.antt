@@ -1,4 +1,4 @@
-use Rattle.std.proofs.Common.{◌≡◌, ℕ, ℤ, ◌≤◌, pos, nat_abs, true, [], Some, refl, sym, ◌∙◌, ap, subst, arith}
+use Rattle.std.proofs.Common.{◌≡◌, ℕ, ℤ, ◌≤◌, pos, nat_abs, true, false, [], Some, refl, sym, ◌∙◌, ap, subst, arith}
 use Rattle.std.specs.Int.{int_wrap}
 use Rattle.ti_base.specs.declared.value.Value.{Value}
 use Rattle.ti_base.specs.declared.value.Value.TheVariants as v
@@ -11,26 +11,28 @@ use Rattle.ti_lang.specs.Program.Types as t
 use Rattle.ti_lang.specs.Typing.BuiltIn.{built_in}
 use Rattle.ti_lang.specs.Typing.Declared.{field_type, named_field_type, instance_method}
 use Rattle.ti_lang.specs.Meaning.Held.{Held, Plain}
-use Rattle.ti_lang.specs.Meaning.Asking.{ValueOf, Request, Asking, Got, Gives, Asks, Fails}
+use Rattle.ti_lang.specs.Meaning.Asking.{ValueOf, Request}
 use Rattle.ti_lang.specs.Meaning.Histories.{History}
 use Rattle.ti_lang.specs.Meaning.HeapOf.{class_of, last_written}
 use Rattle.ti_lang.specs.Program.Classes.{NumberedProgram}
 use Rattle.ti_lang.specs.Meaning.Answers.{HasForm, FitsWanted}
-use Rattle.ti_lang.specs.Meaning.Processes.{Setting}
-use Rattle.ti_lang.specs.Meaning.NextStep.{shown}
+use Rattle.ti_base.specs.declared.action.CollKind.TheVariants as coll
+use Rattle.ti_base.specs.declared.action.Deposit.TheVariants as deposit
+use Rattle.ti_lang.specs.Meaning.Processes.{Setting, Process, begin}
+use Rattle.ti_lang.specs.Meaning.NextStep.{here, none, shown}
 use Rattle.ti_align.specs.Answering.{AnswersFit}
 use Rattle.ti_align.specs.Heap.{Elements, HeapFits}
-use Rattle.ti_align.specs.Mirrors.Sound.{Sound, value, fault, asks}
 use Rattle.ti_align.specs.Stopping.{NoneImpossible}
 use Rattle.ti_align.specs.Things.{Things, IsOf}
-use Rattle.ti_align.specs.Typed.{RunTyped}
+use Rattle.ti_align.specs.Typed.{RunTyped, TakenAsGiven}
+use Rattle.ti_align.specs.Scoped.{VariablesInScope}
 use Rattle.ti_rows.specs.Texts.{pl}
 use Rattle.ti_rows.specs.Histories.{thing}
 use Rattle.ti_rows.specs.Failing.{by_two}
 use Rattle.ti_rows.specs.Simulation.{solo}
 use Rattle.ti_rows.specs.Refuted.Programs as programs
 use Rattle.ti_rows.specs.Refuted.Entries as entries
-use Rattle.ti_rows.proofs.Reached.{has_next, has_asked, asks_once, fails}
+use Rattle.ti_rows.proofs.Reached.{has_next, has_asked, asks_once, gives, fails}
 use Rattle.ti_rows.proofs.refutations.types.Goals as goal
 
 -- ---- a boolean is no number
@@ -84,6 +86,30 @@ returns-clause-a_truth_for_a_number c = fails AnswersFit programs.a_truth_in_a_n
     let same = asks_once w.process _ _ _ _ _ _ k.reaches k.stands w.reaches w.stands in
     no_form k.request (ap (λ (r : Request). r.wanted) same) k.fits)
 
+-- ---- two types
+
+not_both : t.Int ≡ t.Boolean → ⊥
+not_both e = cc
+
+pub returns-clause-two_types_at_a_broadcast : goal.returns-clause-two_types_at_a_broadcast
+unfolding int_wrap built_in named_field_type instance_method
+returns-clause-two_types_at_a_broadcast c = fails TakenAsGiven programs.two_broadcasts 2 (λ f.
+    let s : Setting = by_two 1000 programs.two_broadcasts in
+    let first = gives s (solo s 2) [] _ 0 0 _ (pl 1 96) coll.Broadcast (Some 0) (deposit.One (v.Int (pos 1))) Done t.Int refl refl refl refl refl in
+    let second = gives s (solo s 2) (solo s 1) _ 1 0 _ (pl 1 137) coll.Broadcast (Some 0) deposit.Nothing Done t.Boolean refl refl refl refl refl in
+    not_both (f.given 0 1 0 t.Int t.Boolean first second))
+
+-- ---- a variable that is nowhere
+
+false_true : false ≡ true → ⊥
+false_true e = cc
+
+pub returns-clause-a_variable_of_nowhere : goal.returns-clause-a_variable_of_nowhere
+unfolding int_wrap built_in named_field_type instance_method
+returns-clause-a_variable_of_nowhere c = fails VariablesInScope programs.a_variable_of_nowhere 0 (λ f.
+    let p : Process = begin (by_two 1000 programs.a_variable_of_nowhere) 0 in
+    false_true (f 0 p p (omega arith) none here refl))
+
 -- ---- an object is no grid
 
 pub returns-clause-an_element_of_an_object : goal.returns-clause-an_element_of_an_object
@@ -120,23 +146,3 @@ returns-clause-a_field_of_domains c = λ f. f 0 0 (t.Dm 1) refl
 
 pub returns-clause-a_number_without_a_form : goal.returns-clause-a_number_without_a_form
 returns-clause-a_number_without_a_form c = λ f. omega (arith, f.1)
-
--- what gives this at once is sound only where the fact holds of it
-gives_sound : (p : NumberedProgram) (P : Things → Held → Type 0) (w : Things) (m : Asking Held) (h : Held) → Sound p P w m → m [] ≡ Gives h [] → P w h
-gives_sound p P w m h (value a k e) same = subst (P w) (sym (same_gives h a (sym same ∙ e []))) k
-  where
-    same_gives : (a b : Held) → ◌≡◌ {A = Got Held} (Gives a []) (Gives b []) → a ≡ b
-    same_gives a b e = cc
-gives_sound p P w m h (fault kind at e) same = absurd (never (sym same ∙ e []))
-  where
-    never : ◌≡◌ {A = Got Held} (Gives h []) (Fails kind at) → ⊥
-    never e = cc
-gives_sound p P w m h (asks q e there rest) same = absurd (never (sym same ∙ e))
-  where
-    never : ◌≡◌ {A = Got Held} (Gives h []) (Asks q) → ⊥
-    never e = cc
-
-pub returns-clause-a_truth_where_a_number_is_due : goal.returns-clause-a_truth_where_a_number_is_due
-returns-clause-a_truth_where_a_number_is_due c = λ p w env sound.
-    let n = gives_sound p (λ u h. IsOf u t.Int h) w _ (Plain (v.Bool true)) sound refl in
-    no_number n.0 n.1
