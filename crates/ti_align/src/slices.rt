@@ -19,7 +19,7 @@ pub enum SliceStep {
     At(CollKind, Place, Option<u32>),
     /// It has ended.
     Ended,
-    /// A single expression, a root or the depth of its calls is at fault.
+    /// A single expression, a root, the depth of its calls or the delete of a region that is gone is at fault.
     Faults(FaultKind, Place),
     /// It needs more ticks than it may spend.
     NoFuel,
