@@ -69,11 +69,7 @@ fn told_trace(alloc: Global) -> Result<TraceWatch, Memory> {
 }
 
 /// Puts a watcher behind others.
-fn push(
-    alloc: Global,
-    watchers: &mut Vec<Box<dyn Watch>>,
-    handed: Handed,
-) -> Result<(), Stopped> {
+fn push(alloc: Global, watchers: &mut Vec<Box<dyn Watch>>, handed: Handed) -> Result<(), Stopped> {
     match handed {
         Handed::Trace => watchers.push(Box::new(alloc, TraceWatch::new(alloc))?)?,
         Handed::ToldTrace => watchers.push(Box::new(alloc, told_trace(alloc)?)?)?,
