@@ -2,12 +2,12 @@
 
 use crate::answers::Stopped;
 use crate::stages::{Stage, staged};
-use crate::watchers::watchers_of;
+use crate::watchers::{Handed, short_of, told_trace};
 use std::alloc::{AllocError, Global};
 use ti_base::{Entry, Memory};
 use ti_io::{MemSink, MemSource};
 use ti_top::{Outcome, titan_top};
-use ti_watch::{TraceWatch, Watch};
+use ti_watch::{StatsWatch, TraceWatch, Watch};
 
 /// What is shown of what a command left.
 #[derive(Clone, Copy)]
@@ -32,18 +32,11 @@ struct Streams {
     sinks: Sinks,
 }
 
-/// The words, and the watchers that are handed in.
-#[derive(Drop)]
-struct Orders {
-    words: Vec<String>,
-    watchers: Vec<Box<dyn Watch>>,
-}
-
-/// All that the call takes.
+/// The words, and what is read and written.
 #[derive(Drop)]
 struct Call {
+    words: Vec<String>,
     streams: Streams,
-    orders: Orders,
 }
 
 /// What the call left.
@@ -104,24 +97,17 @@ fn words_of(alloc: Global, line: &str) -> Result<Vec<String>, Memory> {
     Ok(words)
 }
 
-fn orders_of(alloc: Global, line: &str, stage: Stage) -> Result<Orders, Stopped> {
-    let words = words_of(alloc, line)?;
-    let watchers = watchers_of(alloc, stage.first, stage.second)?;
-    Ok(Orders { words, watchers })
-}
-
-fn call_of(alloc: Global, line: &str, stage: Stage, text: Vec<u8>) -> Result<Call, Stopped> {
+fn call_of(alloc: Global, line: &str, stage: Stage, text: Vec<u8>) -> Result<Call, Memory> {
     let streams = streams_of(alloc, stage, text)?;
-    let orders = orders_of(alloc, line, stage)?;
-    Ok(Call { streams, orders })
+    let words = words_of(alloc, line)?;
+    Ok(Call { words, streams })
 }
 
 /// The command. This is the only function that calls it: each further one would be dear to prove.
-fn left_by(rt: &HostRuntime, call: Call) -> Left {
-    let Call { streams, orders } = call;
+fn called(rt: &HostRuntime, call: Call, watchers: Vec<Box<dyn Watch>>) -> Left {
+    let Call { words, streams } = call;
     let Streams { source, sinks } = streams;
     let Sinks { out, err } = sinks;
-    let Orders { words, watchers } = orders;
     let mut source = source;
     let mut out = out;
     let mut err = err;
@@ -130,6 +116,23 @@ fn left_by(rt: &HostRuntime, call: Call) -> Left {
         outcome,
         sinks: Sinks { out, err },
     }
+}
+
+/// The command with watchers, which are made here, since no function may make them and hand them out.
+fn left_by(rt: &HostRuntime, call: Call, all: [Option<Handed>; 2]) -> Result<Left, Memory> {
+    let alloc = rt.alloc();
+    let mut watchers: Vec<Box<dyn Watch>> = Vec::new(alloc);
+    for handed in all {
+        match handed {
+            Some(Handed::Trace) => watchers.push(Box::new(alloc, TraceWatch::new(alloc))?)?,
+            Some(Handed::ToldTrace) => watchers.push(Box::new(alloc, told_trace(alloc)?)?)?,
+            Some(Handed::Stats) => watchers.push(Box::new(alloc, StatsWatch::new(alloc))?)?,
+            Some(Handed::Deaf) => watchers.push(Box::new(alloc, short_of(alloc, 1))?)?,
+            Some(Handed::Mute) => watchers.push(Box::new(alloc, short_of(alloc, 100))?)?,
+            None => {}
+        }
+    }
+    Ok(called(rt, call, watchers))
 }
 
 /// Puts bytes behind a text and a word, where there are any.
@@ -189,7 +192,7 @@ fn done(
     text: Vec<u8>,
 ) -> Result<Vec<u8>, Stopped> {
     let call = call_of(rt.alloc(), line, stage, text)?;
-    let left = left_by(rt, call);
+    let left = left_by(rt, call, [stage.first, stage.second])?;
     Ok(part_of(rt.alloc(), asked, &left)?)
 }
 

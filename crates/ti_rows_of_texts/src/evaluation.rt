@@ -24,13 +24,13 @@ fn printed(parts: &Parts) -> Option<&Expr> {
     }
 }
 
-fn slot(number: u32, ty: Ty, value: Value) -> Slot {
+fn slot(number: u32, ty: Ty, held: Held) -> Slot {
     Slot {
         variable: Variable {
             number,
             declared: Declared::Typed { single: false, ty },
         },
-        held: Held::plain(value),
+        held,
     }
 }
 
@@ -44,8 +44,9 @@ fn grid_type(alloc: Global) -> Result<Ty, AllocError> {
 
 fn slots(alloc: Global) -> Result<Vec<Slot>, Stopped> {
     let mut found = Vec::new(alloc);
-    found.push(slot(0, Ty::Int, Value::Int(5)))?;
-    found.push(slot(1, grid_type(alloc)?, Value::Grid(Some(GRID))))?;
+    found.push(slot(0, Ty::Int, Held::plain(Value::Int(5))))?;
+    let grid = Held::plain(Value::Grid(Some(GRID)));
+    found.push(slot(1, grid_type(alloc)?, grid))?;
     Ok(found)
 }
 

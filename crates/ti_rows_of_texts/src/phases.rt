@@ -298,7 +298,10 @@ fn cut(alloc: Global, scope: &mut Scope, grown: &str) -> Result<String, AllocErr
     scope.cut(1);
     let none = scope.set_loop(Some(Place { line: 2, col: 3 }));
     let set = scope.set_loop(None);
-    format!(in alloc; "{grown}; {scope:?}; {none:?} {set:?} {:?}", scope.innermost_loop)
+    format!(in alloc;
+        "{grown}; {scope:?}; {none:?} {set:?} {:?}",
+        scope.innermost_loop
+    )
 }
 
 fn scope(alloc: Global, text: &[u8]) -> Result<String, Stopped> {

@@ -97,7 +97,11 @@ fn fault_of(number: u32) -> Option<FaultKind> {
 
 fn rule(alloc: Global, number: u32) -> Result<Vec<u8>, Stopped> {
     match rule_of(number) {
-        Some(rule) => Ok([rule.code(), " ", rule_text(rule)].concat(alloc)?.into_bytes()),
+        Some(rule) => Ok(
+            [rule.code(), " ", rule_text(rule)]
+                .concat(alloc)?
+                .into_bytes(),
+        ),
         None => Err(Stopped::Row),
     }
 }
@@ -149,7 +153,12 @@ fn shown_job(alloc: Global, job: &Job) -> Result<String, AllocError> {
     let stats = if job.stats { " stats" } else { "" };
     format!(in alloc;
         "{:?} procs {} workers {} fuel {} seed {}{trace}{stats} file \"{}\"",
-        job.mode, job.procs, job.workers, job.fuel, job.seed, job.file.as_str()
+        job.mode,
+        job.procs,
+        job.workers,
+        job.fuel,
+        job.seed,
+        job.file.as_str()
     )
 }
 

@@ -131,15 +131,10 @@ fn answer_at(answers: &str, n: usize) -> Option<Answer>
 }
 
 /// What a process has next, and the answer to it.
-fn turn(
-    alloc: Global,
-    c: &Checked,
-    process: &mut TreeProc,
-    answer: Answer,
-) -> Result<Next, Memory>
+fn turn(alloc: Global, c: &Checked, process: &mut TreeProc, answer: Answer) -> Result<Next, Memory>
     requires same { program_of c.now.program.parts ≡ program_of process.old.program }
     requires form { IsFormedAnswer answer }
-    ensures { IfOk result (λ _. process.new.program ≡ process.old.program) }
+    ensures { IfOk result (λ _. program_of c.now.program.parts ≡ program_of process.new.program) }
 {
     let next = process.advance(alloc, c)?;
     if let Next::Act(_, _) = next {
@@ -148,20 +143,25 @@ fn turn(
     Ok(next)
 }
 
-/// What process 0 of 2 asks for with 1000 ticks, one behind the other, and what ends it.
-fn walked(alloc: Global, c: &Checked, answers: &str) -> Result<String, Stopped> {
+/// Says what process 0 of 2 asks for with 1000 ticks, one behind the other, and what ends it.
+fn say_all(alloc: Global, c: &Checked, answers: &str, shown: &mut String) -> Result<(), Stopped> {
     let mut process = TreeProc::start(alloc, c, 0, 2, 1000)?;
-    let mut shown = String::new(alloc);
     for n in 0..1000 {
         let Some(answer) = answer_at(answers, n) else {
             return Err(Stopped::Row);
         };
         let next = turn(alloc, c, &mut process, answer)?;
-        say(&mut shown, shown_next(alloc, next)?)?;
+        say(shown, shown_next(alloc, next)?)?;
         if !matches!(next, Next::Act(_, _)) {
-            break;
+            return Ok(());
         }
     }
+    Ok(())
+}
+
+fn walked(alloc: Global, c: &Checked, answers: &str) -> Result<String, Stopped> {
+    let mut shown = String::new(alloc);
+    say_all(alloc, c, answers, &mut shown)?;
     Ok(shown)
 }
 

@@ -1,9 +1,8 @@
-// Watchers that are handed in.
+// Watchers that are handed in, and one that wants memory.
 
-use crate::answers::Stopped;
 use std::alloc::Global;
 use ti_base::{Action, Answer, Entry, Memory, Place};
-use ti_watch::{StatsWatch, TraceWatch, Watch};
+use ti_watch::{TraceWatch, Watch};
 
 /// A watcher that is handed in.
 #[derive(Clone, Copy)]
@@ -28,7 +27,7 @@ const TOLD: Entry = Entry {
 
 /// Is told so many entries, and then wants memory; and so does its report.
 #[derive(Drop)]
-struct Short {
+pub(crate) struct Short {
     told: Vec<Entry>,
     most: usize,
 }
@@ -55,47 +54,17 @@ impl Watch for Short {
     }
 }
 
-fn short_of(alloc: Global, most: usize) -> Short {
+/// One that is told so many entries.
+pub(crate) fn short_of(alloc: Global, most: usize) -> Short {
     Short {
         told: Vec::new(alloc),
         most,
     }
 }
 
-fn told_trace(alloc: Global) -> Result<TraceWatch, Memory> {
+/// A trace that was told `TOLD`.
+pub(crate) fn told_trace(alloc: Global) -> Result<TraceWatch, Memory> {
     let mut trace = TraceWatch::new(alloc);
     trace.see(&TOLD)?;
     Ok(trace)
-}
-
-/// Puts a watcher behind others.
-fn push(
-    alloc: Global,
-    watchers: &mut Vec<Box<dyn Watch>>,
-    handed: Handed,
-) -> Result<(), Stopped> {
-    match handed {
-        Handed::Trace => watchers.push(Box::new(alloc, TraceWatch::new(alloc))?)?,
-        Handed::ToldTrace => watchers.push(Box::new(alloc, told_trace(alloc)?)?)?,
-        Handed::Stats => watchers.push(Box::new(alloc, StatsWatch::new(alloc))?)?,
-        Handed::Deaf => watchers.push(Box::new(alloc, short_of(alloc, 1))?)?,
-        Handed::Mute => watchers.push(Box::new(alloc, short_of(alloc, 100))?)?,
-    }
-    Ok(())
-}
-
-/// The watchers that are handed in, in this order.
-pub(crate) fn watchers_of(
-    alloc: Global,
-    first: Option<Handed>,
-    second: Option<Handed>,
-) -> Result<Vec<Box<dyn Watch>>, Stopped> {
-    let mut watchers: Vec<Box<dyn Watch>> = Vec::new(alloc);
-    if let Some(handed) = first {
-        push(alloc, &mut watchers, handed)?;
-    }
-    if let Some(handed) = second {
-        push(alloc, &mut watchers, handed)?;
-    }
-    Ok(watchers)
 }
