@@ -1,0 +1,6 @@
+pub mod Programs
+pub mod JumpRule
+pub mod Effects
+pub mod Leading
+pub mod Machine
+pub mod Follows

@@ -1,0 +1,92 @@
+// Code: the instructions of the methods of a program.
+
+ghost use Rattle.std.specs.Prelude.{◌≡◌, IsTrue};
+ghost use Rattle.ti_code.specs.JumpRule.{keep_jump_rule};
+
+use crate::instr::Instr;
+use std::marker::Model;
+
+/// The instructions of a method, which contracts see as a list.
+#[derive(Drop)]
+pub struct Instrs {
+    items: Vec<Instr>,
+}
+
+impl Model for Instrs {
+    ghost use Rattle.std.specs.Prelude.{List};
+    ghost use Rattle.ti_code.specs.declared.instr.Instr.{Instr};
+
+    ghost Value = { List Instr };
+
+    ghost view = { λ code. code.items.items };
+}
+
+impl Instrs {
+    /// These instructions, without taking memory.
+    pub fn new(items: Vec<Instr>) -> Self
+        ensures { result ≡ items.items }
+    {
+        Instrs { items }
+    }
+
+    /// The instructions, where they are.
+    pub fn as_slice(&self) -> &[Instr]
+        ensures { result.now ≡ self.now }
+    {
+        &self.items
+    }
+}
+
+/// The code of a method: whether it has a `this`, how many parameters it has besides, and its instructions, numbered from 0.
+#[derive(Drop)]
+pub struct MethodCode {
+    pub instance: bool,
+    pub params: u32,
+    pub instrs: Instrs,
+}
+
+/// The code of a program, which keeps the rule on jumps: from the target of a jump or a Next that doesn't lead forward, up to the next
+/// instruction that takes a tick, no instruction is a jump or a Next. So a process can't go on for ever without a tick. Contracts see
+/// its methods as a list, with the number of the one in which a run begins.
+#[derive(Drop)]
+pub struct Code {
+    methods: Vec<MethodCode>,
+    main: u32,
+}
+
+impl Model for Code {
+    ghost use Rattle.std.specs.Prelude.{IsTrue};
+    ghost use Rattle.ti_code.specs.Programs.{Code as Methods};
+    ghost use Rattle.ti_code.specs.JumpRule.{keep_jump_rule};
+
+    ghost Value = { Methods };
+
+    ghost view = { λ code. record { methods = code.methods.items; main = code.main } };
+
+    ghost invariant = { λ code. IsTrue (keep_jump_rule code.methods.items) };
+}
+
+impl Code {
+    /// The code of these methods, of which a run begins in the one of this number; without taking memory.
+    pub fn new(methods: Vec<MethodCode>, main: u32) -> Self
+        requires { IsTrue (keep_jump_rule methods.items) }
+        ensures { result ≡ record { methods = methods.items; main = main } }
+    {
+        Code { methods, main }
+    }
+
+    /// The methods, where they are.
+    pub fn methods(&self) -> &[MethodCode]
+        ensures methods { result.now ≡ self.now.methods }
+        ensures rule { IsTrue (keep_jump_rule result.now) }
+    {
+        &self.methods
+    }
+
+    /// The number of the method in which a run begins.
+    pub fn main(&self) -> u32
+        ensures { result ≡ self.now.main }
+    {
+        self.main
+    }
+}
