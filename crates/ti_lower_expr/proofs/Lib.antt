@@ -1,0 +1,6 @@
+pub mod Doing
+pub mod Finding
+pub mod Lazily
+pub mod Stepping
+pub mod Operands
+pub mod Expressions

@@ -1,0 +1,240 @@
+-- The code of expressions.
+use Rattle.std.specs.Prelude.{ℕ, zero, suc, ◌+◌, Bool, true, false, List, [], ◌∷◌, ◌++◌, Option, Some, None}
+use Rattle.ti_base.specs.declared.place.Place.{Place}
+use Rattle.ti_base.specs.declared.value.Value.TheVariants as v
+use Rattle.ti_syntax.specs.declared.tree.exprs.BinaryOperator.{BinaryOperator}
+use Rattle.ti_syntax.specs.declared.tree.exprs.BinaryOperator.TheVariants as op
+use Rattle.ti_syntax.specs.declared.tree.exprs.UnaryOperator.{UnaryOperator}
+use Rattle.ti_syntax.specs.declared.tree.exprs.UnaryOperator.TheVariants as un
+use Rattle.ti_lang.specs.Program.Types.{ValueType, VariableUse}
+use Rattle.ti_lang.specs.Program.Types as t
+use Rattle.ti_lang.specs.Program.Expressions.{NumberedExp, NumberedExps, NumberedRange, NumberedRanges}
+use Rattle.ti_lang.specs.Program.Expressions as e
+use Rattle.ti_lang.specs.Program.Classes.{NumberedProgram}
+use Rattle.ti_lang.specs.Typing.Kinds.{is_local, is_point, class_of_type}
+use Rattle.ti_lang.specs.Typing.Declared.{field_numbered}
+use Rattle.ti_lang.specs.Typing.BuiltIn as b
+use Rattle.ti_lang.specs.Typing.Called.{member_called}
+use Rattle.ti_lang.specs.Typing.TextTypes.{type_in_text, how_many}
+use Rattle.ti_lang.specs.Meaning.Held.{Held, Plain, Dm}
+use Rattle.ti_lang.specs.Meaning.Scoping.{zero_declared}
+use Rattle.std.specs.Prelude.{unwrap_or, option_and_then}
+use Rattle.ti_code.specs.declared.instr.Instr.{Instr}
+use Rattle.ti_code.specs.declared.instr.Instr.TheVariants as i
+use Rattle.ti_code.specs.declared.instr.Operation.{Operation}
+use Rattle.ti_code.specs.declared.instr.Operation.TheVariants as o
+use Rattle.ti_code.specs.declared.instr.OneOperand.TheVariants as one
+use Rattle.ti_code.specs.declared.instr.Member.{Member}
+use Rattle.ti_code.specs.declared.instr.Member.TheVariants as kind
+use Rattle.ti_code.specs.Leading.{behind}
+use Rattle.ti_lower_expr.specs.Slots.{Name, find_slot, has_this}
+
+-- a value that the text tells
+abbrev pub constant : Held → Instr
+constant (Plain value) = i.Const value
+constant (Dm dim points) = i.EmptyDom dim
+
+-- the value of a variable: what its slot holds, or the zero of its type where it has none
+abbrev pub loaded : Option ℕ → VariableUse → Instr
+loaded (Some k) x = i.Load k
+loaded None x = constant (zero_declared x.declared)
+
+-- `this`, which is in slot 0 where there is one
+abbrev pub own : Bool → Instr
+own true = i.Load 0
+own false = i.Const (v.Obj None)
+
+-- a value as one of a type
+abbrev pub conversion : Place → ValueType → List Instr
+conversion at (t.Dm dim) = i.ToDom at ∷ []
+conversion at t.Long = i.Widen ∷ []
+conversion at t.Int = i.Narrow ∷ []
+conversion at (t.Class class is_local) = i.AsObj ∷ []
+conversion at (t.Grid element dim is_local) = i.AsGrid ∷ []
+conversion at type = []
+
+-- a reference of local type names a thing of the own process
+abbrev pub local_test : Place → Bool → List Instr
+local_test at true = i.CastLocal at ∷ []
+local_test at false = []
+
+-- ---- names of operators
+
+-- what an operand is in the text, as far as the names of operators tell it
+pub data Kind : Type 0 where
+  OfNumbers : Kind
+  OfPoints : Kind
+  OfRects : Kind
+  OfDomains : Kind
+
+abbrev pub kind_of_type : ValueType → Kind
+kind_of_type (t.Pt dim) = OfPoints
+kind_of_type (t.Rc dim) = OfRects
+kind_of_type (t.Dm dim) = OfDomains
+kind_of_type type = OfNumbers
+
+-- the name of an operator between such operands
+abbrev pub operation : BinaryOperator → Kind → Kind → Operation
+operation op.Add OfNumbers y = o.Add
+operation op.Add OfPoints y = o.PtAdd
+operation op.Add x y = o.DomUnion
+operation op.Subtract OfNumbers y = o.Sub
+operation op.Subtract OfPoints y = o.PtSub
+operation op.Subtract x y = o.DomMinus
+operation op.Multiply OfRects OfRects = o.RectMeet
+operation op.Multiply OfRects y = o.DomMeet
+operation op.Multiply OfDomains y = o.DomMeet
+operation op.Multiply x y = o.Mul
+operation op.Divide x y = o.Div
+operation op.Remainder x y = o.Rem
+operation op.ShiftLeft x y = o.Shl
+operation op.ShiftRight x y = o.Shr
+operation op.UnsignedShiftRight x y = o.Ushr
+operation op.And x y = o.And
+operation op.Or x y = o.Or
+operation op.Xor x y = o.Xor
+operation op.Equal x y = o.Eq
+operation op.NotEqual x y = o.Ne
+operation op.Less x y = o.Lt
+operation op.LessEqual x y = o.Le
+operation op.Greater x y = o.Gt
+operation op.GreaterEqual x y = o.Ge
+operation op.AndThen x y = o.AndThen
+operation op.OrElse x y = o.OrElse
+
+-- an operator of one operand; `+` changes nothing
+abbrev pub alone_code : UnaryOperator → List Instr
+alone_code un.Minus = i.Alone one.Neg ∷ []
+alone_code un.Plus = []
+alone_code un.Not = i.Alone one.Not ∷ []
+alone_code un.Complement = i.Alone one.Com ∷ []
+
+-- ---- operators that may leave out their right operand
+
+-- whether the right operand may be left out, and by which value of the left one
+pub data Laziness : Type 0 where
+  Never : Laziness
+  Where : (left : Bool) → Laziness
+
+abbrev pub laziness : BinaryOperator → Laziness
+laziness op.OrElse = Where true
+laziness op.AndThen = Where false
+laziness other = Never
+
+-- jumps where the operand is this
+abbrev pub jump_where : Bool → ℕ → Instr
+jump_where true target = i.JumpIf target
+jump_where false target = i.JumpIfNot target
+
+-- An operator behind its left operand, with the code of its right operand from any instruction on. Where this one is left out, the result
+-- is pushed behind it.
+abbrev pub operator_code : Laziness → Operation → Place → ℕ → (ℕ → List Instr) → List Instr
+operator_code Never name p at right = right at ++ i.Operate name p ∷ []
+operator_code (Where left) name p at right =
+    jump_where left (behind (at + 1) (right (at + 1)) + 1) ∷ right (at + 1) ++ i.Jump (behind (at + 1) (right (at + 1)) + 1 + 1) ∷ i.Const (v.Bool left) ∷ []
+
+-- ---- members
+
+-- the member that code shows, where it has a value
+abbrev pub kind_of : b.BuiltIn → Option Member
+kind_of b.Size = Some kind.Size
+kind_of b.Min = Some kind.Min
+kind_of b.Max = Some kind.Max
+kind_of b.Contains = Some kind.Contains
+kind_of b.Domain = Some kind.DomainOf
+kind_of b.Restrict = Some kind.Restrict
+kind_of b.Translate = Some kind.Translate
+kind_of b.Slice = Some kind.Slice
+kind_of _ = None
+
+-- so many operands are dropped
+abbrev pub pops : ℕ → List Instr
+pops zero = []
+pops (suc n) = i.Pop ∷ pops n
+
+abbrev pub kind_code : Option Member → ℕ → Place → List Instr
+kind_code (Some k) n at = i.Member k n at ∷ []
+kind_code None n at = pops (suc n) ++ i.Const (v.Bool false) ∷ []
+
+abbrev pub member_code : Option b.BuiltIn → ℕ → Place → List Instr
+member_code (Some m) n at = kind_code (kind_of m) n at
+member_code None n at = kind_code None n at
+
+-- behind a point or a grid and its indices
+abbrev pub index_code : Bool → ℕ → Place → List Instr
+index_code true n at = i.Coord n at ∷ []
+index_code false n at = i.MakePt n ∷ i.GetElem at ∷ []
+
+-- ---- ranges
+
+-- the rectangular domain of so many ranges: of numbers, or of points where there is one of these
+abbrev pub rect_instr : Kind → ℕ → Place → Instr
+rect_instr OfPoints (suc zero) at = i.RectOfPts at
+rect_instr kind n at = i.MakeRect n at
+
+-- what the low bound of the first range is
+abbrev pub low_bound : NumberedRange → NumberedExp
+low_bound (e.Plain low high) = low
+low_bound (e.Stepped low high step) = low
+
+abbrev pub how_many_ranges : NumberedRanges → ℕ
+how_many_ranges e.NoRange = 0
+how_many_ranges (e.MoreRange r rs) = how_many_ranges rs + 1
+
+-- ---- expressions
+
+-- what an expression is in the text
+abbrev pub kind_in : NumberedProgram → Option ℕ → NumberedExp → Kind
+kind_in program this x = kind_of_type (type_in_text program this x)
+
+-- the name of an operator between these operands
+abbrev pub operation_in : NumberedProgram → Option ℕ → BinaryOperator → NumberedExp → NumberedExp → Operation
+operation_in program this op x y = operation op (kind_in program this x) (kind_in program this y)
+
+abbrev pub kind_of_ranges : NumberedProgram → Option ℕ → NumberedRanges → Kind
+kind_of_ranges program this e.NoRange = OfNumbers
+kind_of_ranges program this (e.MoreRange r rs) = kind_in program this (low_bound r)
+
+module _ (program : NumberedProgram) (this : Option ℕ) (names : List Name) where
+  abbrev mutual
+    -- the code of an expression from an instruction on
+    pub code_of : NumberedExp → ℕ → List Instr
+    code_of (e.Int p n) at = i.Const (v.Int n) ∷ []
+    code_of (e.Long p n) at = i.Const (v.Long n) ∷ []
+    code_of (e.Truth p x) at = i.Const (v.Bool x) ∷ []
+    code_of (e.Null p) at = i.Const (v.Obj None) ∷ []
+    code_of (e.This p) at = own (has_this names) ∷ []
+    code_of (e.Variable p x) at = loaded (find_slot x names) x ∷ []
+    code_of (e.OwnField p field) at = own (has_this names) ∷ i.GetField field p ∷ []
+    code_of (e.ThisProc p) at = i.ThisProc ∷ []
+    code_of (e.NumProcs p) at = i.NumProcs ∷ []
+    code_of (e.Point p parts) at = code_of_all parts at ++ i.MakePt (how_many parts) ∷ []
+    code_of (e.Rect p ranges) at = code_of_ranges ranges at ++ rect_instr (kind_of_ranges program this ranges) (how_many_ranges ranges) p ∷ []
+    code_of (e.Unary p op x) at = code_of x at ++ alone_code op
+    code_of (e.Binary p op x y) at =
+        code_of x at ++ operator_code (laziness op) (operation_in program this op x y) p (behind at (code_of x at)) (code_of y)
+    code_of (e.Cast p type x) at = code_of x at ++ (conversion p type.type ++ local_test p (is_local type.type))
+    code_of (e.Select p x name) at =
+        code_of x at ++ i.GetField (unwrap_or (option_and_then (field_numbered program name) (class_of_type (type_in_text program this x))) 0) p ∷ []
+    code_of (e.Member p x name args) at =
+        code_of x at ++ (code_of_all args (behind at (code_of x at)) ++ member_code (member_called program this x name) (how_many args) p)
+    code_of (e.Index p x parts) at =
+        code_of x at ++ (code_of_all parts (behind at (code_of x at)) ++ index_code (is_point (type_in_text program this x)) (how_many parts) p)
+    code_of (e.Call p method args) at = i.Const (v.Bool false) ∷ []
+    code_of (e.OwnCall p method args) at = i.Const (v.Bool false) ∷ []
+
+    -- of expressions, in order
+    pub code_of_all : NumberedExps → ℕ → List Instr
+    code_of_all e.NoExp at = []
+    code_of_all (e.MoreExp x xs) at = code_of x at ++ code_of_all xs (behind at (code_of x at))
+
+    -- the bounds of a range and its step
+    pub code_of_range : NumberedRange → ℕ → List Instr
+    code_of_range (e.Plain low high) at = code_of low at ++ (code_of high (behind at (code_of low at)) ++ i.Step ∷ [])
+    code_of_range (e.Stepped low high step) at =
+        code_of low at ++ (code_of high (behind at (code_of low at)) ++ code_of step (behind (behind at (code_of low at)) (code_of high (behind at (code_of low at)))))
+
+    -- of ranges, in order
+    pub code_of_ranges : NumberedRanges → ℕ → List Instr
+    code_of_ranges e.NoRange at = []
+    code_of_ranges (e.MoreRange r rs) at = code_of_range r at ++ code_of_ranges rs (behind at (code_of_range r at))

@@ -1,0 +1,35 @@
+-- What a method's frame begins with, and where the receiver of a call lies.
+use Rattle.std.specs.Prelude.{ℕ, if◌then◌else◌, Bool, true, false, List, [], ◌∷◌, length, map, Option, Some, None}
+use Rattle.ti_lang.specs.Program.Types.{VariableUse}
+use Rattle.ti_lang.specs.Program.Classes.{NumberedMethod, NumberedProgram}
+use Rattle.ti_lang.specs.Program.Scope.{this_of}
+use Rattle.ti_lang.specs.Meaning.Calls.{parameters_of}
+use Rattle.ti_lower_expr.specs.Slots.{Name, This, Of}
+
+-- how many parameters a method has besides `this`
+abbrev pub params_of : NumberedMethod → ℕ
+params_of m = length (parameters_of m.params)
+
+-- it has a `this`
+abbrev pub is_instance : Option ℕ → Bool
+is_instance None = false
+is_instance (Some class) = true
+
+-- how many operands lie on the receiver at a call of a method, where it has a `this`
+abbrev pub receiver_in : NumberedMethod → Option ℕ
+receiver_in m = if is_instance (this_of m) then Some (params_of m) else None
+
+abbrev pub receivers_of : NumberedProgram → List (Option ℕ)
+receivers_of program = map receiver_in program.methods
+
+-- the slots of a frame at its begin: `this`, and on it the parameters
+abbrev pub this_names : Option ℕ → List Name
+this_names None = []
+this_names (Some class) = This ∷ []
+
+abbrev pub param_names : List VariableUse → List Name → List Name
+param_names [] ns = ns
+param_names (p ∷ ps) ns = param_names ps (Of p ∷ ns)
+
+abbrev pub names_of : NumberedMethod → List Name
+names_of m = param_names (parameters_of m.params) (this_names (this_of m))

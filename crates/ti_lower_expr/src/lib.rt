@@ -1,0 +1,2 @@
+//! The code of an expression.
+#![tactic(auto)]
