@@ -1,0 +1,4 @@
+pub mod Calling
+pub mod Receivers
+pub mod Laying
+pub mod Programs

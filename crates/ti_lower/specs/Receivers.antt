@@ -1,0 +1,113 @@
+-- The code of the way of a value to where it is wanted.
+use Rattle.std.specs.Prelude.{ℕ, ◌+◌, false, List, [], ◌∷◌, ◌++◌, length, Option, Some, None}
+use Rattle.std.specs.Prelude.{unwrap_or, option_and_then}
+use Rattle.ti_base.specs.declared.place.Place.{Place}
+use Rattle.ti_base.specs.declared.value.Value.TheVariants as v
+use Rattle.ti_syntax.specs.declared.tree.exprs.BinaryOperator.{BinaryOperator}
+use Rattle.ti_lang.specs.Program.Types.{ValueType, VariableUse, Typed}
+use Rattle.ti_lang.specs.Program.Types as t
+use Rattle.ti_lang.specs.Program.Expressions.{NumberedExp, place_of_numbered}
+use Rattle.ti_lang.specs.Program.Expressions as e
+use Rattle.ti_lang.specs.Program.Classes.{NumberedProgram}
+use Rattle.ti_lang.specs.Typing.Kinds.{class_of_type}
+use Rattle.ti_lang.specs.Typing.Declared.{field_numbered}
+use Rattle.ti_lang.specs.Typing.TextTypes.{type_in_text, how_many}
+use Rattle.ti_lang.specs.Meaning.Processes.{Receiver, Nowhere, Declared, Assigned, Updated}
+use Rattle.ti_lang.specs.Meaning.Scoping.{declared_type}
+use Rattle.ti_code.specs.declared.instr.Instr.{Instr}
+use Rattle.ti_code.specs.declared.instr.Instr.TheVariants as i
+use Rattle.ti_code.specs.declared.instr.Operation.{Operation}
+use Rattle.ti_code.specs.Leading.{behind}
+use Rattle.ti_lower_expr.specs.Slots.{Name, Of, Hidden, find_by, has_this}
+use Rattle.ti_lower_expr.specs.Coding.{Kind, kind_of_type, operation, conversion, loaded, own, code_of, code_of_all}
+
+-- ---- variables
+
+-- the slot of a variable that is written
+abbrev pub written_slot : VariableUse → List Name → Option ℕ
+written_slot x names = find_by (Typed false t.Void) x names
+
+-- a value goes into the slot of a variable; one without a slot is dropped
+abbrev pub kept : Option ℕ → Instr
+kept (Some k) = i.Keep k
+kept None = i.Pop
+
+-- the names of the slots behind the way of a value
+abbrev pub names_behind : Receiver → List Name → List Name
+names_behind (Declared p x) names = Of x ∷ names
+names_behind r names = names
+
+-- ---- targets
+
+-- what an assignment writes: a slot, a field, or an element
+pub data TargetKind : Type 0 where
+  InSlot : (x : VariableUse) → TargetKind
+  InField : (field : ℕ) → TargetKind
+  InElement : TargetKind
+
+-- a value goes there from above the reference and the index
+abbrev pub store_code : List Name → Place → TargetKind → List Instr
+store_code names p (InSlot x) = kept (written_slot x names) ∷ []
+store_code names p (InField field) = i.PutField field p ∷ []
+store_code names p InElement = i.PutElem p ∷ []
+
+-- What a target holds and a right side, by an operator, become what it holds. The code of the right side is told from an instruction on,
+-- where slots have these names: the index of an element waits in a slot of its own.
+abbrev pub update_code : List Name → Place → Place → Operation → ValueType → TargetKind → (List Name → ℕ → List Instr) → ℕ → List Instr
+update_code names p q name type (InSlot x) right at =
+    loaded (written_slot x names) x ∷ (right names (at + 1) ++ i.Operate name p ∷ (conversion p type ++ store_code names p (InSlot x)))
+update_code names p q name type (InField field) right at =
+    i.Dup ∷ i.GetField field q ∷ (right names (at + 1 + 1) ++ i.Operate name p ∷ (conversion p type ++ store_code names p (InField field)))
+update_code names p q name type InElement right at =
+    let n = length names in
+    i.Keep n ∷ i.Dup ∷ i.Load n ∷ i.GetElem q ∷ (right (Hidden ∷ names) (at + 1 + 1 + 1 + 1) ++ i.Operate name p
+    ∷ (conversion p type ++ i.Keep (n + 1) ∷ i.Load n ∷ i.Load (n + 1) ∷ i.PutElem p ∷ i.Trim n ∷ []))
+
+module _ (program : NumberedProgram) (this : Option ℕ) where
+  -- the number of the field that `x.f` means
+  abbrev pub field_in : NumberedExp → ℕ → ℕ
+  field_in x name = unwrap_or (option_and_then (field_numbered program name) (class_of_type (type_in_text program this x))) 0
+
+  abbrev pub kind_of_target : NumberedExp → TargetKind
+  kind_of_target (e.Variable q x) = InSlot x
+  kind_of_target (e.OwnField q field) = InField field
+  kind_of_target (e.Select q x name) = InField (field_in x name)
+  kind_of_target (e.Index q x parts) = InElement
+  kind_of_target other = InField 0
+
+  -- the reference and the index of a target
+  abbrev pub place_code : List Name → NumberedExp → ℕ → List Instr
+  place_code names (e.Variable q x) at = []
+  place_code names (e.OwnField q field) at = own (has_this names) ∷ []
+  place_code names (e.Select q x name) at = code_of program this names x at
+  place_code names (e.Index q x parts) at =
+      code_of program this names x at ++ (code_of_all program this names parts (behind at (code_of program this names x at)) ++ i.MakePt (how_many parts) ∷ [])
+  place_code names other at = i.Const (v.Bool false) ∷ []
+
+  -- the name of a compound assignment's operator, whose right operand is such a one
+  abbrev pub updating : BinaryOperator → NumberedExp → Kind → Operation
+  updating op target right = operation op (kind_of_type (type_in_text program this target)) right
+
+  -- what a right side comes to goes to its receiver
+  abbrev pub into_code : Receiver → Kind → (List Name → ℕ → List Instr) → List Name → ℕ → List Instr
+  into_code Nowhere kind right names at = right names at ++ i.Pop ∷ []
+  into_code (Declared p x) kind right names at = right names at ++ (conversion p (declared_type x.declared) ++ i.Keep (length names) ∷ [])
+  into_code (Assigned p target) kind right names at =
+      place_code names target at ++ (right names (behind at (place_code names target at))
+      ++ (conversion p (type_in_text program this target) ++ store_code names p (kind_of_target target)))
+  into_code (Updated p op target) kind right names at =
+      place_code names target at ++ update_code names p (place_of_numbered target) (updating op target kind) (type_in_text program this target)
+      (kind_of_target target) right (behind at (place_code names target at))
+
+  -- A value that is there before its target is evaluated waits in a slot of its own, which is `right` then.
+  abbrev pub waiting_code : Receiver → Kind → List Name → ℕ → List Instr
+  waiting_code r kind names at =
+      i.Keep (length names) ∷ (into_code r kind (λ ns from. i.Load (length names) ∷ []) (Hidden ∷ names) (at + 1) ++ i.Trim (length names) ∷ [])
+
+  -- a value that a call, a `new` or a collective gave goes to its receiver
+  abbrev pub late_code : Receiver → Kind → List Name → ℕ → List Instr
+  late_code Nowhere kind names at = i.Pop ∷ []
+  late_code (Declared p x) kind names at = conversion p (declared_type x.declared) ++ i.Keep (length names) ∷ []
+  late_code (Assigned p (e.Variable q x)) kind names at =
+      conversion p (type_in_text program this (e.Variable q x)) ++ kept (written_slot x names) ∷ []
+  late_code r kind names at = waiting_code r kind names at
