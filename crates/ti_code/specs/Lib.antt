@@ -1,4 +1,5 @@
 pub mod Programs
+pub mod CodeText
 pub mod JumpRule
 pub mod Effects
 pub mod Leading

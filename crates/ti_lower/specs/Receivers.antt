@@ -19,7 +19,8 @@ use Rattle.ti_code.specs.declared.instr.Instr.TheVariants as i
 use Rattle.ti_code.specs.declared.instr.Operation.{Operation}
 use Rattle.ti_code.specs.Leading.{behind}
 use Rattle.ti_lower_expr.specs.Slots.{Name, Of, Hidden, find_by, has_this}
-use Rattle.ti_lower_expr.specs.Coding.{Kind, kind_of_type, operation, conversion, loaded, own, code_of, code_of_all}
+use Rattle.ti_lower_expr.specs.declared.kinds.Kind.{Kind}
+use Rattle.ti_lower_expr.specs.Coding.{kind_of_type, operation, conversion, loaded, own, code_of, code_of_all}
 
 -- ---- variables
 

@@ -38,9 +38,14 @@ use Rattle.ti_code.specs.declared.instr.Member.TheVariants as kind
 use Rattle.ti_code.specs.Effects.{operator_of, member_of, Spot, Who, effect, numbers_of, one_step, bounds_of, rect_of_ranges, under, top, below}
 use Rattle.ti_code.specs.Leading.{Stands, behind}
 use Rattle.ti_lower_expr.specs.Slots.{Name, Holds, find_slot, has_this}
-use Rattle.ti_lower_expr.specs.Coding.{Kind, OfNumbers, OfPoints, OfRects, OfDomains, operation, operation_in, kind_of_ranges, how_many_ranges, rect_instr, local_test, alone_code, code_of, code_of_all, code_of_range, code_of_ranges, Laziness, Never, Where, laziness, operator_code, jump_where, constant, loaded, own, conversion, kind_code, pops, member_code, index_code}
-use Rattle.ti_lower_expr.specs.Methods.{receivers_of}
-use Rattle.ti_lower_expr.proofs.Doing.{Outcome, front_stands, rest_stands, behind_both, Does, Alike, does_then, does_value, does_behind, does_one, does_it, alike_itself}
+use Rattle.ti_lower_expr.specs.declared.kinds.Kind.{Kind}
+use Rattle.ti_lower_expr.specs.declared.kinds.Kind.TheVariants.{Numbers, Points, Rects, Domains}
+use Rattle.ti_lower_expr.specs.declared.kinds.Laziness.{Laziness}
+use Rattle.ti_lower_expr.specs.declared.kinds.Laziness.TheVariants.{Never, Where}
+use Rattle.ti_lower_expr.specs.Coding.{operation, operation_in, kind_of_ranges, how_many_ranges, rect_instr, local_test, alone_code, code_of, code_of_all, code_of_range, code_of_ranges, laziness, operator_code, jump_where, constant, loaded, own, conversion, kind_code, pops, member_code, index_code}
+use Rattle.ti_lower_expr.specs.Doing as doing
+use Rattle.ti_lower_expr.specs.Doing.{Outcome, Does, who_in}
+use Rattle.ti_lower_expr.proofs.Doing.{front_stands, rest_stands, behind_both, Alike, does_then, does_value, does_behind, does_one, does_it, alike_itself}
 use Rattle.ti_lower_expr.proofs.Finding.{IsFound, found, value_in, value_is, zero_is, IsOwn, own_held}
 use Rattle.ti_lower_expr.proofs.Lazily.{never_settled, lazily_settled, lazily_open, lazily_right, jumps, jumps_not}
 use Rattle.ti_lower_expr.proofs.Stepping.{plain_is_stepped}
@@ -69,21 +74,21 @@ declared_constant Foreach = tt
 
 -- the name of an operator means it
 pub operation_means : (op : BinaryOperator) (j k : Kind) → operator_of (operation op j k) ≡ op
-operation_means op.Add OfNumbers k = refl
-operation_means op.Add OfPoints k = refl
-operation_means op.Add OfRects k = refl
-operation_means op.Add OfDomains k = refl
-operation_means op.Subtract OfNumbers k = refl
-operation_means op.Subtract OfPoints k = refl
-operation_means op.Subtract OfRects k = refl
-operation_means op.Subtract OfDomains k = refl
-operation_means op.Multiply OfNumbers k = refl
-operation_means op.Multiply OfPoints k = refl
-operation_means op.Multiply OfRects OfRects = refl
-operation_means op.Multiply OfRects OfNumbers = refl
-operation_means op.Multiply OfRects OfPoints = refl
-operation_means op.Multiply OfRects OfDomains = refl
-operation_means op.Multiply OfDomains k = refl
+operation_means op.Add Numbers k = refl
+operation_means op.Add Points k = refl
+operation_means op.Add Rects k = refl
+operation_means op.Add Domains k = refl
+operation_means op.Subtract Numbers k = refl
+operation_means op.Subtract Points k = refl
+operation_means op.Subtract Rects k = refl
+operation_means op.Subtract Domains k = refl
+operation_means op.Multiply Numbers k = refl
+operation_means op.Multiply Points k = refl
+operation_means op.Multiply Rects Rects = refl
+operation_means op.Multiply Rects Numbers = refl
+operation_means op.Multiply Rects Points = refl
+operation_means op.Multiply Rects Domains = refl
+operation_means op.Multiply Domains k = refl
 operation_means op.Divide j k = refl
 operation_means op.Remainder j k = refl
 operation_means op.ShiftLeft j k = refl
@@ -107,7 +112,7 @@ kept_where n at b h = guarded (not b || is_own n (thing_of h)) NotLocal at h
 
 module _ (c : List Instr) (env : Env) (names : List Name) (slots : List Held) (holds : Holds env.this names env.variables env.turns slots) where
   abbrev pub who : Who
-  who = record { number = env.number; procs = env.procs; receivers = receivers_of env.program }
+  who = who_in env
 
   abbrev pub code : NumberedExp → ℕ → List Instr
   code = code_of env.program (this_of env.method) names
@@ -126,7 +131,7 @@ module _ (c : List Instr) (env : Env) (names : List Name) (slots : List Held) (h
 
   -- the value is pushed, and the frame goes on there
   abbrev pub Pushes : ℕ → List Held → Held → Spot → Type 0
-  Pushes at stack h s = s ≡ spot at (h ∷ stack)
+  Pushes at stack = doing.Pushes slots at stack
 
   pub next : {B : Type 0} (Q : B → Spot → Type 0) (at : ℕ) (stack : List Held) (s : Spot) (m : Asking Held) (k : Held → Asking B)
       → Does who c s m (Pushes at stack) → ((h : Held) → Does who c (spot at (h ∷ stack)) (k h) Q) → Does who c s (m >>= k) Q
@@ -397,7 +402,7 @@ module _ (c : List Instr) (env : Env) (names : List Name) (slots : List Held) (h
 
   rect_does : (kind : Kind) (p : Place) (n : ℕ) (hs : List Held) (at : ℕ) (stack : List Held) → length hs ≡ 3 * n → Stands c at (rect_instr kind n p ∷ [])
       → Does who c (spot at (pushed hs stack)) (literal.rect_within p (bounds_of hs)) (Pushes (at + 1) stack)
-  rect_does OfPoints p (suc zero) hs at stack z st = ranges_made (i.RectOfPts p) p (suc zero) hs at stack z st (λ s rs. refl)
+  rect_does Points p (suc zero) hs at stack z st = ranges_made (i.RectOfPts p) p (suc zero) hs at stack z st (λ s rs. refl)
   rect_does kind p n hs at stack z st = ranges_made (i.MakeRect n p) p n hs at stack z st (λ s rs. refl)
 
   -- ---- expressions

@@ -8,7 +8,8 @@ use Rattle.ti_lang.specs.Meaning.Held.{Held, truth, truth_of}
 use Rattle.ti_lang.specs.Meaning.Asking.{Gives, gives}
 use Rattle.ti_lang.specs.Meaning.Operators.{operated, settled}
 use Rattle.ti_code.specs.Effects.{Spot, Who, effect, top, below, jumping, going}
-use Rattle.ti_lower_expr.specs.Coding.{Never, Where, laziness, jump_where}
+use Rattle.ti_lower_expr.specs.declared.kinds.Laziness.TheVariants.{Never, Where}
+use Rattle.ti_lower_expr.specs.Coding.{laziness, jump_where}
 
 where_not : (b : Bool) → Never ≡ Where b → ⊥
 where_not b e = cc

@@ -4,3 +4,6 @@ pub mod Lazily
 pub mod Stepping
 pub mod Operands
 pub mod Expressions
+pub mod Naming
+pub mod FieldLaws
+pub mod Growing

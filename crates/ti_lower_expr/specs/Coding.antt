@@ -27,6 +27,10 @@ use Rattle.ti_code.specs.declared.instr.OneOperand.TheVariants as one
 use Rattle.ti_code.specs.declared.instr.Member.{Member}
 use Rattle.ti_code.specs.declared.instr.Member.TheVariants as kind
 use Rattle.ti_code.specs.Leading.{behind}
+use Rattle.ti_lower_expr.specs.declared.kinds.Kind.{Kind}
+use Rattle.ti_lower_expr.specs.declared.kinds.Kind.TheVariants.{Numbers, Points, Rects, Domains}
+use Rattle.ti_lower_expr.specs.declared.kinds.Laziness.{Laziness}
+use Rattle.ti_lower_expr.specs.declared.kinds.Laziness.TheVariants.{Never, Where}
 use Rattle.ti_lower_expr.specs.Slots.{Name, find_slot, has_this}
 
 -- a value that the text tells
@@ -60,30 +64,24 @@ local_test at false = []
 
 -- ---- names of operators
 
--- what an operand is in the text, as far as the names of operators tell it
-pub data Kind : Type 0 where
-  OfNumbers : Kind
-  OfPoints : Kind
-  OfRects : Kind
-  OfDomains : Kind
-
+-- what a type is, as far as the names of operators tell it
 abbrev pub kind_of_type : ValueType → Kind
-kind_of_type (t.Pt dim) = OfPoints
-kind_of_type (t.Rc dim) = OfRects
-kind_of_type (t.Dm dim) = OfDomains
-kind_of_type type = OfNumbers
+kind_of_type (t.Pt dim) = Points
+kind_of_type (t.Rc dim) = Rects
+kind_of_type (t.Dm dim) = Domains
+kind_of_type type = Numbers
 
 -- the name of an operator between such operands
 abbrev pub operation : BinaryOperator → Kind → Kind → Operation
-operation op.Add OfNumbers y = o.Add
-operation op.Add OfPoints y = o.PtAdd
+operation op.Add Numbers y = o.Add
+operation op.Add Points y = o.PtAdd
 operation op.Add x y = o.DomUnion
-operation op.Subtract OfNumbers y = o.Sub
-operation op.Subtract OfPoints y = o.PtSub
+operation op.Subtract Numbers y = o.Sub
+operation op.Subtract Points y = o.PtSub
 operation op.Subtract x y = o.DomMinus
-operation op.Multiply OfRects OfRects = o.RectMeet
-operation op.Multiply OfRects y = o.DomMeet
-operation op.Multiply OfDomains y = o.DomMeet
+operation op.Multiply Rects Rects = o.RectMeet
+operation op.Multiply Rects y = o.DomMeet
+operation op.Multiply Domains y = o.DomMeet
 operation op.Multiply x y = o.Mul
 operation op.Divide x y = o.Div
 operation op.Remainder x y = o.Rem
@@ -111,11 +109,7 @@ alone_code un.Complement = i.Alone one.Com ∷ []
 
 -- ---- operators that may leave out their right operand
 
--- whether the right operand may be left out, and by which value of the left one
-pub data Laziness : Type 0 where
-  Never : Laziness
-  Where : (left : Bool) → Laziness
-
+-- by which value of the left operand the right one may be left out
 abbrev pub laziness : BinaryOperator → Laziness
 laziness op.OrElse = Where true
 laziness op.AndThen = Where false
@@ -128,10 +122,13 @@ jump_where false target = i.JumpIfNot target
 
 -- An operator behind its left operand, with the code of its right operand from any instruction on. Where this one is left out, the result
 -- is pushed behind it.
+abbrev pub lazy_code : Bool → ℕ → (ℕ → List Instr) → List Instr
+lazy_code left at right =
+    jump_where left (behind (at + 1) (right (at + 1)) + 1) ∷ right (at + 1) ++ i.Jump (behind (at + 1) (right (at + 1)) + 1 + 1) ∷ i.Const (v.Bool left) ∷ []
+
 abbrev pub operator_code : Laziness → Operation → Place → ℕ → (ℕ → List Instr) → List Instr
 operator_code Never name p at right = right at ++ i.Operate name p ∷ []
-operator_code (Where left) name p at right =
-    jump_where left (behind (at + 1) (right (at + 1)) + 1) ∷ right (at + 1) ++ i.Jump (behind (at + 1) (right (at + 1)) + 1 + 1) ∷ i.Const (v.Bool left) ∷ []
+operator_code (Where left) name p at right = lazy_code left at right
 
 -- ---- members
 
@@ -156,9 +153,12 @@ abbrev pub kind_code : Option Member → ℕ → Place → List Instr
 kind_code (Some k) n at = i.Member k n at ∷ []
 kind_code None n at = pops (suc n) ++ i.Const (v.Bool false) ∷ []
 
+abbrev pub shown_member : Option b.BuiltIn → Option Member
+shown_member (Some m) = kind_of m
+shown_member None = None
+
 abbrev pub member_code : Option b.BuiltIn → ℕ → Place → List Instr
-member_code (Some m) n at = kind_code (kind_of m) n at
-member_code None n at = kind_code None n at
+member_code m n at = kind_code (shown_member m) n at
 
 -- behind a point or a grid and its indices
 abbrev pub index_code : Bool → ℕ → Place → List Instr
@@ -169,7 +169,7 @@ index_code false n at = i.MakePt n ∷ i.GetElem at ∷ []
 
 -- the rectangular domain of so many ranges: of numbers, or of points where there is one of these
 abbrev pub rect_instr : Kind → ℕ → Place → Instr
-rect_instr OfPoints (suc zero) at = i.RectOfPts at
+rect_instr Points (suc zero) at = i.RectOfPts at
 rect_instr kind n at = i.MakeRect n at
 
 -- what the low bound of the first range is
@@ -192,7 +192,7 @@ abbrev pub operation_in : NumberedProgram → Option ℕ → BinaryOperator → 
 operation_in program this op x y = operation op (kind_in program this x) (kind_in program this y)
 
 abbrev pub kind_of_ranges : NumberedProgram → Option ℕ → NumberedRanges → Kind
-kind_of_ranges program this e.NoRange = OfNumbers
+kind_of_ranges program this e.NoRange = Numbers
 kind_of_ranges program this (e.MoreRange r rs) = kind_in program this (low_bound r)
 
 module _ (program : NumberedProgram) (this : Option ℕ) (names : List Name) where

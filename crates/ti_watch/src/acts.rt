@@ -41,8 +41,8 @@ fn name_bytes(kind: FaultKind) -> &'static [u8]
     fault_name(kind).as_bytes()
 }
 
-// The name of a collective.
-fn collective_name(kind: CollKind) -> &'static [u8]
+/// The name of a collective.
+pub fn collective_name(kind: CollKind) -> &'static [u8]
     ensures value { result.now ≡ spec.collective_text kind }
     ensures short { length result.now ≤ 12 }
 {
@@ -57,8 +57,8 @@ fn collective_name(kind: CollKind) -> &'static [u8]
 
 // What these write begins with a blank.
 impl Line {
-    // Adds a number behind a piece of text, or `-`.
-    fn optional(&mut self, label: &[u8], number: Option<u32>)
+    /// Adds a blank, and a number behind a piece of text, or `-`.
+    pub fn optional(&mut self, label: &[u8], number: Option<u32>)
         requires { length self.old + length label.now + 11 ≤ line_room }
         ensures text { self.new ≡ self.old ++ codes " " ++ spec.optional (λ n. label.now ++ decimal n) number }
         ensures bound { length self.new ≤ length self.old + length label.now + 11 }
@@ -70,8 +70,8 @@ impl Line {
         }
     }
 
-    // Adds a value.
-    fn operand(&mut self, value: Value)
+    /// Adds a blank and a value.
+    pub fn operand(&mut self, value: Value)
         requires { length self.old + 107 ≤ line_room }
         ensures text { self.new ≡ self.old ++ codes " " ++ text.value_text value }
         ensures bound { length self.new ≤ length self.old + 107 }

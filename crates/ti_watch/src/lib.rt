@@ -8,6 +8,7 @@ mod trace;
 mod values;
 mod watch;
 
+pub use acts::collective_name;
 pub use line::Line;
 pub use stats::StatsWatch;
 pub use trace::TraceWatch;

@@ -1,0 +1,66 @@
+// The text of code.
+
+ghost use Rattle.std.specs.Prelude.{◌≡◌, ◌++◌, IfOk, OnOk};
+ghost use Rattle.ti_code.specs.CodeText as text;
+
+use crate::code::{Code, MethodCode};
+use crate::instr::Instr;
+use crate::operands::add_operands;
+use crate::words::instr_word;
+use std::alloc::Global;
+use ti_base::Memory;
+use ti_watch::Line;
+
+// The line of an instruction.
+fn instr_line(n: usize, instr: &Instr) -> Line
+    ensures { result ≡ text.instr_line n instr.now }
+{
+    let mut line = Line::new();
+    line.labelled(b"  ", n);
+    line.text(b" ");
+    line.text(instr_word(instr));
+    add_operands(&mut line, instr);
+    line.text(b"\n");
+    line
+}
+
+// Adds the lines of instructions.
+fn add_instrs(instrs: &[Instr], out: &mut Vec<u8>) -> Result<(), Memory>
+    ensures { OnOk result (out.new.items ≡ out.old.items ++ text.instr_lines 0 instrs.now) }
+{
+    for (n, instr) in instrs.iter().enumerate() {
+        out.extend_from_slice(instr_line(n, instr).as_slice())?;
+    }
+    Ok(())
+}
+
+// The first line of a method.
+fn method_head(k: usize, params: u32) -> Line
+    ensures { result ≡ text.method_head k params }
+{
+    let mut line = Line::new();
+    line.labelled(b"method ", k);
+    line.labelled(b" params ", params);
+    line.text(b"\n");
+    line
+}
+
+// Adds the lines of methods.
+fn add_methods(methods: &[MethodCode], out: &mut Vec<u8>) -> Result<(), Memory>
+    ensures { OnOk result (out.new.items ≡ out.old.items ++ text.method_lines 0 methods.now) }
+{
+    for (k, m) in methods.iter().enumerate() {
+        out.extend_from_slice(method_head(k, m.params).as_slice())?;
+        add_instrs(m.instrs.as_slice(), out)?;
+    }
+    Ok(())
+}
+
+/// The text of code: for each method its number and how many parameters it has besides `this`, and then its instructions.
+pub fn code_text(alloc: Global, code: &Code) -> Result<Vec<u8>, Memory>
+    ensures { IfOk result (λ v. v.items ≡ text.code_text code.now) }
+{
+    let mut out = Vec::new(alloc);
+    add_methods(code.methods(), &mut out)?;
+    Ok(out)
+}

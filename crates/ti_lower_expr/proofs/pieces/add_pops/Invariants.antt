@@ -1,0 +1,9 @@
+use Rattle.std.proofs.Common.{◌≡◌, ◌++◌}
+use Rattle.ti_lower_expr.specs.Coding.{pops}
+use Rattle.ti_lower_expr.proofs.pieces.add_pops.Given as goal
+
+abbrev pub invariant-loop-left : goal.invariant-loop-left
+invariant-loop-left l = l.out.items ++ pops l.left ≡ l.initial.out.items ++ pops l.n
+
+abbrev pub decreases-loop-left : goal.decreases-loop-left
+decreases-loop-left l = l.left

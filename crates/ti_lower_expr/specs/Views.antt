@@ -1,0 +1,17 @@
+-- What clauses see of the slots of the code.
+use Rattle.std.specs.Prelude.{List, map, reverse}
+use Rattle.ti_lang.specs.Program.Types.{Typed}
+use Rattle.ti_lang.specs.Program.Views.{value_type_of}
+use Rattle.ti_lower_expr.specs.declared.slots.SlotName.{SlotName}
+use Rattle.ti_lower_expr.specs.declared.slots.SlotName.TheVariants as slot
+use Rattle.ti_lower_expr.specs.Slots.{Name, This, Of, Point, Hidden}
+
+abbrev pub name_of : SlotName → Name
+name_of slot.This = This
+name_of (slot.Of number single ty) = Of (record { number = number; declared = Typed single (value_type_of ty.now) })
+name_of (slot.Point number) = Point number
+name_of slot.Hidden = Hidden
+
+-- the names, the newest first
+abbrev pub names_of : List SlotName → List Name
+names_of names = map name_of (reverse names)

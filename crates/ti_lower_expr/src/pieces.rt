@@ -1,0 +1,322 @@
+// The code of the parts of an expression that are no expressions themselves.
+
+ghost use Rattle.std.specs.Prelude.{◌≡◌, ◌∷◌, ◌++◌, [], IfOk, OnOk, false, map};
+ghost use Rattle.ti_base.specs.declared.value.Value.TheVariants as v;
+ghost use Rattle.ti_base.specs.Forms.{is_dim};
+ghost use Rattle.ti_base.specs.Points.{IsDim};
+ghost use Rattle.ti_base.specs.Rects.{empty_rect as empty_spec};
+ghost use Rattle.ti_code.specs.declared.instr.Instr.TheVariants as i;
+ghost use Rattle.ti_lang.specs.Program.Expressions.{numbered_exps};
+ghost use Rattle.ti_lang.specs.Program.Views.{value_type_of, declared_of, variable_of, expression_of};
+ghost use Rattle.ti_lang.specs.Typing.Kinds.{is_local};
+ghost use Rattle.ti_lang.specs.Typing.TextTypes.{how_many};
+ghost use Rattle.ti_lang.specs.Meaning.Held.{zero_of};
+ghost use Rattle.ti_lang.specs.Meaning.Scoping.{zero_declared};
+ghost use Rattle.ti_lower_expr.specs.Coding as coding;
+ghost use Rattle.ti_lower_expr.specs.Slots.{find_slot, has_this};
+ghost use Rattle.ti_lower_expr.specs.Contents.{names_in};
+
+use crate::kinds::Kind;
+use crate::slots::Slots;
+use ti_base::{Memory, Place, Point, Rect, Value};
+use ti_code::{Instr, Member, OneOperand};
+use ti_lang::program::{Declared, Expr, Ty, Variable};
+use ti_lang::tree::UnaryOperator;
+
+/// One more instruction.
+pub fn add(instr: Instr, out: &mut Vec<Instr>) -> Result<(), Memory>
+    ensures { OnOk result (out.new.items ≡ out.old.items ++ instr ∷ []) }
+{
+    out.push(instr)?;
+    Ok(())
+}
+
+/// How many there are, as instructions count.
+pub fn counted(n: usize) -> Result<u32, Memory>
+    ensures { IfOk result (λ m. m ≡ n) }
+{
+    match u32::try_from(n) {
+        Ok(n) => Ok(n),
+        Err(_) => Err(Memory),
+    }
+}
+
+// ---- variables
+
+fn has_dim(dim: u8) -> bool
+    ensures { result ≡ is_dim dim }
+{
+    1 <= dim && dim <= 3
+}
+
+// The rectangular domain without points.
+fn empty_rect(dim: u8) -> Rect
+    requires { IsDim dim }
+    ensures { result ≡ empty_spec dim }
+{
+    Rect {
+        dim,
+        lo: Point {
+            dim,
+            x1: 1,
+            x2: if dim >= 2 { 1 } else { 0 },
+            x3: if dim >= 3 { 1 } else { 0 },
+        },
+        hi: Point {
+            dim,
+            x1: 0,
+            x2: 0,
+            x3: 0,
+        },
+        step: [1, 1, 1],
+    }
+}
+
+// Pushes the zero of a type with so many dimensions.
+fn zero_point(dim: u8) -> Instr
+    ensures { result ≡ coding.constant (zero_of (value_type_of (Ty.Pt dim))) }
+{
+    if !has_dim(dim) {
+        return Instr::Const(Value::Bool(false));
+    }
+    Instr::Const(Value::Pt(Point {
+        dim,
+        x1: 0,
+        x2: 0,
+        x3: 0,
+    }))
+}
+
+fn zero_rect(dim: u8) -> Instr
+    ensures { result ≡ coding.constant (zero_of (value_type_of (Ty.Rc dim))) }
+{
+    if !has_dim(dim) {
+        return Instr::Const(Value::Bool(false));
+    }
+    Instr::Const(Value::Rc(empty_rect(dim)))
+}
+
+fn zero_domain(dim: u8) -> Instr
+    ensures { result ≡ coding.constant (zero_of (value_type_of (Ty.Dm dim))) }
+{
+    if !has_dim(dim) {
+        return Instr::Const(Value::Bool(false));
+    }
+    Instr::EmptyDom(dim)
+}
+
+// Pushes the zero of a type.
+fn zero(ty: &Ty) -> Instr
+    ensures { result ≡ coding.constant (zero_of (value_type_of ty.now)) }
+{
+    match ty {
+        Ty::Int => Instr::Const(Value::Int(0)),
+        Ty::Long => Instr::Const(Value::Long(0)),
+        Ty::Bool => Instr::Const(Value::Bool(false)),
+        Ty::Pt(dim) => zero_point(*dim),
+        Ty::Rc(dim) => zero_rect(*dim),
+        Ty::Dm(dim) => zero_domain(*dim),
+        Ty::Region => Instr::Const(Value::Region(0)),
+        Ty::Class { class: _, local: _ } => Instr::Const(Value::Obj(None)),
+        Ty::Grid {
+            elem: _,
+            dim: _,
+            local: _,
+        } => Instr::Const(Value::Grid(None)),
+        Ty::Null => Instr::Const(Value::Obj(None)),
+        Ty::Void => Instr::Const(Value::Bool(false)),
+    }
+}
+
+// Pushes the zero of what is written where a variable is declared.
+fn declared_zero(declared: &Declared) -> Instr
+    ensures { result ≡ coding.constant (zero_declared (declared_of declared.now)) }
+{
+    match declared {
+        Declared::Typed { single: _, ty } => zero(ty),
+        Declared::Foreach => Instr::Const(Value::Bool(false)),
+    }
+}
+
+/// Pushes what a variable holds.
+pub fn variable(slots: &Slots, v: &Variable) -> Result<Instr, Memory>
+    ensures { IfOk result (λ i. i ≡ coding.loaded (find_slot (variable_of v.now) (names_in slots.now)) (variable_of v.now)) }
+{
+    match slots.find(v) {
+        Some(k) => Ok(Instr::Load(counted(k)?)),
+        None => Ok(declared_zero(&v.declared)),
+    }
+}
+
+/// Pushes `this`.
+pub fn own(slots: &Slots) -> Instr
+    ensures { result ≡ coding.own (has_this (names_in slots.now)) }
+{
+    if slots.has_this() {
+        Instr::Load(0)
+    } else {
+        Instr::Const(Value::Obj(None))
+    }
+}
+
+// ---- literals
+
+/// Makes the point of so many parts.
+pub fn add_point(parts: &[Expr], out: &mut Vec<Instr>) -> Result<(), Memory>
+    ensures { OnOk result (out.new.items ≡ out.old.items ++ i.MakePt (how_many (numbered_exps (map expression_of parts.now))) ∷ []) }
+{
+    let n = counted(parts.len())?;
+    add(Instr::MakePt(n), out)
+}
+
+/// Makes the rectangular domain of so many ranges.
+pub fn rect_instr(kind: Kind, n: usize, place: Place) -> Result<Instr, Memory>
+    ensures { IfOk result (λ i. i ≡ coding.rect_instr kind n place) }
+{
+    match kind {
+        Kind::Points => if n == 1 {
+            Ok(Instr::RectOfPts(place))
+        } else {
+            Ok(Instr::MakeRect(counted(n)?, place))
+        },
+        Kind::Numbers => Ok(Instr::MakeRect(counted(n)?, place)),
+        Kind::Rects => Ok(Instr::MakeRect(counted(n)?, place)),
+        Kind::Domains => Ok(Instr::MakeRect(counted(n)?, place)),
+    }
+}
+
+// ---- operators and casts
+
+/// An operator of one operand.
+pub fn add_alone(operator: UnaryOperator, out: &mut Vec<Instr>) -> Result<(), Memory>
+    ensures { OnOk result (out.new.items ≡ out.old.items ++ coding.alone_code operator) }
+{
+    match operator {
+        UnaryOperator::Minus => add(Instr::Alone(OneOperand::Neg), out),
+        UnaryOperator::Plus => Ok(()),
+        UnaryOperator::Not => add(Instr::Alone(OneOperand::Not), out),
+        UnaryOperator::Complement => add(Instr::Alone(OneOperand::Com), out),
+    }
+}
+
+/// Jumps where the operand is this.
+pub fn jump_where(left: bool, target: usize) -> Result<Instr, Memory>
+    ensures { IfOk result (λ i. i ≡ coding.jump_where left target) }
+{
+    let target = counted(target)?;
+    if left {
+        Ok(Instr::JumpIf(target))
+    } else {
+        Ok(Instr::JumpIfNot(target))
+    }
+}
+
+/// The value on top as one of a type.
+pub fn add_conversion(place: Place, ty: &Ty, out: &mut Vec<Instr>) -> Result<(), Memory>
+    ensures { OnOk result (out.new.items ≡ out.old.items ++ coding.conversion place (value_type_of ty.now)) }
+{
+    match ty {
+        Ty::Dm(_) => add(Instr::ToDom(place), out),
+        Ty::Long => add(Instr::Widen, out),
+        Ty::Int => add(Instr::Narrow, out),
+        Ty::Class { class: _, local: _ } => add(Instr::AsObj, out),
+        Ty::Grid {
+            elem: _,
+            dim: _,
+            local: _,
+        } => add(Instr::AsGrid, out),
+        Ty::Bool => Ok(()),
+        Ty::Pt(_) => Ok(()),
+        Ty::Rc(_) => Ok(()),
+        Ty::Region => Ok(()),
+        Ty::Null => Ok(()),
+        Ty::Void => Ok(()),
+    }
+}
+
+// A local reference.
+fn is_local(ty: &Ty) -> bool
+    ensures { result ≡ is_local (value_type_of ty.now) }
+{
+    match ty {
+        Ty::Class { class: _, local } => *local,
+        Ty::Grid {
+            elem: _,
+            dim: _,
+            local,
+        } => *local,
+        _ => false,
+    }
+}
+
+// A reference of local type names a thing of the own process.
+fn add_local_test(place: Place, is_local: bool, out: &mut Vec<Instr>) -> Result<(), Memory>
+    ensures { OnOk result (out.new.items ≡ out.old.items ++ coding.local_test place is_local) }
+{
+    if is_local {
+        add(Instr::CastLocal(place), out)
+    } else {
+        Ok(())
+    }
+}
+
+/// A cast to a type.
+pub fn add_cast(place: Place, ty: &Ty, out: &mut Vec<Instr>) -> Result<(), Memory>
+    ensures { OnOk result (out.new.items ≡ out.old.items ++ (coding.conversion place (value_type_of ty.now) ++ coding.local_test place (is_local (value_type_of ty.now)))) }
+{
+    add_conversion(place, ty, out)?;
+    add_local_test(place, is_local(ty), out)
+}
+
+// ---- members
+
+/// Drops so many operands.
+pub fn add_pops(n: usize, out: &mut Vec<Instr>) -> Result<(), Memory>
+    ensures { OnOk result (out.new.items ≡ out.old.items ++ coding.pops n) }
+{
+    let mut left = n;
+    while left > 0 {
+        left -= 1;
+        out.push(Instr::Pop)?;
+    }
+    Ok(())
+}
+
+// No member that has a value: its operands are dropped.
+fn add_no_member(n: usize, out: &mut Vec<Instr>) -> Result<(), Memory>
+    ensures { OnOk result (out.new.items ≡ out.old.items ++ (i.Pop ∷ coding.pops n ++ i.Const (v.Bool false) ∷ [])) }
+{
+    add(Instr::Pop, out)?;
+    add_pops(n, out)?;
+    add(Instr::Const(Value::Bool(false)), out)
+}
+
+/// A member behind its receiver and so many arguments.
+pub fn add_member(
+    member: Option<Member>,
+    n: usize,
+    place: Place,
+    out: &mut Vec<Instr>,
+) -> Result<(), Memory>
+    ensures { OnOk result (out.new.items ≡ out.old.items ++ coding.kind_code member n place) }
+{
+    match member {
+        Some(member) => {
+            let n = counted(n)?;
+            add(Instr::Member(member, n, place), out)
+        }
+        None => add_no_member(n, out),
+    }
+}
+
+/// An index behind a point or a grid and so many indices.
+pub fn add_index(is_point: bool, n: usize, place: Place, out: &mut Vec<Instr>) -> Result<(), Memory>
+    ensures { OnOk result (out.new.items ≡ out.old.items ++ coding.index_code is_point n place) }
+{
+    let n = counted(n)?;
+    if is_point {
+        return add(Instr::Coord(n, place), out);
+    }
+    add(Instr::MakePt(n), out)?;
+    add(Instr::GetElem(place), out)
+}

@@ -1,0 +1,178 @@
+// What the slots of a frame are for.
+
+ghost use Rattle.std.specs.Prelude.{◌≡◌, ◌∷◌, ◌-◌, ◌<◌, ◌≤◌, ℕ, Some, [], OnOk, OnErr, drop, get_or, length};
+ghost use Rattle.ti_lang.specs.Program.Views.{variable_of};
+ghost use Rattle.ti_lower_expr.specs.declared.slots.SlotName.TheVariants as slot;
+ghost use Rattle.ti_lower_expr.specs.Noted.{AreNoted, number_of};
+ghost use Rattle.ti_lower_expr.specs.Slots.{is_meant, find_slot, has_this};
+ghost use Rattle.ti_lower_expr.specs.Views.{name_of, names_of};
+
+use std::alloc::Global;
+use ti_base::Memory;
+use ti_lang::program::{Declared, Ty, Variable};
+use ti_lang::typing::same_elements;
+
+/// What a slot is for: `this`, a variable of a type, the point of a foreach with the variable of this number, or something that no
+/// name means.
+#[derive(Clone, Copy, Drop)]
+pub enum SlotName<'p> {
+    This,
+    Of {
+        number: u32,
+        single: bool,
+        ty: &'p Ty,
+    },
+    Point(u32),
+    Hidden,
+}
+
+/// What the slots of a frame are for, the oldest first. It is noted for the number of each variable behind which slot none is for it, so
+/// that the newest one is found at once where variables differ in their numbers.
+#[derive(Drop)]
+pub struct Slots<'p> {
+    pub names: Vec<SlotName<'p>>,
+    latest: Vec<usize>,
+    ghost noted: { AreNoted names.items latest.items },
+}
+
+// The number of the variable that a slot is for.
+fn number_of(name: &SlotName) -> Option<u32>
+    ensures { result ≡ number_of name.now }
+{
+    match name {
+        SlotName::This => None,
+        SlotName::Of { number, .. } => Some(*number),
+        SlotName::Point(number) => Some(*number),
+        SlotName::Hidden => None,
+    }
+}
+
+// Makes room for what is noted for a number, where nothing is noted yet.
+fn make_room(latest: &mut Vec<usize>, number: usize) -> Result<(), Memory>
+    ensures same { (n : ℕ) → get_or latest.new.items n 0 ≡ get_or latest.old.items n 0 }
+    ensures room { OnOk result (number < length latest.new.items) }
+{
+    while latest.len() <= number {
+        latest.push(0)?;
+    }
+    Ok(())
+}
+
+// Whether the slot is what the variable means.
+fn is_meant(v: &Variable, name: &SlotName) -> bool
+    ensures { result ≡ is_meant (variable_of v.now).declared (variable_of v.now) (name_of name.now) }
+{
+    match &v.declared {
+        Declared::Typed { single, ty } => match name {
+            SlotName::Of {
+                number,
+                single: other,
+                ty: found,
+            } => v.number == *number
+                && (*single == *other && same_elements(ty, false, found, false)),
+            SlotName::This => false,
+            SlotName::Point(_) => false,
+            SlotName::Hidden => false,
+        },
+        Declared::Foreach => match name {
+            SlotName::Point(number) => *number == v.number,
+            SlotName::This => false,
+            SlotName::Of { .. } => false,
+            SlotName::Hidden => false,
+        },
+    }
+}
+
+// Whether the slot is that of `this`.
+fn is_this(name: &SlotName) -> bool
+    ensures { result ≡ has_this (name_of name.now ∷ []) }
+{
+    match name {
+        SlotName::This => true,
+        SlotName::Of { .. } => false,
+        SlotName::Point(_) => false,
+        SlotName::Hidden => false,
+    }
+}
+
+impl<'p> Slots<'p> {
+    /// No slots.
+    pub fn new(alloc: Global) -> Slots<'p>
+        ensures { names_of result.names.items ≡ [] }
+    {
+        Slots {
+            names: Vec::new(alloc),
+            latest: Vec::new(alloc),
+        }
+    }
+
+    /// How many there are.
+    pub fn len(&self) -> usize
+        ensures { result ≡ length (names_of self.now.names.items) }
+    {
+        self.names.len()
+    }
+
+    /// A new slot.
+    pub fn push(&mut self, name: SlotName<'p>) -> Result<(), Memory>
+        ensures added { OnOk result (names_of self.new.names.items ≡ name_of name.entry ∷ names_of self.old.names.items) }
+        ensures err { OnErr result (names_of self.new.names.items ≡ names_of self.old.names.items) }
+    {
+        match number_of(&name) {
+            Some(number) => {
+                let number = number as usize;
+                make_room(&mut self.latest, number)?;
+                self.names.push(name)?;
+                self.latest[number] = self.names.len();
+            }
+            None => self.names.push(name)?,
+        }
+        Ok(())
+    }
+
+    /// Keeps the oldest so many slots.
+    pub fn cut(&mut self, len: usize)
+        ensures { names_of self.new.names.items ≡ drop (length (names_of self.old.names.items) - len) (names_of self.old.names.items) }
+    {
+        self.names.truncate(len);
+    }
+
+    // Behind which slot none is for a variable of this number.
+    fn end(&self, number: u32) -> usize
+        ensures within { result ≤ length self.now.names.items }
+        ensures none_behind { (k : ℕ) → result ≤ k → k < length self.now.names.items → number_of (get_or self.now.names.items k slot.Hidden) ≡ Some number → ⊥ }
+    {
+        let number = number as usize;
+        if number < self.latest.len() {
+            self.latest[number].min(self.names.len())
+        } else {
+            0
+        }
+    }
+
+    /// The newest slot that a variable means, counted from the oldest.
+    pub fn find(&self, v: &Variable) -> Option<usize>
+        ensures { result ≡ find_slot (variable_of v.now) (names_of self.now.names.items) }
+    {
+        let mut n = self.end(v.number);
+        while n > 0 {
+            n -= 1;
+            if is_meant(v, &self.names[n]) {
+                return Some(n);
+            }
+        }
+        None
+    }
+
+    /// Whether there is a `this`.
+    pub fn has_this(&self) -> bool
+        ensures { result ≡ has_this (names_of self.now.names.items) }
+    {
+        for name in &self.names {
+            if is_this(name) {
+                return true;
+            }
+        }
+        false
+    }
+}
