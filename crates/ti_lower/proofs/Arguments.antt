@@ -33,7 +33,8 @@ use Rattle.ti_lower_expr.specs.Slots.{Name, Of, Holds, variable, none, object}
 use Rattle.ti_lower_expr.specs.Coding.{conversion}
 use Rattle.ti_lower_expr.specs.Methods.{params_of, is_instance, receiver_in, receivers_of, this_names, param_names, names_of}
 use Rattle.ti_lower.specs.Calling.{number_behind, number_called, arg_code, args_code, object_code, call_code}
-use Rattle.ti_lower_expr.proofs.Doing.{front_stands, rest_stands, behind_both, Does, does_then, does_value, does_weaker}
+use Rattle.ti_lower_expr.specs.Doing.{Does}
+use Rattle.ti_lower_expr.proofs.Doing.{front_stands, rest_stands, behind_both, does_then, does_value, does_weaker}
 use Rattle.ti_lower_expr.proofs.Operands.{pushed, under_all, taken_all}
 use Rattle.ti_lower_expr.proofs.Expressions.{who, code, spot, next, moved, does, convert_does}
 

@@ -23,7 +23,8 @@ use Rattle.ti_code.specs.declared.instr.Instr.TheVariants as i
 use Rattle.ti_code.specs.Effects.{Spot, Who, effect, put, slot, trimmed, next_point}
 use Rattle.ti_code.specs.Leading.{Stands, behind}
 use Rattle.ti_lower.specs.Laying.{copied_code, taken_code}
-use Rattle.ti_lower_expr.proofs.Doing.{front_stands, rest_stands, Does, Alike, does_then, does_value, does_behind, does_one}
+use Rattle.ti_lower_expr.specs.Doing.{Does}
+use Rattle.ti_lower_expr.proofs.Doing.{front_stands, rest_stands, Alike, does_then, does_value, does_behind, does_one}
 use Rattle.ti_lower_expr.proofs.Finding.{as_many, newest, older}
 use Rattle.ti_lower.proofs.Cutting.{trimmed_all, trimmed_more}
 use Rattle.ti_lower.proofs.Writing.{new_put, newest_put}

@@ -51,7 +51,7 @@ use Rattle.ti_code.specs.Machine.{Given, given, named_in, departed, Frame, Machi
 use Rattle.ti_code.specs.Follows.{Runs, here, on, Fit, HasNext, shown as code_shown}
 use Rattle.ti_lower.specs.Programs.{in_main, body_code, instrs_in, method_code}
 use Rattle.ti_lang.proofs.MeaningLaws.Computing.{Computes, none_left, used_up}
-use Rattle.ti_lower_expr.proofs.Doing.{Outcome}
+use Rattle.ti_lower_expr.specs.Doing.{Outcome}
 use Rattle.ti_lower.proofs.Lifting.{lift, turn_stops}
 use Rattle.ti_lower.proofs.Longer.{leads_more, asks_last, fails_last, none_first, main_instr}
 use Rattle.ti_lower_expr.proofs.Operands.{pushed}

@@ -39,7 +39,8 @@ use Rattle.ti_code.specs.Machine.{given}
 use Rattle.ti_lower_expr.specs.Slots.{Name, Holds}
 use Rattle.ti_lower_expr.specs.Coding.{code_of, code_of_all, pops}
 use Rattle.ti_lower.specs.Laying.{Labels, as_element, first_code, both_code, grids_code, team_code, elements_code, copied_code, taken_code, copy_code, exchange_code}
-use Rattle.ti_lower_expr.proofs.Doing.{Outcome, front_stands, rest_stands, behind_both, Does, does_then, does_value, does_behind}
+use Rattle.ti_lower_expr.specs.Doing.{Outcome, Does}
+use Rattle.ti_lower_expr.proofs.Doing.{front_stands, rest_stands, behind_both, does_then, does_value, does_behind}
 use Rattle.ti_lower_expr.proofs.Expressions.{spot, next, does, all_do, PushesAll, pops_do, from_spot}
 use Rattle.ti_lower_expr.proofs.Finding.{as_many, newest, older}
 use Rattle.ti_lower_expr.proofs.Operands.{pushed, under_all}

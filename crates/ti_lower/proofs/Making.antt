@@ -22,7 +22,8 @@ use Rattle.ti_code.specs.Effects.{Spot, Who}
 use Rattle.ti_code.specs.Leading.{Stands, behind}
 use Rattle.ti_lower_expr.specs.Slots.{Name, Holds}
 use Rattle.ti_lower.specs.Laying.{region_code, spread_code, object_code, grid_code}
-use Rattle.ti_lower_expr.proofs.Doing.{front_stands, rest_stands, behind_both, Does, does_then, does_value, does_behind, does_one}
+use Rattle.ti_lower_expr.specs.Doing.{Does}
+use Rattle.ti_lower_expr.proofs.Doing.{front_stands, rest_stands, behind_both, does_then, does_value, does_behind, does_one}
 use Rattle.ti_lower_expr.proofs.Expressions.{who, spot, next, does, Pushes, asked_alike}
 
 module _ (c : List Instr) (env : Env) (names : List Name) (slots : List Held) (holds : Holds env.this names env.variables env.turns slots) where

@@ -26,7 +26,8 @@ use Rattle.ti_code.specs.Leading.{effect_of, here, Stands, behind}
 use Rattle.ti_code.specs.Machine.{Machine, Frame, given}
 use Rattle.ti_lower_expr.specs.Slots.{Name, Holds}
 use Rattle.ti_lower.specs.Laying.{root_code, broadcast_code}
-use Rattle.ti_lower_expr.proofs.Doing.{front_stands, rest_stands, behind_both, Does, does_then, does_weaker, does_value, does_behind}
+use Rattle.ti_lower_expr.specs.Doing.{Does}
+use Rattle.ti_lower_expr.proofs.Doing.{front_stands, rest_stands, behind_both, does_then, does_weaker, does_value, does_behind}
 use Rattle.ti_lower_expr.proofs.Expressions.{who, code, spot, next, does}
 use Rattle.ti_lower_expr.proofs.Lazily.{jumps, jumps_not}
 

@@ -29,9 +29,11 @@ use Rattle.ti_code.specs.declared.instr.Operation.{Operation}
 use Rattle.ti_code.specs.Effects.{Spot, Who, effect, numbers_of, operator_of, slot, put, trimmed}
 use Rattle.ti_code.specs.Leading.{Stands, behind}
 use Rattle.ti_lower_expr.specs.Slots.{Name, Of, Hidden, Holds, variable, hidden, has_this}
-use Rattle.ti_lower_expr.specs.Coding.{Kind, conversion, code_of, code_of_all}
+use Rattle.ti_lower_expr.specs.declared.kinds.Kind.{Kind}
+use Rattle.ti_lower_expr.specs.Coding.{conversion, code_of, code_of_all}
 use Rattle.ti_lower.specs.Receivers.{written_slot, kept, names_behind, TargetKind, InSlot, InField, InElement, store_code, update_code, kind_of_target, place_code, updating, into_code, waiting_code, late_code}
-use Rattle.ti_lower_expr.proofs.Doing.{Outcome, front_stands, rest_stands, behind_both, Does, does_then, does_after, does_value, does_behind, does_one}
+use Rattle.ti_lower_expr.specs.Doing.{Outcome, Does}
+use Rattle.ti_lower_expr.proofs.Doing.{front_stands, rest_stands, behind_both, does_then, does_after, does_value, does_behind, does_one}
 use Rattle.ti_lower_expr.proofs.Finding.{as_many, found, newest, older, own_held}
 use Rattle.ti_lower_expr.proofs.Operands.{pushed, taken_all, under_all}
 use Rattle.ti_lower.proofs.Cutting.{hide, all_dropped}

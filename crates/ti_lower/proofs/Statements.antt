@@ -21,7 +21,8 @@ use Rattle.ti_code.specs.Effects.{Spot, Who, effect}
 use Rattle.ti_code.specs.Leading.{Stands, behind}
 use Rattle.ti_lower_expr.specs.Slots.{Name, Holds}
 use Rattle.ti_lower.specs.Laying.{print_code}
-use Rattle.ti_lower_expr.proofs.Doing.{front_stands, rest_stands, behind_both, Does, does_then, does_value, does_it}
+use Rattle.ti_lower_expr.specs.Doing.{Does}
+use Rattle.ti_lower_expr.proofs.Doing.{front_stands, rest_stands, behind_both, does_then, does_value, does_it}
 use Rattle.ti_lower.proofs.Receiving.{Stored}
 use Rattle.ti_lower_expr.proofs.Expressions.{who, code, spot, next, does}
 

@@ -41,11 +41,14 @@ use Rattle.ti_code.specs.Effects.{Spot, Who, effect, trimmed, next_point}
 use Rattle.ti_code.specs.Leading.{Stands, behind}
 use Rattle.ti_lower_expr.specs.Slots.{Hidden, Holds, turn, Name, Of, This}
 use Rattle.ti_lower_expr.specs.Slots as slot_of
-use Rattle.ti_lower_expr.specs.Coding.{Kind, OfNumbers, kind_in, code_of, conversion}
+use Rattle.ti_lower_expr.specs.declared.kinds.Kind.{Kind}
+use Rattle.ti_lower_expr.specs.declared.kinds.Kind.TheVariants.{Numbers}
+use Rattle.ti_lower_expr.specs.Coding.{kind_in, code_of, conversion}
 use Rattle.ti_lower.specs.Calling.{number_called, call_code}
 use Rattle.ti_lower.specs.Receivers.{names_behind, into_code, late_code}
 use Rattle.ti_lower.specs.Laying.{Labels, unknown, dropped, broadcast_code, object_code, grid_code, valued_code, init_code, form_code, other_code, alone_code, gives_nothing, break_code, continue_code, names_after, condition_code, stm_code, stms_code, maybe_code}
-use Rattle.ti_lower_expr.proofs.Doing.{front_stands, rest_stands, behind_both, Does, does_then, does_value, does_weaker, does_behind}
+use Rattle.ti_lower_expr.specs.Doing.{Does}
+use Rattle.ti_lower_expr.proofs.Doing.{front_stands, rest_stands, behind_both, does_then, does_value, does_weaker, does_behind}
 use Rattle.ti_lower_expr.proofs.Expressions.{does, convert_does, instr, next}
 use Rattle.ti_lower_expr.proofs.Finding.{as_many}
 use Rattle.ti_lower_expr.proofs.Lazily.{jumps, jumps_not}
@@ -284,7 +287,7 @@ module _ (c : List Instr) (program : NumberedProgram) (method : NumberedMethod) 
         let code = call_code program this names (number_called program this x) z.call at in
         call_does Nowhere x z (front_stands c at code (i.Pop ∷ []) st)
         (subst (λ b. Back b left vs Nowhere (spot (behind at code) stack)) (sym e)
-        (λ h. (l, names, holds, receives_left OfNumbers (rest_stands c at code (i.Pop ∷ []) st) (subst (λ n. IsLeft l names stack left n) (behind_both at code (i.Pop ∷ [])) w), bare)))
+        (λ h. (l, names, holds, receives_left Numbers (rest_stands c at code (i.Pop ∷ []) st) (subst (λ n. IsLeft l names stack left n) (behind_both at code (i.Pop ∷ [])) w), bare)))
 
     -- ---- right sides
 
@@ -320,17 +323,17 @@ module _ (c : List Instr) (program : NumberedProgram) (method : NumberedMethod) 
 
     -- a new thing goes to its receiver
     made_does : (r : Receiver) (new : Asking Held) (code : List Instr) → Does who c (spot at stack) new (λ h s. s ≡ spot (behind at code) (h ∷ stack))
-        → Stands c at (code ++ late_code program this r OfNumbers names (behind at code))
-        → IsLeft l (names_behind r names) stack left (behind at (code ++ late_code program this r OfNumbers names (behind at code)))
+        → Stands c at (code ++ late_code program this r Numbers names (behind at code))
+        → IsLeft l (names_behind r names) stack left (behind at (code ++ late_code program this r Numbers names (behind at code)))
         → Does who c (spot at stack) (made_first here r new) (Moved left vs)
     made_does r new code d st w =
         let mid = behind at code in
-        let rest = late_code program this r OfNumbers names mid in
+        let rest = late_code program this r Numbers names mid in
         let after = subst (λ n. IsLeft l (names_behind r names) stack left n) (behind_both at code rest) w in
         next c here names slots holds (Moved left vs) mid stack (spot at stack) new (λ h. receives here r (gives h)) d
         (λ h. done_by left vs l (behind mid rest) names (names_behind r names) stack slots holds (spot mid (h ∷ stack)) (receives here r (gives h)) after (bare_behind r names bare)
         (simple.received c here names slots holds r (gives h) mid (behind mid rest) (names_behind r names) stack (spot mid (h ∷ stack))
-        (way.late_does c here names slots holds r OfNumbers h mid stack (rest_stands c at code rest st))))
+        (way.late_does c here names slots holds r Numbers h mid stack (rest_stands c at code rest st))))
 
     init_does : (r : Receiver) (value : NumberedInit) → InitFine program this result value → Stands c at (init_code program this r value names at)
         → IsLeft l (names_behind r names) stack left (behind at (init_code program this r value names at)) → Does who c (spot at stack) (initialized here r value) (Moved left vs)
@@ -338,7 +341,7 @@ module _ (c : List Instr) (program : NumberedProgram) (method : NumberedMethod) 
     init_does r (s.NewRegion p) z st w =
         let wait : Wait = record { place = p; kind = coll.MakeRegion; arg = None; wanted = ValueOf t.Region; receiver = r } in
         does_value who c (Moved left vs) (spot at stack) (Meets wait deposit.Nothing [])
-        (st.0, st.1.0, stack, (λ m f e z. ap (λ (s : Spot). record { arg = None; deposit = deposit.Nothing; stack = s.stack }) z), (λ h. (l, names, holds, receives_left OfNumbers st.1.1 w, bare)))
+        (st.0, st.1.0, stack, (λ m f e z. ap (λ (s : Spot). record { arg = None; deposit = deposit.Nothing; stack = s.stack }) z), (λ h. (l, names, holds, receives_left Numbers st.1.1 w, bare)))
     init_does r (s.NewObject p region class) z st w =
         made_does r (new_object here p region class) (object_code program this names p region class at)
         (making.object_does c here names slots holds p region class at stack (front_stands c at (object_code program this names p region class at) _ st)) st w
@@ -371,8 +374,8 @@ module _ (c : List Instr) (program : NumberedProgram) (method : NumberedMethod) 
     -- ---- expressions that stand alone
 
     form_does : (form : Option BuiltIn) (p : Place) (x : NumberedExp) (name : ℕ) (args : NumberedExps)
-        → Stands c at (form_code program this form p names x args at (into_code program this Nowhere OfNumbers (λ ns from. code_of program this ns (e.Member p x name args) from) names at))
-        → IsLeft l names stack left (behind at (form_code program this form p names x args at (into_code program this Nowhere OfNumbers (λ ns from. code_of program this ns (e.Member p x name args) from) names at)))
+        → Stands c at (form_code program this form p names x args at (into_code program this Nowhere Numbers (λ ns from. code_of program this ns (e.Member p x name args) from) names at))
+        → IsLeft l names stack left (behind at (form_code program this form p names x args at (into_code program this Nowhere Numbers (λ ns from. code_of program this ns (e.Member p x name args) from) names at)))
         → Does who c (spot at stack) (member_alone here p x args (receives here Nowhere (eval here (e.Member p x name args))) form) (Moved left vs)
     form_does (Some Copy) p x name args st w = grids.copies_do c program method this_id number procs left vs l names slots stack holds bare p x args at st w
     form_does (Some Exchange) p x name args st w = grids.exchanges_do c program method this_id number procs left vs l names slots stack holds bare p x args at team_is st w
@@ -384,11 +387,11 @@ module _ (c : List Instr) (program : NumberedProgram) (method : NumberedMethod) 
         let after = subst (λ n. IsLeft l names stack left n) (behind_both at code tail) w in
         next c here names slots holds (Moved left vs) mid stack (spot at stack) (eval here x) (λ h. gives (Deletes p (region_of h))) (does c here names slots holds x at stack (front_stands c at code tail st))
         (λ h. does_value who c (Moved left vs) (spot mid (h ∷ stack)) (Deletes p (region_of h)) (last.0, last.1.0, h, stack, refl, refl, (l, names, holds, after, bare)))
-    form_does form p x name args st w = value_does Nowhere OfNumbers (e.Member p x name args) st w
+    form_does form p x name args st w = value_does Nowhere Numbers (e.Member p x name args) st w
 
     other_does : (x : NumberedExp) → Stands c at (other_code program this names x at) → IsLeft l names stack left (behind at (other_code program this names x at)) → Does who c (spot at stack) (alone here x None) (Moved left vs)
     other_does (e.Member p x name args) st w = form_does (member_called program this x name) p x name args st w
-    other_does x st w = value_does Nowhere OfNumbers x st w
+    other_does x st w = value_does Nowhere Numbers x st w
 
     statement_does : (x : NumberedStm) → StmFine program this result x names → Stands c at (stm x l names at) → IsLeft l (names_after x names) stack left (behind at (stm x l names at))
         → Does who c (spot at stack) (statement here x) (Moved left vs)

@@ -23,7 +23,7 @@ use Rattle.ti_code.specs.declared.instr.Instr.{Instr}
 use Rattle.ti_code.specs.declared.instr.Instr.TheVariants as i
 use Rattle.ti_code.specs.Effects.{trimmed}
 use Rattle.ti_code.specs.Leading.{Stands, behind}
-use Rattle.ti_lower_expr.specs.Coding.{Kind}
+use Rattle.ti_lower_expr.specs.declared.kinds.Kind.{Kind}
 use Rattle.ti_lower_expr.specs.Slots.{Name, This, Of, Hidden, Holds, none, object, variable, turn, hidden}
 use Rattle.ti_lower_expr.specs.Slots as slot_of
 use Rattle.ti_lower.specs.Calling.{number_called}
