@@ -12,4 +12,7 @@ pub use lookup::{
 };
 pub use members::{BuiltIn, built_in};
 pub use seen::{Seen, same_elements};
-pub use text::{ForeachDims, called_method, dims_of, member_called, type_in_text, type_over};
+pub use text::{
+    ForeachDims, called_method, dims_of, element_seen, field_seen, member_called, member_seen,
+    operator_type, type_in_text, type_over,
+};

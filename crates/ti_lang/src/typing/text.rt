@@ -97,8 +97,9 @@ fn product<'p>(x: Seen<'p>, y: Seen<'p>) -> Seen<'p>
     }
 }
 
-// What an operator gives: a shift the type of its left operand, a comparison a boolean.
-fn operated<'p>(operator: BinaryOperator, x: Seen<'p>, y: Seen<'p>) -> Seen<'p>
+/// What an operator gives between operands of these types, whether or not it takes them: a shift the type of its left operand, a
+/// comparison a boolean.
+pub fn operator_type<'p>(operator: BinaryOperator, x: Seen<'p>, y: Seen<'p>) -> Seen<'p>
     ensures { seen result ≡ operator_type operator (seen x.entry) (seen y.entry) }
 {
     match operator {
@@ -119,8 +120,8 @@ fn operated<'p>(operator: BinaryOperator, x: Seen<'p>, y: Seen<'p>) -> Seen<'p>
 
 // ---- parts and members
 
-// The field of a name in an object, global where the object is.
-fn field_seen<'p>(program: &'p Parts, name: u32, t: Seen<'p>) -> Seen<'p>
+/// What `x.f` gives where `x` has this type: the type of the field of that name, global where the object is; nothing where there is none.
+pub fn field_seen<'p>(program: &'p Parts, name: u32, t: Seen<'p>) -> Seen<'p>
     ensures { seen result ≡ field_seen (program_of program.now) name (seen t.entry) }
 {
     match t {
@@ -132,8 +133,8 @@ fn field_seen<'p>(program: &'p Parts, name: u32, t: Seen<'p>) -> Seen<'p>
     }
 }
 
-// What an index gives: a coordinate of a point, or an element of a grid, global where the grid is.
-fn element_seen<'p>(t: Seen<'p>) -> Seen<'p>
+/// What an index gives behind a value of this type: a coordinate of a point, or an element of a grid, global where the grid is.
+pub fn element_seen<'p>(t: Seen<'p>) -> Seen<'p>
     ensures { seen result ≡ element_seen (seen t.entry) }
 {
     match t {
@@ -204,8 +205,9 @@ fn built_in_type<'p>(b: Option<BuiltIn>, t: Seen<'p>) -> Seen<'p>
     }
 }
 
-// Behind an object there is a method, behind another value a member of the language.
-fn member_seen<'p>(program: &'p Parts, name: u32, t: Seen<'p>) -> Seen<'p>
+/// What a member call gives behind a value of this type: behind an object there is a method, behind another value a member of the
+/// language.
+pub fn member_seen<'p>(program: &'p Parts, name: u32, t: Seen<'p>) -> Seen<'p>
     ensures { seen result ≡ member_seen (program_of program.now) name (seen t.entry) }
 {
     match t {
@@ -289,7 +291,7 @@ pub fn type_over<'p>(
         } => {
             let first = type_over(program, this, dims, left);
             let second = type_over(program, this, dims, right);
-            operated(*operator, first, second)
+            operator_type(*operator, first, second)
         }
         Expr::Cast { to, .. } => Seen::of(&to.ty, false),
         Expr::Select { receiver, name, .. } => {
