@@ -1,6 +1,5 @@
 pub mod Bits
 pub mod Evaluating
-pub mod FieldLaws
 pub mod LiteralLaws
 pub mod MemberLaws
 pub mod Nexts

@@ -1,11 +1,13 @@
 //! The types of expressions as the text tells them, borrowed from the program, so that reading one takes no memory.
 
 mod copied;
+mod fields;
 mod lookup;
 mod members;
 mod seen;
 mod text;
 
+pub use fields::{field_number, zero_of_type};
 pub use lookup::{
     field_type, instance_method, method, method_behind, named_field_type, own_field_type,
     select_type, this_type, variable_type,

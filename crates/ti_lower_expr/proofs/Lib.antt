@@ -5,5 +5,4 @@ pub mod Stepping
 pub mod Operands
 pub mod Expressions
 pub mod Naming
-pub mod FieldLaws
 pub mod Growing

@@ -4,14 +4,14 @@ ghost use Rattle.std.specs.Prelude.{◌≡◌};
 ghost use Rattle.ti_syntax.specs.Trees.Views.{maybe_of};
 ghost use Rattle.ti_lang.specs.Program.Views.{expression_of, extent_of, value_type_of};
 ghost use Rattle.ti_lang.specs.Meaning.Makers as makers;
-ghost use Rattle.ti_lang.specs.Meaning.Zeros.{zero_of_type};
 ghost use Rattle.ti_eval.specs.Comes.{Comes};
 ghost use Rattle.ti_eval.specs.Envs.{env_of};
 
 use std::alloc::Global;
-use ti_base::{Action, Place, Zero};
+use ti_base::{Action, Place};
 use ti_eval::{Env, Held, Stop, Told, asked, evaluate, evaluate_ranges, rect_from};
 use ti_lang::program::{Dims, Expr, Ty};
+use ti_lang::typing::zero_of_type;
 
 // ---- the region
 
@@ -56,25 +56,6 @@ pub fn new_object<'a>(
 
 // ---- grids
 
-// What the elements of a new grid hold.
-fn zero(element: &Ty) -> Zero
-    ensures { result ≡ zero_of_type (value_type_of element.now) }
-{
-    match element {
-        Ty::Int => Zero::Int,
-        Ty::Long => Zero::Long,
-        Ty::Bool => Zero::Bool,
-        Ty::Pt(dim) => Zero::Pt(*dim),
-        Ty::Rc(dim) => Zero::Rc(*dim),
-        Ty::Grid {
-            elem: _,
-            dim: _,
-            local: _,
-        } => Zero::Grid,
-        _ => Zero::Obj,
-    }
-}
-
 // The domain that a new grid spreads over.
 fn spread<'a>(
     alloc: Global,
@@ -108,7 +89,7 @@ pub fn new_grid<'a>(
     match region_for(alloc, env, region, answers) {
         Ok((region, answers)) => match spread(alloc, env, bracket, dims, answers) {
             Ok((h, answers)) => {
-                let zero = zero(element);
+                let zero = zero_of_type(element);
                 let dom = h.rect();
                 asked(at, Action::NewGrid { zero, dom, region }, answers)
             }

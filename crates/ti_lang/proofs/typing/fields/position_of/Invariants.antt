@@ -1,6 +1,6 @@
 use Rattle.std.proofs.Common.{◌≡◌, ◌+◌, ◌-◌, ◌≤◌, drop, length}
-use Rattle.ti_eval.proofs.FieldLaws.{place_in}
-use Rattle.ti_eval.proofs.fields.position_of.Given as goal
+use Rattle.ti_lang.proofs.FieldLaws.{place_in}
+use Rattle.ti_lang.proofs.typing.fields.position_of.Given as goal
 
 abbrev pub invariant-loop-i : goal.invariant-loop-i
 invariant-loop-i l = record {

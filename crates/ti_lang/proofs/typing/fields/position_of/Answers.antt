@@ -1,5 +1,5 @@
-use Rattle.ti_lower_expr.proofs.FieldLaws.{field_found, no_field_found}
-use Rattle.ti_lower_expr.proofs.fields.position_of.Goals as goal
+use Rattle.ti_lang.proofs.FieldLaws.{field_found, no_field_found}
+use Rattle.ti_lang.proofs.typing.fields.position_of.Goals as goal
 
 pub returns-then-fields-i : goal.returns-then-fields-i
 returns-then-fields-i c =
