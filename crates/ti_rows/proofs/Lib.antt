@@ -1,3 +1,4 @@
 pub mod Reached
 pub mod Simulated
 pub mod SliceSimulated
+pub mod Taking

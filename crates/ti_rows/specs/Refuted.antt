@@ -1,3 +1,7 @@
--- Programs and entries of which the facts of every run fail.
+-- Programs, entries and values of which what laws say is false.
 pub mod Programs
 pub mod Entries
+pub mod Codes
+pub mod Laws
+pub mod Sets
+pub mod Things

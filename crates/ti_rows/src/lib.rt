@@ -4,6 +4,9 @@
 
 pub mod refusals;
 pub mod refutations;
+pub mod refutations_of_meaning;
+pub mod refutations_of_values;
+pub mod refutations_of_walks;
 pub mod rows;
 pub mod simulation;
 pub mod slices;

@@ -1,6 +1,6 @@
-// What the laws rule out: programs, and entries that are no run, of which what a law says is false. A law that said nothing would
-// fail here.
-ghost use Rattle.std.specs.Prelude.{true, pos};
+// What the laws of runs rule out: programs, and entries that are no run, of which what a law says is false. A law that said nothing
+// would fail here.
+ghost use Rattle.std.specs.Prelude.{[], true, pos};
 ghost use Rattle.ti_base.specs.declared.action.Action.TheVariants as act;
 ghost use Rattle.ti_base.specs.declared.value.Value.TheVariants as v;
 ghost use Rattle.ti_lang.specs.Program.Types.{Int};
@@ -13,6 +13,7 @@ ghost use Rattle.ti_lang.specs.Typing.Expressions.{typed};
 ghost use Rattle.ti_rules.specs.Known.{IsThere};
 ghost use Rattle.ti_rules.specs.ProgramRefusals.{BreaksNothing};
 ghost use Rattle.ti_rules.specs.declared.rule.Rule.TheVariants.{Y2, Q1, S1, S4};
+ghost use Rattle.ti_align.specs.declared.slices.SliceStep.TheVariants.{Ended};
 ghost use Rattle.ti_align.specs.Alignment.{ArrivalsAgree, NoneAfterEnd, NoneStuck, IsAligned};
 ghost use Rattle.ti_align.specs.Answering.{AnswersFit};
 ghost use Rattle.ti_align.specs.Counted.{CellsCounted};
@@ -24,7 +25,7 @@ ghost use Rattle.ti_align.specs.Names.{RunNamesFit};
 ghost use Rattle.ti_align.specs.Owners.{OwnersKept};
 ghost use Rattle.ti_align.specs.Placed.{ThingsPlaced};
 ghost use Rattle.ti_align.specs.Scoped.{VariablesInScope};
-ghost use Rattle.ti_align.specs.Slice.{SliceTells};
+ghost use Rattle.ti_align.specs.Slice.{SliceAnswers, SliceTells};
 ghost use Rattle.ti_align.specs.Stopping.{NoneImpossible, RoundsBalance, RegionsMade};
 ghost use Rattle.ti_align.specs.Typed.{RunTyped, TakenAsGiven};
 ghost use Rattle.ti_rows.specs.Texts.{pl};
@@ -33,6 +34,7 @@ ghost use Rattle.ti_rows.specs.Answers.{Refuses};
 ghost use Rattle.ti_rows.specs.Failing.{by_two, FailsFor, FailsOn};
 ghost use Rattle.ti_rows.specs.Refused.Types as types_refused;
 ghost use Rattle.ti_rows.specs.Refused.Singles as singles;
+ghost use Rattle.ti_rows.specs.Rows.Collectives as collectives;
 ghost use Rattle.ti_rows.specs.Refuted.Programs as programs;
 ghost use Rattle.ti_rows.specs.Refuted.Entries as entries;
 
@@ -57,6 +59,7 @@ pub fn alignment()
     ensures a_process_that_waits_forever { FailsFor NoneStuck singles.a_barrier_under_the_own_number }
     ensures a_departure_without_an_arrival { FailsOn RoundsBalance programs.one_barrier entries.no_arrival }
     ensures an_end_before_the_slices { FailsFor SliceTells singles.a_barrier_under_the_own_number }
+    ensures an_end_of_the_slice { SliceAnswers collectives.barriers [] Ended → ⊥ }
 {}
 
 /// In whose memory, and in which regions, things lie.

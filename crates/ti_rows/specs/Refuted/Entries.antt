@@ -74,3 +74,23 @@ an_entry_behind_a_fault =
     entry 0 (pl 1 65) (act.Fault Fuel) Done ∷
     entry 1 (pl 1 65) (act.Arrive coll.Barrier None deposit.Nothing) Done ∷
     []
+
+-- behind its end a process that stood at a barrier arrives there
+abbrev pub an_arrival_behind_an_end : List Entry
+an_arrival_behind_an_end =
+    entry 0 (pl 1 75) act.End Done ∷
+    entry 0 (pl 1 65) (act.Arrive coll.Barrier None deposit.Nothing) Done ∷
+    []
+
+-- process 0 arrives
+abbrev pub an_arrival : List Entry
+an_arrival = entry 0 (pl 1 65) (act.Arrive coll.Barrier None deposit.Nothing) Done ∷ []
+
+-- ---- of heaps
+
+-- an object is made, and a field of it is written
+abbrev pub an_object_is_written : List Entry
+an_object_is_written =
+    entry 0 (pl 1 87) (act.NewObj 0 0) (Val (v.Obj (Some (thing 0 0 0)))) ∷
+    entry 0 (pl 1 100) (act.PutField (thing 0 0 0) 0 (v.Int (pos 1))) Done ∷
+    []

@@ -21,7 +21,7 @@ abbrev single_with : ValueType → Place → NumberedType
 single_with type at = type_with type (qualifier word.Single at ∷ []) []
 
 -- objects of the class before Main
-abbrev object : ValueType
+abbrev pub object : ValueType
 object = ty.Class 0 false
 
 -- `public static single void main(String[] args)` at a column, in the class of a number, by the number of its name
@@ -81,6 +81,11 @@ one_barrier =
     s.Barrier (pl 1 65) ∷
     []
     ) 76
+
+-- class Main { public static single void main(String[] args) { println(7); } }
+-- each process prints one line
+abbrev pub a_print : NumberedProgram
+a_print = main_alone (s.Print (pl 1 62) (s.Expression (x.Int (pl 1 70) (pos 7))) ∷ []) 74
 
 -- class C { int v; } class Main { public static single void main(String[] args) {
 --     C c = new C(); C d = broadcast c from 1; C local e = d; e.v = 1;

@@ -18,9 +18,11 @@ use Rattle.ti_align.specs.Slice.{SliceTells}
 use Rattle.ti_rows.specs.Texts.{pl}
 use Rattle.ti_rows.specs.Failing.{by_two}
 use Rattle.ti_rows.specs.Simulation.{solo}
+use Rattle.ti_rows.specs.Rows.Collectives as collectives
 use Rattle.ti_rows.specs.Refused.Singles as singles
 use Rattle.ti_rows.specs.Refuted.Programs as programs
 use Rattle.ti_rows.specs.Refuted.Entries as entries
+use Rattle.ti_align.proofs.OneAnswer.{one_answer}
 use Rattle.ti_rows.proofs.Reached.{has_next, arrives, fails, can_take_next}
 use Rattle.ti_rows.proofs.SliceSimulated.{comes}
 use Rattle.ti_rows.proofs.refutations.alignment.Goals as goal
@@ -102,3 +104,11 @@ pub returns-clause-an_end_before_the_slices : goal.returns-clause-an_end_before_
 unfolding int_wrap built_in named_field_type instance_method
 returns-clause-an_end_before_the_slices c =
     fails SliceTells singles.a_barrier_under_the_own_number 2 (λ f. not_ended (f.ends 1 _ (comes waiting [] (answer.At coll.Barrier (pl 1 91) None) refl) refl))
+
+not_yet_ended : answer.At coll.Barrier (pl 1 89) None ≡ answer.Ended → ⊥
+not_yet_ended e = cc
+
+pub returns-clause-an_end_of_the_slice : goal.returns-clause-an_end_of_the_slice
+unfolding int_wrap built_in named_field_type instance_method
+returns-clause-an_end_of_the_slice c = λ w.
+    not_yet_ended (one_answer collectives.barriers [] _ _ (comes collectives.barriers [] (answer.At coll.Barrier (pl 1 89) None) refl) w)

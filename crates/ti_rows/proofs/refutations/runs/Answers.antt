@@ -1,6 +1,5 @@
 use Rattle.std.proofs.Common.{◌≡◌, ℕ, ◌<◌, pos, true, false, List, [], ◌∷◌, ◌++◌, None, Some, refl, sym, ◌∙◌, ap, subst, arith}
 use Rattle.std.specs.Int.{int_wrap}
-use Rattle.ti_base.specs.declared.action.Action.{Action}
 use Rattle.ti_base.specs.declared.action.Action.TheVariants as act
 use Rattle.ti_base.specs.declared.action.CollKind.TheVariants as coll
 use Rattle.ti_base.specs.declared.action.Deposit.TheVariants as deposit
@@ -18,34 +17,20 @@ use Rattle.ti_lang.specs.Meaning.HeapAnswers.{Outcome, Answers, Impossible, heap
 use Rattle.ti_lang.specs.Meaning.HeapAnswers as heap
 use Rattle.ti_lang.specs.Meaning.Runs.{CanTake, IsRun, IsSolo}
 use Rattle.ti_lang.specs.Meaning.Runs as r
-use Rattle.ti_lang.proofs.MeaningLaws.Running.{decided, solo_run, taker}
+use Rattle.ti_lang.proofs.MeaningLaws.Running.{taker}
 use Rattle.ti_rows.specs.Texts.{pl}
 use Rattle.ti_rows.specs.Histories.{thing}
-use Rattle.ti_rows.specs.Failing.{by_two}
-use Rattle.ti_rows.specs.Simulation.{solo}
 use Rattle.ti_rows.specs.Refuted.Programs as programs
 use Rattle.ti_rows.specs.Refuted.Entries as entries
+use Rattle.ti_rows.specs.Refuted.Things.{both}
 use Rattle.ti_rows.proofs.Reached.{has_next, can_take_next}
-use Rattle.ti_rows.proofs.Simulated as simulated
+use Rattle.ti_rows.proofs.Taking.{first_can, no_end_first}
 use Rattle.ti_rows.proofs.refutations.runs.Goals as goal
-
--- two processes at a barrier
-abbrev both : Setting
-both = by_two 1000 programs.one_barrier
 
 -- ---- a process ends that stands at a barrier
 
-abbrev acts_of : List Entry → Action
-acts_of [] = act.End
-acts_of (e ∷ es) = e.act
-
-no_arrival : act.End ≡ act.Arrive coll.Barrier None deposit.Nothing → ⊥
-no_arrival e = cc
-
 pub returns-clause-an_end_too_early : goal.returns-clause-an_end_too_early
-unfolding int_wrap built_in named_field_type instance_method
-returns-clause-an_end_too_early c = λ run.
-    no_arrival (ap acts_of (decided both entries.an_end_too_early (solo both 1) run (solo_run both _ (simulated.solo_run both 1)) refl))
+returns-clause-an_end_too_early c = no_end_first
 
 true_false : true ≡ false → ⊥
 true_false e = cc
@@ -75,23 +60,6 @@ only_entry s all e (r.more {es = before} {i = i} {e = last} run take least z) k 
       subst (λ x. CanTake s [] i x) only.1 (subst (λ xs. CanTake s xs i last) only.0 take),
       λ j d l c. least j d l (subst (λ xs. CanTake s xs j d) (sym only.0) c),
     )
-
-first_can : CanTake both [] 0 (record { proc = 0; place = pl 1 65; act = act.Arrive coll.Barrier None deposit.Nothing; answer = Done })
-unfolding int_wrap built_in named_field_type instance_method
-first_can =
-    let a = next.Act (pl 1 65) (act.Arrive coll.Barrier None deposit.Nothing) in
-    let w = has_next both [] 0 a refl in
-    record {
-      within = omega arith;
-      goes_on = refl;
-      unended = refl;
-      process = w.process;
-      world = w.world;
-      next = a;
-      is_next = w.next;
-      ready = tt;
-      entry = refl;
-    }
 
 pub returns-clause-the_second_first : goal.returns-clause-the_second_first
 unfolding int_wrap built_in named_field_type instance_method

@@ -1,4 +1,4 @@
-use Rattle.std.proofs.Common.{◌≡◌, ◌⊎◌, inl, inr, ℕ, ◌<◌, pos, true, false, Some, refl, arith}
+use Rattle.std.proofs.Common.{◌≡◌, ◌<◌, pos, true, false, Some, refl, arith}
 use Rattle.std.specs.Int.{int_wrap}
 use Rattle.ti_base.specs.declared.value.Value.TheVariants as v
 use Rattle.ti_base.specs.declared.action.Action.TheVariants as act

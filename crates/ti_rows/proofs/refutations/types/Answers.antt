@@ -10,7 +10,7 @@ use Rattle.ti_lang.specs.Program.Types.{ValueType}
 use Rattle.ti_lang.specs.Program.Types as t
 use Rattle.ti_lang.specs.Typing.BuiltIn.{built_in}
 use Rattle.ti_lang.specs.Typing.Declared.{field_type, named_field_type, instance_method}
-use Rattle.ti_lang.specs.Meaning.Held.{Held, Plain}
+use Rattle.ti_lang.specs.Meaning.Held.{Plain}
 use Rattle.ti_lang.specs.Meaning.Asking.{ValueOf, Request}
 use Rattle.ti_lang.specs.Meaning.Histories.{History}
 use Rattle.ti_lang.specs.Meaning.HeapOf.{class_of, last_written}

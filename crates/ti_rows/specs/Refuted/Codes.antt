@@ -1,0 +1,26 @@
+-- Code that prints where a program does, and code that does not follow it.
+use Rattle.std.specs.Prelude.{ℕ, pos, true, false, List, [], ◌∷◌, None, Some}
+use Rattle.ti_base.specs.declared.value.Value.TheVariants as v
+use Rattle.ti_base.specs.declared.action.Action.TheVariants as act
+use Rattle.ti_base.specs.declared.entry.Next.{Next}
+use Rattle.ti_base.specs.declared.entry.Next.TheVariants as next
+use Rattle.ti_code.specs.declared.instr.Instr.{Instr}
+use Rattle.ti_code.specs.declared.instr.Instr.TheVariants as i
+use Rattle.ti_code.specs.Programs.{Code}
+use Rattle.ti_rows.specs.Texts.{pl}
+
+-- a method `main` alone, of these instructions
+abbrev main_of : List Instr → Code
+main_of instrs = record { methods = record { instance = false; params = 0; instrs = instrs } ∷ []; main = 0 }
+
+-- prints 7 for the word at a column, and ends
+abbrev pub prints_at : ℕ → Code
+prints_at column = main_of (i.Const (v.Int (pos 7)) ∷ i.Print None true (pl 1 column) ∷ i.Stop (pl 1 74) ∷ [])
+
+-- ends at once
+abbrev pub stops : Code
+stops = main_of (i.Stop (pl 1 74) ∷ [])
+
+-- the print of the line
+abbrev pub the_print : Next
+the_print = next.Act (pl 1 62) (act.Print None (Some (v.Int (pos 7))))

@@ -1,0 +1,63 @@
+-- What laws say of one thing: a law says it of all, and here it is false of something.
+use Rattle.std.specs.Prelude.{◌≡◌, ◌≤◌, false, List, [], ◌∷◌, ◌++◌, length, All, Contains}
+use Rattle.ti_base.specs.declared.point.Point.{Point}
+use Rattle.ti_base.specs.declared.entry.Answer.{Answer}
+use Rattle.ti_base.specs.declared.entry.Entry.{Entry}
+use Rattle.ti_base.specs.Points.{IsPoint}
+use Rattle.ti_base.specs.Cells.{Grid, cell_of}
+use Rattle.ti_lang.specs.Program.Expressions.{NumberedExp}
+use Rattle.ti_lang.specs.Program.Classes.{NumberedProgram}
+use Rattle.ti_lang.specs.Program.Scope.{ScopeContents}
+use Rattle.ti_lang.specs.Meaning.Processes.{Setting, Process}
+use Rattle.ti_lang.specs.Meaning.Asking.{Request, Asking, Gives, Asks}
+use Rattle.ti_lang.specs.Meaning.Steps.{Step, At, most_frames}
+use Rattle.ti_lang.specs.Meaning.Histories.{is_end, is_fault}
+use Rattle.ti_lang.specs.Meaning.Runs.{IsRun}
+use Rattle.ti_rules.specs.Standing.{Standing, standing_in}
+use Rattle.ti_rules.specs.declared.rule.Rule.TheVariants.{Y7}
+use Rattle.ti_rules.specs.declared.refusal.Refusal.{Refusal}
+use Rattle.ti_rules.specs.Broken.Expressions.{exp_refusals}
+use Rattle.ti_rules.specs.Broken.Statements.{standing_refusals}
+use Rattle.ti_rules.specs.SingleRules.{standing_single_refusals}
+
+-- ---- processes
+
+-- what a step asks for is neither an end nor a fault
+abbrev pub AsksForActions : Step → Type 0
+AsksForActions t = (q : Request) (go : Answer → Process) → t ≡ At q go → (is_end q.action ≡ false) × (is_fault q.action ≡ false)
+
+-- a process has spent no more ticks than it has, and has no more frames than it may
+abbrev pub IsWithinLimits : Setting → Process → Type 0
+IsWithinLimits s p = (p.spent ≤ s.fuel) × (length p.frames ≤ most_frames)
+
+-- where a computation has used all its answers, it comes to the same if more stand behind them
+abbrev pub LooksNoFurther : {A : Type 0} → Asking A → Type 0
+LooksNoFurther {A} m = (rs more : List Answer) (a : A) → m rs ≡ Gives a [] → m (rs ++ more) ≡ Gives a more
+
+-- the answer to what it asked last it uses before it comes to anything
+abbrev pub UsesUp : {A : Type 0} → Asking A → Type 0
+UsesUp {A} m = (rs rest : List Answer) (q : Request) (r : Answer) (a : A) → m rs ≡ Asks q → m (rs ++ r ∷ []) ≡ Gives a rest → rest ≡ []
+
+-- ---- runs
+
+-- each front of the entries is a run
+abbrev pub FrontsAreRuns : Setting → List Entry → Type 0
+FrontsAreRuns s es = (front rest : List Entry) → es ≡ front ++ rest → IsRun s front
+
+-- different points of a grid have different cells
+abbrev pub CellsDiffer : Grid → Type 0
+CellsDiffer g = (p q : Point) → IsPoint p → IsPoint q → p.dim ≡ g.domain.dim → q.dim ≡ g.domain.dim → cell_of g p ≡ cell_of g q → p ≡ q
+
+-- ---- rules
+
+-- no statement that stands in the program breaks a rule of types
+abbrev pub TypesStand : NumberedProgram → Type 0
+TypesStand p = (x : Standing) → Contains (standing_in p) x → standing_refusals p x ≡ []
+
+-- nor one of single values
+abbrev pub SinglesStand : NumberedProgram → Type 0
+SinglesStand p = (x : Standing) → Contains (standing_in p) x → standing_single_refusals p x ≡ []
+
+-- no rule of types is broken in an expression but the one on words
+abbrev pub OnlyWords : NumberedProgram → ScopeContents → NumberedExp → Type 0
+OnlyWords p s e = All (λ (r : Refusal). r.rule ≡ Y7) (exp_refusals p s e)

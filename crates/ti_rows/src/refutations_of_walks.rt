@@ -1,0 +1,35 @@
+// What the laws of those who do the work of a process rule out: of what it has next, of answers, and of code.
+ghost use Rattle.std.specs.Prelude.{◌≡◌, [], ℕ, pos};
+ghost use Rattle.ti_base.specs.declared.action.Action.TheVariants as act;
+ghost use Rattle.ti_base.specs.declared.entry.Answer.TheVariants.{Done, Val};
+ghost use Rattle.ti_base.specs.declared.entry.Next.{Next};
+ghost use Rattle.ti_base.specs.declared.entry.Next.TheVariants as next;
+ghost use Rattle.ti_base.specs.declared.place.Place.{Place};
+ghost use Rattle.ti_base.specs.declared.value.Value.TheVariants as v;
+ghost use Rattle.ti_lang.specs.Meaning.Answers.{FitsAction};
+ghost use Rattle.ti_eval.specs.Forms.{IsFormedAnswer};
+ghost use Rattle.ti_exec.specs.Standing.{Standing, HasNext};
+ghost use Rattle.ti_code.specs.Follows as code;
+ghost use Rattle.ti_code.specs.Machine.{first};
+ghost use Rattle.ti_lower.specs.Programs.{program_code};
+ghost use Rattle.ti_rows.specs.Refuted.Codes.{prints_at, stops, the_print};
+ghost use Rattle.ti_rows.specs.Refuted.Programs as programs;
+ghost use Rattle.ti_rows.specs.Refuted.Sets.{two_coordinates};
+ghost use Rattle.ti_rows.specs.Refuted.Things.{fresh};
+
+/// What a process has next, and which answers fit it.
+pub fn processes()
+    ensures something_is_next { (s : Standing) → s.told ≡ [] → (n : Next) × HasNext s n }
+    ensures an_end_as_an_action { (s : Standing) (at : Place) → HasNext s (next.Act at act.End) → ⊥ }
+    ensures an_answer { FitsAction (fresh 0) Done }
+    ensures a_number_for_an_arrival { FitsAction (fresh 0) (Val (v.Int (pos 1))) → ⊥ }
+    ensures a_point_without_its_form { IsFormedAnswer (Val (v.Pt two_coordinates)) → ⊥ }
+{}
+
+/// Which code follows a program.
+pub fn codes()
+    ensures its_code { program_code programs.a_print ≡ prints_at 62 }
+    ensures the_print { code.HasNext (prints_at 62) (first (prints_at 62) 2 1000 0) [] the_print }
+    ensures no_print { code.Follows stops programs.a_print → ⊥ }
+    ensures a_print_elsewhere { code.Follows (prints_at 63) programs.a_print → ⊥ }
+{}
