@@ -233,3 +233,22 @@ fn a_process_has_1048576_cells(rt: HostRuntime) -> Result<(), Fail> {
     assert!(rt; fill_up(rt.alloc(), &most, &fits)? == [full, None, full, None, None]);
     Ok(())
 }
+
+/// Process 0 makes a grid, a view of all of it, and an object.
+fn fill_up_by_a_view(alloc: Global, dom: &Rect) -> Result<[Option<HeapErr>; 2], HeapErr>
+    requires { IsRect dom.now }
+{
+    let mut heap = Heap::new(alloc, 1)?;
+    let grid = heap.new_grid(alloc, 0, Zero::Int, dom, 0)?;
+    let view = heap.make_view(0, grid, ViewHow::Restrict(*dom));
+    let object = heap.new_obj(alloc, 0, &[], 0);
+    Ok([view.err(), object.err()])
+}
+
+#[test]
+fn a_view_costs_as_much_as_a_cell(rt: HostRuntime) -> Result<(), Fail> {
+    let full = Some(HeapErr::Faulted(FaultKind::HeapFull));
+    let all_but_one = line(1, 1_048_574, 1)?;
+    assert!(rt; fill_up_by_a_view(rt.alloc(), &all_but_one)? == [None, full]);
+    Ok(())
+}
