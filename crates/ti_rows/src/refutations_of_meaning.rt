@@ -16,7 +16,8 @@ ghost use Rattle.ti_lang.specs.Meaning.Processes.{Process};
 ghost use Rattle.ti_lang.specs.Meaning.Steps.{At, step};
 ghost use Rattle.ti_lang.specs.Meaning.NextStep.{IsNext, After};
 ghost use Rattle.ti_lang.specs.Meaning.Histories.{history_of};
-ghost use Rattle.ti_lang.specs.Meaning.HeapOf.{cell_value};
+ghost use Rattle.ti_lang.specs.Meaning.HeapOf.{cell_value, grid_of};
+ghost use Rattle.ti_lang.specs.Meaning.HeapAnswers.{IsAnswered};
 ghost use Rattle.ti_lang.specs.Meaning.RegionsOf.{is_gone};
 ghost use Rattle.ti_lang.specs.Meaning.Races.{race};
 ghost use Rattle.ti_lang.specs.Meaning.Runs.{World, CanTake};
@@ -44,6 +45,7 @@ pub fn processes()
     ensures an_answer_for_nothing { After (fresh 0) (Done ∷ []) (fresh 0) → ⊥ }
     ensures the_arrival { IsNext (fresh 0) (next.Act (pl 1 65) (act.Arrive coll.Barrier None deposit.Nothing)) }
     ensures no_end_yet { IsNext (fresh 0) (next.End (pl 1 76)) → ⊥ }
+    ensures an_answer_behind_the_end { (q : Process) → After things.ended (Done ∷ []) q → ⊥ }
     ensures it_asks { (q : Request) × (go : Answer → Process) × (step (fresh 0) ≡ At q go) }
     ensures an_end_is_asked { AsksForActions things.asks_for_its_end → ⊥ }
     ensures more_ticks_than_it_has { IsWithinLimits both things.spent_too_much → ⊥ }
@@ -63,6 +65,8 @@ pub fn worlds()
 
 /// Cells, regions and races.
 pub fn heaps()
+    ensures a_grid_is_made { IsAnswered programs.one_barrier (history_of entries.a_grid) }
+    ensures a_grid_is_there { grid_of (thing 0 0 0) (history_of entries.a_grid) ≡ Some things.three_cells }
     ensures cells_of_their_own { CellsDiffer things.three_cells }
     ensures one_cell_for_all { CellsDiffer things.one_cell → ⊥ }
     ensures a_cell_is_written { cell_value programs.a_truth_in_a_number (Field (thing 0 0 0) 0) (history_of entries.an_object_is_written)
@@ -82,6 +86,7 @@ pub fn texts()
     ensures nothing_is_spelled { (x : Exp) → Whole 1 [] x → ⊥ }
     ensures two_dimensions { typed programs.one_barrier things.a_point_in_scope the_point ≡ Some (ty.Pt 2) }
     ensures one_dimension { seen_with 1 the_point ≡ ty.Pt 2 → ⊥ }
+    ensures two_dimensions_in_scope { AreDims things.a_point_in_scope (λ number. 2) the_point }
     ensures one_dimension_in_scope { AreDims things.a_point_in_scope (λ number. 1) the_point → ⊥ }
     ensures a_point_and_a_number { is_point (seen_with 1 the_point) ≡ is_point (seen_with 1 things.a_number) → ⊥ }
     ensures an_object_and_a_number { class_of_type (seen_with 1 things.an_object) ≡ class_of_type (seen_with 1 things.a_number) → ⊥ }
@@ -93,6 +98,7 @@ pub fn refusals()
     ensures a_statement_breaks_a_rule { TypesStand types_refused.operands_of_two_kinds → ⊥ }
     ensures a_barrier_stands_under_the_own_number { SinglesStand singles.a_barrier_under_the_own_number → ⊥ }
     ensures a_sum_of_a_boolean { OnlyWords programs.one_barrier programs.no_scope programs.a_sum_of_a_boolean → ⊥ }
+    ensures the_earlier_one { first_of (later ∷ earlier ∷ []) ≡ Some earlier }
     ensures the_later_one { IsFirstRefusal (Contains (later ∷ earlier ∷ [])) later → ⊥ }
     ensures none_of_one { first_of (later ∷ []) ≡ None → ⊥ }
     ensures the_first_list_alone { first_of ((later ∷ []) ++ (earlier ∷ [])) ≡ first_of (later ∷ []) → ⊥ }

@@ -7,15 +7,18 @@ ghost use Rattle.ti_base.specs.declared.entry.Next.TheVariants as next;
 ghost use Rattle.ti_base.specs.declared.place.Place.{Place};
 ghost use Rattle.ti_base.specs.declared.value.Value.TheVariants as v;
 ghost use Rattle.ti_lang.specs.Meaning.Answers.{FitsAction};
+ghost use Rattle.ti_lang.specs.Meaning.Evaluation.{eval};
+ghost use Rattle.ti_lang.specs.Meaning.Scoping.{Env};
 ghost use Rattle.ti_eval.specs.Forms.{IsFormedAnswer};
 ghost use Rattle.ti_exec.specs.Standing.{Standing, HasNext};
 ghost use Rattle.ti_code.specs.Follows as code;
 ghost use Rattle.ti_code.specs.Machine.{first};
+ghost use Rattle.ti_lower_expr.specs.Doing.{Does, Pushes, who_in};
 ghost use Rattle.ti_lower.specs.Programs.{program_code};
-ghost use Rattle.ti_rows.specs.Refuted.Codes.{prints_at, stops, the_print};
+ghost use Rattle.ti_rows.specs.Refuted.Codes.{prints_at, pushes, start, stops, the_print};
 ghost use Rattle.ti_rows.specs.Refuted.Programs as programs;
 ghost use Rattle.ti_rows.specs.Refuted.Sets.{two_coordinates};
-ghost use Rattle.ti_rows.specs.Refuted.Things.{fresh};
+ghost use Rattle.ti_rows.specs.Refuted.Things.{a_number, fresh};
 
 /// What a process has next, and which answers fit it.
 pub fn processes()
@@ -24,6 +27,12 @@ pub fn processes()
     ensures an_answer { FitsAction (fresh 0) Done }
     ensures a_number_for_an_arrival { FitsAction (fresh 0) (Val (v.Int (pos 1))) → ⊥ }
     ensures a_point_without_its_form { IsFormedAnswer (Val (v.Pt two_coordinates)) → ⊥ }
+{}
+
+/// What code does an expression.
+pub fn pushes()
+    ensures the_number { (env : Env) → Does (who_in env) (pushes 7) start (eval env a_number) (Pushes [] 1 []) }
+    ensures another_number { (env : Env) → Does (who_in env) (pushes 8) start (eval env a_number) (Pushes [] 1 []) → ⊥ }
 {}
 
 /// Which code follows a program.

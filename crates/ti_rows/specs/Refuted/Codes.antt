@@ -6,6 +6,7 @@ use Rattle.ti_base.specs.declared.entry.Next.{Next}
 use Rattle.ti_base.specs.declared.entry.Next.TheVariants as next
 use Rattle.ti_code.specs.declared.instr.Instr.{Instr}
 use Rattle.ti_code.specs.declared.instr.Instr.TheVariants as i
+use Rattle.ti_code.specs.Effects.{Spot}
 use Rattle.ti_code.specs.Programs.{Code}
 use Rattle.ti_rows.specs.Texts.{pl}
 
@@ -24,3 +25,13 @@ stops = main_of (i.Stop (pl 1 74) ∷ [])
 -- the print of the line
 abbrev pub the_print : Next
 the_print = next.Act (pl 1 62) (act.Print None (Some (v.Int (pos 7))))
+
+-- ---- expressions
+
+-- pushes a number
+abbrev pub pushes : ℕ → List Instr
+pushes n = i.Const (v.Int (pos n)) ∷ []
+
+-- before the first instruction, without slots and operands
+abbrev pub start : Spot
+start = record { at = 0; slots = []; stack = [] }

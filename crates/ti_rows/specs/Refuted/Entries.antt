@@ -2,6 +2,7 @@
 use Rattle.std.specs.Prelude.{pos, List, [], ◌∷◌, None, Some}
 use Rattle.ti_base.specs.declared.fault.FaultKind.TheVariants.{Fuel}
 use Rattle.ti_base.specs.declared.value.Value.TheVariants as v
+use Rattle.ti_base.specs.declared.value.Zero.TheVariants as z
 use Rattle.ti_base.specs.declared.action.Action.TheVariants as act
 use Rattle.ti_base.specs.declared.action.CollKind.TheVariants as coll
 use Rattle.ti_base.specs.declared.action.Deposit.TheVariants as deposit
@@ -9,6 +10,7 @@ use Rattle.ti_base.specs.declared.entry.Answer.TheVariants.{Done, Val}
 use Rattle.ti_base.specs.declared.entry.Entry.{Entry}
 use Rattle.ti_rows.specs.Texts.{pl}
 use Rattle.ti_rows.specs.Histories.{entry, thing}
+use Rattle.ti_rows.specs.Refuted.Sets.{evens}
 
 -- at a barrier a process prints, and doesn't arrive
 abbrev pub no_arrival : List Entry
@@ -94,3 +96,7 @@ an_object_is_written =
     entry 0 (pl 1 87) (act.NewObj 0 0) (Val (v.Obj (Some (thing 0 0 0)))) ∷
     entry 0 (pl 1 100) (act.PutField (thing 0 0 0) 0 (v.Int (pos 1))) Done ∷
     []
+
+-- a grid is made
+abbrev pub a_grid : List Entry
+a_grid = entry 0 (pl 1 62) (act.NewGrid z.Int evens 0) (Val (v.Grid (Some (thing 0 0 0)))) ∷ []

@@ -42,6 +42,10 @@ asks_for_its_end = At (request (pl 1 75) act.End ToBeDone) (λ r. fresh 0)
 abbrev pub spent_too_much : Process
 spent_too_much = record (fresh 0) { spent = 1001 }
 
+-- a process that has ended
+abbrev pub ended : Process
+ended = record (fresh 0) { frames = [] }
+
 -- ---- computations
 
 -- what is asked first

@@ -1,8 +1,12 @@
 use Rattle.std.proofs.Common.{◌≡◌, ℤ, pos, nat_abs, refl, ap, arith}
 use Rattle.ti_base.specs.declared.point.Point.{Point}
 use Rattle.ti_base.specs.Points.{IsPoint}
+use Rattle.ti_lang.specs.Meaning.HeapAnswers.{none, more}
 use Rattle.ti_rows.specs.Refuted.Sets.{on_line}
 use Rattle.ti_rows.proofs.refutations_of_meaning.heaps.Goals as goal
+
+pub returns-clause-a_grid_is_made : goal.returns-clause-a_grid_is_made
+returns-clause-a_grid_is_made c = more none refl
 
 a_point : (x : ℤ) → IsPoint (on_line x)
 a_point x = record { dim = (omega arith, omega arith); second = λ l. refl; third = λ l. refl }

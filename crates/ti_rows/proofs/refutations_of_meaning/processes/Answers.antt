@@ -1,10 +1,15 @@
 use Rattle.std.proofs.Common.{◌≡◌, ℕ, ◌≤◌, true, false, List, [], ◌∷◌, refl, arith}
+use Rattle.ti_base.specs.declared.place.Place.{Place}
+use Rattle.ti_base.specs.declared.action.Action.{Action}
+use Rattle.ti_base.specs.declared.entry.Next.TheVariants as next
 use Rattle.ti_base.specs.declared.entry.Answer.{Answer}
 use Rattle.ti_base.specs.declared.entry.Answer.TheVariants.{Done}
 use Rattle.ti_lang.specs.Meaning.Asking.{Got, Gives}
-use Rattle.ti_lang.specs.Meaning.NextStep.{none}
+use Rattle.ti_lang.specs.Meaning.NextStep.{none, here}
 use Rattle.ti_lang.proofs.MeaningLaws.Costs.{after_pays}
-use Rattle.ti_rows.specs.Refuted.Things.{fresh, a_departure}
+use Rattle.ti_lang.proofs.MeaningLaws.Running.{only_acts}
+use Rattle.ti_rows.specs.Texts.{pl}
+use Rattle.ti_rows.specs.Refuted.Things.{fresh, ended, a_departure}
 use Rattle.ti_rows.proofs.Reached.{rest_of, settles}
 use Rattle.ti_rows.proofs.refutations_of_meaning.processes.Goals as goal
 
@@ -18,6 +23,14 @@ returns-clause-an_answer_for_nothing c = λ w.
 
 pub returns-clause-the_arrival : goal.returns-clause-the_arrival
 returns-clause-the_arrival c = (rest_of (fresh 0), settles (fresh 0) _ refl)
+
+end_act : (p q : Place) (a : Action) → next.End p ≡ next.Act q a → ⊥
+end_act p q a e = cc
+
+pub returns-clause-an_answer_behind_the_end : goal.returns-clause-an_answer_behind_the_end
+returns-clause-an_answer_behind_the_end c = λ q w.
+    let k = only_acts ended q (next.End (pl 1 76)) Done (ended, record { reaches = here; stands = refl }) w in
+    end_act _ _ _ k.2
 
 pub returns-clause-it_asks : goal.returns-clause-it_asks
 returns-clause-it_asks c = (_, _, refl)

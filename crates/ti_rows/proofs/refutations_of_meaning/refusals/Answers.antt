@@ -32,6 +32,10 @@ returns-clause-a_sum_of_a_boolean c = λ f. another_rule (f 0 earlier (omega ari
 true_false : true ≡ false → ⊥
 true_false e = cc
 
+pub returns-clause-the_earlier_one : goal.returns-clause-the_earlier_one
+unfolding first_of sooner
+returns-clause-the_earlier_one c = refl
+
 pub returns-clause-the_later_one : goal.returns-clause-the_later_one
 returns-clause-the_later_one c = λ f. true_false (f.none_before earlier (1, omega arith, refl))
 

@@ -1,9 +1,10 @@
-use Rattle.std.proofs.Common.{◌≡◌, ℕ, List, [], ◌∷◌, ◌++◌, refl, ap, arith}
+use Rattle.std.proofs.Common.{◌≡◌, ℕ, List, [], ◌∷◌, ◌++◌, Some, refl, ap, arith}
 use Rattle.ti_syntax.specs.declared.token.Token.{Token}
 use Rattle.ti_syntax.specs.Trees.Expressions.{Exp}
 use Rattle.ti_syntax.specs.Spelling.Expressions.{Ending, Whole, Prefixed, Postfixed}
 use Rattle.ti_syntax.specs.Spelling.Expressions as s
 use Rattle.ti_lang.specs.Program.Types as ty
+use Rattle.ti_lang.specs.Program.Types.{ValueType}
 use Rattle.ti_lang.specs.Typing.Kinds.{dim_of_type}
 use Rattle.ti_rows.specs.Refuted.Things.{seven}
 use Rattle.ti_rows.proofs.refutations_of_meaning.texts.Goals as goal
@@ -39,6 +40,12 @@ pub returns-clause-nothing_is_spelled : goal.returns-clause-nothing_is_spelled
 returns-clause-nothing_is_spelled c = λ x w. whole_has 1 [] x w
 
 -- ---- types
+
+one_type : (t u : ValueType) → Some t ≡ Some u → u ≡ t
+one_type t u e = cc
+
+pub returns-clause-two_dimensions_in_scope : goal.returns-clause-two_dimensions_in_scope
+returns-clause-two_dimensions_in_scope c = λ type e. one_type (ty.Pt 2) type e
 
 pub returns-clause-one_dimension_in_scope : goal.returns-clause-one_dimension_in_scope
 returns-clause-one_dimension_in_scope c = λ f.
