@@ -30,13 +30,15 @@ use Rattle.ti_code.specs.declared.instr.Instr.TheVariants as i
 use Rattle.ti_code.specs.Effects.{Spot, Who, top, below, taken, under, receiver_needed}
 use Rattle.ti_code.specs.Leading.{effect_of, here, Stands, behind}
 use Rattle.ti_lower_expr.specs.Slots.{Name, Of, Holds, variable, none, object}
+use Rattle.ti_lower_expr.specs.Knowing.{IsKnown, known_of_type, known_of}
 use Rattle.ti_lower_expr.specs.Coding.{conversion}
 use Rattle.ti_lower_expr.specs.Methods.{params_of, is_instance, receiver_in, receivers_of, this_names, param_names, names_of}
 use Rattle.ti_lower.specs.Calling.{number_behind, number_called, arg_code, args_code, object_code, call_code}
 use Rattle.ti_lower_expr.specs.Doing.{Does}
 use Rattle.ti_lower_expr.proofs.Doing.{front_stands, rest_stands, behind_both, does_then, does_value, does_weaker}
 use Rattle.ti_lower_expr.proofs.Operands.{pushed, under_all, taken_all}
-use Rattle.ti_lower_expr.proofs.Expressions.{who, code, spot, next, moved, does, convert_does}
+use Rattle.ti_lower_expr.proofs.Knowing.{converted_known, declared_known, known_is_so}
+use Rattle.ti_lower_expr.proofs.Expressions.{who, code, spot, next, next_known, moved, does, convert_does}
 
 -- ---- which calls
 
@@ -167,24 +169,25 @@ module _ (c : List Instr) (env : Env) (names : List Name) (slots : List Held) (h
       let first = code c env names slots holds x at in
       let type = declared_type p.declared in
       let place = place_of_numbered x in
-      let change = conversion place type in
+      let j = known_of env.program (this_of env.method) x in
+      let change = conversion place type j in
       let one = arg_of p x at in
       let mid = behind at one in
       let more = args_of ps xs mid in
       let Q = Bound (p ∷ ps) (behind at (one ++ more)) stack found in
       let stands = front_stands c at one more st in
-      next c env names slots holds Q (behind at first) stack (here_at at stack) (eval env x) (λ h rs. followed (converted place type h rs) (λ k. bound env ps xs (with_new p k found)))
-      (does c env names slots holds x at stack (front_stands c at first change stands))
-      (λ h. next c env names slots holds Q mid stack (here_at (behind at first) (h ∷ stack)) (converted place type h) (λ k. bound env ps xs (with_new p k found))
-      (moved c env names slots holds (behind (behind at first) change) mid stack _ (converted place type h) (sym (behind_both at first change))
-      (convert_does c env names slots holds type place h (behind at first) stack (rest_stands c at first change stands)))
-      (λ k. does_weaker w c (Bound ps (behind mid more) (k ∷ stack) (with_new p k found)) Q (here_at mid (k ∷ stack)) (bound env ps xs (with_new p k found))
+      next_known c env names slots holds (IsKnown j) Q (behind at first) stack (here_at at stack) (eval env x) (λ h rs. followed (converted place type h rs) (λ k. bound env ps xs (with_new p k found)))
+      (known_is_so env names slots holds x) (does c env names slots holds x at stack (front_stands c at first change stands))
+      (λ h is_known. next_known c env names slots holds (IsKnown (known_of_type type)) Q mid stack (here_at (behind at first) (h ∷ stack)) (converted place type h) (λ k. bound env ps xs (with_new p k found))
+      (converted_known place type h) (moved c env names slots holds (behind (behind at first) change) mid stack _ (converted place type h) (sym (behind_both at first change))
+      (convert_does c env names slots holds type j place h (behind at first) stack is_known (rest_stands c at first change stands)))
+      (λ k fits. does_weaker w c (Bound ps (behind mid more) (k ∷ stack) (with_new p k found)) Q (here_at mid (k ∷ stack)) (bound env ps xs (with_new p k found))
       (args_do ps xs z mid (k ∷ stack) (with_new p k found) (rest_stands c at one more st))
       (λ vs s b. (
         k ∷ b.0,
         omega (arith, b.1),
         b.2 ∙ ap (λ n. here_at n (pushed b.0 (k ∷ stack))) (sym (behind_both at one more)),
-        λ th ns ts h. b.3 th (Of p ∷ ns) (k ∷ ts) (variable h),
+        λ th ns ts h. b.3 th (Of p ∷ ns) (k ∷ ts) (variable (subst (λ z. IsKnown z k) (declared_known p.declared) fits) h),
       ))))
   args_do [] (e.MoreExp x xs) z at stack found st = elim z [ ]
   args_do (p ∷ ps) e.NoExp z at stack found st = elim z [ ]

@@ -45,7 +45,7 @@ module _ (region : ℕ) where
       own_one : (b : Bool) → cond b (1 + 0) 0 ≡ 0 + (if b then 1 else 0)
       own_one true = refl
       own_one false = refl
-  many_count this ns vs ts hs z (variable {ns = ms} {vs = us} {ts = rs} {hs = gs} {h = g} h) = both_more (held_there g) (many held_there gs) (many variable_there us) (own_count this) (many_count this ms us rs gs z h)
+  many_count this ns vs ts hs z (variable {ns = ms} {vs = us} {ts = rs} {hs = gs} {h = g} k h) = both_more (held_there g) (many held_there gs) (many variable_there us) (own_count this) (many_count this ms us rs gs z h)
   many_count this ns vs ts hs z (turn {ns = ms} {vs = us} {ts = rs} {hs = gs} h) = many_count this ms us rs gs z h
   many_count this ns vs ts hs z (hidden h) = elim z [ ]
 

@@ -43,7 +43,7 @@ cut_bare xs ns before (newest {ns = ms} e k) z = cut_bare xs ms before k z
 stay : (this : Option Id) (xs : List VariableUse) (ns : List Name) (vs : List Variable) (ts : List Turn) (hs : List Held) → Stay xs ns → Holds this ns vs ts hs → without xs vs ≡ vs
 stay this xs ns vs ts hs s (none z) = refl
 stay this xs ns vs ts hs s object = refl
-stay this xs ns vs ts hs s (variable {ns = ms} {vs = us} {ts = rs} {hs = gs} {x = y} {h = g} h) =
+stay this xs ns vs ts hs s (variable {ns = ms} {vs = us} {ts = rs} {hs = gs} {x = y} {h = g} k h) =
     ap₂ (λ b ws. if not b then record { named = y; held = g } ∷ ws else ws) s.0 (stay this xs ms us rs gs s.1 h)
 stay this xs ns vs ts hs s (turn {ns = ms} {vs = us} {ts = rs} {hs = gs} h) = stay this xs ms us rs gs s h
 stay this xs ns vs ts hs s (hidden {ns = ms} {vs = us} {ts = rs} {hs = gs} h) = stay this xs ms us rs gs s h
@@ -67,7 +67,7 @@ pub trimmed_holds : (this : Option Id) (xs : List VariableUse) (ns before : List
 trimmed_holds this xs ns before vs ts hs (whole s) h =
     subst (λ ws. Holds this ns ws ts (trimmed (length ns) hs)) (sym (stay this xs ns vs ts hs s h))
     (subst (λ gs. Holds this ns vs ts gs) (sym (drop_none (length ns) (length hs) hs (as_many this ns vs ts hs h))) h)
-trimmed_holds this xs ns before vs ts hs (newest {ns = ms} {y = y} e k) (variable {vs = us} {hs = gs} {h = g} h) =
+trimmed_holds this xs ns before vs ts hs (newest {ns = ms} {y = y} e k) (variable {vs = us} {hs = gs} {h = g} z h) =
     let few : length before ≤ length gs = omega (arith, cut_less xs ms before k, as_many this ms us ts gs h) in
     subst (λ ws. Holds this before ws ts (trimmed (length before) (g ∷ gs))) (sym (ap (λ b. if not b then record { named = y; held = g } ∷ without xs us else without xs us) e))
     (subst (λ fs. Holds this before (without xs us) ts fs) (sym (drop_one (length before) g gs few)) (trimmed_holds this xs ms before us ts gs k h))

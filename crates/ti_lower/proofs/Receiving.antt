@@ -30,15 +30,19 @@ use Rattle.ti_code.specs.Effects.{Spot, Who, effect, numbers_of, operator_of, sl
 use Rattle.ti_code.specs.Leading.{Stands, behind}
 use Rattle.ti_lower_expr.specs.Slots.{Name, Of, Hidden, Holds, variable, hidden, has_this}
 use Rattle.ti_lower_expr.specs.declared.kinds.Kind.{Kind}
+use Rattle.ti_lower_expr.specs.declared.kinds.Known.{Known}
+use Rattle.ti_lower_expr.specs.declared.kinds.Known.TheVariants as known
+use Rattle.ti_lower_expr.specs.Knowing.{IsKnown, known_of_type, known_declared, operated_known}
 use Rattle.ti_lower_expr.specs.Coding.{conversion, code_of, code_of_all}
-use Rattle.ti_lower.specs.Receivers.{written_slot, kept, names_behind, TargetKind, InSlot, InField, InElement, store_code, update_code, kind_of_target, place_code, updating, into_code, waiting_code, late_code}
+use Rattle.ti_lower.specs.Receivers.{written_slot, kept, names_behind, TargetKind, InSlot, InField, InElement, held_known, store_code, update_code, kind_of_target, place_code, updating, into_code, waiting_code, late_code}
 use Rattle.ti_lower_expr.specs.Doing.{Outcome, Does}
 use Rattle.ti_lower_expr.proofs.Doing.{front_stands, rest_stands, behind_both, does_then, does_after, does_value, does_behind, does_one}
 use Rattle.ti_lower_expr.proofs.Finding.{as_many, found, newest, older, own_held}
 use Rattle.ti_lower_expr.proofs.Operands.{pushed, taken_all, under_all}
 use Rattle.ti_lower.proofs.Cutting.{hide, all_dropped}
 use Rattle.ti_lower.proofs.Writing.{any, new_put, IsWritten, written}
-use Rattle.ti_lower_expr.proofs.Expressions.{who, spot, next, does, numbers_do, PushesNumbers, convert_does, load_does, own_does, field_does, element_does, instr, from_spot, operation_means, needed_alike, asked_alike}
+use Rattle.ti_lower_expr.proofs.Knowing.{Comes, converted_known, declared_known, used_known, found_known, operated_is_known}
+use Rattle.ti_lower_expr.proofs.Expressions.{who, spot, next, next_known, does, numbers_do, PushesNumbers, convert_does, load_does, own_does, field_does, element_does, instr, from_spot, operation_means, needed_alike, asked_alike}
 
 -- ---- slots that no name means
 
@@ -77,13 +81,13 @@ module _ (c : List Instr) (env : Env) (names : List Name) (slots : List Held) (h
 
   -- ---- variables
 
-  pub new_does : (x : VariableUse) (h : Held) (at : ℕ) (stack : List Held) → Stands c at (i.Keep (length names) ∷ [])
+  pub new_does : (x : VariableUse) (h : Held) (at : ℕ) (stack : List Held) → IsKnown (known_declared x.declared) h → Stands c at (i.Keep (length names) ∷ [])
       → Does w c (here at (h ∷ stack)) (gives (with_new x h env.variables)) (Stored (at + 1) (Of x ∷ names) stack)
-  new_does x h at stack st =
+  new_does x h at stack z st =
       does_behind w c (Stored (at + 1) (Of x ∷ names) stack) (here at (h ∷ stack)) (record { at = at + 1; slots = put (length names) h slots; stack = stack })
       (gives (with_new x h env.variables)) (i.Keep (length names)) st.0 (λ rs. refl)
       (does_value w c (Stored (at + 1) (Of x ∷ names) stack) _ (with_new x h env.variables)
-      (h ∷ slots, variable holds, ap (λ hs. record { at = at + 1; slots = hs; stack = stack }) (new_put (length names) h slots many)))
+      (h ∷ slots, variable z holds, ap (λ hs. record { at = at + 1; slots = hs; stack = stack }) (new_put (length names) h slots many)))
 
   pub written_does : (o : Option ℕ) (new : List Variable) (h : Held) (at : ℕ) (stack : List Held) → IsWritten env.this o names env.variables new env.turns slots h → Stands c at (kept o ∷ [])
       → Does w c (here at (h ∷ stack)) (gives new) (Stored (at + 1) names stack)
@@ -185,18 +189,18 @@ module _ (c : List Instr) (env : Env) (names : List Name) (slots : List Held) (h
       λ rs. subst (λ got. Outcome w c Q s rs got) (in_turn (needed p through h rs) (λ r. asked (f r)) (λ done. gives env.variables)) (whole rs)
 
   -- a value goes from above the reference and the index into the target
-  pub store_does : (k : TargetKind) (p : Place) (target : Target) (x : Held) (operands stack : List Held) (at : ℕ) → IsPlaced k target operands stack → Stands c at (store_code names p k)
+  pub store_does : (k : TargetKind) (p : Place) (target : Target) (x : Held) (operands stack : List Held) (at : ℕ) → IsPlaced k target operands stack → IsKnown (held_known k) x → Stands c at (store_code names p k)
       → Does w c (here at (x ∷ operands)) (stored env p target x) (Stored (behind at (store_code names p k)) names stack)
-  store_does (InSlot y) p target x operands stack at z st =
+  store_does (InSlot y) p target x operands stack at z is_known st =
       subst (λ r. Does w c (here at (x ∷ operands)) (stored env p r x) (Stored (at + 1) names stack)) (sym z.0)
       (subst (λ os. Does w c (here at (x ∷ os)) (gives (with_changed y x env.variables)) (Stored (at + 1) names stack)) (sym z.1)
-      (written_does (written_slot y names) (with_changed y x env.variables) x at stack (written env.this names env.variables env.turns slots y x holds) st))
-  store_does (InField field) p target x operands stack at z st =
+      (written_does (written_slot y names) (with_changed y x env.variables) x at stack (written env.this names env.variables env.turns slots y x is_known holds) st))
+  store_does (InField field) p target x operands stack at z is_known st =
       subst (λ r. Does w c (here at (x ∷ operands)) (stored env p r x) (Stored (at + 1) names stack)) (sym z.2)
       (subst (λ os. Does w c (here at (x ∷ os)) (stored env p (InPart (Field z.0 z.1 field)) x) (Stored (at + 1) names stack)) (sym z.3)
       (cell_written p z.1 z.0 (λ r. request_through r p (act.PutField r.thing field (plain_of x)) ToBeDone) (λ r. request_through r p (act.PutField r.thing field (plain_of x)) ToBeDone)
       (here at (x ∷ z.0 ∷ stack)) (i.PutField field p) stack st.0 (λ id. refl) (λ id. refl) (λ rs. refl)))
-  store_does InElement p target x operands stack at z st =
+  store_does InElement p target x operands stack at z is_known st =
       subst (λ r. Does w c (here at (x ∷ operands)) (stored env p r x) (Stored (at + 1) names stack)) (sym z.3)
       (subst (λ os. Does w c (here at (x ∷ os)) (stored env p (InPart (Element z.0 z.1 z.2)) x) (Stored (at + 1) names stack)) (sym z.4)
       (cell_written p z.1 z.0 (λ r. request_through r p (act.PutElem r.thing z.2 (plain_of x)) ToBeDone) (λ r. request_through r p (act.PutElem r.thing z.2 (plain_of x)) ToBeDone)
@@ -216,26 +220,29 @@ module _ (c : List Instr) (env : Env) (names : List Name) (slots : List Held) (h
   -- ---- compound assignments
 
   -- what comes behind the old value: the right side, the operator, the conversion
-  changed_does : (more : List Held) (Q : List Variable → Spot → Type 0) (p : Place) (op : BinaryOperator) (name : Operation) (type : ValueType) (right : List Name → ℕ → List Instr) (m : Asking Held) (o : Held) (at : ℕ)
-      (under : List Held) (rest : List Instr) (go : Held → Asking (List Variable)) → operator_of name ≡ op → RightDoes right m
-      → Stands c at (right (hide more names) at ++ i.Operate name p ∷ (conversion p type ++ rest))
-      → ((k : Held) → Does w c (record { at = behind (behind at (right (hide more names) at) + 1) (conversion p type); slots = more ++ slots; stack = k ∷ under }) (go k) Q)
+  changed_does : (more : List Held) (Q : List Variable → Spot → Type 0) (p : Place) (op : BinaryOperator) (name : Operation) (j k : Known) (type : ValueType) (right : List Name → ℕ → List Instr) (m : Asking Held) (o : Held) (at : ℕ)
+      (under : List Held) (rest : List Instr) (go : Held → Asking (List Variable)) → operator_of name ≡ op → IsKnown j o → Comes (IsKnown k) m → RightDoes right m
+      → Stands c at (right (hide more names) at ++ i.Operate name p ∷ (conversion p type (operated_known op j k) ++ rest))
+      → ((x : Held) → IsKnown (known_of_type type) x
+      → Does w c (record { at = behind (behind at (right (hide more names) at) + 1) (conversion p type (operated_known op j k)); slots = more ++ slots; stack = x ∷ under }) (go x) Q)
       → Does w c (record { at = at; slots = more ++ slots; stack = o ∷ under }) (λ rs. followed (m rs) (λ h ms. followed (operated p op o h ms) (λ new ls. followed (converted p type new ls) go))) Q
-  changed_does more Q p op name type right m o at under rest go means d st f =
+  changed_does more Q p op name j k type right m o at under rest go means old_known right_known d st f =
       let ns = hide more names in
       let hs = more ++ slots in
       let inner = hide_holds env.this more names env slots holds in
       let xs = right ns at in
       let mid = behind at xs in
-      let change = conversion p type in
+      let new_known = operated_known op j k in
+      let change = conversion p type new_known in
       let tail = rest_stands c at xs (i.Operate name p ∷ (change ++ rest)) st in
-      next c env ns hs inner Q mid (o ∷ under) (record { at = at; slots = hs; stack = o ∷ under }) m (λ h ms. followed (operated p op o h ms) (λ new ls. followed (converted p type new ls) go))
+      next_known c env ns hs inner (IsKnown k) Q mid (o ∷ under) (record { at = at; slots = hs; stack = o ∷ under }) m (λ h ms. followed (operated p op o h ms) (λ new ls. followed (converted p type new ls) go)) right_known
       (d more at (o ∷ under) (front_stands c at xs (i.Operate name p ∷ (change ++ rest)) st))
-      (λ h. next c env ns hs inner Q (mid + 1) under (record { at = mid; slots = hs; stack = h ∷ o ∷ under }) (operated p op o h) (λ new ls. followed (converted p type new ls) go)
+      (λ h z. next_known c env ns hs inner (IsKnown new_known) Q (mid + 1) under (record { at = mid; slots = hs; stack = h ∷ o ∷ under }) (operated p op o h) (λ new ls. followed (converted p type new ls) go)
+      (operated_is_known p op j k o h old_known z)
       (instr c env ns hs inner (i.Operate name p) (operated p op o h) (record { at = mid; slots = hs; stack = h ∷ o ∷ under }) (mid + 1) under tail.0
       (λ rs. ap (λ b. followed (operated p b o h rs) (λ r. gives (record { at = mid + 1; slots = hs; stack = r ∷ under }))) means))
-      (λ new. next c env ns hs inner Q (behind (mid + 1) change) under (record { at = mid + 1; slots = hs; stack = new ∷ under }) (converted p type new) go
-      (convert_does c env ns hs inner type p new (mid + 1) under (front_stands c (mid + 1) change rest tail.1))
+      (λ new is_new. next_known c env ns hs inner (IsKnown (known_of_type type)) Q (behind (mid + 1) change) under (record { at = mid + 1; slots = hs; stack = new ∷ under }) (converted p type new) go
+      (converted_known p type new) (convert_does c env ns hs inner type new_known p new (mid + 1) under is_new (front_stands c (mid + 1) change rest tail.1))
       f))
 
   -- where the way of an operator ends
@@ -247,30 +254,33 @@ module _ (c : List Instr) (env : Env) (names : List Name) (slots : List Held) (h
   updated p q op type target m rs =
       followed (held_in env q type target rs) (λ o ms. followed (m ms) (λ h ls. followed (operated p op o h ls) (λ new ks. followed (converted p type new ks) (stored env p target))))
 
-  slot_update : (y : VariableUse) (p q : Place) (op : BinaryOperator) (name : Operation) (type : ValueType) (right : List Name → ℕ → List Instr) (m : Asking Held) (at : ℕ) (stack : List Held)
-      → operator_of name ≡ op → RightDoes right m → Stands c at (update_code names p q name type (InSlot y) right at)
-      → Does w c (here at stack) (updated p q op type (InVariable y) m) (Stored (behind at (update_code names p q name type (InSlot y) right at)) names stack)
-  slot_update y p q op name type right m at stack means d st =
+  slot_update : (y : VariableUse) (p q : Place) (op : BinaryOperator) (name : Operation) (k : Known) (type : ValueType) (right : List Name → ℕ → List Instr) (m : Asking Held) (at : ℕ) (stack : List Held)
+      → operator_of name ≡ op → ((x : Held) → IsKnown (known_of_type type) x → IsKnown (held_known (InSlot y)) x) → Comes (IsKnown k) m → RightDoes right m
+      → Stands c at (update_code names p q name (operated_known op (held_known (InSlot y)) k) type (InSlot y) right at)
+      → Does w c (here at stack) (updated p q op type (InVariable y) m) (Stored (behind at (update_code names p q name (operated_known op (held_known (InSlot y)) k) type (InSlot y) right at)) names stack)
+  slot_update y p q op name k type right m at stack means fits is_known d st =
+      let j = held_known (InSlot y) in
       let xs = right names (at + 1) in
-      let change = conversion p type in
+      let change = conversion p type (operated_known op j k) in
       let rest = store_code names p (InSlot y) in
       let end = behind (behind (behind (at + 1) xs + 1) change) rest in
       let Q = Stored end names stack in
       let old = find_variable y env.variables in
       subst (λ n. Does w c (here at stack) (updated p q op type (InVariable y) m) (Stored n names stack)) (sym (behind_changed xs (i.Operate name p) change rest (at + 1)))
-      (next c env names slots holds Q (at + 1) stack (here at stack) (gives old)
+      (next_known c env names slots holds (IsKnown j) Q (at + 1) stack (here at stack) (gives old)
       (λ o rs. followed (m rs) (λ h ms. followed (operated p op o h ms) (λ new ls. followed (converted p type new ls) (stored env p (InVariable y)))))
-      (load_does c env names slots holds (written_slot y names) y old at stack (found env.this names env.variables env.turns slots holds any y) (st.0, tt))
-      (λ o. changed_does [] Q p op name type right m o (at + 1) stack rest (stored env p (InVariable y)) means d st.1
-      (λ k. store_does (InSlot y) p (InVariable y) k stack stack (behind (behind (at + 1) xs + 1) change) (refl, refl)
+      (λ rs. found_known env.this names env.variables env.turns slots holds y) (load_does c env names slots holds (written_slot y names) y old at stack (found env.this names env.variables env.turns slots holds any y) (st.0, tt))
+      (λ o z. changed_does [] Q p op name j k type right m o (at + 1) stack rest (stored env p (InVariable y)) means z is_known d st.1
+      (λ x is_new. store_does (InSlot y) p (InVariable y) x stack stack (behind (behind (at + 1) xs + 1) change) (refl, refl) (fits x is_new)
       (rest_stands c (behind (at + 1) xs + 1) change rest (rest_stands c (at + 1) xs (i.Operate name p ∷ (change ++ rest)) st.1).1))))
 
-  field_update : (field : ℕ) (object : Held) (through : ValueType) (p q : Place) (op : BinaryOperator) (name : Operation) (type : ValueType) (right : List Name → ℕ → List Instr) (m : Asking Held) (at : ℕ) (stack : List Held)
-      → operator_of name ≡ op → RightDoes right m → Stands c at (update_code names p q name type (InField field) right at)
-      → Does w c (here at (object ∷ stack)) (updated p q op type (InPart (Field object through field)) m) (Stored (behind at (update_code names p q name type (InField field) right at)) names stack)
-  field_update field object through p q op name type right m at stack means d st =
+  field_update : (field : ℕ) (object : Held) (through : ValueType) (p q : Place) (op : BinaryOperator) (name : Operation) (k : Known) (type : ValueType) (right : List Name → ℕ → List Instr) (m : Asking Held) (at : ℕ) (stack : List Held)
+      → operator_of name ≡ op → Comes (IsKnown k) m → RightDoes right m → Stands c at (update_code names p q name (operated_known op known.Other k) type (InField field) right at)
+      → Does w c (here at (object ∷ stack)) (updated p q op type (InPart (Field object through field)) m)
+      (Stored (behind at (update_code names p q name (operated_known op known.Other k) type (InField field) right at)) names stack)
+  field_update field object through p q op name k type right m at stack means is_known d st =
       let xs = right names (at + 1 + 1) in
-      let change = conversion p type in
+      let change = conversion p type (operated_known op known.Other k) in
       let rest = store_code names p (InField field) in
       let target = InPart (Field object through field) in
       let end = behind (behind (behind (at + 1 + 1) xs + 1) change) rest in
@@ -280,8 +290,8 @@ module _ (c : List Instr) (env : Env) (names : List Name) (slots : List Held) (h
       (next c env names slots holds Q (at + 1 + 1) (object ∷ stack) (here (at + 1) (object ∷ object ∷ stack)) (fetched q type (Field object through field))
       (λ o rs. followed (m rs) (λ h ms. followed (operated p op o h ms) (λ new ls. followed (converted p type new ls) (stored env p target))))
       (field_does c env names slots holds q type through object field (at + 1) (object ∷ stack) (st.1.0, tt))
-      (λ o. changed_does [] Q p op name type right m o (at + 1 + 1) (object ∷ stack) rest (stored env p target) means d st.1.1
-      (λ k. store_does (InField field) p target k (object ∷ stack) stack (behind (behind (at + 1 + 1) xs + 1) change) (object, through, refl, refl)
+      (λ o. changed_does [] Q p op name known.Other k type right m o (at + 1 + 1) (object ∷ stack) rest (stored env p target) means tt is_known d st.1.1
+      (λ x is_new. store_does (InField field) p target x (object ∷ stack) stack (behind (behind (at + 1 + 1) xs + 1) change) (object, through, refl, refl) tt
       (rest_stands c (behind (at + 1 + 1) xs + 1) change rest (rest_stands c (at + 1 + 1) xs (i.Operate name p ∷ (change ++ rest)) st.1.1).1)))))
 
 module _ (c : List Instr) (env : Env) (names : List Name) (slots : List Held) (holds : Holds env.this names env.variables env.turns slots) where
@@ -328,20 +338,21 @@ module _ (c : List Instr) (env : Env) (names : List Name) (slots : List Held) (h
       (λ rs. ap (λ x. Gives (with_more both (at + 1 + 1 + 1) (x ∷ pt ∷ h ∷ stack)) rs) (newest (n + 1) k (pt ∷ slots) next_is))
       (dropping_does both m (with_more both (at + 1 + 1 + 1) (k ∷ pt ∷ h ∷ stack)) (at + 1 + 1 + 1 + 1) stack st.1.1.1.1.0
       (store_does c env (hide both names) (both ++ slots) (hide_holds env.this both names env slots holds) InElement p (InPart (Element h through index)) k (pt ∷ h ∷ stack) stack (at + 1 + 1 + 1)
-      (h, through, index, refl, refl) (st.1.1.1.0, tt)))))
+      (h, through, index, refl, refl) tt (st.1.1.1.0, tt)))))
 
-  element_update : (h : Held) (through : ValueType) (index : Point) (p q : Place) (op : BinaryOperator) (name : Operation) (type : ValueType) (right : List Name → ℕ → List Instr) (m : Asking Held) (at : ℕ) (stack : List Held)
-      → operator_of name ≡ op → RightDoes c env names slots holds right m → Stands c at (update_code names p q name type InElement right at)
+  element_update : (h : Held) (through : ValueType) (index : Point) (p q : Place) (op : BinaryOperator) (name : Operation) (known_right : Known) (type : ValueType) (right : List Name → ℕ → List Instr) (m : Asking Held) (at : ℕ) (stack : List Held)
+      → operator_of name ≡ op → Comes (IsKnown known_right) m → RightDoes c env names slots holds right m
+      → Stands c at (update_code names p q name (operated_known op known.Other known_right) type InElement right at)
       → Does me c (spot c env names slots holds at (Plain (v.Pt index) ∷ h ∷ stack)) (updated c env names slots holds p q op type (InPart (Element h through index)) m)
-      (Stored c env names slots holds (behind at (update_code names p q name type InElement right at)) names stack)
-  element_update h through index p q op name type right m at stack means d st =
+      (Stored c env names slots holds (behind at (update_code names p q name (operated_known op known.Other known_right) type InElement right at)) names stack)
+  element_update h through index p q op name known_right type right m at stack means is_known d st =
       let pt = Plain (v.Pt index) in
       let one = pt ∷ [] in
       let target = InPart (Element h through index) in
       let all = updated c env names slots holds p q op type target m in
       let start = at + 1 + 1 + 1 + 1 in
       let xs = right (Hidden ∷ names) start in
-      let change = conversion p type in
+      let change = conversion p type (operated_known op known.Other known_right) in
       let rest = i.Keep (n + 1) ∷ i.Load n ∷ i.Load (n + 1) ∷ i.PutElem p ∷ i.Trim n ∷ [] in
       let before = behind (behind start xs + 1) change in
       let Q = Stored c env names slots holds (before + 1 + 1 + 1 + 1 + 1) names stack in
@@ -355,61 +366,69 @@ module _ (c : List Instr) (env : Env) (names : List Name) (slots : List Held) (h
       (next c env (Hidden ∷ names) (pt ∷ slots) inner Q start (h ∷ stack) (with_more one (at + 1 + 1 + 1) (pt ∷ h ∷ h ∷ stack)) (fetched q type (Element h through index))
       (λ o rs. followed (m rs) (λ x ms. followed (operated p op o x ms) (λ new ls. followed (converted p type new ls) (stored env p target))))
       (element_does c env (Hidden ∷ names) (pt ∷ slots) inner q type through h pt (at + 1 + 1 + 1) (h ∷ stack) (st.1.1.1.0, tt))
-      (λ o. changed_does c env names slots holds one Q p op name type right m o start (h ∷ stack) rest (stored env p target) means d st.1.1.1.1
-      (λ k. element_kept p k h through index before stack (rest_stands c (behind start xs + 1) change rest (rest_stands c start xs (i.Operate name p ∷ (change ++ rest)) st.1.1.1.1).1)))))))
+      (λ o. changed_does c env names slots holds one Q p op name known.Other known_right type right m o start (h ∷ stack) rest (stored env p target) means tt is_known d st.1.1.1.1
+      (λ k is_new. element_kept p k h through index before stack (rest_stands c (behind start xs + 1) change rest (rest_stands c start xs (i.Operate name p ∷ (change ++ rest)) st.1.1.1.1).1)))))))
 
-  update_does : (k : TargetKind) (target : Target) (operands : List Held) (p q : Place) (op : BinaryOperator) (name : Operation) (type : ValueType) (right : List Name → ℕ → List Instr) (m : Asking Held) (at : ℕ) (stack : List Held)
-      → IsPlaced c env names slots holds k target operands stack → operator_of name ≡ op → RightDoes c env names slots holds right m → Stands c at (update_code names p q name type k right at)
-      → Does me c (spot c env names slots holds at operands) (updated c env names slots holds p q op type target m) (Stored c env names slots holds (behind at (update_code names p q name type k right at)) names stack)
-  update_does (InSlot y) target operands p q op name type right m at stack z means d st =
-      let Q = Stored c env names slots holds (behind at (update_code names p q name type (InSlot y) right at)) names stack in
+  update_does : (k : TargetKind) (target : Target) (operands : List Held) (p q : Place) (op : BinaryOperator) (name : Operation) (j : Known) (type : ValueType) (right : List Name → ℕ → List Instr) (m : Asking Held) (at : ℕ) (stack : List Held)
+      → IsPlaced c env names slots holds k target operands stack → operator_of name ≡ op → ((x : Held) → IsKnown (known_of_type type) x → IsKnown (held_known k) x) → Comes (IsKnown j) m
+      → RightDoes c env names slots holds right m → Stands c at (update_code names p q name (operated_known op (held_known k) j) type k right at)
+      → Does me c (spot c env names slots holds at operands) (updated c env names slots holds p q op type target m)
+      (Stored c env names slots holds (behind at (update_code names p q name (operated_known op (held_known k) j) type k right at)) names stack)
+  update_does (InSlot y) target operands p q op name j type right m at stack z means fits is_known d st =
+      let Q = Stored c env names slots holds (behind at (update_code names p q name (operated_known op (held_known (InSlot y)) j) type (InSlot y) right at)) names stack in
       subst (λ r. Does me c (spot c env names slots holds at operands) (updated c env names slots holds p q op type r m) Q) (sym z.0)
       (subst (λ os. Does me c (spot c env names slots holds at os) (updated c env names slots holds p q op type (InVariable y) m) Q) (sym z.1)
-      (slot_update c env names slots holds y p q op name type right m at stack means d st))
-  update_does (InField field) target operands p q op name type right m at stack z means d st =
-      let Q = Stored c env names slots holds (behind at (update_code names p q name type (InField field) right at)) names stack in
+      (slot_update c env names slots holds y p q op name j type right m at stack means fits is_known d st))
+  update_does (InField field) target operands p q op name j type right m at stack z means fits is_known d st =
+      let Q = Stored c env names slots holds (behind at (update_code names p q name (operated_known op known.Other j) type (InField field) right at)) names stack in
       subst (λ r. Does me c (spot c env names slots holds at operands) (updated c env names slots holds p q op type r m) Q) (sym z.2)
       (subst (λ os. Does me c (spot c env names slots holds at os) (updated c env names slots holds p q op type (InPart (Field z.0 z.1 field)) m) Q) (sym z.3)
-      (field_update c env names slots holds field z.0 z.1 p q op name type right m at stack means d st))
-  update_does InElement target operands p q op name type right m at stack z means d st =
-      let Q = Stored c env names slots holds (behind at (update_code names p q name type InElement right at)) names stack in
+      (field_update c env names slots holds field z.0 z.1 p q op name j type right m at stack means is_known d st))
+  update_does InElement target operands p q op name j type right m at stack z means fits is_known d st =
+      let Q = Stored c env names slots holds (behind at (update_code names p q name (operated_known op known.Other j) type InElement right at)) names stack in
       subst (λ r. Does me c (spot c env names slots holds at operands) (updated c env names slots holds p q op type r m) Q) (sym z.3)
       (subst (λ os. Does me c (spot c env names slots holds at os) (updated c env names slots holds p q op type (InPart (Element z.0 z.1 z.2)) m) Q) (sym z.4)
-      (element_update z.0 z.1 z.2 p q op name type right m at stack means d st))
+      (element_update z.0 z.1 z.2 p q op name j type right m at stack means is_known d st))
 
   -- ---- the whole way
 
-  abbrev pub into_here : Receiver → Kind → (List Name → ℕ → List Instr) → ℕ → List Instr
-  into_here r kind right at = into_code env.program (this_of env.method) r kind right names at
+  abbrev pub into_here : Receiver → Kind → Known → (List Name → ℕ → List Instr) → ℕ → List Instr
+  into_here r kind j right at = into_code env.program (this_of env.method) r kind j right names at
 
-  pub into_does : (r : Receiver) (kind : Kind) (right : List Name → ℕ → List Instr) (m : Asking Held) (at : ℕ) (stack : List Held) → RightDoes c env names slots holds right m → Stands c at (into_here r kind right at)
-      → Does me c (spot c env names slots holds at stack) (into env r m) (Stored c env names slots holds (behind at (into_here r kind right at)) (names_behind r names) stack)
-  into_does Nowhere kind right m at stack d st =
+  -- a value of the type that a target has in the text is one that the target holds
+  target_fits : (target : NumberedExp) (x : Held) → IsKnown (known_of_type (type_of env target)) x → IsKnown (held_known (kind_of_target env.program (this_of env.method) target)) x
+  target_fits (e.Variable q y) x z = subst (λ j. IsKnown j x) (used_known y.declared y.number) z
+  target_fits target x z = tt
+
+  pub into_does : (r : Receiver) (kind : Kind) (j : Known) (right : List Name → ℕ → List Instr) (m : Asking Held) (at : ℕ) (stack : List Held) → Comes (IsKnown j) m → RightDoes c env names slots holds right m
+      → Stands c at (into_here r kind j right at)
+      → Does me c (spot c env names slots holds at stack) (into env r m) (Stored c env names slots holds (behind at (into_here r kind j right at)) (names_behind r names) stack)
+  into_does Nowhere kind j right m at stack is_known d st =
       let xs = right names at in
       let Q = Stored c env names slots holds (behind at xs + 1) names stack in
       subst (λ e. Does me c (spot c env names slots holds at stack) (into env Nowhere m) (Stored c env names slots holds e names stack)) (sym (behind_both at xs (i.Pop ∷ [])))
       (next c env names slots holds Q (behind at xs) stack (spot c env names slots holds at stack) m (λ h. gives env.variables) (d [] at stack (front_stands c at xs (i.Pop ∷ []) st))
       (λ h. does_behind me c Q (spot c env names slots holds (behind at xs) (h ∷ stack)) (spot c env names slots holds (behind at xs + 1) stack) (gives env.variables) i.Pop (rest_stands c at xs (i.Pop ∷ []) st).0 (λ rs. refl)
       (does_value me c Q _ env.variables (slots, holds, refl))))
-  into_does (Declared p x) kind right m at stack d st =
+  into_does (Declared p x) kind j right m at stack is_known d st =
       let xs = right names at in
       let type = declared_type x.declared in
-      let change = conversion p type in
+      let change = conversion p type j in
       let keep = i.Keep n ∷ [] in
       let mid = behind at xs in
       let Q = Stored c env names slots holds (behind mid change + 1) (Of x ∷ names) stack in
       let tail = rest_stands c at xs (change ++ keep) st in
       subst (λ e. Does me c (spot c env names slots holds at stack) (into env (Declared p x) m) (Stored c env names slots holds e (Of x ∷ names) stack)) (sym (behind_both at xs (change ++ keep) ∙ behind_both mid change keep))
-      (next c env names slots holds Q mid stack (spot c env names slots holds at stack) m (λ h rs. followed (converted p type h rs) (λ k. gives (with_new x k env.variables))) (d [] at stack (front_stands c at xs (change ++ keep) st))
-      (λ h. next c env names slots holds Q (behind mid change) stack (spot c env names slots holds mid (h ∷ stack)) (converted p type h) (λ k. gives (with_new x k env.variables))
-      (convert_does c env names slots holds type p h mid stack (front_stands c mid change keep tail))
-      (λ k. new_does c env names slots holds x k (behind mid change) stack (rest_stands c mid change keep tail))))
-  into_does (Assigned p target) kind right m at stack d st =
+      (next_known c env names slots holds (IsKnown j) Q mid stack (spot c env names slots holds at stack) m (λ h rs. followed (converted p type h rs) (λ k. gives (with_new x k env.variables))) is_known (d [] at stack (front_stands c at xs (change ++ keep) st))
+      (λ h z. next_known c env names slots holds (IsKnown (known_of_type type)) Q (behind mid change) stack (spot c env names slots holds mid (h ∷ stack)) (converted p type h) (λ k. gives (with_new x k env.variables))
+      (converted_known p type h) (convert_does c env names slots holds type j p h mid stack z (front_stands c mid change keep tail))
+      (λ k fits. new_does c env names slots holds x k (behind mid change) stack (subst (λ i. IsKnown i k) (declared_known x.declared) fits) (rest_stands c mid change keep tail))))
+  into_does (Assigned p target) kind j right m at stack is_known d st =
       let ps = place c env names slots holds target at in
       let from = behind at ps in
       let xs = right names from in
       let type = type_of env target in
-      let change = conversion p type in
+      let change = conversion p type j in
       let k = kind_of_target env.program (this_of env.method) target in
       let store = store_code names p k in
       let mid = behind from xs in
@@ -421,24 +440,24 @@ module _ (c : List Instr) (env : Env) (names : List Name) (slots : List Held) (h
       (λ r rs. followed (m rs) (λ h ms. followed (converted p type h ms) (λ x. stored env p r x)))
       (place_does c env names slots holds target at stack (front_stands c at ps (xs ++ (change ++ store)) st))
       (λ r s z. subst (λ y. Does me c y (λ rs. followed (m rs) (λ h ms. followed (converted p type h ms) (λ x. stored env p r x))) Q) (sym z.2)
-      (next c env names slots holds Q mid z.0 (spot c env names slots holds from z.0) m (λ h ms. followed (converted p type h ms) (λ x. stored env p r x)) (d [] from z.0 (front_stands c from xs (change ++ store) tail))
-      (λ h. next c env names slots holds Q (behind mid change) z.0 (spot c env names slots holds mid (h ∷ z.0)) (converted p type h) (λ x. stored env p r x)
-      (convert_does c env names slots holds type p h mid z.0 (front_stands c mid change store (rest_stands c from xs (change ++ store) tail)))
-      (λ x. store_does c env names slots holds k p r x z.0 stack (behind mid change) z.1 (rest_stands c mid change store (rest_stands c from xs (change ++ store) tail)))))))
-  into_does (Updated p op target) kind right m at stack d st =
+      (next_known c env names slots holds (IsKnown j) Q mid z.0 (spot c env names slots holds from z.0) m (λ h ms. followed (converted p type h ms) (λ x. stored env p r x)) is_known (d [] from z.0 (front_stands c from xs (change ++ store) tail))
+      (λ h is_right. next_known c env names slots holds (IsKnown (known_of_type type)) Q (behind mid change) z.0 (spot c env names slots holds mid (h ∷ z.0)) (converted p type h) (λ x. stored env p r x)
+      (converted_known p type h) (convert_does c env names slots holds type j p h mid z.0 is_right (front_stands c mid change store (rest_stands c from xs (change ++ store) tail)))
+      (λ x fits. store_does c env names slots holds k p r x z.0 stack (behind mid change) z.1 (target_fits target x fits) (rest_stands c mid change store (rest_stands c from xs (change ++ store) tail)))))))
+  into_does (Updated p op target) kind j right m at stack is_known d st =
       let ps = place c env names slots holds target at in
       let from = behind at ps in
       let q = place_of_numbered target in
       let type = type_of env target in
       let k = kind_of_target env.program (this_of env.method) target in
       let name = updating env.program (this_of env.method) op target kind in
-      let code = update_code names p q name type k right from in
+      let code = update_code names p q name (operated_known op (held_known k) j) type k right from in
       let Q = Stored c env names slots holds (behind from code) names stack in
       subst (λ e. Does me c (spot c env names slots holds at stack) (into env (Updated p op target) m) (Stored c env names slots holds e names stack)) (sym (behind_both at ps code))
       (does_then me c (Places c env names slots holds k from stack) Q (spot c env names slots holds at stack) (located env target) (λ r. updated c env names slots holds p q op type r m)
       (place_does c env names slots holds target at stack (front_stands c at ps code st))
       (λ r s z. subst (λ y. Does me c y (updated c env names slots holds p q op type r m) Q) (sym z.2)
-      (update_does k r z.0 p q op name type right m from stack z.1 (operation_means op _ _) d (rest_stands c at ps code st))))
+      (update_does k r z.0 p q op name j type right m from stack z.1 (operation_means op _ _) (target_fits target) is_known d (rest_stands c at ps code st))))
 
 -- a value waits in a slot of its own, from which it is taken in place of a right side
 load_right : (c : List Instr) (env : Env) (names : List Name) (slots : List Held) (h : Held) (holds : Holds env.this (Hidden ∷ names) env.variables env.turns (h ∷ slots)) (n : ℕ) → n ≡ length slots
@@ -450,21 +469,21 @@ load_right c env names slots h holds n e more from under st =
     (λ rs. ap (λ x. Gives (record { at = from + 1; slots = more ++ (h ∷ slots); stack = x ∷ under }) rs) (under_hidden more n (h ∷ slots) less ∙ newest n h slots e))
 
 module _ (c : List Instr) (env : Env) (names : List Name) (slots : List Held) (holds : Holds env.this names env.variables env.turns slots) where
-  abbrev late : Receiver → Kind → ℕ → List Instr
-  late r kind at = late_code env.program (this_of env.method) r kind names at
+  abbrev late : Receiver → Kind → Known → ℕ → List Instr
+  late r kind j at = late_code env.program (this_of env.method) r kind j names at
 
-  waiting_does : (r : Receiver) (kind : Kind) (h : Held) (at : ℕ) (stack : List Held) → names_behind r (Hidden ∷ names) ≡ Hidden ∷ names
-      → Stands c at (waiting_code env.program (this_of env.method) r kind names at)
+  waiting_does : (r : Receiver) (kind : Kind) (j : Known) (h : Held) (at : ℕ) (stack : List Held) → names_behind r (Hidden ∷ names) ≡ Hidden ∷ names → IsKnown j h
+      → Stands c at (waiting_code env.program (this_of env.method) r kind j names at)
       → Does (who c env names slots holds) c (spot c env names slots holds at (h ∷ stack)) (into env r (gives h))
-      (Stored c env names slots holds (behind at (waiting_code env.program (this_of env.method) r kind names at)) names stack)
-  waiting_does r kind h at stack same st =
+      (Stored c env names slots holds (behind at (waiting_code env.program (this_of env.method) r kind j names at)) names stack)
+  waiting_does r kind j h at stack same is_known st =
       let k = length names in
       let k_is : k ≡ length slots = as_many env.this names env.variables env.turns slots holds in
       let ns = Hidden ∷ names in
       let hs = h ∷ slots in
       let inner : Holds env.this ns env.variables env.turns hs = hidden holds in
       let right = λ (ms : List Name) (from : ℕ). i.Load k ∷ [] in
-      let code = into_code env.program (this_of env.method) r kind right ns (at + 1) in
+      let code = into_code env.program (this_of env.method) r kind j right ns (at + 1) in
       let m = into env r (gives h) in
       let end = behind (at + 1) code in
       subst (λ e. Does (who c env names slots holds) c (spot c env names slots holds at (h ∷ stack)) m (Stored c env names slots holds e names stack)) (sym (behind_both (at + 1) code (i.Trim k ∷ [])))
@@ -472,32 +491,32 @@ module _ (c : List Instr) (env : Env) (names : List Name) (slots : List Held) (h
       (λ rs. ap (λ gs. Gives (record { at = at + 1; slots = gs; stack = stack }) rs) (new_put k h slots k_is))
       (dropping_does c env names slots holds (h ∷ []) m (record { at = at + 1; slots = hs; stack = stack }) end stack (rest_stands c (at + 1) code (i.Trim k ∷ []) st.1).0
       (subst (λ ms. Does (who c env names slots holds) c (record { at = at + 1; slots = hs; stack = stack }) m (Stored c env ns hs inner end ms stack)) same
-      (into_does c env ns hs inner r kind right (gives h) (at + 1) stack (load_right c env names slots h inner k k_is) (front_stands c (at + 1) code (i.Trim k ∷ []) st.1)))))
+      (into_does c env ns hs inner r kind j right (gives h) (at + 1) stack (λ rs. is_known) (load_right c env names slots h inner k k_is) (front_stands c (at + 1) code (i.Trim k ∷ []) st.1)))))
 
-  pub late_does : (r : Receiver) (kind : Kind) (h : Held) (at : ℕ) (stack : List Held) → Stands c at (late r kind at)
-      → Does (who c env names slots holds) c (spot c env names slots holds at (h ∷ stack)) (into env r (gives h)) (Stored c env names slots holds (behind at (late r kind at)) (names_behind r names) stack)
-  late_does Nowhere kind h at stack st =
+  pub late_does : (r : Receiver) (kind : Kind) (j : Known) (h : Held) (at : ℕ) (stack : List Held) → IsKnown j h → Stands c at (late r kind j at)
+      → Does (who c env names slots holds) c (spot c env names slots holds at (h ∷ stack)) (into env r (gives h)) (Stored c env names slots holds (behind at (late r kind j at)) (names_behind r names) stack)
+  late_does Nowhere kind j h at stack is_known st =
       does_behind (who c env names slots holds) c (Stored c env names slots holds (at + 1) names stack) (spot c env names slots holds at (h ∷ stack)) (spot c env names slots holds (at + 1) stack)
       (gives env.variables) i.Pop st.0 (λ rs. refl)
       (does_value (who c env names slots holds) c (Stored c env names slots holds (at + 1) names stack) (spot c env names slots holds (at + 1) stack) env.variables (slots, holds, refl))
-  late_does (Declared p x) kind h at stack st =
+  late_does (Declared p x) kind j h at stack is_known st =
       let type = declared_type x.declared in
-      let change = conversion p type in
+      let change = conversion p type j in
       let Q = Stored c env names slots holds (behind at change + 1) (Of x ∷ names) stack in
       subst (λ e. Does (who c env names slots holds) c (spot c env names slots holds at (h ∷ stack)) (into env (Declared p x) (gives h)) (Stored c env names slots holds e (Of x ∷ names) stack))
       (sym (behind_both at change (i.Keep (length names) ∷ [])))
-      (next c env names slots holds Q (behind at change) stack (spot c env names slots holds at (h ∷ stack)) (converted p type h) (λ k. gives (with_new x k env.variables))
-      (convert_does c env names slots holds type p h at stack (front_stands c at change _ st))
-      (λ k. new_does c env names slots holds x k (behind at change) stack (rest_stands c at change _ st)))
-  late_does (Assigned p (e.Variable q x)) kind h at stack st =
+      (next_known c env names slots holds (IsKnown (known_of_type type)) Q (behind at change) stack (spot c env names slots holds at (h ∷ stack)) (converted p type h) (λ k. gives (with_new x k env.variables))
+      (converted_known p type h) (convert_does c env names slots holds type j p h at stack is_known (front_stands c at change _ st))
+      (λ k fits. new_does c env names slots holds x k (behind at change) stack (subst (λ i. IsKnown i k) (declared_known x.declared) fits) (rest_stands c at change _ st)))
+  late_does (Assigned p (e.Variable q x)) kind j h at stack is_known st =
       let type = type_of env (e.Variable q x) in
-      let change = conversion p type in
+      let change = conversion p type j in
       let Q = Stored c env names slots holds (behind at change + 1) names stack in
       subst (λ m. Does (who c env names slots holds) c (spot c env names slots holds at (h ∷ stack)) (into env (Assigned p (e.Variable q x)) (gives h)) (Stored c env names slots holds m names stack))
       (sym (behind_both at change (kept (written_slot x names) ∷ [])))
-      (next c env names slots holds Q (behind at change) stack (spot c env names slots holds at (h ∷ stack)) (converted p type h) (λ k. gives (with_changed x k env.variables))
-      (convert_does c env names slots holds type p h at stack (front_stands c at change _ st))
-      (λ k. written_does c env names slots holds (written_slot x names) (with_changed x k env.variables) k (behind at change) stack (written env.this names env.variables env.turns slots x k holds)
+      (next_known c env names slots holds (IsKnown (known_of_type type)) Q (behind at change) stack (spot c env names slots holds at (h ∷ stack)) (converted p type h) (λ k. gives (with_changed x k env.variables))
+      (converted_known p type h) (convert_does c env names slots holds type j p h at stack is_known (front_stands c at change _ st))
+      (λ k fits. written_does c env names slots holds (written_slot x names) (with_changed x k env.variables) k (behind at change) stack (written env.this names env.variables env.turns slots x k (subst (λ i. IsKnown i k) (used_known x.declared x.number) fits) holds)
       (rest_stands c at change _ st)))
-  late_does (Assigned p target) kind h at stack st = waiting_does (Assigned p target) kind h at stack refl st
-  late_does (Updated p op target) kind h at stack st = waiting_does (Updated p op target) kind h at stack refl st
+  late_does (Assigned p target) kind j h at stack is_known st = waiting_does (Assigned p target) kind j h at stack refl is_known st
+  late_does (Updated p op target) kind j h at stack is_known st = waiting_does (Updated p op target) kind j h at stack refl is_known st

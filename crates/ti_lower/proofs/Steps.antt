@@ -43,13 +43,17 @@ use Rattle.ti_lower_expr.specs.Slots.{Hidden, Holds, turn, Name, Of, This}
 use Rattle.ti_lower_expr.specs.Slots as slot_of
 use Rattle.ti_lower_expr.specs.declared.kinds.Kind.{Kind}
 use Rattle.ti_lower_expr.specs.declared.kinds.Kind.TheVariants.{Numbers}
+use Rattle.ti_lower_expr.specs.declared.kinds.Known.{Known}
+use Rattle.ti_lower_expr.specs.declared.kinds.Known.TheVariants as known
+use Rattle.ti_lower_expr.specs.Knowing.{IsKnown, known_of}
 use Rattle.ti_lower_expr.specs.Coding.{kind_in, code_of, conversion}
 use Rattle.ti_lower.specs.Calling.{number_called, call_code}
 use Rattle.ti_lower.specs.Receivers.{names_behind, into_code, late_code}
 use Rattle.ti_lower.specs.Laying.{Labels, unknown, dropped, broadcast_code, object_code, grid_code, valued_code, init_code, form_code, other_code, alone_code, gives_nothing, break_code, continue_code, names_after, condition_code, stm_code, stms_code, maybe_code}
 use Rattle.ti_lower_expr.specs.Doing.{Does}
 use Rattle.ti_lower_expr.proofs.Doing.{front_stands, rest_stands, behind_both, does_then, does_value, does_weaker, does_behind}
-use Rattle.ti_lower_expr.proofs.Expressions.{does, convert_does, instr, next}
+use Rattle.ti_lower_expr.proofs.Knowing.{Comes, known_is_so, untold}
+use Rattle.ti_lower_expr.proofs.Expressions.{does, convert_does, instr, next, next_known}
 use Rattle.ti_lower_expr.proofs.Finding.{as_many}
 use Rattle.ti_lower_expr.proofs.Lazily.{jumps, jumps_not}
 use Rattle.ti_lower.proofs.Meeting.{Hands, wait_of, broadcast_does}
@@ -175,18 +179,19 @@ module _ (c : List Instr) (program : NumberedProgram) (method : NumberedMethod) 
 
   -- a value that is given back
   return_does : (left : List Work) (vs : List Variable) (names : List Name) (slots stack : List Held) (at : ℕ) (holds : Holds this_id names vs (turns_at left) slots) (p : Place) (x : NumberedExp) → is_void result ≡ false
-      → Stands c at (code_of program this names x at ++ (conversion p result ++ i.ReturnValue ∷ []))
+      → Stands c at (code_of program this names x at ++ (conversion p result (known_of program this x) ++ i.ReturnValue ∷ []))
       → Does who c (record { at = at; slots = slots; stack = stack }) (returns (env vs left) p (Some x)) (Moved left vs)
   return_does left vs names slots stack at holds p x void st =
       let xs = code_of program this names x at in
       let mid = behind at xs in
-      let change = conversion p result in
+      let j = known_of program this x in
+      let change = conversion p result j in
       let n = behind mid change in
       let rest = rest_stands c at xs (change ++ i.ReturnValue ∷ []) st in
-      next c (env vs left) names slots holds (Moved left vs) mid stack (record { at = at; slots = slots; stack = stack }) (eval (env vs left) x) (λ h rs. followed (converted p result h rs) (λ k. gives (Returns (Some k))))
-      (does c (env vs left) names slots holds x at stack (front_stands c at xs (change ++ i.ReturnValue ∷ []) st))
-      (λ h. next c (env vs left) names slots holds (Moved left vs) n stack (record { at = mid; slots = slots; stack = h ∷ stack }) (converted p result h) (λ k. gives (Returns (Some k)))
-      (convert_does c (env vs left) names slots holds result p h mid stack (front_stands c mid change (i.ReturnValue ∷ []) rest))
+      next_known c (env vs left) names slots holds (IsKnown j) (Moved left vs) mid stack (record { at = at; slots = slots; stack = stack }) (eval (env vs left) x) (λ h rs. followed (converted p result h rs) (λ k. gives (Returns (Some k))))
+      (known_is_so (env vs left) names slots holds x) (does c (env vs left) names slots holds x at stack (front_stands c at xs (change ++ i.ReturnValue ∷ []) st))
+      (λ h z. next c (env vs left) names slots holds (Moved left vs) n stack (record { at = mid; slots = slots; stack = h ∷ stack }) (converted p result h) (λ k. gives (Returns (Some k)))
+      (convert_does c (env vs left) names slots holds result j p h mid stack z (front_stands c mid change (i.ReturnValue ∷ []) rest))
       (λ k. does_value who c (Moved left vs) (record { at = n; slots = slots; stack = k ∷ stack }) (Returns (Some k)) (void, (rest_stands c mid change (i.ReturnValue ∷ []) rest).0, refl)))
 
   module _ (left : List Work) (vs : List Variable) (l : Option Labels) (names : List Name) (slots stack : List Held) (at : ℕ) (holds : Holds this_id names vs (turns_at left) slots) (m : IsMark l names stack left) (bare : Bare names) where
@@ -292,27 +297,27 @@ module _ (c : List Instr) (program : NumberedProgram) (method : NumberedMethod) 
     -- ---- right sides
 
     -- a value goes to its receiver
-    value_does : (r : Receiver) (kind : Kind) (x : NumberedExp) → Stands c at (into_code program this r kind (λ ns from. code_of program this ns x from) names at)
-        → IsLeft l (names_behind r names) stack left (behind at (into_code program this r kind (λ ns from. code_of program this ns x from) names at))
+    value_does : (r : Receiver) (kind : Kind) (j : Known) (x : NumberedExp) → Comes (IsKnown j) (eval here x) → Stands c at (into_code program this r kind j (λ ns from. code_of program this ns x from) names at)
+        → IsLeft l (names_behind r names) stack left (behind at (into_code program this r kind j (λ ns from. code_of program this ns x from) names at))
         → Does who c (spot at stack) (receives here r (eval here x)) (Moved left vs)
-    value_does r kind x st w =
-        let n = behind at (into_code program this r kind (λ ns from. code_of program this ns x from) names at) in
+    value_does r kind j x z st w =
+        let n = behind at (into_code program this r kind j (λ ns from. code_of program this ns x from) names at) in
         done_by left vs l n names (names_behind r names) stack slots holds (spot at stack) (receives here r (eval here x)) w (bare_behind r names bare)
         (simple.received c here names slots holds r (eval here x) at n (names_behind r names) stack (spot at stack)
-        (way.into_does c here names slots holds r kind (λ ns from. code_of program this ns x from) (eval here x) at stack (way.expression_right c here names slots holds x) st))
+        (way.into_does c here names slots holds r kind j (λ ns from. code_of program this ns x from) (eval here x) at stack z (way.expression_right c here names slots holds x) st))
 
     valued_does : (r : Receiver) (x : NumberedExp) → IsRight program this result x → Stands c at (valued_code program this r x (call_by x (called_method program this x)) names at)
         → IsLeft l (names_behind r names) stack left (behind at (valued_code program this r x (call_by x (called_method program this x)) names at))
         → Does who c (spot at stack) (valued_or_called here r x (called here x)) (Moved left vs)
     valued_does r x (inl z) st w =
         subst (λ o. Does who c (spot at stack) (valued_or_called here r x o) (Moved left vs)) (sym z)
-        (value_does r (kind_in program this x) x (subst (λ o. Stands c at (valued_code program this r x o names at)) z st)
+        (value_does r (kind_in program this x) (known_of program this x) x (known_is_so here names slots holds x) (subst (λ o. Stands c at (valued_code program this r x o names at)) z st)
         (subst (λ o. IsLeft l (names_behind r names) stack left (behind at (valued_code program this r x o names at))) z w))
     valued_does r x (inr k) st w =
         let code = call_code program this names (number_called program this x) k.0.call at in
         let mid = behind at code in
         let kind = kind_in program this x in
-        let rest = late_code program this r kind names mid in
+        let rest = late_code program this r kind known.Other names mid in
         let stands : Stands c at (code ++ rest) = subst (λ o. Stands c at (valued_code program this r x o names at)) k.0.is st in
         let after : IsLeft l (names_behind r names) stack left (behind mid rest) =
         subst (λ n. IsLeft l (names_behind r names) stack left n) (behind_both at code rest)
@@ -323,17 +328,17 @@ module _ (c : List Instr) (program : NumberedProgram) (method : NumberedMethod) 
 
     -- a new thing goes to its receiver
     made_does : (r : Receiver) (new : Asking Held) (code : List Instr) → Does who c (spot at stack) new (λ h s. s ≡ spot (behind at code) (h ∷ stack))
-        → Stands c at (code ++ late_code program this r Numbers names (behind at code))
-        → IsLeft l (names_behind r names) stack left (behind at (code ++ late_code program this r Numbers names (behind at code)))
+        → Stands c at (code ++ late_code program this r Numbers known.Other names (behind at code))
+        → IsLeft l (names_behind r names) stack left (behind at (code ++ late_code program this r Numbers known.Other names (behind at code)))
         → Does who c (spot at stack) (made_first here r new) (Moved left vs)
     made_does r new code d st w =
         let mid = behind at code in
-        let rest = late_code program this r Numbers names mid in
+        let rest = late_code program this r Numbers known.Other names mid in
         let after = subst (λ n. IsLeft l (names_behind r names) stack left n) (behind_both at code rest) w in
         next c here names slots holds (Moved left vs) mid stack (spot at stack) new (λ h. receives here r (gives h)) d
         (λ h. done_by left vs l (behind mid rest) names (names_behind r names) stack slots holds (spot mid (h ∷ stack)) (receives here r (gives h)) after (bare_behind r names bare)
         (simple.received c here names slots holds r (gives h) mid (behind mid rest) (names_behind r names) stack (spot mid (h ∷ stack))
-        (way.late_does c here names slots holds r Numbers h mid stack (rest_stands c at code rest st))))
+        (way.late_does c here names slots holds r Numbers known.Other h mid stack tt (rest_stands c at code rest st))))
 
     init_does : (r : Receiver) (value : NumberedInit) → InitFine program this result value → Stands c at (init_code program this r value names at)
         → IsLeft l (names_behind r names) stack left (behind at (init_code program this r value names at)) → Does who c (spot at stack) (initialized here r value) (Moved left vs)
@@ -350,7 +355,7 @@ module _ (c : List Instr) (program : NumberedProgram) (method : NumberedMethod) 
         (making.grid_does c here names slots holds p region element.type q dims at stack (front_stands c at (grid_code program this names p region element.type q dims at) _ st)) st w
     init_does r (s.Broadcast p x root) z st w =
         let code = broadcast_code program this p names x root at in
-        let rest = late_code program this r (kind_in program this x) names (behind at code) in
+        let rest = late_code program this r (kind_in program this x) known.Other names (behind at code) in
         let after = subst (λ n. IsLeft l (names_behind r names) stack left n) (behind_both at code rest) w in
         does_weaker who c _ (Moved left vs) (spot at stack) (broadcasts here r p x root)
         (broadcast_does c here names slots holds p r x root at stack (front_stands c at code rest st))
@@ -374,8 +379,8 @@ module _ (c : List Instr) (program : NumberedProgram) (method : NumberedMethod) 
     -- ---- expressions that stand alone
 
     form_does : (form : Option BuiltIn) (p : Place) (x : NumberedExp) (name : ℕ) (args : NumberedExps)
-        → Stands c at (form_code program this form p names x args at (into_code program this Nowhere Numbers (λ ns from. code_of program this ns (e.Member p x name args) from) names at))
-        → IsLeft l names stack left (behind at (form_code program this form p names x args at (into_code program this Nowhere Numbers (λ ns from. code_of program this ns (e.Member p x name args) from) names at)))
+        → Stands c at (form_code program this form p names x args at (into_code program this Nowhere Numbers known.Other (λ ns from. code_of program this ns (e.Member p x name args) from) names at))
+        → IsLeft l names stack left (behind at (form_code program this form p names x args at (into_code program this Nowhere Numbers known.Other (λ ns from. code_of program this ns (e.Member p x name args) from) names at)))
         → Does who c (spot at stack) (member_alone here p x args (receives here Nowhere (eval here (e.Member p x name args))) form) (Moved left vs)
     form_does (Some Copy) p x name args st w = grids.copies_do c program method this_id number procs left vs l names slots stack holds bare p x args at st w
     form_does (Some Exchange) p x name args st w = grids.exchanges_do c program method this_id number procs left vs l names slots stack holds bare p x args at team_is st w
@@ -387,11 +392,11 @@ module _ (c : List Instr) (program : NumberedProgram) (method : NumberedMethod) 
         let after = subst (λ n. IsLeft l names stack left n) (behind_both at code tail) w in
         next c here names slots holds (Moved left vs) mid stack (spot at stack) (eval here x) (λ h. gives (Deletes p (region_of h))) (does c here names slots holds x at stack (front_stands c at code tail st))
         (λ h. does_value who c (Moved left vs) (spot mid (h ∷ stack)) (Deletes p (region_of h)) (last.0, last.1.0, h, stack, refl, refl, (l, names, holds, after, bare)))
-    form_does form p x name args st w = value_does Nowhere Numbers (e.Member p x name args) st w
+    form_does form p x name args st w = value_does Nowhere Numbers known.Other (e.Member p x name args) (untold (eval here (e.Member p x name args))) st w
 
     other_does : (x : NumberedExp) → Stands c at (other_code program this names x at) → IsLeft l names stack left (behind at (other_code program this names x at)) → Does who c (spot at stack) (alone here x None) (Moved left vs)
     other_does (e.Member p x name args) st w = form_does (member_called program this x name) p x name args st w
-    other_does x st w = value_does Nowhere Numbers x st w
+    other_does x st w = value_does Nowhere Numbers known.Other x (untold (eval here x)) st w
 
     statement_does : (x : NumberedStm) → StmFine program this result x names → Stands c at (stm x l names at) → IsLeft l (names_after x names) stack left (behind at (stm x l names at))
         → Does who c (spot at stack) (statement here x) (Moved left vs)
@@ -693,10 +698,10 @@ module _ (c : List Instr) (program : NumberedProgram) (method : NumberedMethod) 
       lap_does left vs outer before below from p x domain body walk m k bare q points top slots z h
   work_does w left vs l names slots stack at (last {p = p} {x = x} void st) h bare = return_does [] vs names slots stack at h p x void st
   work_does w left vs l names slots stack at (receives_left {stack = below} {r = r} {h = value} kind st k) h bare =
-      let n = behind at (late_code program this r kind names at) in
+      let n = behind at (late_code program this r kind known.Other names at) in
       done_by left vs l n names (names_behind r names) below slots h (record { at = at; slots = slots; stack = value ∷ below }) (receives (env vs left) r (gives value)) k (bare_behind r names bare)
       (simple.received c (env vs left) names slots h r (gives value) at n (names_behind r names) below (record { at = at; slots = slots; stack = value ∷ below })
-      (way.late_does c (env vs left) names slots h r kind value at below st))
+      (way.late_does c (env vs left) names slots h r kind known.Other value at below tt st))
 
   walking_does : (w : Work) (left : List Work) (vs : List Variable) (s : Spot) → standing.Walking c program method this_id number procs (w ∷ left) vs s → Does who c s (performed (env vs left) w) (Moved left vs)
   walking_does (CopyAll p to from points) left vs s z = copied_does c program method this_id number procs p to from points left vs s z

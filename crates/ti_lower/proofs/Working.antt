@@ -24,6 +24,7 @@ use Rattle.ti_code.specs.declared.instr.Instr.TheVariants as i
 use Rattle.ti_code.specs.Effects.{trimmed}
 use Rattle.ti_code.specs.Leading.{Stands, behind}
 use Rattle.ti_lower_expr.specs.declared.kinds.Kind.{Kind}
+use Rattle.ti_lower_expr.specs.declared.kinds.Known.TheVariants as known
 use Rattle.ti_lower_expr.specs.Slots.{Name, This, Of, Hidden, Holds, none, object, variable, turn, hidden}
 use Rattle.ti_lower_expr.specs.Slots as slot_of
 use Rattle.ti_lower.specs.Calling.{number_called}
@@ -155,7 +156,7 @@ module _ (c : List Instr) (program : NumberedProgram) (this : Option ℕ) (resul
           → Stands c at (stm_code program this result (s.Return p (Some x)) l names at) → Left l names stack (Do (s.Return p (Some x)) ∷ []) at
       -- a value that a call or a collective gave goes to its receiver
       receives : {l : Option Labels} {names : List Name} {stack : List Held} {left : List Work} {at : ℕ} {r : Receiver} {h : Held} → (kind : Kind)
-          → Stands c at (late_code program this r kind names at) → Left l (names_behind r names) stack left (behind at (late_code program this r kind names at))
+          → Stands c at (late_code program this r kind known.Other names at) → Left l (names_behind r names) stack left (behind at (late_code program this r kind known.Other names at))
           → Left l names (h ∷ stack) (Receive r h ∷ left) at
       over : {l : Option Labels} {names : List Name} {stack : List Held} {left : List Work} {at target : ℕ} → slice_get c at ≡ Some (i.Jump target)
           → Left l names stack left target → Left l names stack left at
@@ -235,7 +236,7 @@ module _ (c : List Instr) (program : NumberedProgram) (this : Option ℕ) (resul
     where
       never : This ∷ [] ≡ slot_of.Point x ∷ ns → ⊥
       never e = cc
-  unturned this_id all ns vs ts rest t hs x (variable {ns = ms} {x = y} k) e f = absurd (never e)
+  unturned this_id all ns vs ts rest t hs x (variable {ns = ms} {x = y} z k) e f = absurd (never e)
     where
       never : Of y ∷ ms ≡ slot_of.Point x ∷ ns → ⊥
       never e = cc

@@ -13,6 +13,7 @@ use Rattle.ti_code.specs.declared.instr.Instr.{Instr}
 use Rattle.ti_code.specs.declared.instr.Instr.TheVariants as i
 use Rattle.ti_code.specs.Leading.{behind}
 use Rattle.ti_lower_expr.specs.Slots.{Name}
+use Rattle.ti_lower_expr.specs.Knowing.{known_of}
 use Rattle.ti_lower_expr.specs.Coding.{code_of, conversion}
 
 -- ---- calls
@@ -32,7 +33,8 @@ number_called program this other = 0
 module _ (program : NumberedProgram) (this : Option ℕ) (names : List Name) where
   -- an argument, made one of its parameter's type
   abbrev pub arg_code : VariableUse → NumberedExp → ℕ → List Instr
-  arg_code p x at = code_of program this names x at ++ conversion (place_of_numbered x) (declared_type p.declared)
+  arg_code p x at =
+      code_of program this names x at ++ conversion (place_of_numbered x) (declared_type p.declared) (known_of program this x)
 
   abbrev pub args_code : List VariableUse → NumberedExps → ℕ → List Instr
   args_code (p ∷ ps) (e.MoreExp x xs) at = arg_code p x at ++ args_code ps xs (behind at (arg_code p x at))

@@ -26,6 +26,8 @@ use Rattle.ti_code.specs.declared.instr.Member.TheVariants as kind
 use Rattle.ti_code.specs.Leading.{behind}
 use Rattle.ti_lower_expr.specs.Slots.{Name, Of, Point}
 use Rattle.ti_lower_expr.specs.declared.kinds.Kind.TheVariants.{Numbers}
+use Rattle.ti_lower_expr.specs.declared.kinds.Known.TheVariants as known
+use Rattle.ti_lower_expr.specs.Knowing.{known_of}
 use Rattle.ti_lower_expr.specs.Coding.{kind_in, code_of, code_of_all, conversion, pops}
 use Rattle.ti_lower.specs.Calling.{number_called, call_code}
 use Rattle.ti_lower.specs.Receivers.{into_code, late_code}
@@ -169,24 +171,26 @@ module _ (program : NumberedProgram) (this : Option ℕ) where
 
   -- a call, and the way of what it gives; or the way of another value
   abbrev pub valued_code : Receiver → NumberedExp → Option Call → List Name → ℕ → List Instr
-  valued_code r x None names at = into_code program this r (kind_in program this x) (λ ns from. code_of program this ns x from) names at
+  valued_code r x None names at =
+      into_code program this r (kind_in program this x) (known_of program this x) (λ ns from. code_of program this ns x from) names at
   valued_code r x (Some c) names at =
       let first = call_code program this names (number_called program this x) c at in
-      first ++ late_code program this r (kind_in program this x) names (behind at first)
+      first ++ late_code program this r (kind_in program this x) known.Other names (behind at first)
 
   -- the right side of a declaration or an assignment, and the way of its value to its receiver
   abbrev pub init_code : Receiver → NumberedInit → List Name → ℕ → List Instr
   init_code r (s.Value x) names at = valued_code r x (call_by x (called_method program this x)) names at
-  init_code r (s.NewRegion p) names at = i.Arrive coll.MakeRegion p ∷ i.Depart p ∷ late_code program this r Numbers names (at + 1 + 1)
+  init_code r (s.NewRegion p) names at =
+      i.Arrive coll.MakeRegion p ∷ i.Depart p ∷ late_code program this r Numbers known.Other names (at + 1 + 1)
   init_code r (s.NewObject p region class) names at =
       let first = object_code names p region class at in
-      first ++ late_code program this r Numbers names (behind at first)
+      first ++ late_code program this r Numbers known.Other names (behind at first)
   init_code r (s.NewGrid p region element q dims) names at =
       let first = grid_code names p region element.type q dims at in
-      first ++ late_code program this r Numbers names (behind at first)
+      first ++ late_code program this r Numbers known.Other names (behind at first)
   init_code r (s.Broadcast p x root) names at =
       let first = broadcast_code p names x root at in
-      first ++ late_code program this r (kind_in program this x) names (behind at first)
+      first ++ late_code program this r (kind_in program this x) known.Other names (behind at first)
 
   -- ---- expressions that stand alone
 
@@ -221,8 +225,8 @@ module _ (program : NumberedProgram) (this : Option ℕ) where
   abbrev pub other_code : List Name → NumberedExp → ℕ → List Instr
   other_code names (e.Member p x name args) at =
       form_code (member_called program this x name) p names x args at
-      (into_code program this Nowhere Numbers (λ ns from. code_of program this ns (e.Member p x name args) from) names at)
-  other_code names x at = into_code program this Nowhere Numbers (λ ns from. code_of program this ns x from) names at
+      (into_code program this Nowhere Numbers known.Other (λ ns from. code_of program this ns (e.Member p x name args) from) names at)
+  other_code names x at = into_code program this Nowhere Numbers known.Other (λ ns from. code_of program this ns x from) names at
 
   -- a call whose value, where there is one, is dropped
   abbrev pub alone_code : Bool → NumberedExp → Option Call → List Name → ℕ → List Instr
@@ -273,7 +277,8 @@ module _ (program : NumberedProgram) (this : Option ℕ) (result : ValueType) wh
     stm_code (s.Break p) l names at = break_code l names at
     stm_code (s.Continue p) l names at = continue_code l names at
     stm_code (s.Return p None) l names at = i.Return ∷ []
-    stm_code (s.Return p (Some x)) l names at = code_of program this names x at ++ (conversion p result ++ i.ReturnValue ∷ [])
+    stm_code (s.Return p (Some x)) l names at =
+        code_of program this names x at ++ (conversion p result (known_of program this x) ++ i.ReturnValue ∷ [])
     stm_code (s.Call x) l names at =
         alone_code program this (gives_nothing program this (call_by x (called_method program this x))) x (call_by x (called_method program this x)) names at
 

@@ -20,6 +20,9 @@ use Rattle.ti_code.specs.declared.instr.Operation.{Operation}
 use Rattle.ti_code.specs.Leading.{behind}
 use Rattle.ti_lower_expr.specs.Slots.{Name, Of, Hidden, find_by, has_this}
 use Rattle.ti_lower_expr.specs.declared.kinds.Kind.{Kind}
+use Rattle.ti_lower_expr.specs.declared.kinds.Known.{Known}
+use Rattle.ti_lower_expr.specs.declared.kinds.Known.TheVariants as known
+use Rattle.ti_lower_expr.specs.Knowing.{known_declared, operated_known}
 use Rattle.ti_lower_expr.specs.Coding.{kind_of_type, operation, conversion, loaded, own, code_of, code_of_all}
 
 -- ---- variables
@@ -52,17 +55,25 @@ store_code names p (InSlot x) = kept (written_slot x names) ∷ []
 store_code names p (InField field) = i.PutField field p ∷ []
 store_code names p InElement = i.PutElem p ∷ []
 
--- What a target holds and a right side, by an operator, become what it holds. The code of the right side is told from an instruction on,
--- where slots have these names: the index of an element waits in a slot of its own.
-abbrev pub update_code : List Name → Place → Place → Operation → ValueType → TargetKind → (List Name → ℕ → List Instr) → ℕ → List Instr
-update_code names p q name type (InSlot x) right at =
-    loaded (written_slot x names) x ∷ (right names (at + 1) ++ i.Operate name p ∷ (conversion p type ++ store_code names p (InSlot x)))
-update_code names p q name type (InField field) right at =
-    i.Dup ∷ i.GetField field q ∷ (right names (at + 1 + 1) ++ i.Operate name p ∷ (conversion p type ++ store_code names p (InField field)))
-update_code names p q name type InElement right at =
+-- what is known of what a target holds: of a field and of an element nothing
+abbrev pub held_known : TargetKind → Known
+held_known (InSlot x) = known_declared x.declared
+held_known (InField field) = known.Other
+held_known InElement = known.Other
+
+-- What a target holds and a right side, by an operator of whose result so much is known, become what it holds. The code of the right side
+-- is told from an instruction on, where slots have these names: the index of an element waits in a slot of its own.
+abbrev pub update_code : List Name → Place → Place → Operation → Known → ValueType → TargetKind → (List Name → ℕ → List Instr) → ℕ
+    → List Instr
+update_code names p q name k type (InSlot x) right at =
+    loaded (written_slot x names) x ∷ (right names (at + 1) ++ i.Operate name p ∷ (conversion p type k ++ store_code names p (InSlot x)))
+update_code names p q name k type (InField field) right at =
+    i.Dup ∷ i.GetField field q ∷ (right names (at + 1 + 1) ++ i.Operate name p
+    ∷ (conversion p type k ++ store_code names p (InField field)))
+update_code names p q name k type InElement right at =
     let n = length names in
     i.Keep n ∷ i.Dup ∷ i.Load n ∷ i.GetElem q ∷ (right (Hidden ∷ names) (at + 1 + 1 + 1 + 1) ++ i.Operate name p
-    ∷ (conversion p type ++ i.Keep (n + 1) ∷ i.Load n ∷ i.Load (n + 1) ∷ i.PutElem p ∷ i.Trim n ∷ []))
+    ∷ (conversion p type k ++ i.Keep (n + 1) ∷ i.Load n ∷ i.Load (n + 1) ∷ i.PutElem p ∷ i.Trim n ∷ []))
 
 module _ (program : NumberedProgram) (this : Option ℕ) where
   -- the number of the field that `x.f` means
@@ -89,26 +100,29 @@ module _ (program : NumberedProgram) (this : Option ℕ) where
   abbrev pub updating : BinaryOperator → NumberedExp → Kind → Operation
   updating op target right = operation op (kind_of_type (type_in_text program this target)) right
 
-  -- what a right side comes to goes to its receiver
-  abbrev pub into_code : Receiver → Kind → (List Name → ℕ → List Instr) → List Name → ℕ → List Instr
-  into_code Nowhere kind right names at = right names at ++ i.Pop ∷ []
-  into_code (Declared p x) kind right names at = right names at ++ (conversion p (declared_type x.declared) ++ i.Keep (length names) ∷ [])
-  into_code (Assigned p target) kind right names at =
+  -- what a right side comes to, of which so much is known, goes to its receiver
+  abbrev pub into_code : Receiver → Kind → Known → (List Name → ℕ → List Instr) → List Name → ℕ → List Instr
+  into_code Nowhere kind k right names at = right names at ++ i.Pop ∷ []
+  into_code (Declared p x) kind k right names at =
+      right names at ++ (conversion p (declared_type x.declared) k ++ i.Keep (length names) ∷ [])
+  into_code (Assigned p target) kind k right names at =
       place_code names target at ++ (right names (behind at (place_code names target at))
-      ++ (conversion p (type_in_text program this target) ++ store_code names p (kind_of_target target)))
-  into_code (Updated p op target) kind right names at =
-      place_code names target at ++ update_code names p (place_of_numbered target) (updating op target kind) (type_in_text program this target)
+      ++ (conversion p (type_in_text program this target) k ++ store_code names p (kind_of_target target)))
+  into_code (Updated p op target) kind k right names at =
+      place_code names target at ++ update_code names p (place_of_numbered target) (updating op target kind)
+      (operated_known op (held_known (kind_of_target target)) k) (type_in_text program this target)
       (kind_of_target target) right (behind at (place_code names target at))
 
   -- A value that is there before its target is evaluated waits in a slot of its own, which is `right` then.
-  abbrev pub waiting_code : Receiver → Kind → List Name → ℕ → List Instr
-  waiting_code r kind names at =
-      i.Keep (length names) ∷ (into_code r kind (λ ns from. i.Load (length names) ∷ []) (Hidden ∷ names) (at + 1) ++ i.Trim (length names) ∷ [])
+  abbrev pub waiting_code : Receiver → Kind → Known → List Name → ℕ → List Instr
+  waiting_code r kind k names at =
+      i.Keep (length names)
+      ∷ (into_code r kind k (λ ns from. i.Load (length names) ∷ []) (Hidden ∷ names) (at + 1) ++ i.Trim (length names) ∷ [])
 
   -- a value that a call, a `new` or a collective gave goes to its receiver
-  abbrev pub late_code : Receiver → Kind → List Name → ℕ → List Instr
-  late_code Nowhere kind names at = i.Pop ∷ []
-  late_code (Declared p x) kind names at = conversion p (declared_type x.declared) ++ i.Keep (length names) ∷ []
-  late_code (Assigned p (e.Variable q x)) kind names at =
-      conversion p (type_in_text program this (e.Variable q x)) ++ kept (written_slot x names) ∷ []
-  late_code r kind names at = waiting_code r kind names at
+  abbrev pub late_code : Receiver → Kind → Known → List Name → ℕ → List Instr
+  late_code Nowhere kind k names at = i.Pop ∷ []
+  late_code (Declared p x) kind k names at = conversion p (declared_type x.declared) k ++ i.Keep (length names) ∷ []
+  late_code (Assigned p (e.Variable q x)) kind k names at =
+      conversion p (type_in_text program this (e.Variable q x)) k ++ kept (written_slot x names) ∷ []
+  late_code r kind k names at = waiting_code r kind k names at

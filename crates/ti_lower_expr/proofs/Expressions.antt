@@ -19,7 +19,7 @@ use Rattle.ti_lang.specs.Typing.Kinds.{is_local, is_point}
 use Rattle.ti_lang.specs.Typing.BuiltIn as b
 use Rattle.ti_lang.specs.Typing.Called.{member_called}
 use Rattle.ti_lang.specs.Typing.TextTypes.{how_many}
-use Rattle.ti_lang.specs.Meaning.Held.{Held, Plain, Dm, nothing, truth, truth_of, thing_of, point_of, zero_of}
+use Rattle.ti_lang.specs.Meaning.Held.{Held, Plain, Dm, nothing, truth, truth_of, thing_of, point_of, zero_of, as_type}
 use Rattle.ti_base.specs.Forms.{is_dim}
 use Rattle.ti_lang.specs.Meaning.Asking.{Request, Reference, Gives, Asking, ◌>>=◌, followed, gives, guarded, asked, found_or, needed}
 use Rattle.ti_lang.specs.Meaning.Literals as literal
@@ -40,13 +40,17 @@ use Rattle.ti_code.specs.Leading.{Stands, behind}
 use Rattle.ti_lower_expr.specs.Slots.{Name, Holds, find_slot, has_this}
 use Rattle.ti_lower_expr.specs.declared.kinds.Kind.{Kind}
 use Rattle.ti_lower_expr.specs.declared.kinds.Kind.TheVariants.{Numbers, Points, Rects, Domains}
+use Rattle.ti_lower_expr.specs.declared.kinds.Known.{Known}
+use Rattle.ti_lower_expr.specs.declared.kinds.Known.TheVariants as known
 use Rattle.ti_lower_expr.specs.declared.kinds.Laziness.{Laziness}
 use Rattle.ti_lower_expr.specs.declared.kinds.Laziness.TheVariants.{Never, Where}
-use Rattle.ti_lower_expr.specs.Coding.{operation, operation_in, kind_of_ranges, how_many_ranges, rect_instr, local_test, alone_code, code_of, code_of_all, code_of_range, code_of_ranges, laziness, operator_code, jump_where, constant, loaded, own, conversion, kind_code, pops, member_code, index_code}
+use Rattle.ti_lower_expr.specs.Coding.{operation, operation_in, kind_of_ranges, how_many_ranges, rect_instr, local_test, alone_code, code_of, code_of_all, code_of_range, code_of_ranges, laziness, operator_code, jump_where, constant, loaded, own, into_int, into_long, into_object, into_grid, conversion, kind_code, pops, member_code, index_code}
+use Rattle.ti_lower_expr.specs.Knowing.{IsKnown, known_of}
 use Rattle.ti_lower_expr.specs.Doing as doing
 use Rattle.ti_lower_expr.specs.Doing.{Outcome, Does, who_in}
 use Rattle.ti_lower_expr.proofs.Doing.{front_stands, rest_stands, behind_both, Alike, does_then, does_value, does_behind, does_one, does_it, alike_itself}
 use Rattle.ti_lower_expr.proofs.Finding.{IsFound, found, value_in, value_is, zero_is, IsOwn, own_held}
+use Rattle.ti_lower_expr.proofs.Knowing.{Comes, does_known, known_is_so}
 use Rattle.ti_lower_expr.proofs.Lazily.{never_settled, lazily_settled, lazily_open, lazily_right, jumps, jumps_not}
 use Rattle.ti_lower_expr.proofs.Stepping.{plain_is_stepped}
 use Rattle.ti_lower_expr.proofs.Operands.{pushed, under_more, under_all, taken_all}
@@ -133,6 +137,13 @@ module _ (c : List Instr) (env : Env) (names : List Name) (slots : List Held) (h
   abbrev pub Pushes : ℕ → List Held → Held → Spot → Type 0
   Pushes at stack = doing.Pushes slots at stack
 
+  -- a value of which something is known
+  pub next_known : {B : Type 0} (P : Held → Type 0) (Q : B → Spot → Type 0) (at : ℕ) (stack : List Held) (s : Spot) (m : Asking Held) (k : Held → Asking B) → Comes P m
+      → Does who c s m (Pushes at stack) → ((h : Held) → P h → Does who c (spot at (h ∷ stack)) (k h) Q) → Does who c s (m >>= k) Q
+  next_known P Q at stack s m k known d f =
+      does_then who c (λ h t. Pushes at stack h t × P h) Q s m k (does_known who c P (Pushes at stack) s m known d)
+      (λ h t x. subst (λ z. Does who c z (k h) Q) (sym x.0) (f h x.1))
+
   pub next : {B : Type 0} (Q : B → Spot → Type 0) (at : ℕ) (stack : List Held) (s : Spot) (m : Asking Held) (k : Held → Asking B)
       → Does who c s m (Pushes at stack) → ((h : Held) → Does who c (spot at (h ∷ stack)) (k h) Q) → Does who c s (m >>= k) Q
   next Q at stack s m k d f = does_then who c (Pushes at stack) Q s m k d (λ h t x. subst (λ z. Does who c z (k h) Q) (sym x) (f h))
@@ -149,6 +160,10 @@ module _ (c : List Instr) (env : Env) (names : List Name) (slots : List Held) (h
 
   pub value : (h : Held) (n : ℕ) (stack : List Held) → Does who c (spot n (h ∷ stack)) (gives h) (Pushes n stack)
   value h n stack = does_value who c (Pushes n stack) (spot n (h ∷ stack)) h refl
+
+  -- what comes to the value that is on top needs no instruction
+  stays : (m : Asking Held) (h : Held) (at : ℕ) (stack : List Held) → ((rs : List Answer) → m rs ≡ Gives h rs) → Does who c (spot at (h ∷ stack)) m (Pushes at stack)
+  stays m h at stack e rs = subst (λ g. Outcome who c (Pushes at stack) (spot at (h ∷ stack)) rs g) (sym (e rs)) (value h at stack rs)
 
   constant_does : (h : Held) (at : ℕ) (stack : List Held) → IsConstant h → Stands c at (constant h ∷ []) → Does who c (spot at stack) (gives h) (Pushes (at + 1) stack)
   constant_does (Plain value) at stack x st = instr (i.Const value) (gives (Plain value)) (spot at stack) (at + 1) stack st.0 (λ rs. refl)
@@ -168,16 +183,35 @@ module _ (c : List Instr) (env : Env) (names : List Name) (slots : List Held) (h
   own_does false at stack f st =
       instr (i.Const (v.Obj None)) (gives (Plain (v.Obj env.this))) (spot at stack) (at + 1) stack st.0 (λ rs. ap (λ o. Gives (spot (at + 1) (Plain (v.Obj o) ∷ stack)) rs) (sym f))
 
-  pub convert_does : (type : ValueType) (p : Place) (h : Held) (at : ℕ) (stack : List Held) → Stands c at (conversion p type)
-      → Does who c (spot at (h ∷ stack)) (converted p type h) (Pushes (behind at (conversion p type)) stack)
-  convert_does (t.Class class local) p h at stack st =
-      instr i.AsObj (converted p (t.Class class local) h) (spot at (h ∷ stack)) (at + 1) stack st.0 (λ rs. refl)
-  convert_does (t.Grid element dim local) p h at stack st =
-      instr i.AsGrid (converted p (t.Grid element dim local) h) (spot at (h ∷ stack)) (at + 1) stack st.0 (λ rs. refl)
-  convert_does (t.Dm dim) p h at stack st = instr (i.ToDom p) (converted p (t.Dm dim) h) (spot at (h ∷ stack)) (at + 1) stack st.0 (λ rs. refl)
-  convert_does t.Long p h at stack st = instr i.Widen (converted p t.Long h) (spot at (h ∷ stack)) (at + 1) stack st.0 (λ rs. refl)
-  convert_does t.Int p h at stack st = instr i.Narrow (converted p t.Int h) (spot at (h ∷ stack)) (at + 1) stack st.0 (λ rs. refl)
-  convert_does type p h at stack st = value h at stack
+  -- what goes into an int, a long, an object or a grid
+  int_does : (k : Known) (h : Held) (at : ℕ) (stack : List Held) → IsKnown k h → Stands c at (into_int k)
+      → Does who c (spot at (h ∷ stack)) (gives (as_type t.Int h)) (Pushes (behind at (into_int k)) stack)
+  int_does known.Int h at stack z st = stays (gives (as_type t.Int h)) h at stack (λ rs. ap (λ x. Gives x rs) z)
+  int_does k h at stack z st = instr i.Narrow (gives (as_type t.Int h)) (spot at (h ∷ stack)) (at + 1) stack st.0 (λ rs. refl)
+
+  long_does : (k : Known) (h : Held) (at : ℕ) (stack : List Held) → IsKnown k h → Stands c at (into_long k)
+      → Does who c (spot at (h ∷ stack)) (gives (as_type t.Long h)) (Pushes (behind at (into_long k)) stack)
+  long_does known.Long h at stack z st = stays (gives (as_type t.Long h)) h at stack (λ rs. ap (λ x. Gives x rs) z)
+  long_does k h at stack z st = instr i.Widen (gives (as_type t.Long h)) (spot at (h ∷ stack)) (at + 1) stack st.0 (λ rs. refl)
+
+  object_does : (k : Known) (h : Held) (at : ℕ) (stack : List Held) → IsKnown k h → Stands c at (into_object k)
+      → Does who c (spot at (h ∷ stack)) (gives (Plain (v.Obj (thing_of h)))) (Pushes (behind at (into_object k)) stack)
+  object_does known.Object h at stack z st = stays (gives (Plain (v.Obj (thing_of h)))) h at stack (λ rs. ap (λ x. Gives x rs) z)
+  object_does k h at stack z st = instr i.AsObj (gives (Plain (v.Obj (thing_of h)))) (spot at (h ∷ stack)) (at + 1) stack st.0 (λ rs. refl)
+
+  grid_does : (k : Known) (h : Held) (at : ℕ) (stack : List Held) → IsKnown k h → Stands c at (into_grid k)
+      → Does who c (spot at (h ∷ stack)) (gives (Plain (v.Grid (thing_of h)))) (Pushes (behind at (into_grid k)) stack)
+  grid_does known.Grid h at stack z st = stays (gives (Plain (v.Grid (thing_of h)))) h at stack (λ rs. ap (λ x. Gives x rs) z)
+  grid_does k h at stack z st = instr i.AsGrid (gives (Plain (v.Grid (thing_of h)))) (spot at (h ∷ stack)) (at + 1) stack st.0 (λ rs. refl)
+
+  pub convert_does : (type : ValueType) (k : Known) (p : Place) (h : Held) (at : ℕ) (stack : List Held) → IsKnown k h → Stands c at (conversion p type k)
+      → Does who c (spot at (h ∷ stack)) (converted p type h) (Pushes (behind at (conversion p type k)) stack)
+  convert_does (t.Class class local) k p h at stack z st = object_does k h at stack z st
+  convert_does (t.Grid element dim local) k p h at stack z st = grid_does k h at stack z st
+  convert_does (t.Dm dim) k p h at stack z st = instr (i.ToDom p) (converted p (t.Dm dim) h) (spot at (h ∷ stack)) (at + 1) stack st.0 (λ rs. refl)
+  convert_does t.Long k p h at stack z st = long_does k h at stack z st
+  convert_does t.Int k p h at stack z st = int_does k h at stack z st
+  convert_does type k p h at stack z st = value h at stack
 
   -- the test of a reference that is to be local
   local_does : (b : Bool) (p : Place) (h : Held) (at : ℕ) (stack : List Held) → Stands c at (local_test p b)
@@ -460,16 +494,17 @@ module _ (c : List Instr) (env : Env) (names : List Name) (slots : List Held) (h
         (rest_stands c at xs rest st)))
     does (e.Cast p type x) at stack st =
         let xs = code x at in
-        let change = conversion p type.type in
+        let k = known_of env.program (this_of env.method) x in
+        let change = conversion p type.type k in
         let test = local_test p (is_local type.type) in
         let mid = behind (behind at xs) change in
         moved (behind mid test) (behind at (xs ++ (change ++ test))) stack _ (eval env (e.Cast p type x))
         (sym (behind_both at xs (change ++ test) ∙ behind_both (behind at xs) change test))
-        (next (Pushes (behind mid test) stack) (behind at xs) stack (spot at stack) (eval env x)
-        (λ h rs. followed (converted p type.type h rs) (λ k. kept_local env.number p type.type k))
+        (next_known (IsKnown k) (Pushes (behind mid test) stack) (behind at xs) stack (spot at stack) (eval env x)
+        (λ h rs. followed (converted p type.type h rs) (λ k. kept_local env.number p type.type k)) (known_is_so env names slots holds x)
         (does x at stack (front_stands c at xs _ st))
-        (λ h. next (Pushes (behind mid test) stack) mid stack (spot (behind at xs) (h ∷ stack)) (converted p type.type h) (λ k. kept_local env.number p type.type k)
-        (convert_does type.type p h (behind at xs) stack (front_stands c (behind at xs) change test (rest_stands c at xs _ st)))
+        (λ h z. next (Pushes (behind mid test) stack) mid stack (spot (behind at xs) (h ∷ stack)) (converted p type.type h) (λ k. kept_local env.number p type.type k)
+        (convert_does type.type k p h (behind at xs) stack z (front_stands c (behind at xs) change test (rest_stands c at xs _ st)))
         (λ k. kept_does type.type p k mid stack (rest_stands c (behind at xs) change test (rest_stands c at xs _ st)))))
     does (e.Select p x name) at stack st =
         let xs = code x at in

@@ -13,7 +13,7 @@ use Rattle.ti_lower_expr.specs.Slots.{Name, Holds, none, object, variable, turn,
 pub as_many : (this : Option Id) (ns : List Name) (vs : List Variable) (ts : List Turn) (hs : List Held) → Holds this ns vs ts hs → length ns ≡ length hs
 as_many this ns vs ts hs (none z) = refl
 as_many this ns vs ts hs object = refl
-as_many this ns vs ts hs (variable {ns = ms} {vs = us} {ts = rs} {hs = gs} h) = ap suc (as_many this ms us rs gs h)
+as_many this ns vs ts hs (variable {ns = ms} {vs = us} {ts = rs} {hs = gs} k h) = ap suc (as_many this ms us rs gs h)
 as_many this ns vs ts hs (turn {ns = ms} {vs = us} {ts = rs} {hs = gs} h) = ap suc (as_many this ms us rs gs h)
 as_many this ns vs ts hs (hidden {ns = ms} {vs = us} {ts = rs} {hs = gs} h) = ap suc (as_many this ms us rs gs h)
 
@@ -73,9 +73,9 @@ found this ns vs ts hs (none z) (Typed s t) x = refl
 found this ns vs ts hs (none z) Foreach x = refl
 found this ns vs ts hs object (Typed s t) x = refl
 found this ns vs ts hs object Foreach x = refl
-found this ns vs ts hs (variable {ns = ms} {vs = us} {ts = rs} {hs = gs} {x = y} {h = g} h) (Typed s t) x =
+found this ns vs ts hs (variable {ns = ms} {vs = us} {ts = rs} {hs = gs} {x = y} {h = g} k h) (Typed s t) x =
     by_test (same_variable x y) (length ms) (find_by (Typed s t) x ms) g gs _ (find_variable x us) (as_many this ms us rs gs h) (found this ms us rs gs h (Typed s t) x)
-found this ns vs ts hs (variable {ns = ms} {vs = us} {ts = rs} {hs = gs} {x = y} {h = g} h) Foreach x =
+found this ns vs ts hs (variable {ns = ms} {vs = us} {ts = rs} {hs = gs} {x = y} {h = g} k h) Foreach x =
     one_more (find_by Foreach x ms) g gs _ (point_at x.number rs) (found this ms us rs gs h Foreach x)
 found this ns vs ts hs (turn {ns = ms} {vs = us} {ts = rs} {hs = gs} {t = r} h) (Typed s t) x =
     one_more (find_by (Typed s t) x ms) (Plain (v.Pt r.point)) gs _ (find_variable x us) (found this ms us rs gs h (Typed s t) x)
@@ -100,6 +100,6 @@ own_older false this h hs f = f
 pub own_held : (this : Option Id) (ns : List Name) (vs : List Variable) (ts : List Turn) (hs : List Held) → Holds this ns vs ts hs → IsOwn (has_this ns) this hs
 own_held this ns vs ts hs (none z) = z
 own_held this ns vs ts hs object = (omega arith, newest 0 (Plain (v.Obj this)) [] refl)
-own_held this ns vs ts hs (variable {ns = ms} {vs = us} {ts = rs} {hs = gs} {h = g} h) = own_older (has_this ms) this g gs (own_held this ms us rs gs h)
+own_held this ns vs ts hs (variable {ns = ms} {vs = us} {ts = rs} {hs = gs} {h = g} k h) = own_older (has_this ms) this g gs (own_held this ms us rs gs h)
 own_held this ns vs ts hs (turn {ns = ms} {vs = us} {ts = rs} {hs = gs} {t = r} h) = own_older (has_this ms) this (Plain (v.Pt r.point)) gs (own_held this ms us rs gs h)
 own_held this ns vs ts hs (hidden {ns = ms} {vs = us} {ts = rs} {hs = gs} {h = g} h) = own_older (has_this ms) this g gs (own_held this ms us rs gs h)

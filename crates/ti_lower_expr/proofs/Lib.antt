@@ -2,6 +2,7 @@ pub mod Doing
 pub mod Finding
 pub mod Lazily
 pub mod Stepping
+pub mod Knowing
 pub mod Operands
 pub mod Expressions
 pub mod Naming

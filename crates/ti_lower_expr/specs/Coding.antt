@@ -29,8 +29,11 @@ use Rattle.ti_code.specs.declared.instr.Member.TheVariants as kind
 use Rattle.ti_code.specs.Leading.{behind}
 use Rattle.ti_lower_expr.specs.declared.kinds.Kind.{Kind}
 use Rattle.ti_lower_expr.specs.declared.kinds.Kind.TheVariants.{Numbers, Points, Rects, Domains}
+use Rattle.ti_lower_expr.specs.declared.kinds.Known.{Known}
+use Rattle.ti_lower_expr.specs.declared.kinds.Known.TheVariants as known
 use Rattle.ti_lower_expr.specs.declared.kinds.Laziness.{Laziness}
 use Rattle.ti_lower_expr.specs.declared.kinds.Laziness.TheVariants.{Never, Where}
+use Rattle.ti_lower_expr.specs.Knowing.{known_of}
 use Rattle.ti_lower_expr.specs.Slots.{Name, find_slot, has_this}
 
 -- a value that the text tells
@@ -48,14 +51,31 @@ abbrev pub own : Bool → Instr
 own true = i.Load 0
 own false = i.Const (v.Obj None)
 
--- a value as one of a type
-abbrev pub conversion : Place → ValueType → List Instr
-conversion at (t.Dm dim) = i.ToDom at ∷ []
-conversion at t.Long = i.Widen ∷ []
-conversion at t.Int = i.Narrow ∷ []
-conversion at (t.Class class is_local) = i.AsObj ∷ []
-conversion at (t.Grid element dim is_local) = i.AsGrid ∷ []
-conversion at type = []
+-- What goes into an int, a long, an object or a grid and is known to stay the same there needs no instruction.
+abbrev pub into_int : Known → List Instr
+into_int known.Int = []
+into_int k = i.Narrow ∷ []
+
+abbrev pub into_long : Known → List Instr
+into_long known.Long = []
+into_long k = i.Widen ∷ []
+
+abbrev pub into_object : Known → List Instr
+into_object known.Object = []
+into_object k = i.AsObj ∷ []
+
+abbrev pub into_grid : Known → List Instr
+into_grid known.Grid = []
+into_grid k = i.AsGrid ∷ []
+
+-- a value, of which so much is known, as one of a type
+abbrev pub conversion : Place → ValueType → Known → List Instr
+conversion at (t.Dm dim) k = i.ToDom at ∷ []
+conversion at t.Long k = into_long k
+conversion at t.Int k = into_int k
+conversion at (t.Class class is_local) k = into_object k
+conversion at (t.Grid element dim is_local) k = into_grid k
+conversion at type k = []
 
 -- a reference of local type names a thing of the own process
 abbrev pub local_test : Place → Bool → List Instr
@@ -213,7 +233,7 @@ module _ (program : NumberedProgram) (this : Option ℕ) (names : List Name) whe
     code_of (e.Unary p op x) at = code_of x at ++ alone_code op
     code_of (e.Binary p op x y) at =
         code_of x at ++ operator_code (laziness op) (operation_in program this op x y) p (behind at (code_of x at)) (code_of y)
-    code_of (e.Cast p type x) at = code_of x at ++ (conversion p type.type ++ local_test p (is_local type.type))
+    code_of (e.Cast p type x) at = code_of x at ++ (conversion p type.type (known_of program this x) ++ local_test p (is_local type.type))
     code_of (e.Select p x name) at =
         code_of x at ++ i.GetField (unwrap_or (option_and_then (field_numbered program name) (class_of_type (type_in_text program this x))) 0) p ∷ []
     code_of (e.Member p x name args) at =

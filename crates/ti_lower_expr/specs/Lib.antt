@@ -1,3 +1,4 @@
+pub mod Knowing
 pub mod Slots
 pub mod Methods
 pub mod Coding

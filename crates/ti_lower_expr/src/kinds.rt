@@ -1,15 +1,18 @@
 // The names of operators and members.
 
-ghost use Rattle.std.specs.Prelude.{◌≡◌, option_map};
+ghost use Rattle.std.specs.Prelude.{◌≡◌, option_map, Some};
 ghost use Rattle.ti_syntax.specs.declared.tree.exprs.BinaryOperator.TheVariants as op;
-ghost use Rattle.ti_lang.specs.Program.Views.{program_of, expression_of};
+ghost use Rattle.ti_lang.specs.Program.Views.{program_of, expression_of, value_type_of, declared_of};
+ghost use Rattle.ti_lang.specs.Typing.Kinds.{is_point};
 ghost use Rattle.ti_lang.specs.Typing.Seen.{seen, built_in_of};
+ghost use Rattle.ti_lang.specs.Typing.TextTypes.{type_in_text as text_type};
 ghost use Rattle.ti_lower_expr.specs.Coding as coding;
+ghost use Rattle.ti_lower_expr.specs.Knowing as knowing;
 
 use ti_code::{Member, Operation};
-use ti_lang::program::{Expr, Parts};
-use ti_lang::tree::BinaryOperator;
-use ti_lang::typing::{BuiltIn, Seen, type_in_text};
+use ti_lang::program::{Declared, Expr, Parts, Ty};
+use ti_lang::tree::{BinaryOperator, UnaryOperator};
+use ti_lang::typing::{BuiltIn, Seen, member_called, type_in_text};
 
 /// What a type is, as far as the names of operators tell it.
 #[derive(Clone, Copy)]
@@ -18,6 +21,16 @@ pub enum Kind {
     Points,
     Rects,
     Domains,
+}
+
+/// What the text tells of a value for certain: that it stays as it is where it goes into an int, a long, an object or a grid.
+#[derive(Clone, Copy)]
+pub enum Known {
+    Int,
+    Long,
+    Object,
+    Grid,
+    Other,
 }
 
 /// Whether an operator may leave out its right operand, and by which value of the left one.
@@ -176,5 +189,182 @@ pub fn shown_member(called: Option<BuiltIn>) -> Option<Member>
     match called {
         Some(b) => shown(b),
         None => None,
+    }
+}
+
+// ---- what is known of values
+
+// What is known of each value that became one of a type.
+fn known_of_type(ty: &Ty) -> Known
+    ensures { result ≡ knowing.known_of_type (value_type_of ty.now) }
+{
+    match ty {
+        Ty::Int => Known::Int,
+        Ty::Long => Known::Long,
+        Ty::Class { class: _, local: _ } => Known::Object,
+        Ty::Grid {
+            elem: _,
+            dim: _,
+            local: _,
+        } => Known::Grid,
+        Ty::Bool => Known::Other,
+        Ty::Pt(_) => Known::Other,
+        Ty::Rc(_) => Known::Other,
+        Ty::Dm(_) => Known::Other,
+        Ty::Region => Known::Other,
+        Ty::Null => Known::Other,
+        Ty::Void => Known::Other,
+    }
+}
+
+/// What is known of each value that a variable holds which is declared so.
+pub fn known_declared(declared: &Declared) -> Known
+    ensures { result ≡ knowing.known_declared (declared_of declared.now) }
+{
+    match declared {
+        Declared::Typed { single: _, ty } => known_of_type(ty),
+        Declared::Foreach => Known::Other,
+    }
+}
+
+// What gives no long where the operand is none.
+fn narrow(k: Known) -> Known
+    ensures { result ≡ knowing.narrow_known k }
+{
+    match k {
+        Known::Int => Known::Int,
+        Known::Long | Known::Object | Known::Grid | Known::Other => Known::Other,
+    }
+}
+
+// What gives a long where an operand is one.
+fn joined(left: Known, right: Known) -> Known
+    ensures { result ≡ knowing.joined_known left right }
+{
+    match left {
+        Known::Long => Known::Long,
+        Known::Int => match right {
+            Known::Int => Known::Int,
+            Known::Long => Known::Long,
+            Known::Object | Known::Grid | Known::Other => Known::Other,
+        },
+        Known::Object | Known::Grid | Known::Other => match right {
+            Known::Long => Known::Long,
+            Known::Int | Known::Object | Known::Grid | Known::Other => Known::Other,
+        },
+    }
+}
+
+/// What is known of what an operator gives.
+pub fn known_operated(operator: BinaryOperator, left: Known, right: Known) -> Known
+    ensures { result ≡ knowing.operated_known operator left right }
+{
+    match operator {
+        BinaryOperator::Add
+        | BinaryOperator::Subtract
+        | BinaryOperator::Multiply
+        | BinaryOperator::Divide
+        | BinaryOperator::Remainder
+        | BinaryOperator::And
+        | BinaryOperator::Or
+        | BinaryOperator::Xor => joined(left, right),
+        BinaryOperator::ShiftLeft
+        | BinaryOperator::ShiftRight
+        | BinaryOperator::UnsignedShiftRight => narrow(left),
+        BinaryOperator::Equal
+        | BinaryOperator::NotEqual
+        | BinaryOperator::Less
+        | BinaryOperator::LessEqual
+        | BinaryOperator::Greater
+        | BinaryOperator::GreaterEqual
+        | BinaryOperator::AndThen
+        | BinaryOperator::OrElse => Known::Other,
+    }
+}
+
+// The same of an operator of one operand.
+fn known_alone(operator: UnaryOperator, k: Known) -> Known
+    ensures { result ≡ knowing.alone_known operator k }
+{
+    match operator {
+        UnaryOperator::Minus | UnaryOperator::Complement => narrow(k),
+        UnaryOperator::Plus => k,
+        UnaryOperator::Not => Known::Other,
+    }
+}
+
+// The same of a member of the language.
+fn known_built_in(b: BuiltIn) -> Known
+    ensures { result ≡ knowing.member_known (Some (built_in_of b)) }
+{
+    match b {
+        BuiltIn::Size => Known::Int,
+        BuiltIn::Min
+        | BuiltIn::Max
+        | BuiltIn::Contains
+        | BuiltIn::Domain
+        | BuiltIn::Restrict
+        | BuiltIn::Translate
+        | BuiltIn::Slice
+        | BuiltIn::Copy
+        | BuiltIn::Exchange
+        | BuiltIn::Delete => Known::Other,
+    }
+}
+
+fn known_member(called: Option<BuiltIn>) -> Known
+    ensures { result ≡ knowing.member_known (option_map built_in_of called) }
+{
+    match called {
+        Some(b) => known_built_in(b),
+        None => Known::Other,
+    }
+}
+
+// The same of an index of a point or a grid.
+fn known_indexed(program: &Parts, this: Option<u32>, receiver: &Expr) -> Known
+    ensures { result ≡ knowing.index_known (is_point (text_type (program_of program.now) this (expression_of receiver.now))) }
+{
+    match type_in_text(program, this, receiver) {
+        Seen::Pt(_) => Known::Int,
+        _ => Known::Other,
+    }
+}
+
+/// What is known of the value of an expression in a method with this class.
+pub fn known_of(program: &Parts, this: Option<u32>, e: &Expr) -> Known
+    ensures { result ≡ knowing.known_of (program_of program.now) this (expression_of e.now) }
+{
+    match e {
+        Expr::Int(_, _) | Expr::ThisProc(_) | Expr::NumProcs(_) => Known::Int,
+        Expr::Long(_, _) => Known::Long,
+        Expr::Null(_) | Expr::This(_) => Known::Object,
+        Expr::Variable(_, v) => known_declared(&v.declared),
+        Expr::Unary {
+            operator,
+            operand,
+            ..
+        } => known_alone(*operator, known_of(program, this, operand)),
+        Expr::Binary {
+            operator,
+            left,
+            right,
+            ..
+        } => {
+            let first = known_of(program, this, left);
+            known_operated(*operator, first, known_of(program, this, right))
+        }
+        Expr::Cast { to, .. } => known_of_type(&to.ty),
+        Expr::Member { receiver, name, .. } => {
+            known_member(member_called(program, this, receiver, *name))
+        }
+        Expr::Index { receiver, .. } => known_indexed(program, this, receiver),
+        Expr::Truth(_, _)
+        | Expr::OwnField(_, _)
+        | Expr::Point(_, _)
+        | Expr::Rect(_, _)
+        | Expr::Select { .. }
+        | Expr::Call { .. }
+        | Expr::OwnCall { .. } => Known::Other,
     }
 }

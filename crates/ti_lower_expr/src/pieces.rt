@@ -16,7 +16,7 @@ ghost use Rattle.ti_lower_expr.specs.Coding as coding;
 ghost use Rattle.ti_lower_expr.specs.Slots.{find_slot, has_this};
 ghost use Rattle.ti_lower_expr.specs.Contents.{names_in};
 
-use crate::kinds::Kind;
+use crate::kinds::{Kind, Known};
 use crate::slots::Slots;
 use ti_base::{Memory, Place, Point, Rect, Value};
 use ti_code::{Instr, Member, OneOperand};
@@ -211,20 +211,62 @@ pub fn jump_where(left: bool, target: usize) -> Result<Instr, Memory>
     }
 }
 
-/// The value on top as one of a type.
-pub fn add_conversion(place: Place, ty: &Ty, out: &mut Vec<Instr>) -> Result<(), Memory>
-    ensures { OnOk result (out.new.items ≡ out.old.items ++ coding.conversion place (value_type_of ty.now)) }
+// A value that goes into an int, a long, an object or a grid, and may change there.
+fn add_narrow(known: Known, out: &mut Vec<Instr>) -> Result<(), Memory>
+    ensures { OnOk result (out.new.items ≡ out.old.items ++ coding.into_int known) }
+{
+    match known {
+        Known::Int => Ok(()),
+        Known::Long | Known::Object | Known::Grid | Known::Other => add(Instr::Narrow, out),
+    }
+}
+
+fn add_widen(known: Known, out: &mut Vec<Instr>) -> Result<(), Memory>
+    ensures { OnOk result (out.new.items ≡ out.old.items ++ coding.into_long known) }
+{
+    match known {
+        Known::Long => Ok(()),
+        Known::Int | Known::Object | Known::Grid | Known::Other => add(Instr::Widen, out),
+    }
+}
+
+fn add_as_object(known: Known, out: &mut Vec<Instr>) -> Result<(), Memory>
+    ensures { OnOk result (out.new.items ≡ out.old.items ++ coding.into_object known) }
+{
+    match known {
+        Known::Object => Ok(()),
+        Known::Int | Known::Long | Known::Grid | Known::Other => add(Instr::AsObj, out),
+    }
+}
+
+fn add_as_grid(known: Known, out: &mut Vec<Instr>) -> Result<(), Memory>
+    ensures { OnOk result (out.new.items ≡ out.old.items ++ coding.into_grid known) }
+{
+    match known {
+        Known::Grid => Ok(()),
+        Known::Int | Known::Long | Known::Object | Known::Other => add(Instr::AsGrid, out),
+    }
+}
+
+/// The value on top, of which so much is known, as one of a type.
+pub fn add_conversion(
+    place: Place,
+    ty: &Ty,
+    known: Known,
+    out: &mut Vec<Instr>,
+) -> Result<(), Memory>
+    ensures { OnOk result (out.new.items ≡ out.old.items ++ coding.conversion place (value_type_of ty.now) known) }
 {
     match ty {
         Ty::Dm(_) => add(Instr::ToDom(place), out),
-        Ty::Long => add(Instr::Widen, out),
-        Ty::Int => add(Instr::Narrow, out),
-        Ty::Class { class: _, local: _ } => add(Instr::AsObj, out),
+        Ty::Long => add_widen(known, out),
+        Ty::Int => add_narrow(known, out),
+        Ty::Class { class: _, local: _ } => add_as_object(known, out),
         Ty::Grid {
             elem: _,
             dim: _,
             local: _,
-        } => add(Instr::AsGrid, out),
+        } => add_as_grid(known, out),
         Ty::Bool => Ok(()),
         Ty::Pt(_) => Ok(()),
         Ty::Rc(_) => Ok(()),
@@ -260,11 +302,11 @@ fn add_local_test(place: Place, is_local: bool, out: &mut Vec<Instr>) -> Result<
     }
 }
 
-/// A cast to a type.
-pub fn add_cast(place: Place, ty: &Ty, out: &mut Vec<Instr>) -> Result<(), Memory>
-    ensures { OnOk result (out.new.items ≡ out.old.items ++ (coding.conversion place (value_type_of ty.now) ++ coding.local_test place (is_local (value_type_of ty.now)))) }
+/// A cast of a value, of which so much is known, to a type.
+pub fn add_cast(place: Place, ty: &Ty, known: Known, out: &mut Vec<Instr>) -> Result<(), Memory>
+    ensures { OnOk result (out.new.items ≡ out.old.items ++ (coding.conversion place (value_type_of ty.now) known ++ coding.local_test place (is_local (value_type_of ty.now)))) }
 {
-    add_conversion(place, ty, out)?;
+    add_conversion(place, ty, known, out)?;
     add_local_test(place, is_local(ty), out)
 }
 

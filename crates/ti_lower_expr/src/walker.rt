@@ -13,7 +13,7 @@ ghost use Rattle.ti_lower_expr.specs.Coding as coding;
 ghost use Rattle.ti_lower_expr.specs.Walking.{code_in, all_in, range_in, ranges_in, next};
 
 use crate::fields::field_selected;
-use crate::kinds::{Kind, Laziness, kind_in, laziness_of, operation_in, shown_member};
+use crate::kinds::{Kind, Laziness, kind_in, known_of, laziness_of, operation_in, shown_member};
 use crate::pieces::{
     add, add_alone, add_cast, add_index, add_member, add_point, counted, jump_where, own,
     rect_instr, variable,
@@ -267,7 +267,7 @@ pub fn walk(w: &Walker, e: &Expr, out: &mut Vec<Instr>) -> Result<(), Memory>
         }
         Expr::Cast { place, to, operand } => {
             walk(w, operand, out)?;
-            add_cast(*place, &to.ty, out)
+            add_cast(*place, &to.ty, known_of(w.program, w.this, operand), out)
         }
         Expr::Select {
             place,

@@ -1,0 +1,101 @@
+-- What the text tells of a value for certain, whatever the process holds: a conversion that it makes idle needs no instruction.
+use Rattle.std.specs.Prelude.{◌≡◌, ℕ, Bool, true, false, Option, Some}
+use Rattle.ti_syntax.specs.declared.tree.exprs.BinaryOperator.{BinaryOperator}
+use Rattle.ti_syntax.specs.declared.tree.exprs.BinaryOperator.TheVariants as op
+use Rattle.ti_syntax.specs.declared.tree.exprs.UnaryOperator.{UnaryOperator}
+use Rattle.ti_syntax.specs.declared.tree.exprs.UnaryOperator.TheVariants as un
+use Rattle.ti_lang.specs.Program.Types.{ValueType, Declaration, Typed, Foreach}
+use Rattle.ti_lang.specs.Program.Types as t
+use Rattle.ti_lang.specs.Program.Expressions.{NumberedExp}
+use Rattle.ti_lang.specs.Program.Expressions as e
+use Rattle.ti_lang.specs.Program.Classes.{NumberedProgram}
+use Rattle.ti_lang.specs.Typing.Kinds.{is_point}
+use Rattle.ti_lang.specs.Typing.BuiltIn as b
+use Rattle.ti_lang.specs.Typing.Called.{member_called}
+use Rattle.ti_lang.specs.Typing.TextTypes.{type_in_text}
+use Rattle.ti_lang.specs.Meaning.Held.{Held, Plain, thing_of, as_type}
+use Rattle.ti_base.specs.declared.value.Value.TheVariants as v
+use Rattle.ti_lower_expr.specs.declared.kinds.Known.{Known}
+use Rattle.ti_lower_expr.specs.declared.kinds.Known.TheVariants as known
+
+-- What is so of a value of which this is known: it stays the same as an int, as a long, as an object, as a grid. So what is known to be an
+-- int is no long, whatever else it is.
+abbrev pub IsKnown : Known → Held → Type 0
+IsKnown known.Int h = as_type t.Int h ≡ h
+IsKnown known.Long h = as_type t.Long h ≡ h
+IsKnown known.Object h = Plain (v.Obj (thing_of h)) ≡ h
+IsKnown known.Grid h = Plain (v.Grid (thing_of h)) ≡ h
+IsKnown known.Other h = Unit {0}
+
+-- what is known of each value that became one of a type
+abbrev pub known_of_type : ValueType → Known
+known_of_type t.Int = known.Int
+known_of_type t.Long = known.Long
+known_of_type (t.Class class is_local) = known.Object
+known_of_type (t.Grid element dim is_local) = known.Grid
+known_of_type type = known.Other
+
+-- what is known of each value that a variable holds which is declared so
+abbrev pub known_declared : Declaration → Known
+known_declared (Typed is_single type) = known_of_type type
+known_declared Foreach = known.Other
+
+-- what an operator gives that makes a long where an operand is one
+abbrev pub joined_known : Known → Known → Known
+joined_known known.Long y = known.Long
+joined_known x known.Long = known.Long
+joined_known known.Int known.Int = known.Int
+joined_known x y = known.Other
+
+-- what gives no long where the operand is none; of a long nothing is told, since that is known to be no int, and no more
+abbrev pub narrow_known : Known → Known
+narrow_known known.Int = known.Int
+narrow_known x = known.Other
+
+-- what an operator gives
+abbrev pub operated_known : BinaryOperator → Known → Known → Known
+operated_known op.Add x y = joined_known x y
+operated_known op.Subtract x y = joined_known x y
+operated_known op.Multiply x y = joined_known x y
+operated_known op.Divide x y = joined_known x y
+operated_known op.Remainder x y = joined_known x y
+operated_known op.And x y = joined_known x y
+operated_known op.Or x y = joined_known x y
+operated_known op.Xor x y = joined_known x y
+operated_known op.ShiftLeft x y = narrow_known x
+operated_known op.ShiftRight x y = narrow_known x
+operated_known op.UnsignedShiftRight x y = narrow_known x
+operated_known o x y = known.Other
+
+abbrev pub alone_known : UnaryOperator → Known → Known
+alone_known un.Minus x = narrow_known x
+alone_known un.Complement x = narrow_known x
+alone_known un.Plus x = x
+alone_known un.Not x = known.Other
+
+-- a member that gives an int
+abbrev pub member_known : Option b.BuiltIn → Known
+member_known (Some b.Size) = known.Int
+member_known m = known.Other
+
+-- a coordinate of a point is an int; of an element nothing is told
+abbrev pub index_known : Bool → Known
+index_known true = known.Int
+index_known false = known.Other
+
+module _ (program : NumberedProgram) (this : Option ℕ) where
+  -- what is known of the value of an expression
+  abbrev pub known_of : NumberedExp → Known
+  known_of (e.Int p n) = known.Int
+  known_of (e.Long p n) = known.Long
+  known_of (e.Null p) = known.Object
+  known_of (e.This p) = known.Object
+  known_of (e.Variable p x) = known_declared x.declared
+  known_of (e.ThisProc p) = known.Int
+  known_of (e.NumProcs p) = known.Int
+  known_of (e.Unary p op x) = alone_known op (known_of x)
+  known_of (e.Binary p op x y) = operated_known op (known_of x) (known_of y)
+  known_of (e.Cast p type x) = known_of_type type.type
+  known_of (e.Member p x name args) = member_known (member_called program this x name)
+  known_of (e.Index p x parts) = index_known (is_point (type_in_text program this x))
+  known_of other = known.Other
