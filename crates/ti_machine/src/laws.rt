@@ -15,7 +15,8 @@ pub fn has_one_next()
 
 /// Where the code follows a program, a process has next what that of the program has after the same answers, as long as each fits.
 pub fn following_code_goes_on()
-    ensures { (s : Standing) (program : NumberedProgram) → Follows s.code program → 1 ≤ s.procs → s.procs ≤ 32 → 1 ≤ s.fuel → s.fuel ≤ 4000000 → s.number < s.procs
+    ensures { (s : Standing) (program : NumberedProgram) → Follows s.code program
+        → 1 ≤ s.procs → s.procs ≤ 32 → 1 ≤ s.fuel → s.fuel ≤ 4000000 → s.number < s.procs
         → (q : Process) (n : Next) → Fit (begin (record { program = program; procs = s.procs; fuel = s.fuel }) s.number) s.told
         → After (begin (record { program = program; procs = s.procs; fuel = s.fuel }) s.number) s.told q → IsNext q n → HasNext s n }
 {}

@@ -11,7 +11,7 @@ ghost use Rattle.ti_code.specs.Effects.{Spot};
 ghost use Rattle.ti_code.specs.Machine as seen;
 ghost use Rattle.ti_machine.specs.MirrorsDesks.{spot_of, heard, Made, hears_of, IsFormedInstr};
 ghost use Rattle.ti_machine.specs.MirrorsInstrs.{stays, instrs_at};
-ghost use Rattle.ti_machine.specs.MirrorsMachines.{machine_of, machine_at, frame_at, below_of, answered, AsksAt, IsTurn};
+ghost use Rattle.ti_machine.specs.MirrorsMachines.{machine_of, answered, AsksAt, IsTurn, IsDone, IsWithin, IsEntered};
 ghost use Rattle.ti_machine.specs.Standing.{IsFormed};
 
 use crate::desk::{Desk, Hears};
@@ -88,7 +88,8 @@ fn hears(instr: &Instr) -> Hears
 impl Machine {
     // It asks for an action, where a tick is left.
     pub(crate) fn asks(&self, at: Place, action: Action, hears: Hears) -> Turn
-        ensures { (c : Methods) (e : Asking seen.Turn) → AsksAt e at action hears (machine_of c self.now) → IsTurn c e result (machine_of c self.now) }
+        ensures { (c : Methods) (e : Asking seen.Turn)
+            → AsksAt e at action hears (machine_of c self.now) → IsTurn c e result (machine_of c self.now) }
     {
         if self.spent < self.fuel {
             Turn::Stands(Next::Act(at, action), hears)
@@ -99,7 +100,8 @@ impl Machine {
 
     // Its instruction has come to no end.
     fn stopped(&self, stop: Stop, hears: Hears) -> Result<Turn, Memory>
-        ensures { IfOk result (λ t. (c : Methods) (s : Spot) (e : Asking Spot) → Made {A = Unit {0}} (Err stop) hears e (spot_of self.now.top.desk) → IsTurn c (seen.within (machine_at c self.now s) (frame_at c self.now s) (below_of c self.now) e) t (machine_of c self.now)) }
+        ensures { IfOk result (λ t. (c : Methods) (s : Spot) (e : Asking Spot)
+            → Made {A = Unit {0}} (Err stop) hears e (spot_of self.now.top.desk) → IsWithin c self.now s e t) }
     {
         match stop {
             Stop::Asks(at, action) => Ok(self.asks(at, action, hears)),
@@ -113,7 +115,7 @@ impl Machine {
         requires next { next ≡ self.old.top.desk.at + 1 }
         requires form { IsFormedInstr instr.now }
         requires stays { stays instr.now ≡ true }
-        ensures { IfOk result (λ t. (c : Methods) → IsTurn c (seen.done c (machine_of c self.old) (frame_at c self.old (spot_of self.old.top.desk)) (below_of c self.old) (Some instr.now)) t (machine_of c self.new)) }
+        ensures { IfOk result (λ t. (c : Methods) → IsDone c self.old instr.now t self.new) }
     {
         let team = self.team;
         match self.top.desk.perform(alloc, team, instr, next) {
@@ -125,7 +127,7 @@ impl Machine {
     // A tick.
     fn tick(&mut self, at: Place, next: usize) -> Turn
         requires { next ≡ self.old.top.desk.at + 1 }
-        ensures { (c : Methods) → IsTurn c (seen.done c (machine_of c self.old) (frame_at c self.old (spot_of self.old.top.desk)) (below_of c self.old) (Some (i.Tick at))) result (machine_of c self.new) }
+        ensures { (c : Methods) → IsDone c self.old (i.Tick at) result self.new }
     {
         if self.spent >= self.fuel {
             return Turn::Stands(Next::Fault(FaultKind::Fuel, at), Hears::Keeps);
@@ -137,7 +139,7 @@ impl Machine {
 
     // The call returns nothing.
     fn back(&mut self) -> Turn
-        ensures { (c : Methods) → IsTurn c (seen.done c (machine_of c self.old) (frame_at c self.old (spot_of self.old.top.desk)) (below_of c self.old) (Some i.Return)) result (machine_of c self.new) }
+        ensures { (c : Methods) → IsDone c self.old i.Return result self.new }
     {
         match self.below.pop() {
             Some(f) => {
@@ -150,7 +152,7 @@ impl Machine {
 
     // The call returns its last operand.
     fn back_with(&mut self) -> Result<Turn, Memory>
-        ensures { IfOk result (λ t. (c : Methods) → IsTurn c (seen.done c (machine_of c self.old) (frame_at c self.old (spot_of self.old.top.desk)) (below_of c self.old) (Some i.ReturnValue)) t (machine_of c self.new)) }
+        ensures { IfOk result (λ t. (c : Methods) → IsDone c self.old i.ReturnValue t self.new) }
     {
         let h = self.top.desk.pop()?;
         match self.below.pop() {
@@ -172,8 +174,10 @@ impl Machine {
         at: Place,
         next: usize,
     ) -> Result<Turn, Memory>
-        ensures { IfOk result (λ t. (c : Methods) (callee : Method) (s : Spot) (own args stack : List Seen) → callee.instrs ≡ instrs_at c method → reverse slots.items ≡ reverse args ++ own → spot_of self.old.top.desk ≡ record s { stack = stack } → next ≡ s.at + 1
-            → IsTurn c (seen.entered (machine_at c self.old s) (frame_at c self.old s) (below_of c self.old) at callee own args stack) t (machine_of c self.new)) }
+        ensures { IfOk result (λ t. (c : Methods) (callee : Method) (s : Spot) (own args stack : List Seen)
+            → callee.instrs ≡ instrs_at c method → reverse slots.items ≡ reverse args ++ own
+            → spot_of self.old.top.desk ≡ record s { stack = stack } → next ≡ s.at + 1
+            → IsEntered c self.old at callee s own args stack t self.new) }
     {
         if self.spent >= self.fuel {
             return Ok(Turn::Stands(Next::Fault(FaultKind::Fuel, at), Hears::Keeps));
@@ -204,7 +208,7 @@ impl Machine {
     ) -> Result<Turn, Memory>
         requires next { next ≡ self.old.top.desk.at + 1 }
         requires here { slice_get (instrs_at code.now self.old.top.method) self.old.top.desk.at ≡ Some (i.Call k at) }
-        ensures { IfOk result (λ t. IsTurn code.now (seen.done code.now (machine_of code.now self.old) (frame_at code.now self.old (spot_of self.old.top.desk)) (below_of code.now self.old) (Some (i.Call k at))) t (machine_of code.now self.new)) }
+        ensures { IfOk result (λ t. IsDone code.now self.old (i.Call k at) t self.new) }
     {
         let method = k as usize;
         let methods = code.methods();
@@ -235,7 +239,7 @@ impl Machine {
         requires next { next ≡ self.old.top.desk.at + 1 }
         requires here { slice_get (instrs_at code.now self.old.top.method) self.old.top.desk.at ≡ Some instr.now }
         requires form { IsFormedInstr instr.now }
-        ensures { IfOk result (λ t. IsTurn code.now (seen.done code.now (machine_of code.now self.old) (frame_at code.now self.old (spot_of self.old.top.desk)) (below_of code.now self.old) (Some instr.now)) t (machine_of code.now self.new)) }
+        ensures { IfOk result (λ t. IsDone code.now self.old instr.now t self.new) }
     {
         match instr {
             Instr::Tick(at) => Ok(self.tick(*at, next)),

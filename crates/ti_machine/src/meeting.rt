@@ -9,7 +9,7 @@ ghost use Rattle.ti_code.specs.Programs.{Code as Methods};
 ghost use Rattle.ti_code.specs.declared.instr.Instr.TheVariants as i;
 ghost use Rattle.ti_code.specs.Machine as seen;
 ghost use Rattle.ti_machine.specs.MirrorsDesks.{spot_of};
-ghost use Rattle.ti_machine.specs.MirrorsMachines.{machine_of, machine_at, frame_at, below_of, IsGift, IsTurn};
+ghost use Rattle.ti_machine.specs.MirrorsMachines.{machine_of, IsDone, IsGift, KeepsRest};
 
 use crate::desk::{Desk, Hears};
 use crate::machine::{Frame, Machine, Turn};
@@ -90,8 +90,8 @@ impl Machine {
 
     // What it gives to a broadcast: the root's number, and its value, if it is the root.
     fn gift_to_broadcast(&mut self) -> Result<Gift, Memory>
-        ensures gift { IfOk result (λ g. (c : Methods) → IsGift (seen.given coll.Broadcast (machine_of c self.old) (frame_at c self.old (spot_of self.old.top.desk))) g (spot_of self.new.top.desk)) }
-        ensures rest { IfOk result (λ _. (c : Methods) → machine_of c self.new ≡ machine_at c self.old (record (spot_of self.old.top.desk) { stack = (spot_of self.new.top.desk).stack })) }
+        ensures gift { IfOk result (λ g. (c : Methods) → IsGift c coll.Broadcast self.old g self.new) }
+        ensures rest { IfOk result (λ _. (c : Methods) → KeepsRest c self.old self.new) }
     {
         let (x, y) = self.top.desk.pop_two()?;
         let root = as_number(x.whole())?;
@@ -108,8 +108,8 @@ impl Machine {
 
     // What it gives at the end of a region: how many of its slots name something there.
     fn gift_to_delete(&mut self) -> Result<Gift, Memory>
-        ensures gift { IfOk result (λ g. (c : Methods) → IsGift (seen.given coll.DeleteRegion (machine_of c self.old) (frame_at c self.old (spot_of self.old.top.desk))) g (spot_of self.new.top.desk)) }
-        ensures rest { IfOk result (λ _. (c : Methods) → machine_of c self.new ≡ machine_at c self.old (record (spot_of self.old.top.desk) { stack = (spot_of self.new.top.desk).stack })) }
+        ensures gift { IfOk result (λ g. (c : Methods) → IsGift c coll.DeleteRegion self.old g self.new) }
+        ensures rest { IfOk result (λ _. (c : Methods) → KeepsRest c self.old self.new) }
     {
         let region = self.top.desk.pop()?.region();
         let count = self.named(region)?;
@@ -121,8 +121,8 @@ impl Machine {
 
     // What it gives to an exchange: a value.
     fn gift_to_exchange(&mut self) -> Result<Gift, Memory>
-        ensures gift { IfOk result (λ g. (c : Methods) → IsGift (seen.given coll.Exchange (machine_of c self.old) (frame_at c self.old (spot_of self.old.top.desk))) g (spot_of self.new.top.desk)) }
-        ensures rest { IfOk result (λ _. (c : Methods) → machine_of c self.new ≡ machine_at c self.old (record (spot_of self.old.top.desk) { stack = (spot_of self.new.top.desk).stack })) }
+        ensures gift { IfOk result (λ g. (c : Methods) → IsGift c coll.Exchange self.old g self.new) }
+        ensures rest { IfOk result (λ _. (c : Methods) → KeepsRest c self.old self.new) }
     {
         let h = self.top.desk.pop()?;
         Ok(Gift {
@@ -133,8 +133,8 @@ impl Machine {
 
     // What it gives at its arrival.
     fn gift(&mut self, kind: CollKind) -> Result<Gift, Memory>
-        ensures gift { IfOk result (λ g. (c : Methods) → IsGift (seen.given kind (machine_of c self.old) (frame_at c self.old (spot_of self.old.top.desk))) g (spot_of self.new.top.desk)) }
-        ensures rest { IfOk result (λ _. (c : Methods) → machine_of c self.new ≡ machine_at c self.old (record (spot_of self.old.top.desk) { stack = (spot_of self.new.top.desk).stack })) }
+        ensures gift { IfOk result (λ g. (c : Methods) → IsGift c kind self.old g self.new) }
+        ensures rest { IfOk result (λ _. (c : Methods) → KeepsRest c self.old self.new) }
     {
         match kind {
             CollKind::Barrier => Ok(NO_GIFT),
@@ -148,7 +148,7 @@ impl Machine {
     /// It arrives at a collective.
     pub(crate) fn arrive(&mut self, kind: CollKind, at: Place, next: usize) -> Result<Turn, Memory>
         requires { next ≡ self.old.top.desk.at + 1 }
-        ensures { IfOk result (λ t. (c : Methods) → IsTurn c (seen.done c (machine_of c self.old) (frame_at c self.old (spot_of self.old.top.desk)) (below_of c self.old) (Some (i.Arrive kind at))) t (machine_of c self.new)) }
+        ensures { IfOk result (λ t. (c : Methods) → IsDone c self.old (i.Arrive kind at) t self.new) }
     {
         let gift = self.gift(kind)?;
         self.top.desk.at = next;
@@ -163,7 +163,7 @@ impl Machine {
     /// It leaves the collective.
     pub(crate) fn depart(&mut self, at: Place, next: usize) -> Turn
         requires { next ≡ self.old.top.desk.at + 1 }
-        ensures { (c : Methods) → IsTurn c (seen.done c (machine_of c self.old) (frame_at c self.old (spot_of self.old.top.desk)) (below_of c self.old) (Some (i.Depart at))) result (machine_of c self.new) }
+        ensures { (c : Methods) → IsDone c self.old (i.Depart at) result self.new }
     {
         self.top.desk.at = next;
         self.asks(at, Action::Depart, Hears::Takes)

@@ -95,7 +95,9 @@ pub(crate) fn value_of<'a>(got: Result<(Held, &'a [Told]), Stop>) -> Result<Held
 impl Desk {
     /// What has come out is pushed, or will be.
     pub(crate) fn push_got(&mut self, got: Result<Held, Stop>, next: usize) -> Result<(), Stop>
-        ensures { (s : Spot) (st : List Seen) (m : Asking Seen) → spot_of self.old ≡ record s { stack = st } → next ≡ s.at + 1 → Given got m → Made result Pushes (pushing s st m) (spot_of self.new) }
+        ensures { (s : Spot) (st : List Seen) (m : Asking Seen)
+            → spot_of self.old ≡ record s { stack = st } → next ≡ s.at + 1 → Given got m
+            → Made result Pushes (pushing s st m) (spot_of self.new) }
     {
         self.at = next;
         let h = got?;

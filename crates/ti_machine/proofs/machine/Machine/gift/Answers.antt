@@ -1,17 +1,15 @@
 use Rattle.std.proofs.Common.{sym, subst, IfOk}
 use Rattle.ti_base.specs.declared.action.CollKind.{CollKind}
 use Rattle.ti_code.specs.Programs.{Code}
-use Rattle.ti_code.specs.Machine as seen
-use Rattle.ti_machine.specs.MirrorsDesks.{spot_of}
-use Rattle.ti_machine.specs.MirrorsMachines.{machine_of, frame_at, IsGift}
+use Rattle.ti_machine.specs.MirrorsMachines.{IsGift}
 use Rattle.ti_machine.proofs.machine.Machine.gift.Goals as goal
 
 pub returns-in-Broadcast-clause-gift : goal.returns-in-Broadcast-clause-gift
 returns-in-Broadcast-clause-gift c =
     let m = c.args.self.now in
-    subst (λ (k : CollKind). IfOk c.gift_to_broadcast.result (λ g. (p : Code) → IsGift (seen.given k (machine_of p m) (frame_at p m (spot_of m.top.desk))) g (spot_of c.gift_to_broadcast.new.self.top.desk))) (sym c.in-Broadcast.is) c.gift_to_broadcast.ensures.gift
+    subst (λ (k : CollKind). IfOk c.gift_to_broadcast.result (λ g. (p : Code) → IsGift p k m g c.gift_to_broadcast.new.self)) (sym c.in-Broadcast.is) c.gift_to_broadcast.ensures.gift
 
 pub returns-in-Exchange-clause-gift : goal.returns-in-Exchange-clause-gift
 returns-in-Exchange-clause-gift c =
     let m = c.args.self.now in
-    subst (λ (k : CollKind). IfOk c.gift_to_exchange.result (λ g. (p : Code) → IsGift (seen.given k (machine_of p m) (frame_at p m (spot_of m.top.desk))) g (spot_of c.gift_to_exchange.new.self.top.desk))) (sym c.in-Exchange.is) c.gift_to_exchange.ensures.gift
+    subst (λ (k : CollKind). IfOk c.gift_to_exchange.result (λ g. (p : Code) → IsGift p k m g c.gift_to_exchange.new.self)) (sym c.in-Exchange.is) c.gift_to_exchange.ensures.gift
