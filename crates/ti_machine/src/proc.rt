@@ -1,6 +1,6 @@
 // Processes of code.
 
-ghost use Rattle.std.specs.Prelude.{◌≡◌, ◌<◌, ◌^◌, [], ◌∷◌, ◌++◌, true, false, IfOk, IfErr};
+ghost use Rattle.std.specs.Prelude.{◌≡◌, ◌<◌, ◌^◌, [], ◌∷◌, ◌++◌, true, false, IfOk, IfErr, IsOk};
 ghost use Rattle.ti_eval.specs.Forms.{IsFormedAnswer};
 ghost use Rattle.ti_machine.specs.Standing.{is_act, HasNext, GoesOn, HasFinished, IsFormed};
 
@@ -60,7 +60,8 @@ impl Proc {
         requires number { p < 2 ^ 31 }
         requires procs { procs < 2 ^ 31 }
         requires goes { GoesOn (record { code = code.now; procs = procs; fuel = fuel; number = p; told = []; asks = false }) }
-        ensures { IfOk result (λ s. s ≡ record { code = code.now; procs = procs; fuel = fuel; number = p; told = []; asks = false }) }
+        ensures ok { IsOk result }
+        ensures value { IfOk result (λ s. s ≡ record { code = code.now; procs = procs; fuel = fuel; number = p; told = []; asks = false }) }
     {
         let team = Team { number: p, procs };
         Ok(Proc {
