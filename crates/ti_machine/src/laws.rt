@@ -8,6 +8,8 @@ ghost use Rattle.ti_lang.specs.Meaning.NextStep.{After, IsNext};
 ghost use Rattle.ti_code.specs.Follows.{Fit, Follows};
 ghost use Rattle.ti_machine.specs.Standing.{Standing, HasNext};
 
+use crate::proc::Proc;
+
 /// A process has one thing next, and that hangs on what it began with and the answers that it was told alone.
 pub fn has_one_next()
     ensures { (s : Standing) (m n : Next) → HasNext s m → HasNext s n → m ≡ n }
@@ -20,3 +22,10 @@ pub fn following_code_goes_on()
         → (q : Process) (n : Next) → Fit (begin (record { program = program; procs = s.procs; fuel = s.fuel }) s.number) s.told
         → After (begin (record { program = program; procs = s.procs; fuel = s.fuel }) s.number) s.told q → IsNext q n → HasNext s n }
 {}
+
+fn sent<T: Send>() {}
+
+/// A process may go to another thread.
+pub fn process_is_sent() {
+    sent::<Proc>();
+}

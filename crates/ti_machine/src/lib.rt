@@ -18,7 +18,7 @@ mod values;
 
 pub use desk::{Desk, Hears};
 pub use going_on::Way;
-pub use laws::{following_code_goes_on, has_one_next};
+pub use laws::{following_code_goes_on, has_one_next, process_is_sent};
 pub use machine::{Frame, Machine, Turn};
 pub use operand::Operand;
 pub use proc::Proc;

@@ -28,8 +28,14 @@ unsafe impl Send for Past {}
 impl Past {
     /// That of a process which was told nothing yet.
     pub(crate) fn of(_code: &Code, _team: &Team, _fuel: &u32) -> Past
-        ensures { result.standing ≡ record { code = _code.now;
-            procs = _team.now.procs; fuel = _fuel.now; number = _team.now.number; told = []; asks = false } }
+        ensures { result.standing ≡ record {
+          code = _code.now;
+          procs = _team.now.procs;
+          fuel = _fuel.now;
+          number = _team.now.number;
+          told = [];
+          asks = false;
+        } }
     {
         Past {}
     }
