@@ -1,0 +1,12 @@
+pub mod Falling
+pub mod Fieldless
+pub mod Numbers
+pub mod Paths
+pub mod PointsAbove
+pub mod Reversed
+pub mod SameRects
+pub mod Sending
+pub mod Teams
+pub mod Tellings
+pub mod Weights
+pub mod Withins

@@ -1,0 +1,24 @@
+use Rattle.std.proofs.Common.{◌≡◌, ◌∙◌, ap, subst, ℕ, [], ◌*◌}
+use Rattle.ti_code.specs.Effects.{under, taken, bounds_of}
+use Rattle.ti_machine.specs.MirrorsDesks.{spot_of, Given}
+use Rattle.std.specs.Prelude.{refl}
+use Rattle.ti_lang.specs.Meaning.Asking.{Gives}
+use Rattle.ti_lang.specs.Meaning.Literals as literal
+use Rattle.ti_lang.proofs.MeaningLaws.Silent.{silent_guarded}
+use Rattle.ti_eval.specs.Bounds as found
+use Rattle.ti_machine.proofs.Tellings.{silent_tells}
+use Rattle.ti_machine.proofs.desk.Desk.make_rect.Goals as goal
+
+pub returns : goal.returns
+returns c w =
+    let s = spot_of c.args.self.now in
+    let at = c.args.at in
+    let k = 3 * c.args.n in
+    let n : 3 * c.from.result ≡ k = ap (λ (j : ℕ). 3 * j) c.from.ensures in
+    let rest : spot_of c.take_args.new.self ≡ record s { stack = under k s.stack } = c.in_ok-args.ensures.rest ∙ ap (λ (j : ℕ). record s { stack = under j s.stack }) n in
+    let b = found.bounds_of c.in_ok-b.b in
+    let bounds : b ≡ bounds_of (taken k s.stack []) = c.in_ok-b.ensures ∙ ap bounds_of (c.deref.ensures.value ∙ (c.in_ok-args.ensures.args ∙ ap (λ (j : ℕ). taken j s.stack []) n)) in
+    let r = c.value_of-got.result in
+    let given : Given r (literal.rect_within at b) =
+    c.value_of-got.ensures (literal.rect_within at b) (silent_tells (literal.rect_within at b) (silent_guarded _ _ at _)) (c.rect_from.ensures (Gives b []) refl) in
+    c.push_got.ensures s (under k s.stack) (literal.rect_within at (bounds_of (taken k s.stack []))) rest c.requires.next (subst (λ z. Given r (literal.rect_within at z)) bounds given)

@@ -1,0 +1,11 @@
+use Rattle.std.proofs.Common.{◌≡◌, ◌+◌, take, map, reverse, count_by}
+use Rattle.ti_lang.specs.Meaning.Held.{Held, thing_of}
+use Rattle.ti_lang.specs.Meaning.Steps.{lies_in}
+use Rattle.ti_code.specs.Programs.{Code}
+use Rattle.ti_code.specs.Machine.{named_in}
+use Rattle.ti_machine.specs.MirrorsDesks.{spot_of}
+use Rattle.ti_machine.specs.MirrorsMachines.{frame_of}
+use Rattle.ti_machine.proofs.machine.Machine.named.Given as goal
+
+abbrev pub invariant-loop-f : goal.invariant-loop-f
+invariant-loop-f l = (c : Code) → l.count ≡ count_by (λ (x : Held). lies_in l.region (thing_of x)) (spot_of l.self.top.desk).slots + named_in l.region (map (frame_of c) (reverse (take l.f-index l.f-items)))

@@ -1,0 +1,11 @@
+pub mod MirrorsDesks
+pub mod MirrorsDomains
+pub mod MirrorsGoingOn
+pub mod MirrorsInstrs
+pub mod MirrorsMachines
+pub mod MirrorsOperands
+pub mod MirrorsProc
+pub mod MirrorsStanding
+pub mod Points
+pub mod Standing
+pub mod Telling

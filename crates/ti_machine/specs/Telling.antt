@@ -1,0 +1,13 @@
+-- Computations that ask for one action at most, and then give the value of its answer.
+use Rattle.std.specs.Prelude.{◌≡◌, List, [], ◌∷◌}
+use Rattle.ti_base.specs.declared.place.Place.{Place}
+use Rattle.ti_base.specs.declared.fault.FaultKind.{FaultKind}
+use Rattle.ti_base.specs.declared.entry.Answer.{Answer}
+use Rattle.ti_lang.specs.Meaning.Held.{Held}
+use Rattle.ti_lang.specs.Meaning.Asking.{Request, Asking, Gives, Asks, Fails, told}
+
+-- the same value or the same fault whatever answers there are, of which none are used, or the value of the first of them
+pub data Tells (m : Asking Held) : Type 0 where
+  value : (h : Held) → ((rs : List Answer) → m rs ≡ Gives h rs) → Tells m
+  fault : (kind : FaultKind) (at : Place) → ((rs : List Answer) → m rs ≡ Fails kind at) → Tells m
+  asks : (q : Request) → (m [] ≡ Asks q) → ((r : Answer) (rs : List Answer) → m (r ∷ rs) ≡ Gives (told r) rs) → Tells m

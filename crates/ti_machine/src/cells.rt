@@ -1,0 +1,149 @@
+// The instructions that ask for an action.
+
+ghost use Rattle.std.specs.Prelude.{◌≡◌, ◌+◌};
+ghost use Rattle.ti_code.specs.Effects.{Who, process_at};
+ghost use Rattle.ti_code.specs.declared.instr.Instr.TheVariants as i;
+ghost use Rattle.ti_lang.specs.Meaning.Held.{plain_of};
+ghost use Rattle.ti_code.specs.Effects.{top};
+ghost use Rattle.ti_machine.specs.MirrorsDesks.{spot_of, Makes};
+
+use crate::desk::Desk;
+use crate::values::value_of;
+use ti_base::{Action, FaultKind, Place, Zero};
+use ti_eval::{Held, Stop, fetch_element, fetch_field};
+
+// The number of the process whose element has this point.
+fn process_of(h: &Held) -> u32
+    ensures { result ≡ process_at h.now }
+{
+    let x = h.point().x1;
+    if x < 0 { 0 } else { x as u32 }
+}
+
+impl Desk {
+    /// What a field of an object holds.
+    pub(crate) fn get_field(&mut self, field: u32, at: Place, next: usize) -> Result<(), Stop>
+        requires next { next ≡ self.old.at + 1 }
+        ensures { (w : Who) → Makes w (i.GetField field at) result (spot_of self.old) (spot_of self.new) }
+    {
+        let h = self.pop()?;
+        let got = value_of(fetch_field(at, &h, field, &[]));
+        self.push_got(got, next)
+    }
+
+    /// A field of an object is written.
+    pub(crate) fn put_field(&mut self, field: u32, at: Place, next: usize) -> Result<(), Stop>
+        requires next { next ≡ self.old.at + 1 }
+        ensures { (w : Who) → Makes w (i.PutField field at) result (spot_of self.old) (spot_of self.new) }
+    {
+        let (x, y) = self.pop_two()?;
+        self.at = next;
+        match x.thing() {
+            Some(obj) => {
+                let value = y.value();
+                Err(Stop::Asks(at, Action::PutField { obj, field, value }))
+            }
+            None => Err(Stop::Fails(FaultKind::NullRef, at)),
+        }
+    }
+
+    /// What an element of a grid holds.
+    pub(crate) fn get_element(&mut self, at: Place, next: usize) -> Result<(), Stop>
+        requires next { next ≡ self.old.at + 1 }
+        ensures { (w : Who) → Makes w (i.GetElem at) result (spot_of self.old) (spot_of self.new) }
+    {
+        let (x, y) = self.pop_two()?;
+        let got = value_of(fetch_element(at, &x, y.point(), &[]));
+        self.push_got(got, next)
+    }
+
+    /// An element of a grid is written.
+    pub(crate) fn put_element(&mut self, at: Place, next: usize) -> Result<(), Stop>
+        requires next { next ≡ self.old.at + 1 }
+        ensures { (w : Who) → Makes w (i.PutElem at) result (spot_of self.old) (spot_of self.new) }
+    {
+        let (p, y) = self.pop_two()?;
+        let x = self.pop()?;
+        self.at = next;
+        match x.thing() {
+            Some(grid) => {
+                let value = y.value();
+                let point = p.point();
+                Err(Stop::Asks(
+                    at,
+                    Action::PutElem {
+                        grid,
+                        at: point,
+                        value,
+                    },
+                ))
+            }
+            None => Err(Stop::Fails(FaultKind::NullRef, at)),
+        }
+    }
+
+    /// A new object.
+    pub(crate) fn new_object(&mut self, class: u32, at: Place, next: usize) -> Result<(), Stop>
+        requires next { next ≡ self.old.at + 1 }
+        ensures { (w : Who) → Makes w (i.NewObj class at) result (spot_of self.old) (spot_of self.new) }
+    {
+        let region = self.pop()?.region();
+        self.at = next;
+        Err(Stop::Asks(at, Action::NewObj { class, region }))
+    }
+
+    /// A new grid.
+    pub(crate) fn new_grid(&mut self, zero: Zero, at: Place, next: usize) -> Result<(), Stop>
+        requires next { next ≡ self.old.at + 1 }
+        ensures { (w : Who) → Makes w (i.NewGrid zero at) result (spot_of self.old) (spot_of self.new) }
+    {
+        let (x, y) = self.pop_two()?;
+        let region = x.region();
+        let dom = y.rect();
+        self.at = next;
+        Err(Stop::Asks(at, Action::NewGrid { zero, dom, region }))
+    }
+
+    /// A print, whose value is the operand where it has one.
+    pub(crate) fn print(
+        &mut self,
+        literal: Option<u32>,
+        valued: bool,
+        at: Place,
+        next: usize,
+    ) -> Result<(), Stop>
+        requires next { next ≡ self.old.at + 1 }
+        ensures { (w : Who) → Makes w (i.Print literal valued at) result (spot_of self.old) (spot_of self.new) }
+    {
+        if valued {
+            let value = self.pop()?.value();
+            self.at = next;
+            return Err(Stop::Asks(
+                at,
+                Action::Print {
+                    literal,
+                    value: Some(value),
+                },
+            ));
+        }
+        self.at = next;
+        Err(Stop::Asks(
+            at,
+            Action::Print {
+                literal,
+                value: None,
+            },
+        ))
+    }
+
+    /// What the process whose point is the operand gave.
+    pub(crate) fn take(&mut self, at: Place, next: usize) -> Result<(), Stop>
+        requires next { next ≡ self.old.at + 1 }
+        ensures { (w : Who) → Makes w (i.Take at) result (spot_of self.old) (spot_of self.new) }
+    {
+        let h = self.pop()?;
+        let who = process_of(&h);
+        self.at = next;
+        Err(Stop::Asks(at, Action::Take { who }))
+    }
+}

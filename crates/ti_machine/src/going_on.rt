@@ -1,0 +1,78 @@
+// How a process begins, and goes on to what it has next.
+
+ghost use Rattle.std.specs.Prelude.{◌≡◌, ◌<◌, [], IfOk, OnOk, vec_len, vec_capacity};
+ghost use Rattle.ti_base.specs.declared.entry.Next.{Next as Shown};
+ghost use Rattle.ti_code.specs.Follows.{HasNext};
+ghost use Rattle.ti_code.specs.Programs.{Code as Methods};
+ghost use Rattle.ti_code.specs.Machine.{first};
+ghost use Rattle.ti_machine.specs.MirrorsMachines.{machine_of};
+ghost use Rattle.ti_machine.specs.MirrorsGoingOn.{IsWay};
+ghost use Rattle.ti_machine.specs.Standing.{IsFormed};
+
+use crate::desk::{Desk, Hears};
+use crate::machine::{Frame, Machine, Turn};
+use std::alloc::Global;
+use ti_base::{Memory, Next};
+use ti_code::Code;
+use ti_eval::Team;
+
+/// What a process has come to: what it has next, how it uses the answer of an action, and how many instructions it has finished on the way.
+#[derive(Clone, Copy)]
+pub struct Way {
+    pub next: Next,
+    pub hears: Hears,
+    pub count: u64,
+}
+
+impl Machine {
+    /// A process before its first instruction.
+    pub(crate) fn begin(alloc: Global, code: &Code, team: Team, fuel: u32) -> Machine
+        requires { (n : Shown) × HasNext code.now (first code.now team.procs fuel team.number) [] n }
+        ensures { machine_of code.now result ≡ first code.now team.procs fuel team.number }
+    {
+        let method = code.main() as usize;
+        let methods = code.methods();
+        if method >= methods.len() {
+            unreachable!()
+        }
+        let desk = Desk {
+            at: 0,
+            slots: Vec::new(alloc),
+            stack: Vec::new(alloc),
+        };
+        Machine {
+            team,
+            fuel,
+            spent: 0,
+            top: Frame { method, desk },
+            below: Vec::new(alloc),
+        }
+    }
+
+    /// Silent instructions, up to what it has next.
+    pub(crate) fn go_on(&mut self, alloc: Global, code: &Code) -> Result<Way, Memory>
+        requires formed { IsFormed code.now }
+        requires goes { (n : Shown) × HasNext code.now (machine_of code.now self.old) [] n }
+        ensures { IfOk result (λ w. IsWay code.now (machine_of code.now self.old) w (machine_of code.now self.new)) }
+    {
+        let _rule = code.methods();
+        let mut count: u64 = 0;
+        'steps: loop {
+            match self.step(alloc, code)? {
+                Turn::Went => count = count.saturating_add(1),
+                Turn::Stands(next, hears) => return Ok(Way { next, hears, count }),
+                Turn::Stuck => unreachable!(),
+            }
+        }
+    }
+
+    /// There is room for an answer.
+    pub(crate) fn make_room(&mut self) -> Result<(), Memory>
+        ensures same { OnOk result ((c : Methods) → machine_of c self.new ≡ machine_of c self.old) }
+        ensures tick { self.new.spent ≡ self.old.spent }
+        ensures room { OnOk result (vec_len self.new.top.desk.stack < vec_capacity self.new.top.desk.stack) }
+    {
+        self.top.desk.stack.reserve(1)?;
+        Ok(())
+    }
+}

@@ -1,0 +1,175 @@
+// The instructions that move values and jump.
+
+ghost use Rattle.std.specs.Prelude.{◌≡◌, ◌+◌, ℕ, List, Option};
+ghost use Rattle.ti_base.specs.Points.{IsDim};
+ghost use Rattle.ti_eval.specs.Forms.{IsFormedValue};
+ghost use Rattle.ti_code.specs.Effects.{Who};
+ghost use Rattle.ti_code.specs.declared.instr.Instr.TheVariants as i;
+ghost use Rattle.ti_machine.specs.MirrorsDesks.{spot_of, who, Makes};
+
+use crate::desk::Desk;
+use crate::domains::no_points;
+use crate::operand::Operand;
+use std::alloc::Global;
+use ti_base::Value;
+use ti_eval::{Held, Stop, Team};
+
+impl Desk {
+    /// A value is pushed.
+    pub(crate) fn constant(&mut self, value: Value, next: usize) -> Result<(), Stop>
+        requires next { next ≡ self.old.at + 1 }
+        requires form { IsFormedValue value }
+        ensures { (w : Who) → Makes w (i.Const value) result (spot_of self.old) (spot_of self.new) }
+    {
+        self.push(Held::plain(value))?;
+        self.at = next;
+        Ok(())
+    }
+
+    /// A domain without points is pushed.
+    pub(crate) fn empty_domain(&mut self, alloc: Global, dim: u8, next: usize) -> Result<(), Stop>
+        requires next { next ≡ self.old.at + 1 }
+        requires form { IsDim dim }
+        ensures { (w : Who) → Makes w (i.EmptyDom dim) result (spot_of self.old) (spot_of self.new) }
+    {
+        self.push(no_points(alloc, dim)?)?;
+        self.at = next;
+        Ok(())
+    }
+
+    /// The last operand is dropped.
+    #[tactic(auto, using(crate::proofs::Reversed::reversed))]
+    pub(crate) fn drop_one(&mut self, next: usize) -> Result<(), Stop>
+        requires next { next ≡ self.old.at + 1 }
+        ensures { (w : Who) → Makes w i.Pop result (spot_of self.old) (spot_of self.new) }
+    {
+        let _dropped = self.stack.pop();
+        self.at = next;
+        Ok(())
+    }
+
+    /// The last operand is pushed once more.
+    #[tactic(auto, using(crate::proofs::Reversed::reversed))]
+    pub(crate) fn double(&mut self, alloc: Global, next: usize) -> Result<(), Stop>
+        requires next { next ≡ self.old.at + 1 }
+        ensures { (w : Who) → Makes w i.Dup result (spot_of self.old) (spot_of self.new) }
+    {
+        let o = match self.stack.last() {
+            Some(o) => o.copy(alloc)?,
+            None => Operand::of(Held::truth(false)),
+        };
+        self.stack.push(o)?;
+        self.at = next;
+        Ok(())
+    }
+
+    /// What a slot holds is pushed.
+    pub(crate) fn load(&mut self, alloc: Global, k: u32, next: usize) -> Result<(), Stop>
+        requires next { next ≡ self.old.at + 1 }
+        ensures { (w : Who) → Makes w (i.Load k) result (spot_of self.old) (spot_of self.new) }
+    {
+        let h = self.slot(alloc, k)?;
+        self.push(h)?;
+        self.at = next;
+        Ok(())
+    }
+
+    /// The operand goes into a slot.
+    pub(crate) fn keep(&mut self, k: u32, next: usize) -> Result<(), Stop>
+        requires next { next ≡ self.old.at + 1 }
+        ensures { (w : Who) → Makes w (i.Keep k) result (spot_of self.old) (spot_of self.new) }
+    {
+        let h = self.pop()?;
+        self.put(k as usize, h)?;
+        self.at = next;
+        Ok(())
+    }
+
+    /// The oldest so many slots are kept.
+    pub(crate) fn trim(&mut self, k: u32, next: usize) -> Result<(), Stop>
+        requires next { next ≡ self.old.at + 1 }
+        ensures { (w : Who) → Makes w (i.Trim k) result (spot_of self.old) (spot_of self.new) }
+    {
+        self.cut(k as usize);
+        self.at = next;
+        Ok(())
+    }
+
+    /// The own number is pushed.
+    pub(crate) fn this_proc(&mut self, team: Team, next: usize) -> Result<(), Stop>
+        requires next { next ≡ self.old.at + 1 }
+        ensures { (receivers : List (Option ℕ)) → Makes (who team receivers) i.ThisProc result (spot_of self.old) (spot_of self.new) }
+    {
+        self.push(Held::plain(Value::Int(team.number as i32)))?;
+        self.at = next;
+        Ok(())
+    }
+
+    /// The number of processes is pushed.
+    pub(crate) fn num_procs(&mut self, team: Team, next: usize) -> Result<(), Stop>
+        requires next { next ≡ self.old.at + 1 }
+        ensures { (receivers : List (Option ℕ)) → Makes (who team receivers) i.NumProcs result (spot_of self.old) (spot_of self.new) }
+    {
+        self.push(Held::plain(Value::Int(team.procs as i32)))?;
+        self.at = next;
+        Ok(())
+    }
+
+    /// It goes on at an instruction.
+    pub(crate) fn jump(&mut self, target: u32) -> Result<(), Stop>
+        ensures { (w : Who) → Makes w (i.Jump target) result (spot_of self.old) (spot_of self.new) }
+    {
+        self.at = target as usize;
+        Ok(())
+    }
+
+    /// It goes on at an instruction where the operand is true.
+    pub(crate) fn jump_if(&mut self, target: u32, next: usize) -> Result<(), Stop>
+        requires next { next ≡ self.old.at + 1 }
+        ensures { (w : Who) → Makes w (i.JumpIf target) result (spot_of self.old) (spot_of self.new) }
+    {
+        let h = self.pop()?;
+        if h.is_true() {
+            self.at = target as usize;
+        } else {
+            self.at = next;
+        }
+        Ok(())
+    }
+
+    /// It goes on at an instruction where the operand isn't true.
+    pub(crate) fn jump_if_not(&mut self, target: u32, next: usize) -> Result<(), Stop>
+        requires next { next ≡ self.old.at + 1 }
+        ensures { (w : Who) → Makes w (i.JumpIfNot target) result (spot_of self.old) (spot_of self.new) }
+    {
+        let h = self.pop()?;
+        if h.is_true() {
+            self.at = next;
+        } else {
+            self.at = target as usize;
+        }
+        Ok(())
+    }
+
+    /// The first point of the domain on top goes into a slot, and the others stay; without a point it goes on at an instruction.
+    #[tactic(auto, using(crate::proofs::Reversed::reversed))]
+    pub(crate) fn next_point(&mut self, k: u32, target: u32, next: usize) -> Result<(), Stop>
+        requires next { next ≡ self.old.at + 1 }
+        ensures { (w : Who) → Makes w (i.Next k target) result (spot_of self.old) (spot_of self.new) }
+    {
+        let Some(o) = self.stack.pop() else {
+            self.at = target as usize;
+            return Ok(());
+        };
+        let (rest, p) = o.step();
+        self.stack.push(rest)?;
+        match p {
+            Some(p) => {
+                self.put(k as usize, Held::plain(Value::Pt(p)))?;
+                self.at = next;
+            }
+            None => self.at = target as usize,
+        }
+        Ok(())
+    }
+}

@@ -1,0 +1,24 @@
+//! A machine that executes code: what its process does next.
+#![tactic(auto)]
+
+mod cells;
+mod desk;
+mod domains;
+mod going_on;
+mod instructions;
+mod laws;
+mod machine;
+mod meeting;
+mod operand;
+mod operands;
+mod past;
+mod perform;
+mod proc;
+mod values;
+
+pub use desk::{Desk, Hears};
+pub use going_on::Way;
+pub use laws::{following_code_goes_on, has_one_next, process_is_sent};
+pub use machine::{Frame, Machine, Turn};
+pub use operand::Operand;
+pub use proc::Proc;

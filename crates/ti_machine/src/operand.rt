@@ -1,0 +1,148 @@
+// Operands.
+
+ghost use Rattle.std.specs.Prelude.{◌≡◌, IfOk, IfSome};
+ghost use Rattle.ti_base.specs.Points.{IsPoint};
+ghost use Rattle.ti_lang.specs.Meaning.Held.{nothing};
+ghost use Rattle.ti_eval.specs.Frames.{points_above};
+ghost use Rattle.ti_code.specs.Effects.{one_step as one_step_of, ones as ones_of};
+ghost use Rattle.ti_machine.specs.MirrorsOperands.{Took};
+ghost use Rattle.ti_machine.specs.Points.{from_point};
+
+use std::alloc::Global;
+use std::marker::Model;
+use ti_base::{Memory, Point, Value};
+use ti_eval::{Held, next_above};
+
+/// An operand: a value or a domain as it is, or the points of a domain that are above one of them.
+#[derive(Drop)]
+pub enum Kept {
+    Whole(Held),
+    Above(Held, Point),
+}
+
+/// An operand. Contracts see the value or the domain that it is. What is left of a domain whose first points were taken is kept as the
+/// domain and the last point taken, since it may have more points than a domain of its own can have.
+#[derive(Drop)]
+pub struct Operand {
+    kept: Kept,
+}
+
+impl Model for Operand {
+    ghost use Rattle.ti_lang.specs.Meaning.Held.{Held};
+
+    ghost Value = { Held };
+
+    ghost use Rattle.ti_machine.specs.MirrorsOperands.{operand_of};
+
+    ghost view = { λ o. operand_of o.kept };
+}
+
+// The first point of a domain above another one, or the first.
+#[tactic(auto, using(crate::proofs::PointsAbove::points))]
+fn next_point(domain: &Held, last: Option<Point>) -> Option<Point>
+    ensures value { points_above domain.now last ≡ from_point domain.now result }
+    ensures form { IfSome result IsPoint }
+{
+    match last {
+        Some(p) => if p.dim == domain.dim() {
+            next_above(domain, Some(&p))
+        } else {
+            None
+        },
+        None => next_above(domain, None),
+    }
+}
+
+// The point whose coordinates are 1, of the same dimension.
+fn ones(p: &Point) -> Point
+    requires { IsPoint p.now }
+    ensures value { result ≡ ones_of p.now }
+    ensures form { IsPoint result }
+{
+    Point {
+        dim: p.dim,
+        x1: 1,
+        x2: if p.dim >= 2 { 1 } else { 0 },
+        x3: if p.dim >= 3 { 1 } else { 0 },
+    }
+}
+
+impl Operand {
+    /// A value or a domain.
+    pub(crate) fn of(h: Held) -> Operand
+        ensures { result ≡ h }
+    {
+        Operand {
+            kept: Kept::Whole(h),
+        }
+    }
+
+    /// It as a value. What is left of a domain would be a domain of its own, for which there is no room.
+    pub(crate) fn into_held(self) -> Result<Held, Memory>
+        ensures { IfOk result (λ h. h ≡ self) }
+    {
+        match self.kept {
+            Kept::Whole(h) => Ok(h),
+            Kept::Above(_, _) => Err(Memory),
+        }
+    }
+
+    /// The same.
+    pub(crate) fn copy(&self, alloc: Global) -> Result<Operand, Memory>
+        ensures { IfOk result (λ o. o ≡ self.now) }
+    {
+        match &self.kept {
+            Kept::Whole(h) => {
+                let h = h.copy(alloc)?;
+                Ok(Operand {
+                    kept: Kept::Whole(h),
+                })
+            }
+            Kept::Above(h, p) => {
+                let h = h.copy(alloc)?;
+                Ok(Operand {
+                    kept: Kept::Above(h, *p),
+                })
+            }
+        }
+    }
+
+    /// The step of a range that says none, from this low bound.
+    pub(crate) fn one_step(&self) -> Held
+        ensures { result ≡ one_step_of self.now }
+    {
+        match &self.kept {
+            Kept::Whole(h) => match h.value() {
+                Value::Pt(_) => Held::plain(Value::Pt(ones(&h.point()))),
+                _ => Held::plain(Value::Int(1)),
+            },
+            Kept::Above(_, _) => Held::plain(Value::Int(1)),
+        }
+    }
+
+    /// Its first point, if it has one, and what the others are.
+    pub(crate) fn step(self) -> (Operand, Option<Point>)
+        ensures took { Took self result.0 result.1 }
+        ensures form { IfSome result.1 IsPoint }
+    {
+        let (domain, last) = match self.kept {
+            Kept::Whole(h) => (h, None),
+            Kept::Above(h, p) => (h, Some(p)),
+        };
+        match next_point(&domain, last) {
+            Some(p) => (
+                Operand {
+                    kept: Kept::Above(domain, p),
+                },
+                Some(p),
+            ),
+            None => {
+                let kept = match last {
+                    None => Kept::Whole(domain),
+                    Some(p) => Kept::Above(domain, p),
+                };
+                (Operand { kept }, None)
+            }
+        }
+    }
+}

@@ -1,0 +1,100 @@
+// Operands and slots of a frame.
+
+ghost use Rattle.std.specs.Prelude.{◌≡◌, ◌+◌, ◌<◌, ◌^◌, [], ◌∷◌, reverse, length, IfOk, vec_len, vec_capacity};
+ghost use Rattle.ti_lang.specs.Meaning.Held.{Held as Seen};
+ghost use Rattle.ti_code.specs.Effects.{top, below, taken, under, slot, put, trimmed};
+ghost use Rattle.ti_machine.specs.MirrorsDesks.{spot_of};
+
+use crate::desk::Desk;
+use crate::operand::Operand;
+use std::alloc::Global;
+use ti_base::Memory;
+use ti_eval::Held;
+
+impl Desk {
+    /// An operand more.
+    #[tactic(auto, using(crate::proofs::Reversed::reversed))]
+    pub(crate) fn push(&mut self, h: Held) -> Result<(), Memory>
+        ensures { IfOk result (λ _. spot_of self.new ≡ record (spot_of self.old) { stack = h ∷ (spot_of self.old).stack }) }
+    {
+        self.stack.push(Operand::of(h))?;
+        Ok(())
+    }
+
+    /// An operand more, for which there is room.
+    #[tactic(auto, using(crate::proofs::Reversed::reversed))]
+    pub(crate) fn push_within(&mut self, h: Held)
+        requires { vec_len self.old.stack < vec_capacity self.old.stack }
+        ensures { spot_of self.new ≡ record (spot_of self.old) { stack = h ∷ (spot_of self.old).stack } }
+    {
+        let _ = self.stack.push(Operand::of(h));
+    }
+
+    /// The last operand pushed is taken; where there is none, `false`.
+    #[tactic(auto, using(crate::proofs::Reversed::reversed))]
+    pub(crate) fn pop(&mut self) -> Result<Held, Memory>
+        ensures value { IfOk result (λ h. h ≡ top (spot_of self.old).stack) }
+        ensures rest { spot_of self.new ≡ record (spot_of self.old) { stack = below (spot_of self.old).stack } }
+    {
+        match self.stack.pop() {
+            Some(o) => o.into_held(),
+            None => Ok(Held::truth(false)),
+        }
+    }
+
+    /// The last two operands pushed are taken.
+    pub(crate) fn pop_two(&mut self) -> Result<(Held, Held), Memory>
+        ensures under { IfOk result (λ p. p.0 ≡ top (below (spot_of self.old).stack)) }
+        ensures last { IfOk result (λ p. p.1 ≡ top (spot_of self.old).stack) }
+        ensures rest { IfOk result (λ _. spot_of self.new ≡ record (spot_of self.old) { stack = below (below (spot_of self.old).stack) }) }
+    {
+        let y = self.pop()?;
+        let x = self.pop()?;
+        Ok((x, y))
+    }
+
+    /// The last so many operands pushed are taken, in the order in which they were pushed.
+    pub(crate) fn take_args(&mut self, alloc: Global, n: u64) -> Result<Vec<Held>, Memory>
+        ensures args { IfOk result (λ v. v.items ≡ taken n (spot_of self.old).stack []) }
+        ensures rest { IfOk result (λ _. spot_of self.new ≡ record (spot_of self.old) { stack = under n (spot_of self.old).stack }) }
+    {
+        let mut args = Vec::new(alloc);
+        for k in 0..n {
+            let h = self.pop()?;
+            args.push(h)?;
+        }
+        args.reverse();
+        Ok(args)
+    }
+
+    /// What a slot holds.
+    pub(crate) fn slot(&self, alloc: Global, k: u32) -> Result<Held, Memory>
+        ensures { IfOk result (λ h. h ≡ slot k (spot_of self.now).slots) }
+    {
+        match self.slots.get(k as usize) {
+            Some(h) => Ok(h.copy(alloc)?),
+            None => Ok(Held::truth(false)),
+        }
+    }
+
+    /// A slot holds something else; one more where there are as many.
+    #[tactic(auto, using(crate::proofs::Reversed::putting))]
+    pub(crate) fn put(&mut self, k: usize, h: Held) -> Result<(), Memory>
+        ensures { IfOk result (λ _. spot_of self.new ≡ record (spot_of self.old) { slots = put k h (spot_of self.old).slots }) }
+    {
+        if k < self.slots.len() {
+            self.slots[k] = h;
+        } else {
+            self.slots.push(h)?;
+        }
+        Ok(())
+    }
+
+    /// The oldest so many slots are kept.
+    #[tactic(auto, using(crate::proofs::Reversed::cutting))]
+    pub(crate) fn cut(&mut self, k: usize)
+        ensures { spot_of self.new ≡ record (spot_of self.old) { slots = trimmed k (spot_of self.old).slots } }
+    {
+        self.slots.truncate(k);
+    }
+}

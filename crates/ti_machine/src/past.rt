@@ -1,0 +1,49 @@
+// What a process began with and what it was told.
+
+ghost use Rattle.std.specs.Prelude.{◌≡◌, [], ◌∷◌, ◌++◌, false};
+ghost use Rattle.std.specs.Borrow.{ftrue};
+ghost use Rattle.ti_base.specs.contracts.entry.Answer as one_answer;
+ghost use Rattle.ti_code.specs.contracts.code.Code as all_code;
+ghost use Rattle.ti_machine.specs.Standing.{Standing};
+ghost use Rattle.ti_machine.specs.MirrorsStanding.{standing_code};
+
+use std::marker::Model;
+use ti_base::Answer;
+use ti_code::Code;
+use ti_eval::Team;
+
+/// What a process began with and what it was told so far, for clauses alone: it takes no room, and its calls do nothing.
+#[derive(Drop)]
+pub struct Past {
+    pub ghost standing: { Standing } by { standing_code all_code.the_row.coded one_answer.the_row.coded },
+}
+
+impl Model for Past {
+    ghost also_owns = { λ _. ftrue };
+}
+
+// It owns nothing.
+unsafe impl Send for Past {}
+
+impl Past {
+    /// That of a process which was told nothing yet.
+    pub(crate) fn of(_code: &Code, _team: &Team, _fuel: &u32) -> Past
+        ensures { result.standing ≡ record {
+          code = _code.now;
+          procs = _team.now.procs;
+          fuel = _fuel.now;
+          number = _team.now.number;
+          told = [];
+          asks = false;
+        } }
+    {
+        Past {}
+    }
+
+    /// With one answer more.
+    pub(crate) fn and(&self, _answer: &Answer) -> Past
+        ensures { result.standing ≡ record self.now.standing { told = self.now.standing.told ++ _answer.now ∷ [] } }
+    {
+        Past {}
+    }
+}

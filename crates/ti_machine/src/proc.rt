@@ -1,0 +1,123 @@
+// Processes of code.
+
+ghost use Rattle.std.specs.Prelude.{◌≡◌, ◌<◌, ◌^◌, [], ◌∷◌, ◌++◌, true, false, IfOk, IfErr, IsOk};
+ghost use Rattle.ti_eval.specs.Forms.{IsFormedAnswer};
+ghost use Rattle.ti_machine.specs.Standing.{is_act, HasNext, GoesOn, HasFinished, IsFormed};
+
+use crate::desk::Hears;
+use crate::machine::Machine;
+use crate::past::Past;
+use std::alloc::Global;
+use std::marker::Model;
+use ti_base::{Answer, Memory, Next};
+use ti_code::Code;
+use ti_eval::Team;
+
+/// How far a process has come.
+#[derive(Clone, Copy)]
+pub enum State {
+    /// It stands somewhere behind its last answer.
+    Goes,
+    /// It has this next; the answer of an action is then used so.
+    Stands(Next, Hears),
+    /// Memory was wanting, and it stands nowhere.
+    Spent,
+}
+
+/// A process of code.
+///
+/// Contracts see the code, the number of processes, the fuel of each, which of them this is, the answers that it was told so far, and
+/// whether it stands at an action. The code itself it doesn't keep, but is given at each call.
+#[derive(Drop)]
+pub struct Proc {
+    machine: Machine,
+    state: State,
+    steps: u64,
+    finished: u64,
+    past: Past,
+}
+
+impl Model for Proc {
+    ghost use Rattle.ti_base.specs.contracts.entry.Answer as one_answer;
+    ghost use Rattle.ti_code.specs.contracts.code.Code as all_code;
+    ghost use Rattle.ti_machine.specs.Standing.{Standing};
+    ghost use Rattle.ti_machine.specs.MirrorsStanding.{standing_code};
+
+    ghost Value = { Standing };
+
+    ghost coded = { standing_code all_code.the_row.coded one_answer.the_row.coded };
+
+    ghost use Rattle.ti_machine.specs.MirrorsProc.{standing_in, IsSound};
+
+    ghost view = { standing_in };
+
+    ghost invariant = { IsSound };
+}
+
+impl Proc {
+    /// The process of a number before its first instruction.
+    pub fn start(alloc: Global, code: &Code, p: u32, procs: u32, fuel: u32) -> Result<Proc, Memory>
+        requires number { p < 2 ^ 31 }
+        requires procs { procs < 2 ^ 31 }
+        requires goes { GoesOn (record { code = code.now; procs = procs; fuel = fuel; number = p; told = []; asks = false }) }
+        ensures ok { IsOk result }
+        ensures value { IfOk result (λ s. s ≡ record { code = code.now; procs = procs; fuel = fuel; number = p; told = []; asks = false }) }
+    {
+        let team = Team { number: p, procs };
+        Ok(Proc {
+            machine: Machine::begin(alloc, code, team, fuel),
+            state: State::Goes,
+            steps: 0,
+            finished: 0,
+            past: Past::of(code, &team, &fuel),
+        })
+    }
+
+    /// What it has next: an action, its end or a fault of its own. Until it is answered this is the same again.
+    ///
+    /// After want of memory it isn't used further: each later call wants memory too.
+    pub fn advance(&mut self, alloc: Global, code: &Code) -> Result<Next, Memory>
+        requires code { code.now ≡ self.old.code }
+        requires formed { IsFormed code.now }
+        requires goes { GoesOn self.old }
+        ensures next { IfOk result (λ n. HasNext self.old n) }
+        ensures standing { IfOk result (λ n. self.new ≡ record self.old { asks = is_act n }) }
+        ensures memory { IfErr result (λ _. self.new ≡ record self.old { asks = false }) }
+    {
+        match self.state {
+            State::Stands(next, _) => return Ok(next),
+            State::Spent => return Err(Memory),
+            State::Goes => {}
+        }
+        self.state = State::Spent;
+        let way = self.machine.go_on(alloc, code)?;
+        self.machine.make_room()?;
+        self.steps = self.steps.saturating_add(way.count);
+        self.state = State::Stands(way.next, way.hears);
+        Ok(way.next)
+    }
+
+    /// It has got the answer to the action at which it stands.
+    pub fn answer(&mut self, a: Answer)
+        requires asks { self.old.asks ≡ true }
+        requires form { IsFormedAnswer a }
+        ensures { self.new ≡ record self.old { told = self.old.told ++ a ∷ []; asks = false } }
+    {
+        let State::Stands(_, hears) = self.state else {
+            unreachable!()
+        };
+        self.machine.hear(hears, a);
+        self.steps = self.steps.saturating_add(1);
+        self.finished = self.steps;
+        self.state = State::Goes;
+        self.past = self.past.and(&a);
+    }
+
+    /// How many instructions it has finished with the last answer, that action's instruction among them; none without answers. From
+    /// 2^64 - 1 on it stays there.
+    pub fn finished(&self) -> u64
+        ensures { HasFinished self.now result }
+    {
+        self.finished
+    }
+}

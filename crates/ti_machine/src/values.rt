@@ -1,0 +1,328 @@
+// The instructions that make a value of operands.
+
+ghost use Rattle.std.specs.Prelude.{◌≡◌, ◌+◌, ◌^◌, ◌<◌, ℕ, List, [], ◌∷◌, Option};
+ghost use Rattle.ti_lang.specs.Meaning.Held.{Held as Seen};
+ghost use Rattle.ti_lang.specs.Meaning.Asking.{Asking};
+ghost use Rattle.ti_lang.specs.Typing.Seen.{built_in_of};
+ghost use Rattle.ti_eval.specs.Comes.{Comes};
+ghost use Rattle.ti_code.specs.Effects.{Spot, Who, operator_of, alone_of, member_of, pushing};
+ghost use Rattle.ti_code.specs.declared.instr.Instr.TheVariants as i;
+ghost use Rattle.ti_machine.specs.declared.desk.Hears.TheVariants.{Pushes};
+ghost use Rattle.ti_machine.specs.MirrorsDesks.{spot_of, who, Given, Made, Makes};
+ghost use Rattle.ti_machine.specs.Telling.{Tells};
+
+use crate::desk::Desk;
+use crate::domains::{bounds, common, is_of_team, numbers_of, team as rect_of_team};
+use std::alloc::Global;
+use ti_base::{FaultKind, Place, Value};
+use ti_code::{Member, OneOperand, Operation};
+use ti_eval::{
+    Held, Stop, Team, Told, as_int, as_long, indexed, kept_local, member, operated, operated_alone,
+    point_of_numbers, rect_from, to_domain,
+};
+use ti_lang::program::Ty;
+use ti_lang::typing::BuiltIn;
+use ti_syntax::tree::{BinaryOperator, UnaryOperator};
+
+// The operator of the language that a name means.
+fn operator(o: Operation) -> BinaryOperator
+    ensures { result ≡ operator_of o }
+{
+    match o {
+        Operation::Add => BinaryOperator::Add,
+        Operation::PtAdd => BinaryOperator::Add,
+        Operation::DomUnion => BinaryOperator::Add,
+        Operation::Sub => BinaryOperator::Subtract,
+        Operation::PtSub => BinaryOperator::Subtract,
+        Operation::DomMinus => BinaryOperator::Subtract,
+        Operation::Mul => BinaryOperator::Multiply,
+        Operation::RectMeet => BinaryOperator::Multiply,
+        Operation::DomMeet => BinaryOperator::Multiply,
+        Operation::Div => BinaryOperator::Divide,
+        Operation::Rem => BinaryOperator::Remainder,
+        Operation::Shl => BinaryOperator::ShiftLeft,
+        Operation::Shr => BinaryOperator::ShiftRight,
+        Operation::Ushr => BinaryOperator::UnsignedShiftRight,
+        Operation::And => BinaryOperator::And,
+        Operation::Or => BinaryOperator::Or,
+        Operation::Xor => BinaryOperator::Xor,
+        Operation::Eq => BinaryOperator::Equal,
+        Operation::Ne => BinaryOperator::NotEqual,
+        Operation::Lt => BinaryOperator::Less,
+        Operation::Le => BinaryOperator::LessEqual,
+        Operation::Gt => BinaryOperator::Greater,
+        Operation::Ge => BinaryOperator::GreaterEqual,
+        Operation::AndThen => BinaryOperator::AndThen,
+        Operation::OrElse => BinaryOperator::OrElse,
+    }
+}
+
+fn alone_operator(o: OneOperand) -> UnaryOperator
+    ensures { result ≡ alone_of o }
+{
+    match o {
+        OneOperand::Neg => UnaryOperator::Minus,
+        OneOperand::Com => UnaryOperator::Complement,
+        OneOperand::Not => UnaryOperator::Not,
+    }
+}
+
+fn built_in(k: Member) -> BuiltIn
+    ensures { built_in_of result ≡ member_of k }
+{
+    match k {
+        Member::Size => BuiltIn::Size,
+        Member::Min => BuiltIn::Min,
+        Member::Max => BuiltIn::Max,
+        Member::Contains => BuiltIn::Contains,
+        Member::DomainOf => BuiltIn::Domain,
+        Member::Restrict => BuiltIn::Restrict,
+        Member::Translate => BuiltIn::Translate,
+        Member::Slice => BuiltIn::Slice,
+    }
+}
+
+/// The value that has come out of a computation with no answers, or why there is none.
+pub(crate) fn value_of<'a>(got: Result<(Held, &'a [Told]), Stop>) -> Result<Held, Stop>
+    ensures { (m : Asking Seen) → Tells m → Comes got.entry (m []) → Given result m }
+{
+    match got {
+        Ok((h, _)) => Ok(h),
+        Err(stop) => Err(stop),
+    }
+}
+
+impl Desk {
+    /// What has come out is pushed, or will be.
+    pub(crate) fn push_got(&mut self, got: Result<Held, Stop>, next: usize) -> Result<(), Stop>
+        ensures { (s : Spot) (st : List Seen) (m : Asking Seen)
+            → spot_of self.old ≡ record s { stack = st } → next ≡ s.at + 1 → Given got m
+            → Made result Pushes (pushing s st m) (spot_of self.new) }
+    {
+        self.at = next;
+        let h = got?;
+        self.push(h)?;
+        Ok(())
+    }
+
+    /// An operator of two operands.
+    pub(crate) fn operate(
+        &mut self,
+        alloc: Global,
+        o: Operation,
+        at: Place,
+        next: usize,
+    ) -> Result<(), Stop>
+        requires next { next ≡ self.old.at + 1 }
+        ensures { (w : Who) → Makes w (i.Operate o at) result (spot_of self.old) (spot_of self.new) }
+    {
+        let (x, y) = self.pop_two()?;
+        let got = value_of(operated(alloc, at, operator(o), &x, y, &[]));
+        self.push_got(got, next)
+    }
+
+    /// An operator of one operand.
+    pub(crate) fn operate_alone(&mut self, o: OneOperand, next: usize) -> Result<(), Stop>
+        requires next { next ≡ self.old.at + 1 }
+        ensures { (w : Who) → Makes w (i.Alone o) result (spot_of self.old) (spot_of self.new) }
+    {
+        let h = self.pop()?;
+        self.push(operated_alone(alone_operator(o), h))?;
+        self.at = next;
+        Ok(())
+    }
+
+    /// An int becomes a long.
+    pub(crate) fn widen(&mut self, next: usize) -> Result<(), Stop>
+        requires next { next ≡ self.old.at + 1 }
+        ensures { (w : Who) → Makes w i.Widen result (spot_of self.old) (spot_of self.new) }
+    {
+        let h = self.pop()?;
+        self.push(as_long(h))?;
+        self.at = next;
+        Ok(())
+    }
+
+    /// A long becomes an int.
+    pub(crate) fn narrow(&mut self, next: usize) -> Result<(), Stop>
+        requires next { next ≡ self.old.at + 1 }
+        ensures { (w : Who) → Makes w i.Narrow result (spot_of self.old) (spot_of self.new) }
+    {
+        let h = self.pop()?;
+        self.push(as_int(h))?;
+        self.at = next;
+        Ok(())
+    }
+
+    /// `null` becomes a reference to an object.
+    pub(crate) fn as_object(&mut self, next: usize) -> Result<(), Stop>
+        requires next { next ≡ self.old.at + 1 }
+        ensures { (w : Who) → Makes w i.AsObj result (spot_of self.old) (spot_of self.new) }
+    {
+        let h = self.pop()?;
+        self.push(Held::plain(Value::Obj(h.thing())))?;
+        self.at = next;
+        Ok(())
+    }
+
+    /// `null` becomes a reference to a grid.
+    pub(crate) fn as_grid(&mut self, next: usize) -> Result<(), Stop>
+        requires next { next ≡ self.old.at + 1 }
+        ensures { (w : Who) → Makes w i.AsGrid result (spot_of self.old) (spot_of self.new) }
+    {
+        let h = self.pop()?;
+        self.push(Held::plain(Value::Grid(h.thing())))?;
+        self.at = next;
+        Ok(())
+    }
+
+    /// The point of so many coordinates.
+    pub(crate) fn make_point(&mut self, alloc: Global, n: u32, next: usize) -> Result<(), Stop>
+        requires next { next ≡ self.old.at + 1 }
+        ensures { (w : Who) → Makes w (i.MakePt n) result (spot_of self.old) (spot_of self.new) }
+    {
+        let args = self.take_args(alloc, u64::from(n))?;
+        let numbers = numbers_of(alloc, &args)?;
+        self.push(Held::plain(Value::Pt(point_of_numbers(&numbers))))?;
+        self.at = next;
+        Ok(())
+    }
+
+    /// A coordinate of a point.
+    pub(crate) fn coordinate(
+        &mut self,
+        alloc: Global,
+        n: u32,
+        at: Place,
+        next: usize,
+    ) -> Result<(), Stop>
+        requires next { next ≡ self.old.at + 1 }
+        ensures { (w : Who) → Makes w (i.Coord n at) result (spot_of self.old) (spot_of self.new) }
+    {
+        let args = self.take_args(alloc, u64::from(n))?;
+        let h = self.pop()?;
+        let numbers = numbers_of(alloc, &args)?;
+        let got = value_of(indexed(true, at, &h, &numbers, &[]));
+        self.push_got(got, next)
+    }
+
+    /// The step of a range that says none.
+    #[tactic(auto, using(crate::proofs::Reversed::reversed))]
+    pub(crate) fn step(&mut self, next: usize) -> Result<(), Stop>
+        requires next { next ≡ self.old.at + 1 }
+        ensures { (w : Who) → Makes w i.Step result (spot_of self.old) (spot_of self.new) }
+    {
+        let Some(high) = self.stack.pop() else {
+            self.push(Held::plain(Value::Int(1)))?;
+            self.at = next;
+            return Ok(());
+        };
+        let step = match self.stack.last() {
+            Some(low) => low.one_step(),
+            None => Held::plain(Value::Int(1)),
+        };
+        self.stack.push(high)?;
+        self.push(step)?;
+        self.at = next;
+        Ok(())
+    }
+
+    /// The rectangular domain of so many ranges.
+    pub(crate) fn make_rect(
+        &mut self,
+        alloc: Global,
+        n: u32,
+        at: Place,
+        next: usize,
+    ) -> Result<(), Stop>
+        requires next { next ≡ self.old.at + 1 }
+        ensures { (w : Who) → Makes w (i.MakeRect n at) result (spot_of self.old) (spot_of self.new) }
+    {
+        let args = self.take_args(alloc, 3 * u64::from(n))?;
+        let b = bounds(alloc, &args)?;
+        let got = value_of(rect_from(at, Ok((b, &[]))));
+        self.push_got(got, next)
+    }
+
+    /// The points that are in both of two rectangular domains.
+    pub(crate) fn meet(&mut self, alloc: Global, next: usize) -> Result<(), Stop>
+        requires next { next ≡ self.old.at + 1 }
+        ensures { (w : Who) → Makes w i.Common result (spot_of self.old) (spot_of self.new) }
+    {
+        let (x, y) = self.pop_two()?;
+        let h = common(alloc, &x.rect(), &y.rect())?;
+        self.push(h)?;
+        self.at = next;
+        Ok(())
+    }
+
+    /// A rectangular domain becomes the domain of its points.
+    pub(crate) fn as_domain(&mut self, alloc: Global, at: Place, next: usize) -> Result<(), Stop>
+        requires next { next ≡ self.old.at + 1 }
+        ensures { (w : Who) → Makes w (i.ToDom at) result (spot_of self.old) (spot_of self.new) }
+    {
+        let h = self.pop()?;
+        let got = value_of(to_domain(alloc, at, h, &[]));
+        self.push_got(got, next)
+    }
+
+    /// A member of the language.
+    pub(crate) fn member(
+        &mut self,
+        alloc: Global,
+        k: Member,
+        n: u32,
+        at: Place,
+        next: usize,
+    ) -> Result<(), Stop>
+        requires next { next ≡ self.old.at + 1 }
+        ensures { (w : Who) → Makes w (i.Member k n at) result (spot_of self.old) (spot_of self.new) }
+    {
+        let args = self.take_args(alloc, u64::from(n))?;
+        let h = self.pop()?;
+        let got = value_of(member(at, Some(built_in(k)), &h, &args, &[]));
+        self.push_got(got, next)
+    }
+
+    /// The reference names a thing of the own process, or nothing.
+    pub(crate) fn cast_local(&mut self, team: Team, at: Place, next: usize) -> Result<(), Stop>
+        requires next { next ≡ self.old.at + 1 }
+        ensures { (receivers : List (Option ℕ)) → Makes (who team receivers) (i.CastLocal at) result (spot_of self.old) (spot_of self.new) }
+    {
+        let h = self.pop()?;
+        let ty = Ty::Class {
+            class: 0,
+            local: true,
+        };
+        let got = value_of(kept_local(team.number, at, &ty, h, &[]));
+        self.push_got(got, next)
+    }
+
+    /// The operand is the number of a process.
+    pub(crate) fn root_test(&mut self, team: Team, at: Place, next: usize) -> Result<(), Stop>
+        requires next { next ≡ self.old.at + 1 }
+        ensures { (receivers : List (Option ℕ)) → Makes (who team receivers) (i.RootTest at) result (spot_of self.old) (spot_of self.new) }
+    {
+        let n = self.pop()?.whole();
+        if n < 0 || n >= i64::from(team.procs) {
+            return Err(Stop::Fails(FaultKind::BadRoot, at));
+        }
+        self.push(Held::plain(Value::Int(n as i32)))?;
+        self.at = next;
+        Ok(())
+    }
+
+    /// The operand is the domain that has one point for each process.
+    pub(crate) fn grid_test(&mut self, team: Team, at: Place, next: usize) -> Result<(), Stop>
+        requires next { next ≡ self.old.at + 1 }
+        ensures { (receivers : List (Option ℕ)) → Makes (who team receivers) (i.GridTest at) result (spot_of self.old) (spot_of self.new) }
+    {
+        let h = self.pop()?;
+        if !is_of_team(&h.rect(), team.procs) {
+            return Err(Stop::Fails(FaultKind::ExchangeDomain, at));
+        }
+        self.push(Held::plain(Value::Rc(rect_of_team(team.procs))))?;
+        self.at = next;
+        Ok(())
+    }
+}
