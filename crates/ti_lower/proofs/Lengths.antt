@@ -123,7 +123,7 @@ module _ (program : NumberedProgram) (this : Option ℕ) (result : ValueType) wh
     same_length (s.Return p (Some x)) l m names at e = refl
     same_length x l m names at e = refl
 
-    maybe_length : (x : MaybeNumbered) (l m : Option Labels) (names : List Name) (at : ℕ) → walks_in l ≡ walks_in m
+    pub maybe_length : (x : MaybeNumbered) (l m : Option Labels) (names : List Name) (at : ℕ) → walks_in l ≡ walks_in m
         → behind at (maybe_code program this result x l names at) ≡ behind at (maybe_code program this result x m names at)
     maybe_length NoStm l m names at e = refl
     maybe_length (SomeStm x) l m names at e = same_length x l m names at e

@@ -25,3 +25,8 @@ mod PremisesCalls
 mod PremisesStated
 mod PremisesHold
 mod PremisesChecked
+pub mod Hiding
+mod Elementwise
+mod Laid
+pub mod Drafts
+mod Jumping

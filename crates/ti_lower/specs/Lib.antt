@@ -2,3 +2,4 @@ pub mod Calling
 pub mod Receivers
 pub mod Laying
 pub mod Programs
+pub mod Mirrors

@@ -7,3 +7,5 @@ pub mod Operands
 pub mod Expressions
 pub mod Naming
 pub mod Growing
+pub mod Walked
+pub mod Jumping

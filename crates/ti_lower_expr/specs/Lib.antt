@@ -7,3 +7,4 @@ pub mod Views
 pub mod Noted
 pub mod Contents
 pub mod Walking
+pub mod Sites

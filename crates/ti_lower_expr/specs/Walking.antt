@@ -1,25 +1,69 @@
--- The code that is written where a walk stands.
-use Rattle.std.specs.Prelude.{ℕ, List}
+-- What the functions that write expressions make of the code that stands there. Nobody has to believe it: what the code of an expression is,
+-- is said by `Coding`, and `lower_expr` says that it is that.
+use Rattle.std.specs.Prelude.{ℕ, ◌+◌, Bool, List, [], ◌∷◌, ◌++◌, length, set, false, Option, None, unwrap_or, option_and_then}
+use Rattle.ti_base.specs.declared.place.Place.{Place}
+use Rattle.ti_base.specs.declared.value.Value.TheVariants as v
 use Rattle.ti_lang.specs.Program.Expressions.{NumberedExp, NumberedExps, NumberedRange, NumberedRanges}
-use Rattle.ti_lang.specs.Program.Views.{program_of}
+use Rattle.ti_lang.specs.Program.Expressions as e
+use Rattle.ti_lang.specs.Program.Classes.{NumberedProgram}
+use Rattle.ti_lang.specs.Typing.Kinds.{is_local, is_point, class_of_type}
+use Rattle.ti_lang.specs.Typing.Declared.{field_numbered}
+use Rattle.ti_lang.specs.Typing.Called.{member_called}
+use Rattle.ti_lang.specs.Typing.TextTypes.{type_in_text, how_many}
 use Rattle.ti_code.specs.declared.instr.Instr.{Instr}
-use Rattle.ti_code.specs.Leading.{behind}
-use Rattle.ti_lower_expr.specs.declared.walker.Walker.{Walker}
-use Rattle.ti_lower_expr.specs.Coding.{code_of, code_of_all, code_of_range, code_of_ranges}
-use Rattle.ti_lower_expr.specs.Contents.{names_in}
+use Rattle.ti_code.specs.declared.instr.Instr.TheVariants as i
+use Rattle.ti_code.specs.declared.instr.Operation.{Operation}
+use Rattle.ti_lower_expr.specs.Slots.{Name, find_slot, has_this}
+use Rattle.ti_lower_expr.specs.declared.kinds.Laziness.{Laziness}
+use Rattle.ti_lower_expr.specs.declared.kinds.Laziness.TheVariants.{Never, Where}
+use Rattle.ti_lower_expr.specs.Knowing.{known_of}
+use Rattle.ti_lower_expr.specs.Coding as coding
 
--- the number of the instruction behind those that are written
-abbrev pub next : Walker → List Instr → ℕ
-next w items = behind w.base items
+-- the jumps around a right operand, once it is known where they lead; the first of them has this number
+abbrev pub around : Bool → ℕ → List Instr → List Instr
+around left jump code = set code jump (coding.jump_where left (length code + 1)) ++ i.Jump (length code + 2) ∷ i.Const (v.Bool left) ∷ []
 
-abbrev pub code_in : Walker → NumberedExp → ℕ → List Instr
-code_in w = code_of (program_of w.program.now) w.this (names_in w.slots.now)
+-- an operator, and the code with its right operand, behind its left one
+abbrev pub operated : Laziness → Operation → Place → (List Instr → List Instr) → List Instr → List Instr
+operated Never name p right code = right code ++ i.Operate name p ∷ []
+operated (Where left) name p right code = around left (length code) (right (code ++ coding.jump_where left 0 ∷ []))
 
-abbrev pub all_in : Walker → NumberedExps → ℕ → List Instr
-all_in w = code_of_all (program_of w.program.now) w.this (names_in w.slots.now)
+module _ (program : NumberedProgram) (this : Option ℕ) (names : List Name) where
+  abbrev mutual
+    -- code with that of an expression behind it
+    pub walked : NumberedExp → List Instr → List Instr
+    walked (e.Int p n) code = code ++ i.Const (v.Int n) ∷ []
+    walked (e.Long p n) code = code ++ i.Const (v.Long n) ∷ []
+    walked (e.Truth p x) code = code ++ i.Const (v.Bool x) ∷ []
+    walked (e.Null p) code = code ++ i.Const (v.Obj None) ∷ []
+    walked (e.This p) code = code ++ coding.own (has_this names) ∷ []
+    walked (e.Variable p x) code = code ++ coding.loaded (find_slot x names) x ∷ []
+    walked (e.OwnField p field) code = code ++ coding.own (has_this names) ∷ [] ++ i.GetField field p ∷ []
+    walked (e.ThisProc p) code = code ++ i.ThisProc ∷ []
+    walked (e.NumProcs p) code = code ++ i.NumProcs ∷ []
+    walked (e.Point p parts) code = walked_all parts code ++ i.MakePt (how_many parts) ∷ []
+    walked (e.Rect p ranges) code =
+        walked_ranges ranges code ++ coding.rect_instr (coding.kind_of_ranges program this ranges) (coding.how_many_ranges ranges) p ∷ []
+    walked (e.Unary p op x) code = walked x code ++ coding.alone_code op
+    walked (e.Binary p op x y) code = operated (coding.laziness op) (coding.operation_in program this op x y) p (walked y) (walked x code)
+    walked (e.Cast p type x) code = walked x code ++ coding.conversion p type.type (known_of program this x) ++ coding.local_test p (is_local type.type)
+    walked (e.Select p x name) code =
+        walked x code ++ i.GetField (unwrap_or (option_and_then (field_numbered program name) (class_of_type (type_in_text program this x))) 0) p ∷ []
+    walked (e.Member p x name args) code =
+        walked_all args (walked x code) ++ coding.member_code (member_called program this x name) (how_many args) p
+    walked (e.Index p x parts) code =
+        walked_all parts (walked x code) ++ coding.index_code (is_point (type_in_text program this x)) (how_many parts) p
+    walked (e.Call p method args) code = code ++ i.Const (v.Bool false) ∷ []
+    walked (e.OwnCall p method args) code = code ++ i.Const (v.Bool false) ∷ []
 
-abbrev pub range_in : Walker → NumberedRange → ℕ → List Instr
-range_in w = code_of_range (program_of w.program.now) w.this (names_in w.slots.now)
+    pub walked_all : NumberedExps → List Instr → List Instr
+    walked_all e.NoExp code = code
+    walked_all (e.MoreExp x xs) code = walked_all xs (walked x code)
 
-abbrev pub ranges_in : Walker → NumberedRanges → ℕ → List Instr
-ranges_in w = code_of_ranges (program_of w.program.now) w.this (names_in w.slots.now)
+    pub walked_range : NumberedRange → List Instr → List Instr
+    walked_range (e.Plain low high) code = walked high (walked low code) ++ i.Step ∷ []
+    walked_range (e.Stepped low high step) code = walked step (walked high (walked low code))
+
+    pub walked_ranges : NumberedRanges → List Instr → List Instr
+    walked_ranges e.NoRange code = code
+    walked_ranges (e.MoreRange r rs) code = walked_ranges rs (walked_range r code)

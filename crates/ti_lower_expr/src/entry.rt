@@ -1,9 +1,9 @@
 // The code of an expression, and what it does.
 
-ghost use Rattle.std.specs.Prelude.{◌≡◌, ◌++◌, ℕ, List, OnOk, OnErr, length};
-ghost use Rattle.ti_lang.specs.Program.Expressions.{NumberedExp};
+ghost use Rattle.std.specs.Prelude.{◌≡◌, ◌++◌, ℕ, List, OnOk, length, map};
+ghost use Rattle.ti_lang.specs.Program.Expressions.{NumberedExp, rect};
 ghost use Rattle.ti_lang.specs.Program.Scope.{this_of};
-ghost use Rattle.ti_lang.specs.Program.Views.{program_of, expression_of};
+ghost use Rattle.ti_lang.specs.Program.Views.{program_of, expression_of, bound_of};
 ghost use Rattle.ti_lang.specs.Meaning.Evaluation.{eval};
 ghost use Rattle.ti_lang.specs.Meaning.Held.{Held};
 ghost use Rattle.ti_lang.specs.Meaning.Scoping.{Env};
@@ -14,37 +14,30 @@ ghost use Rattle.ti_lower_expr.specs.Doing.{Does, Pushes, who_in};
 ghost use Rattle.ti_lower_expr.specs.Slots.{Name, Holds};
 ghost use Rattle.ti_lower_expr.specs.Contents.{names_in};
 
-use crate::slots::Slots;
-use crate::walker::{Walker, walk};
-use std::alloc::Global;
-use ti_base::Memory;
+use crate::site::Site;
+use crate::walker::{walk, walk_rect};
+use ti_base::{Memory, Place};
 use ti_code::Instr;
-use ti_lang::program::{Expr, Parts};
+use ti_lang::program::{Expr, Range};
 
-/// Where an expression stands: in a method of a program with this class of `this`, if it has one, where the slots are for these names.
-#[derive(Clone, Copy)]
-pub struct Site<'a> {
-    pub program: &'a Parts,
-    pub this: Option<u32>,
-    pub slots: &'a Slots<'a>,
+/// Appends the code of an expression to that of its method. On want of memory some of its instructions may stand there.
+pub fn lower_expr(site: &Site, e: &Expr, out: &mut Vec<Instr>) -> Result<(), Memory>
+    ensures { OnOk result (out.new.items ≡ out.old.items ++ code_of (program_of site.now.program.now) site.now.this (names_in site.now.slots.now) (expression_of e.now) (length out.old.items)) }
+{
+    walk(site, e, out)?;
+    Ok(())
 }
 
-/// Appends the code of an expression to that of its method.
-pub fn lower_expr(alloc: Global, site: &Site, e: &Expr, out: &mut Vec<Instr>) -> Result<(), Memory>
-    ensures code { OnOk result (out.new.items ≡ out.old.items ++ code_of (program_of site.now.program.now) site.now.this (names_in site.now.slots.now) (expression_of e.now) (length out.old.items)) }
-    ensures err { OnErr result (out.new.items ≡ out.old.items) }
+/// Appends the code of the rectangular domain of these ranges, whose place is that of their `[`.
+pub fn lower_rect(
+    site: &Site,
+    place: Place,
+    ranges: &[Range],
+    out: &mut Vec<Instr>,
+) -> Result<(), Memory>
+    ensures { OnOk result (out.new.items ≡ out.old.items ++ code_of (program_of site.now.program.now) site.now.this (names_in site.now.slots.now) (rect place (map bound_of ranges.now)) (length out.old.items)) }
 {
-    let walker = Walker {
-        alloc,
-        program: site.program,
-        this: site.this,
-        slots: site.slots,
-        base: out.len(),
-    };
-    let mut found = Vec::new(alloc);
-    walk(&walker, e, &mut found)?;
-    out.extend_from_slice(&found)?;
-    Ok(())
+    walk_rect(site, place, ranges, out)
 }
 
 /// Wherever the code of an expression stands, it does what the expression comes to: entered where the slots hold `this`, the variables in

@@ -3,9 +3,8 @@
 ghost use Rattle.std.specs.Prelude.{◌≡◌, option_map, Some};
 ghost use Rattle.ti_syntax.specs.declared.tree.exprs.BinaryOperator.TheVariants as op;
 ghost use Rattle.ti_lang.specs.Program.Views.{program_of, expression_of, value_type_of, declared_of};
-ghost use Rattle.ti_lang.specs.Typing.Kinds.{is_point};
+ghost use Rattle.ti_lang.specs.Typing.Kinds.{is_point as is_point_spec};
 ghost use Rattle.ti_lang.specs.Typing.Seen.{seen, built_in_of};
-ghost use Rattle.ti_lang.specs.Typing.TextTypes.{type_in_text as text_type};
 ghost use Rattle.ti_lower_expr.specs.Coding as coding;
 ghost use Rattle.ti_lower_expr.specs.Knowing as knowing;
 
@@ -67,8 +66,8 @@ pub fn laziness_of(operator: BinaryOperator) -> Laziness
     }
 }
 
-// What a type is.
-fn kind_of_seen(t: Seen) -> Kind
+/// What a type is.
+pub fn kind_of_seen(t: Seen) -> Kind
     ensures { result ≡ coding.kind_of_type (seen t.entry) }
 {
     match t {
@@ -127,23 +126,14 @@ fn product_name(left: Kind, right: Kind) -> Operation
     }
 }
 
-/// The name of an operator between two expressions.
-pub fn operation_in(
-    program: &Parts,
-    this: Option<u32>,
-    operator: BinaryOperator,
-    left: &Expr,
-    right: &Expr,
-) -> Operation
-    ensures { result ≡ coding.operation_in (program_of program.now) this operator (expression_of left.now) (expression_of right.now) }
+/// The name of an operator between such operands.
+pub fn operation_of(operator: BinaryOperator, left: Kind, right: Kind) -> Operation
+    ensures { result ≡ coding.operation operator left right }
 {
     match operator {
-        BinaryOperator::Add => sum_name(kind_in(program, this, left)),
-        BinaryOperator::Subtract => difference_name(kind_in(program, this, left)),
-        BinaryOperator::Multiply => {
-            let first = kind_in(program, this, left);
-            product_name(first, kind_in(program, this, right))
-        }
+        BinaryOperator::Add => sum_name(left),
+        BinaryOperator::Subtract => difference_name(left),
+        BinaryOperator::Multiply => product_name(left, right),
         BinaryOperator::Divide => Operation::Div,
         BinaryOperator::Remainder => Operation::Rem,
         BinaryOperator::ShiftLeft => Operation::Shl,
@@ -282,8 +272,8 @@ pub fn known_operated(operator: BinaryOperator, left: Known, right: Known) -> Kn
     }
 }
 
-// The same of an operator of one operand.
-fn known_alone(operator: UnaryOperator, k: Known) -> Known
+/// The same of an operator of one operand.
+pub fn known_alone(operator: UnaryOperator, k: Known) -> Known
     ensures { result ≡ knowing.alone_known operator k }
 {
     match operator {
@@ -312,7 +302,8 @@ fn known_built_in(b: BuiltIn) -> Known
     }
 }
 
-fn known_member(called: Option<BuiltIn>) -> Known
+/// The same of a member that is called, if there is one.
+pub fn known_member(called: Option<BuiltIn>) -> Known
     ensures { result ≡ knowing.member_known (option_map built_in_of called) }
 {
     match called {
@@ -321,13 +312,20 @@ fn known_member(called: Option<BuiltIn>) -> Known
     }
 }
 
-// The same of an index of a point or a grid.
-fn known_indexed(program: &Parts, this: Option<u32>, receiver: &Expr) -> Known
-    ensures { result ≡ knowing.index_known (is_point (text_type (program_of program.now) this (expression_of receiver.now))) }
+/// The same of an index of a point, or of a grid.
+pub fn known_indexed(is_point: bool) -> Known
+    ensures { result ≡ knowing.index_known is_point }
 {
-    match type_in_text(program, this, receiver) {
-        Seen::Pt(_) => Known::Int,
-        _ => Known::Other,
+    if is_point { Known::Int } else { Known::Other }
+}
+
+/// A point.
+pub fn is_point(t: Seen) -> bool
+    ensures { result ≡ is_point_spec (seen t.entry) }
+{
+    match t {
+        Seen::Pt(_) => true,
+        _ => false,
     }
 }
 
@@ -358,7 +356,9 @@ pub fn known_of(program: &Parts, this: Option<u32>, e: &Expr) -> Known
         Expr::Member { receiver, name, .. } => {
             known_member(member_called(program, this, receiver, *name))
         }
-        Expr::Index { receiver, .. } => known_indexed(program, this, receiver),
+        Expr::Index { receiver, .. } => known_indexed(is_point(type_in_text(
+            program, this, receiver,
+        ))),
         Expr::Truth(_, _)
         | Expr::OwnField(_, _)
         | Expr::Point(_, _)

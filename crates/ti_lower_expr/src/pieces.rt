@@ -1,6 +1,6 @@
 // The code of the parts of an expression that are no expressions themselves.
 
-ghost use Rattle.std.specs.Prelude.{◌≡◌, ◌∷◌, ◌++◌, [], IfOk, OnOk, false, map};
+ghost use Rattle.std.specs.Prelude.{◌≡◌, ◌∷◌, ◌++◌, ◌+◌, [], IfOk, OnOk, false, map};
 ghost use Rattle.ti_base.specs.declared.value.Value.TheVariants as v;
 ghost use Rattle.ti_base.specs.Forms.{is_dim};
 ghost use Rattle.ti_base.specs.Points.{IsDim};
@@ -9,6 +9,7 @@ ghost use Rattle.ti_code.specs.declared.instr.Instr.TheVariants as i;
 ghost use Rattle.ti_lang.specs.Program.Expressions.{numbered_exps};
 ghost use Rattle.ti_lang.specs.Program.Views.{value_type_of, declared_of, variable_of, expression_of};
 ghost use Rattle.ti_lang.specs.Typing.Kinds.{is_local};
+ghost use Rattle.ti_lang.specs.Typing.Seen.{seen};
 ghost use Rattle.ti_lang.specs.Typing.TextTypes.{how_many};
 ghost use Rattle.ti_lang.specs.Meaning.Held.{zero_of};
 ghost use Rattle.ti_lang.specs.Meaning.Scoping.{zero_declared};
@@ -22,6 +23,7 @@ use ti_base::{Memory, Place, Point, Rect, Value};
 use ti_code::{Instr, Member, OneOperand};
 use ti_lang::program::{Declared, Expr, Ty, Variable};
 use ti_lang::tree::UnaryOperator;
+use ti_lang::typing::Seen;
 
 /// One more instruction.
 pub fn add(instr: Instr, out: &mut Vec<Instr>) -> Result<(), Memory>
@@ -38,6 +40,16 @@ pub fn counted(n: usize) -> Result<u32, Memory>
     match u32::try_from(n) {
         Ok(n) => Ok(n),
         Err(_) => Err(Memory),
+    }
+}
+
+/// The number so far behind another, as instructions count.
+pub fn number_behind(n: usize, more: usize) -> Result<u32, Memory>
+    ensures { IfOk result (λ m. m ≡ n + more) }
+{
+    match n.checked_add(more) {
+        Some(m) => counted(m),
+        None => Err(Memory),
     }
 }
 
@@ -128,8 +140,8 @@ fn zero(ty: &Ty) -> Instr
     }
 }
 
-// Pushes the zero of what is written where a variable is declared.
-fn declared_zero(declared: &Declared) -> Instr
+/// Pushes the zero of what is written where a variable is declared.
+pub fn declared_zero(declared: &Declared) -> Instr
     ensures { result ≡ coding.constant (zero_declared (declared_of declared.now)) }
 {
     match declared {
@@ -200,14 +212,13 @@ pub fn add_alone(operator: UnaryOperator, out: &mut Vec<Instr>) -> Result<(), Me
 }
 
 /// Jumps where the operand is this.
-pub fn jump_where(left: bool, target: usize) -> Result<Instr, Memory>
-    ensures { IfOk result (λ i. i ≡ coding.jump_where left target) }
+pub fn jump_where(left: bool, target: u32) -> Instr
+    ensures { result ≡ coding.jump_where left target }
 {
-    let target = counted(target)?;
     if left {
-        Ok(Instr::JumpIf(target))
+        Instr::JumpIf(target)
     } else {
-        Ok(Instr::JumpIfNot(target))
+        Instr::JumpIfNot(target)
     }
 }
 
@@ -251,28 +262,24 @@ fn add_as_grid(known: Known, out: &mut Vec<Instr>) -> Result<(), Memory>
 /// The value on top, of which so much is known, as one of a type.
 pub fn add_conversion(
     place: Place,
-    ty: &Ty,
+    ty: Seen,
     known: Known,
     out: &mut Vec<Instr>,
 ) -> Result<(), Memory>
-    ensures { OnOk result (out.new.items ≡ out.old.items ++ coding.conversion place (value_type_of ty.now) known) }
+    ensures { OnOk result (out.new.items ≡ out.old.items ++ coding.conversion place (seen ty.entry) known) }
 {
     match ty {
-        Ty::Dm(_) => add(Instr::ToDom(place), out),
-        Ty::Long => add_widen(known, out),
-        Ty::Int => add_narrow(known, out),
-        Ty::Class { class: _, local: _ } => add_as_object(known, out),
-        Ty::Grid {
+        Seen::Dm(_) => add(Instr::ToDom(place), out),
+        Seen::Long => add_widen(known, out),
+        Seen::Int => add_narrow(known, out),
+        Seen::Class { class: _, local: _ } => add_as_object(known, out),
+        Seen::Grid {
             elem: _,
+            any_dim: _,
             dim: _,
             local: _,
         } => add_as_grid(known, out),
-        Ty::Bool => Ok(()),
-        Ty::Pt(_) => Ok(()),
-        Ty::Rc(_) => Ok(()),
-        Ty::Region => Ok(()),
-        Ty::Null => Ok(()),
-        Ty::Void => Ok(()),
+        Seen::Bool | Seen::Pt(_) | Seen::Rc(_) | Seen::Region | Seen::Null | Seen::Void => Ok(()),
     }
 }
 
@@ -304,9 +311,9 @@ fn add_local_test(place: Place, is_local: bool, out: &mut Vec<Instr>) -> Result<
 
 /// A cast of a value, of which so much is known, to a type.
 pub fn add_cast(place: Place, ty: &Ty, known: Known, out: &mut Vec<Instr>) -> Result<(), Memory>
-    ensures { OnOk result (out.new.items ≡ out.old.items ++ (coding.conversion place (value_type_of ty.now) known ++ coding.local_test place (is_local (value_type_of ty.now)))) }
+    ensures { OnOk result (out.new.items ≡ out.old.items ++ coding.conversion place (value_type_of ty.now) known ++ coding.local_test place (is_local (value_type_of ty.now))) }
 {
-    add_conversion(place, ty, known, out)?;
+    add_conversion(place, Seen::of(ty, false), known, out)?;
     add_local_test(place, is_local(ty), out)
 }
 

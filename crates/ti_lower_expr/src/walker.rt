@@ -1,282 +1,339 @@
-// The code of an expression, part by part.
+// The code of an expression, part by part. What the text tells of its value is handed up, so that each part is read once.
 
-ghost use Rattle.std.specs.Prelude.{◌≡◌, ◌∷◌, ◌++◌, ◌+◌, [], OnOk, IfOk, map, length};
-ghost use Rattle.ti_base.specs.declared.value.Value.TheVariants as v;
+ghost use Rattle.std.specs.Prelude.{◌≡◌, ◌∷◌, ◌++◌, [], OnOk, IfOk, map, option_map, option_and_then, unwrap_or};
 ghost use Rattle.ti_code.specs.declared.instr.Instr.TheVariants as i;
 ghost use Rattle.ti_lang.specs.Program.Expressions.{numbered_exps, numbered_ranges};
 ghost use Rattle.ti_lang.specs.Program.Expressions as x;
+ghost use Rattle.ti_lang.specs.Typing.TextTypes.{how_many, field_seen as field_spec, member_seen as member_spec, element_seen as element_spec};
 ghost use Rattle.ti_lang.specs.Program.Views.{program_of, expression_of, bound_of};
-ghost use Rattle.ti_lang.specs.Typing.TextTypes.{how_many, type_in_text};
-ghost use Rattle.ti_lang.specs.Typing.Kinds.{is_point as is_point_spec};
-ghost use Rattle.ti_lang.specs.Typing.Called.{member_called};
+ghost use Rattle.ti_lang.specs.Typing.Seen.{seen, built_in_of};
+ghost use Rattle.ti_lang.specs.Typing.Declared.{field_numbered};
+ghost use Rattle.ti_lang.specs.Typing.Kinds.{is_point as is_point_spec, class_of_type};
+ghost use Rattle.ti_lower_expr.specs.declared.kinds.Known.TheVariants as known;
+ghost use Rattle.ti_lower_expr.specs.Knowing as knowing;
 ghost use Rattle.ti_lower_expr.specs.Coding as coding;
-ghost use Rattle.ti_lower_expr.specs.Walking.{code_in, all_in, range_in, ranges_in, next};
+ghost use Rattle.ti_lower_expr.specs.Walking.{around, operated};
+ghost use Rattle.ti_lower_expr.specs.Sites.{type_in, known_in, called_behind, walked_in, all_in, range_in, ranges_in};
 
-use crate::fields::field_selected;
-use crate::kinds::{Kind, Laziness, kind_in, known_of, laziness_of, operation_in, shown_member};
+use crate::fields::field_behind;
+use crate::kinds::{
+    Kind, Known, Laziness, is_point, kind_in, kind_of_seen, known_alone, known_indexed,
+    known_member, known_of, known_operated, laziness_of, operation_of, shown_member,
+};
 use crate::pieces::{
-    add, add_alone, add_cast, add_index, add_member, add_point, counted, jump_where, own,
+    add, add_alone, add_cast, add_index, add_member, add_point, jump_where, number_behind, own,
     rect_instr, variable,
 };
-use crate::slots::Slots;
-use std::alloc::Global;
+use crate::site::{Site, Told};
 use ti_base::{Memory, Place, Value};
-use ti_code::{Instr, Operation};
-use ti_lang::program::{Expr, Parts, Range};
+use ti_code::Instr;
+use ti_lang::program::{Expr, Range};
 use ti_lang::tree::BinaryOperator;
-use ti_lang::typing::{Seen, member_called, type_in_text};
+use ti_lang::typing::{
+    BuiltIn, Seen, built_in, element_seen, field_seen, member_seen, operator_type, type_in_text,
+};
 
-/// Where code is written: in a method of a program with this class, where the slots have these names; the first instruction that is
-/// written has this number.
-#[derive(Clone, Copy)]
-pub struct Walker<'a> {
-    pub alloc: Global,
-    pub program: &'a Parts,
-    pub this: Option<u32>,
-    pub slots: &'a Slots<'a>,
-    pub base: usize,
-}
+// ---- what the text tells
 
-// ---- behind their operands
-
-// A member behind its receiver and its arguments.
-fn add_called(
-    w: &Walker,
-    place: Place,
-    receiver: &Expr,
-    name: u32,
-    args: &[Expr],
-    out: &mut Vec<Instr>,
-) -> Result<(), Memory>
-    ensures { OnOk result (out.new.items ≡ out.old.items ++ coding.member_code (member_called (program_of w.now.program.now) w.now.this (expression_of receiver.now) name) (how_many (numbered_exps (map expression_of args.now))) place) }
+// Of an expression that has its type of itself.
+fn told<'s, 'a>(s: &Site<'s, 'a>, e: &'a Expr) -> Told<'a>
+    ensures ty { seen result.ty ≡ type_in s.now (expression_of e.now) }
+    ensures known { result.known ≡ known_in s.now (expression_of e.now) }
 {
-    let member = shown_member(member_called(w.program, w.this, receiver, name));
-    add_member(member, args.len(), place, out)
-}
-
-// Whether an expression is a point in the text.
-fn is_point(w: &Walker, e: &Expr) -> bool
-    ensures { result ≡ is_point_spec (type_in_text (program_of w.now.program.now) w.now.this (expression_of e.now)) }
-{
-    match type_in_text(w.program, w.this, e) {
-        Seen::Pt(_) => true,
-        _ => false,
+    Told {
+        ty: type_in_text(s.program, s.this, e),
+        known: known_of(s.program, s.this, e),
     }
 }
 
-// An index behind a point or a grid and its indices.
-fn add_indexed(
-    w: &Walker,
-    place: Place,
-    receiver: &Expr,
-    indices: &[Expr],
-    out: &mut Vec<Instr>,
-) -> Result<(), Memory>
-    ensures { OnOk result (out.new.items ≡ out.old.items ++ coding.index_code (is_point_spec (type_in_text (program_of w.now.program.now) w.now.this (expression_of receiver.now))) (how_many (numbered_exps (map expression_of indices.now))) place) }
+// The member of the language that a name means behind a value of the type.
+fn member_behind(s: &Site, t: Seen, name: u32) -> Option<BuiltIn>
+    ensures { option_map built_in_of result ≡ called_behind s.now (seen t.entry) name }
 {
-    let is_point = is_point(w, receiver);
-    add_index(is_point, indices.len(), place, out)
-}
-
-// What the low bound of a range is.
-fn kind_of_range(w: &Walker, r: &Range) -> Kind
-    ensures { result ≡ coding.kind_in (program_of w.now.program.now) w.now.this (coding.low_bound (bound_of r.now)) }
-{
-    match r {
-        Range::Plain { low, .. } => kind_in(w.program, w.this, low),
-        Range::Stepped { low, .. } => kind_in(w.program, w.this, low),
+    if t.is_object() {
+        None
+    } else {
+        built_in(s.program, name)
     }
 }
 
 // What the low bound of the first range is.
-fn kind_of_ranges(w: &Walker, ranges: &[Range]) -> Kind
-    ensures { result ≡ coding.kind_of_ranges (program_of w.now.program.now) w.now.this (numbered_ranges (map bound_of ranges.now)) }
+fn kind_of_ranges(s: &Site, ranges: &[Range]) -> Kind
+    ensures { result ≡ coding.kind_of_ranges (program_of s.now.program.now) s.now.this (numbered_ranges (map bound_of ranges.now)) }
 {
     if ranges.len() == 0 {
-        Kind::Numbers
-    } else {
-        kind_of_range(w, &ranges[0])
+        return Kind::Numbers;
     }
+    match &ranges[0] {
+        Range::Plain { low, high: _ } => kind_in(s.program, s.this, low),
+        Range::Stepped {
+            low,
+            high: _,
+            step: _,
+        } => kind_in(s.program, s.this, low),
+    }
+}
+
+// ---- parts
+
+// An expression of one instruction.
+fn leaf<'s, 'a>(
+    s: &Site<'s, 'a>,
+    e: &'a Expr,
+    instr: Instr,
+    out: &mut Vec<Instr>,
+) -> Result<Told<'a>, Memory>
+    ensures code { OnOk result (out.new.items ≡ out.old.items ++ instr ∷ []) }
+    ensures ty { IfOk result (λ t. seen t.ty ≡ type_in s.now (expression_of e.now)) }
+    ensures known { IfOk result (λ t. t.known ≡ known_in s.now (expression_of e.now)) }
+{
+    add(instr, out)?;
+    Ok(told(s, e))
 }
 
 // The rectangular domain of its ranges.
-fn add_rect(w: &Walker, place: Place, ranges: &[Range], out: &mut Vec<Instr>) -> Result<(), Memory>
-    ensures { OnOk result (out.new.items ≡ out.old.items ++ coding.rect_instr (coding.kind_of_ranges (program_of w.now.program.now) w.now.this (numbered_ranges (map bound_of ranges.now))) (coding.how_many_ranges (numbered_ranges (map bound_of ranges.now))) place ∷ []) }
+#[tactic(auto, using(crate::proofs::Growing::counts))]
+fn add_rect(s: &Site, place: Place, ranges: &[Range], out: &mut Vec<Instr>) -> Result<(), Memory>
+    ensures { OnOk result (out.new.items ≡ out.old.items ++ coding.rect_instr (coding.kind_of_ranges (program_of s.now.program.now) s.now.this (numbered_ranges (map bound_of ranges.now))) (coding.how_many_ranges (numbered_ranges (map bound_of ranges.now))) place ∷ []) }
 {
-    let instr = rect_instr(kind_of_ranges(w, ranges), ranges.len(), place)?;
-    add(instr, out)
+    let kind = kind_of_ranges(s, ranges);
+    add(rect_instr(kind, ranges.len(), place)?, out)
 }
 
-// A field of the own object.
-fn add_own_field(w: &Walker, place: Place, field: u32, out: &mut Vec<Instr>) -> Result<(), Memory>
-    ensures { OnOk result (out.new.items ≡ out.old.items ++ code_in w.now (x.OwnField place field) 0) }
+// The jumps around a right operand that may be left out, of which the first has this number.
+fn close(left: bool, jump: usize, out: &mut Vec<Instr>) -> Result<(), Memory>
+    ensures { OnOk result (out.new.items ≡ around left jump out.old.items) }
 {
-    add(own(w.slots), out)?;
-    add(Instr::GetField(field, place), out)
-}
-
-// ---- operators that may leave out their right operand
-
-// A number of an instruction behind another.
-fn number_behind(at: usize, n: usize) -> Result<usize, Memory>
-    ensures { IfOk result (λ m. m ≡ at + n) }
-{
-    match at.checked_add(n) {
-        Some(m) => Ok(m),
-        None => Err(Memory),
+    let pushed = number_behind(out.len(), 1)?;
+    let end = number_behind(out.len(), 2)?;
+    if jump < out.len() {
+        out[jump] = jump_where(left, pushed);
     }
-}
-
-// The jumps around the code of a right operand.
-fn add_around(base: usize, left: bool, right: &[Instr], out: &mut Vec<Instr>) -> Result<(), Memory>
-    ensures { OnOk result (out.new.items ≡ out.old.items ++ (coding.jump_where left (base + length right.now + 1) ∷ right.now ++ i.Jump (base + length right.now + 1 + 1) ∷ i.Const (v.Bool left) ∷ [])) }
-{
-    let behind = number_behind(base, right.len())?;
-    let pushed = number_behind(behind, 1)?;
-    let end = counted(number_behind(pushed, 1)?)?;
-    add(jump_where(left, pushed)?, out)?;
-    out.extend_from_slice(right)?;
     add(Instr::Jump(end), out)?;
     add(Instr::Const(Value::Bool(left)), out)
 }
 
-// The right operand, which is left out where the left one is this.
+// The right operand of an operator, and the operator behind it.
 #[cycle(walk)]
-fn lazily(w: &Walker, left: bool, right: &Expr, out: &mut Vec<Instr>) -> Result<(), Memory>
-    ensures { OnOk result (out.new.items ≡ out.old.items ++ coding.lazy_code left (next w.now out.old.items) (code_in w.now (expression_of right.now))) }
+fn operated<'s, 'a>(
+    s: &Site<'s, 'a>,
+    operator: BinaryOperator,
+    place: Place,
+    left: Seen<'a>,
+    right: &'a Expr,
+    out: &mut Vec<Instr>,
+) -> Result<Told<'a>, Memory>
+    ensures code { OnOk result (out.new.items ≡ operated (coding.laziness operator) (coding.operation operator (coding.kind_of_type (seen left.entry)) (coding.kind_of_type (type_in s.now (expression_of right.now)))) place (walked_in s.now (expression_of right.now)) out.old.items) }
+    ensures ty { IfOk result (λ t. seen t.ty ≡ type_in s.now (expression_of right.now)) }
+    ensures known { IfOk result (λ t. t.known ≡ known_in s.now (expression_of right.now)) }
 {
-    let base = number_behind(number_behind(w.base, out.len())?, 1)?;
-    let inner = Walker {
-        alloc: w.alloc,
-        program: w.program,
-        this: w.this,
-        slots: w.slots,
-        base,
-    };
-    let mut found = Vec::new(w.alloc);
-    walk(&inner, right, &mut found)?;
-    add_around(base, left, &found, out)
+    match laziness_of(operator) {
+        Laziness::Never => {
+            let t = walk(s, right, out)?;
+            let name = operation_of(operator, kind_of_seen(left), kind_of_seen(t.ty));
+            add(Instr::Operate(name, place), out)?;
+            Ok(t)
+        }
+        Laziness::Where(skips) => {
+            let jump = out.len();
+            add(jump_where(skips, 0), out)?;
+            let t = walk(s, right, out)?;
+            close(skips, jump, out)?;
+            Ok(t)
+        }
+    }
 }
 
-// An operator behind its left operand.
-#[cycle(walk)]
-fn operator(
-    w: &Walker,
-    laziness: Laziness,
-    name: Operation,
-    place: Place,
-    right: &Expr,
-    out: &mut Vec<Instr>,
-) -> Result<(), Memory>
-    ensures { OnOk result (out.new.items ≡ out.old.items ++ coding.operator_code laziness name place (next w.now out.old.items) (code_in w.now (expression_of right.now))) }
+// A field of the own object.
+fn own_field(s: &Site, place: Place, field: u32, out: &mut Vec<Instr>) -> Result<(), Memory>
+    ensures { OnOk result (out.new.items ≡ walked_in s.now (x.OwnField place field) out.old.items) }
 {
-    match laziness {
-        Laziness::Never => {
-            walk(w, right, out)?;
-            add(Instr::Operate(name, place), out)
-        }
-        Laziness::Where(left) => lazily(w, left, right, out),
-    }
+    add(own(s.slots), out)?;
+    add(Instr::GetField(field, place), out)
 }
 
 // ---- lists
 
-// The code of expressions, in order.
+/// Expressions, in order.
 #[cycle(walk)]
-pub fn walk_all(w: &Walker, xs: &[Expr], out: &mut Vec<Instr>) -> Result<(), Memory>
-    ensures { OnOk result (out.new.items ≡ out.old.items ++ all_in w.now (numbered_exps (map expression_of xs.now)) (next w.now out.old.items)) }
+fn walk_all<'s, 'a>(s: &Site<'s, 'a>, xs: &'a [Expr], out: &mut Vec<Instr>) -> Result<(), Memory>
+    ensures { OnOk result (out.new.items ≡ all_in s.now (numbered_exps (map expression_of xs.now)) out.old.items) }
 {
     for x in xs {
-        walk(w, x, out)?;
+        walk(s, x, out)?;
     }
     Ok(())
 }
 
 // The bounds of a range and its step.
 #[cycle(walk)]
-fn walk_range(w: &Walker, r: &Range, out: &mut Vec<Instr>) -> Result<(), Memory>
-    ensures { OnOk result (out.new.items ≡ out.old.items ++ range_in w.now (bound_of r.now) (next w.now out.old.items)) }
+fn walk_range<'s, 'a>(s: &Site<'s, 'a>, r: &'a Range, out: &mut Vec<Instr>) -> Result<(), Memory>
+    ensures { OnOk result (out.new.items ≡ range_in s.now (bound_of r.now) out.old.items) }
 {
     match r {
         Range::Plain { low, high } => {
-            walk(w, low, out)?;
-            walk(w, high, out)?;
+            walk(s, low, out)?;
+            walk(s, high, out)?;
             add(Instr::Step, out)
         }
         Range::Stepped { low, high, step } => {
-            walk(w, low, out)?;
-            walk(w, high, out)?;
-            walk(w, step, out)
+            walk(s, low, out)?;
+            walk(s, high, out)?;
+            walk(s, step, out)?;
+            Ok(())
         }
     }
 }
 
-// The code of ranges, in order.
+// Ranges, in order.
 #[cycle(walk)]
-fn walk_ranges(w: &Walker, ranges: &[Range], out: &mut Vec<Instr>) -> Result<(), Memory>
-    ensures { OnOk result (out.new.items ≡ out.old.items ++ ranges_in w.now (numbered_ranges (map bound_of ranges.now)) (next w.now out.old.items)) }
+fn walk_ranges<'s, 'a>(
+    s: &Site<'s, 'a>,
+    ranges: &'a [Range],
+    out: &mut Vec<Instr>,
+) -> Result<(), Memory>
+    ensures { OnOk result (out.new.items ≡ ranges_in s.now (numbered_ranges (map bound_of ranges.now)) out.old.items) }
 {
     for r in ranges {
-        walk_range(w, r, out)?;
+        walk_range(s, r, out)?;
     }
     Ok(())
 }
 
 // ---- expressions
 
-/// The code of an expression behind these instructions.
+// A field of an object.
+fn field<'s, 'a>(
+    s: &Site<'s, 'a>,
+    place: Place,
+    receiver: Seen<'a>,
+    name: u32,
+    out: &mut Vec<Instr>,
+) -> Result<Told<'a>, Memory>
+    ensures code { OnOk result (out.new.items ≡ out.old.items ++ i.GetField (unwrap_or (option_and_then (field_numbered (program_of s.now.program.now) name) (class_of_type (seen receiver.entry))) 0) place ∷ []) }
+    ensures ty { IfOk result (λ t. seen t.ty ≡ field_spec (program_of s.now.program.now) name (seen receiver.entry)) }
+    ensures known { IfOk result (λ t. t.known ≡ known.Other) }
+{
+    add(
+        Instr::GetField(field_behind(s.program, receiver, name)?, place),
+        out,
+    )?;
+    Ok(Told {
+        ty: field_seen(s.program, name, receiver),
+        known: Known::Other,
+    })
+}
+
+// A member form behind its receiver and its arguments.
+#[tactic(auto, using(ti_lang::proofs::RangeDims::many_arguments))]
+fn member<'s, 'a>(
+    s: &Site<'s, 'a>,
+    place: Place,
+    receiver: Seen<'a>,
+    name: u32,
+    args: &[Expr],
+    out: &mut Vec<Instr>,
+) -> Result<Told<'a>, Memory>
+    ensures code { OnOk result (out.new.items ≡ out.old.items ++ coding.member_code (called_behind s.now (seen receiver.entry) name) (how_many (numbered_exps (map expression_of args.now))) place) }
+    ensures ty { IfOk result (λ t. seen t.ty ≡ member_spec (program_of s.now.program.now) name (seen receiver.entry)) }
+    ensures known { IfOk result (λ t. t.known ≡ knowing.member_known (called_behind s.now (seen receiver.entry) name)) }
+{
+    let called = member_behind(s, receiver, name);
+    add_member(shown_member(called), args.len(), place, out)?;
+    Ok(Told {
+        ty: member_seen(s.program, name, receiver),
+        known: known_member(called),
+    })
+}
+
+// An index of a point or a grid behind it and its indices.
+#[tactic(auto, using(ti_lang::proofs::RangeDims::many_arguments))]
+fn index<'a>(
+    place: Place,
+    receiver: Seen<'a>,
+    indices: &[Expr],
+    out: &mut Vec<Instr>,
+) -> Result<Told<'a>, Memory>
+    ensures code { OnOk result (out.new.items ≡ out.old.items ++ coding.index_code (is_point_spec (seen receiver.entry)) (how_many (numbered_exps (map expression_of indices.now))) place) }
+    ensures ty { IfOk result (λ t. seen t.ty ≡ element_spec (seen receiver.entry)) }
+    ensures known { IfOk result (λ t. t.known ≡ knowing.index_known (is_point_spec (seen receiver.entry))) }
+{
+    let coordinate = is_point(receiver);
+    add_index(coordinate, indices.len(), place, out)?;
+    Ok(Told {
+        ty: element_seen(receiver),
+        known: known_indexed(coordinate),
+    })
+}
+
+/// An expression. What the text tells of its value comes out.
 #[cycle(walk)]
-pub fn walk(w: &Walker, e: &Expr, out: &mut Vec<Instr>) -> Result<(), Memory>
-    ensures { OnOk result (out.new.items ≡ out.old.items ++ code_in w.now (expression_of e.now) (next w.now out.old.items)) }
+#[tactic(auto, using(ti_lang::proofs::ProgramBridges::program_bridges))]
+pub fn walk<'s, 'a>(s: &Site<'s, 'a>, e: &'a Expr, out: &mut Vec<Instr>) -> Result<Told<'a>, Memory>
+    ensures code { OnOk result (out.new.items ≡ walked_in s.now (expression_of e.now) out.old.items) }
+    ensures ty { IfOk result (λ t. seen t.ty ≡ type_in s.now (expression_of e.now)) }
+    ensures known { IfOk result (λ t. t.known ≡ known_in s.now (expression_of e.now)) }
 {
     match e {
-        Expr::Int(_, n) => add(Instr::Const(Value::Int(*n)), out),
-        Expr::Long(_, n) => add(Instr::Const(Value::Long(*n)), out),
-        Expr::Truth(_, b) => add(Instr::Const(Value::Bool(*b)), out),
-        Expr::Null(_) => add(Instr::Const(Value::Obj(None)), out),
-        Expr::This(_) => add(own(w.slots), out),
-        Expr::Variable(_, v) => add(variable(w.slots, v)?, out),
-        Expr::OwnField(place, field) => add_own_field(w, *place, *field, out),
-        Expr::ThisProc(_) => add(Instr::ThisProc, out),
-        Expr::NumProcs(_) => add(Instr::NumProcs, out),
+        Expr::Int(_, n) => leaf(s, e, Instr::Const(Value::Int(*n)), out),
+        Expr::Long(_, n) => leaf(s, e, Instr::Const(Value::Long(*n)), out),
+        Expr::Truth(_, b) => leaf(s, e, Instr::Const(Value::Bool(*b)), out),
+        Expr::Null(_) => leaf(s, e, Instr::Const(Value::Obj(None)), out),
+        Expr::This(_) => leaf(s, e, own(s.slots), out),
+        Expr::Variable(_, v) => leaf(s, e, variable(s.slots, v)?, out),
+        Expr::OwnField(place, field) => {
+            own_field(s, *place, *field, out)?;
+            Ok(told(s, e))
+        }
+        Expr::ThisProc(_) => leaf(s, e, Instr::ThisProc, out),
+        Expr::NumProcs(_) => leaf(s, e, Instr::NumProcs, out),
         Expr::Point(_, parts) => {
-            walk_all(w, parts, out)?;
-            add_point(parts, out)
+            walk_all(s, parts, out)?;
+            add_point(parts, out)?;
+            Ok(told(s, e))
         }
         Expr::Rect(place, ranges) => {
-            walk_ranges(w, ranges, out)?;
-            add_rect(w, *place, ranges, out)
+            walk_ranges(s, ranges, out)?;
+            add_rect(s, *place, ranges, out)?;
+            Ok(told(s, e))
         }
         Expr::Unary {
             place: _,
             operator,
             operand,
         } => {
-            walk(w, operand, out)?;
-            add_alone(*operator, out)
+            let t = walk(s, operand, out)?;
+            add_alone(*operator, out)?;
+            Ok(Told {
+                ty: t.ty,
+                known: known_alone(*operator, t.known),
+            })
         }
         Expr::Binary {
             place,
-            operator: op,
+            operator,
             left,
             right,
         } => {
-            walk(w, left, out)?;
-            let name = operation_in(w.program, w.this, *op, left, right);
-            operator(w, laziness_of(*op), name, *place, right, out)
+            let first = walk(s, left, out)?;
+            let second = operated(s, *operator, *place, first.ty, right, out)?;
+            Ok(Told {
+                ty: operator_type(*operator, first.ty, second.ty),
+                known: known_operated(*operator, first.known, second.known),
+            })
         }
         Expr::Cast { place, to, operand } => {
-            walk(w, operand, out)?;
-            add_cast(*place, &to.ty, known_of(w.program, w.this, operand), out)
+            let t = walk(s, operand, out)?;
+            add_cast(*place, &to.ty, t.known, out)?;
+            Ok(told(s, e))
         }
         Expr::Select {
             place,
             receiver,
             name,
         } => {
-            walk(w, receiver, out)?;
-            let field = field_selected(w.program, w.this, receiver, *name)?;
-            add(Instr::GetField(field, *place), out)
+            let t = walk(s, receiver, out)?;
+            field(s, *place, t.ty, *name, out)
         }
         Expr::Member {
             place,
@@ -284,20 +341,33 @@ pub fn walk(w: &Walker, e: &Expr, out: &mut Vec<Instr>) -> Result<(), Memory>
             name,
             args,
         } => {
-            walk(w, receiver, out)?;
-            walk_all(w, args, out)?;
-            add_called(w, *place, receiver, *name, args, out)
+            let t = walk(s, receiver, out)?;
+            walk_all(s, args, out)?;
+            member(s, *place, t.ty, *name, args, out)
         }
         Expr::Index {
             place,
             receiver,
             indices,
         } => {
-            walk(w, receiver, out)?;
-            walk_all(w, indices, out)?;
-            add_indexed(w, *place, receiver, indices, out)
+            let t = walk(s, receiver, out)?;
+            walk_all(s, indices, out)?;
+            index(*place, t.ty, indices, out)
         }
-        Expr::Call { .. } => add(Instr::Const(Value::Bool(false)), out),
-        Expr::OwnCall { .. } => add(Instr::Const(Value::Bool(false)), out),
+        Expr::Call { .. } => leaf(s, e, Instr::Const(Value::Bool(false)), out),
+        Expr::OwnCall { .. } => leaf(s, e, Instr::Const(Value::Bool(false)), out),
     }
+}
+
+/// The rectangular domain of ranges, in order.
+pub fn walk_rect<'s, 'a>(
+    s: &Site<'s, 'a>,
+    place: Place,
+    ranges: &'a [Range],
+    out: &mut Vec<Instr>,
+) -> Result<(), Memory>
+    ensures { OnOk result (out.new.items ≡ walked_in s.now (x.rect place (map bound_of ranges.now)) out.old.items) }
+{
+    walk_ranges(s, ranges, out)?;
+    add_rect(s, place, ranges, out)
 }

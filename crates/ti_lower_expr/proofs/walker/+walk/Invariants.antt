@@ -1,15 +1,13 @@
-use Rattle.std.proofs.Common.{◌≡◌, ◌++◌, map, drop}
+use Rattle.std.proofs.Common.{◌≡◌, map, drop}
 use Rattle.ti_lang.specs.Program.Expressions.{numbered_exps, numbered_ranges}
 use Rattle.ti_lang.specs.Program.Views.{expression_of, bound_of}
-use Rattle.ti_lower_expr.specs.Walking.{all_in, ranges_in, next}
+use Rattle.ti_lower_expr.specs.Sites.{all_in, ranges_in}
 use Rattle.ti_lower_expr.proofs.walker.+walk.Given as goal
 
 abbrev pub invariant-walk_all-loop-x : goal.invariant-walk_all-loop-x
 invariant-walk_all-loop-x l =
-    l.out.items ++ all_in l.w (numbered_exps (map expression_of (drop l.x-index l.xs))) (next l.w l.out.items)
-    ≡ l.initial.out.items ++ all_in l.w (numbered_exps (map expression_of l.xs)) (next l.w l.initial.out.items)
+    all_in l.s (numbered_exps (map expression_of (drop l.x-index l.xs))) l.out.items ≡ all_in l.s (numbered_exps (map expression_of l.xs)) l.initial.out.items
 
 abbrev pub invariant-walk_ranges-loop-r : goal.invariant-walk_ranges-loop-r
 invariant-walk_ranges-loop-r l =
-    l.out.items ++ ranges_in l.w (numbered_ranges (map bound_of (drop l.r-index l.ranges))) (next l.w l.out.items)
-    ≡ l.initial.out.items ++ ranges_in l.w (numbered_ranges (map bound_of l.ranges)) (next l.w l.initial.out.items)
+    ranges_in l.s (numbered_ranges (map bound_of (drop l.r-index l.ranges))) l.out.items ≡ ranges_in l.s (numbered_ranges (map bound_of l.ranges)) l.initial.out.items

@@ -1,0 +1,12 @@
+-- The code of a method's body as it is written, of whose forward jumps these targets are known.
+use Rattle.std.specs.Prelude.{ℕ, List, [], None}
+use Rattle.ti_lang.specs.Program.Statements.{numbered_stms}
+use Rattle.ti_lang.specs.Program.Classes.{NumberedMethod, NumberedProgram}
+use Rattle.ti_lang.specs.Program.Scope.{this_of}
+use Rattle.ti_lang.specs.Typing.Declared.{result_type}
+use Rattle.ti_lower_expr.specs.Methods.{names_of}
+use Rattle.ti_lower.specs.Mirrors.Statements.{Written, stms_on}
+
+abbrev pub body_on : NumberedProgram → NumberedMethod → List ℕ → Written
+body_on program m known =
+    stms_on program (this_of m) (result_type m) known (numbered_stms m.body) None (record { names = names_of m; code = []; targets = [] })

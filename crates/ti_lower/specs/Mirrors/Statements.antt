@@ -1,0 +1,150 @@
+-- Code with that of statements behind it. Where forward jumps of statements lead is known only behind what they jump over: so code is
+-- written twice. Each time the targets are noted in order, and the second time those that the first one noted are known.
+use Rattle.std.specs.Prelude.{ℕ, ◌+◌, ◌-◌, true, false, List, [], ◌∷◌, ◌++◌, length, drop, set, get_or, pos, Option, None, Some}
+use Rattle.ti_base.specs.declared.place.Place.{Place}
+use Rattle.ti_base.specs.declared.action.CollKind.TheVariants as coll
+use Rattle.ti_base.specs.declared.value.Value.TheVariants as v
+use Rattle.ti_lang.specs.Program.Types.{ValueType}
+use Rattle.ti_lang.specs.Program.Expressions.{NumberedExp}
+use Rattle.ti_lang.specs.Program.Expressions as e
+use Rattle.ti_lang.specs.Program.Statements.{NumberedStm, MaybeNumbered, NoStm, SomeStm, NumberedStms, Nil, Cons}
+use Rattle.ti_lang.specs.Program.Statements as s
+use Rattle.ti_lang.specs.Program.Classes.{NumberedProgram}
+use Rattle.ti_lang.specs.Meaning.Processes.{Declared, Assigned, Updated}
+use Rattle.ti_lang.specs.Meaning.Statements.{declared_as, one_more}
+use Rattle.ti_code.specs.declared.instr.Instr.{Instr}
+use Rattle.ti_code.specs.declared.instr.Instr.TheVariants as i
+use Rattle.ti_lower_expr.specs.Slots.{Name, Of, Point}
+use Rattle.ti_lower.specs.Laying.{Labels, break_code, continue_code}
+use Rattle.ti_lower.specs.Mirrors.Positions.{Where}
+use Rattle.ti_lower.specs.Mirrors.Values.{value_on, init_on, stands_on, print_on, returned_on}
+
+-- the code of a method as far as it is written: the slots, the instructions, and where the forward jumps of its statements lead
+pub record Written : Type 0 where
+  pub names : List Name
+  pub code : List Instr
+  pub targets : List ℕ
+
+-- the same with this code
+abbrev pub coded : Written → List Instr → Written
+coded w code = record w { code = code }
+
+-- a jump's target is noted once it is reached
+abbrev pub reserved : Written → Written
+reserved w = record w { targets = w.targets ++ 0 ∷ [] }
+
+abbrev pub landed : ℕ → Written → Written
+landed k w = record w { targets = set w.targets k (length w.code) }
+
+-- so many slots are left
+abbrev pub cut : ℕ → Written → Written
+cut n w = record w { names = drop (length w.names - n) w.names }
+
+-- and the code says so
+abbrev pub trimming : ℕ → Written → Written
+trimming n w = coded (cut n w) (w.code ++ i.Trim n ∷ [])
+
+-- what was written behind a jump leaves so many slots, and the jump's target, of this number, is reached
+abbrev pub closed : ℕ → ℕ → Written → Written
+closed k n w = landed k (cut n w)
+
+module _ (program : NumberedProgram) (this : Option ℕ) (result : ValueType) (known : List ℕ) where
+  abbrev pub where_in : Written → Where
+  where_in w = record { program = program; this = this; names = w.names }
+
+  -- the target of a number, where it is known
+  abbrev pub target_at : ℕ → ℕ
+  target_at k = get_or known k 0
+
+  abbrev pub condition_on : Option NumberedExp → Written → List Instr
+  condition_on None w = w.code ++ i.Const (v.Bool true) ∷ []
+  condition_on (Some c) w = value_on (where_in w) c w.code
+
+  -- the labels of a loop, whose targets have numbers from this one on
+  abbrev pub loop_labels : ℕ → ℕ → Option Labels
+  loop_labels k n = Some (record { again = target_at k; kept = n; exit = target_at (k + 2); left = n; walks = false })
+
+  abbrev pub walk_labels : ℕ → ℕ → Option Labels
+  walk_labels k n = Some (record { again = target_at k; kept = n + 1; exit = target_at k + 4; left = n; walks = true })
+
+  -- before the first turn of a loop
+  abbrev pub loop_begun : Place → Written → Written
+  loop_begun p w =
+      coded (reserved (reserved (reserved w))) (w.code ++ i.Jump (target_at (length w.targets + 1)) ∷ i.Tick p ∷ [])
+
+  abbrev pub walk_begun : Place → ℕ → Written → Written
+  walk_begun p variable w = record {
+    names = Point variable ∷ w.names;
+    code = w.code ++ i.Jump (target_at (length w.targets) + 1) ∷ i.Tick p ∷ [];
+    targets = w.targets ++ 0 ∷ [];
+  }
+
+  -- behind the body and the update of a loop that began with so many targets and instructions
+  abbrev pub loop_ended : ℕ → ℕ → Option NumberedExp → Written → Written
+  loop_ended k at c w = landed (k + 2) (coded w (condition_on c w ++ i.JumpIf (at + 1) ∷ []))
+
+  abbrev pub walk_ended : ℕ → ℕ → Written → Written
+  walk_ended n at w = coded w (w.code ++ i.Trim n ∷ i.Next n (length w.code + 3) ∷ i.Jump (at + 1) ∷ i.Pop ∷ [])
+
+  -- what an `if` writes before its branch, which has so many targets of its own
+  abbrev pub tested : NumberedExp → Written → Written
+  tested c w = coded (reserved w) (value_on (where_in w) c w.code ++ i.JumpIfNot (target_at (length w.targets)) ∷ [])
+
+  -- between two branches
+  abbrev pub otherwise : ℕ → ℕ → Written → Written
+  otherwise k n w = landed k (coded (cut n w) (w.code ++ i.Jump (target_at (k + 1)) ∷ []))
+
+  -- an `if` without `else`, and one with it, with what their branches write
+  abbrev pub branch_on : NumberedExp → (Written → Written) → Written → Written
+  branch_on c inner w = closed (length w.targets) (length w.names) (inner (tested c w))
+
+  abbrev pub branches_on : NumberedExp → (Written → Written) → (Written → Written) → Written → Written
+  branches_on c inner other w =
+      closed (length w.targets + 1) (length w.names)
+      (other (otherwise (length w.targets) (length w.names) (inner (reserved (tested c w)))))
+
+  -- loops, with what their bodies and updates write
+  abbrev pub turn_on : Place → (Option Labels → Written → Written) → Written → Written
+  turn_on p body w = closed (length w.targets) (length w.names) (body (loop_labels (length w.targets) (length w.names)) (loop_begun p w))
+
+  abbrev pub turns_on : Place → Option NumberedExp → (Option Labels → Written → Written) → (Written → Written) → Written → Written
+  turns_on p c body update w =
+      loop_ended (length w.targets) (length w.code) c (closed (length w.targets + 1) (length w.names) (update (turn_on p body w)))
+
+  abbrev pub walked_on : Place → ℕ → (Option Labels → Written → Written) → Written → Written
+  walked_on p x body w =
+      walk_ended (length w.names) (length w.code)
+      (closed (length w.targets) (length w.names) (body (walk_labels (length w.targets) (length w.names)) (walk_begun p x w)))
+
+  abbrev mutual
+    pub stm_on : NumberedStm → Option Labels → Written → Written
+    stm_on s.Empty l w = w
+    stm_on (s.Declare p type variable value) l w = record {
+      names = Of (declared_as type variable) ∷ w.names;
+      code = init_on (where_in w) (Declared p (declared_as type variable)) value w.code;
+      targets = w.targets;
+    }
+    stm_on (s.Assign p place value) l w = coded w (init_on (where_in w) (Assigned p place) value w.code)
+    stm_on (s.Update p op place x) l w = coded w (init_on (where_in w) (Updated p op place) (s.Value x) w.code)
+    stm_on (s.Step p op place) l w = coded w (init_on (where_in w) (Updated p (one_more op) place) (s.Value (e.Int p (pos 1))) w.code)
+    stm_on (s.Print p what) l w = coded w (print_on (where_in w) p what w.code)
+    stm_on (s.Barrier p) l w = coded w (w.code ++ i.Arrive coll.Barrier p ∷ i.Depart p ∷ [])
+    stm_on (s.Block body) l w = trimming (length w.names) (stms_on body l w)
+    stm_on (s.If p c x) l w = branch_on c (stm_on x l) w
+    stm_on (s.IfElse p c x y) l w = branches_on c (stm_on x l) (stm_on y l) w
+    stm_on (s.While p c body) l w = turns_on p (Some c) (stm_on body) (λ v. v) w
+    stm_on (s.For p first c update body) l w =
+        trimming (length w.names) (turns_on p c (stm_on body) (maybe_on update l) (maybe_on first l w))
+    stm_on (s.Foreach p x domain body) l w = walked_on p x (stm_on body) (coded w (value_on (where_in w) domain w.code))
+    stm_on (s.Break p) l w = coded w (w.code ++ break_code l w.names (length w.code))
+    stm_on (s.Continue p) l w = coded w (w.code ++ continue_code l w.names (length w.code))
+    stm_on (s.Return p value) l w = coded w (returned_on (where_in w) p result value w.code)
+    stm_on (s.Call x) l w = coded w (stands_on (where_in w) x w.code)
+
+    pub stms_on : NumberedStms → Option Labels → Written → Written
+    stms_on Nil l w = w
+    stms_on (Cons x rest) l w = stms_on rest l (stm_on x l w)
+
+    pub maybe_on : MaybeNumbered → Option Labels → Written → Written
+    maybe_on NoStm l = λ w. w
+    maybe_on (SomeStm x) l = stm_on x l

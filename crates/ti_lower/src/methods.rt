@@ -1,0 +1,235 @@
+// The code of methods and programs.
+
+ghost use Rattle.std.specs.Prelude.{◌≡◌, ◌≤◌, OnOk, IfOk, [], None, map, length};
+ghost use Rattle.std.specs.Option.{option_map};
+ghost use Rattle.ti_lang.specs.Program.Scope.{this_of as this_spec};
+ghost use Rattle.ti_lang.specs.Program.Statements.{numbered_stms};
+ghost use Rattle.ti_lang.specs.Program.Views.{program_of, numbered_method_of, numbered_params_of, numbered_param_of};
+ghost use Rattle.ti_lang.specs.Meaning.Calls.{parameters_of, parameters_from};
+ghost use Rattle.ti_lang.specs.Typing.Declared.{result_type};
+ghost use Rattle.ti_lang.specs.Typing.Seen.{seen};
+ghost use Rattle.ti_code.specs.Follows.{Follows};
+ghost use Rattle.ti_lower_expr.specs.Contents.{names_in};
+ghost use Rattle.ti_lower_expr.specs.Methods as frame;
+ghost use Rattle.ti_lower.specs.Programs as laid;
+ghost use Rattle.ti_lower.specs.Mirrors.Bodies.{written_of};
+ghost use Rattle.ti_lower.specs.Mirrors.Methods.{body_on};
+
+use crate::body::{Body, Written};
+use crate::walker::statements;
+use std::alloc::Global;
+use ti_base::{Memory, Place};
+use ti_code::{Code, Instr, Instrs, MethodCode};
+use ti_lang::program::{Method, Param, Params, Parts, ResultType, has_static};
+use ti_lang::typing::Seen;
+use ti_lower_expr::{SlotName, Slots, counted};
+use ti_rules::Checked;
+
+// ---- frames
+
+// The class of `this`, where a method has one.
+fn this_of(m: &Method) -> Option<u32>
+    ensures { result ≡ this_spec (numbered_method_of m.now) }
+{
+    if has_static(&m.modifiers) {
+        None
+    } else {
+        Some(m.class)
+    }
+}
+
+// The type of what a method gives back.
+fn result_of(m: &Method) -> Seen
+    ensures { seen result ≡ result_type (numbered_method_of m.now) }
+{
+    match &m.result {
+        ResultType::Void => Seen::Void,
+        ResultType::Typed(t) => Seen::of(&t.ty, false),
+    }
+}
+
+// Slots for parameters.
+fn push_params<'p>(params: &'p [Param], slots: &mut Slots<'p>) -> Result<(), Memory>
+    ensures { OnOk result (names_in slots.new ≡ frame.param_names (parameters_from 0 (map numbered_param_of params.now)) (names_in slots.old)) }
+{
+    for (i, param) in params.iter().enumerate() {
+        let number = counted(i)?;
+        slots.push(SlotName::Of {
+            number,
+            single: param.ty.single,
+            ty: &param.ty.ty,
+        })?;
+    }
+    Ok(())
+}
+
+// The slots of `this`.
+fn this_slots<'p>(alloc: Global, this: Option<u32>) -> Result<Slots<'p>, Memory>
+    ensures { IfOk result (λ slots. names_in slots ≡ frame.this_names this) }
+{
+    let mut slots = Slots::new(alloc);
+    match this {
+        Some(_) => slots.push(SlotName::This)?,
+        None => {}
+    }
+    Ok(slots)
+}
+
+// The slots of a frame at its begin.
+fn first_slots<'p>(alloc: Global, m: &'p Method) -> Result<Slots<'p>, Memory>
+    ensures { IfOk result (λ slots. names_in slots ≡ frame.names_of (numbered_method_of m.now)) }
+{
+    let mut slots = this_slots(alloc, this_of(m))?;
+    match &m.params {
+        Params::Words => {}
+        Params::Typed(params) => push_params(params, &mut slots)?,
+    }
+    Ok(slots)
+}
+
+// ---- methods
+
+// The code of a method's body, of whose forward jumps these targets are known.
+fn write<'p>(
+    alloc: Global,
+    program: &'p Parts,
+    m: &'p Method,
+    known: &'p [u32],
+) -> Result<Written<'p>, Memory>
+    ensures { IfOk result (λ w. written_of w ≡ body_on (program_of program.now) (numbered_method_of m.now) known.now) }
+{
+    let mut w = Written {
+        slots: first_slots(alloc, m)?,
+        code: Vec::new(alloc),
+        targets: Vec::new(alloc),
+    };
+    let body = Body {
+        program,
+        this: this_of(m),
+        result: result_of(m),
+        known,
+    };
+    statements(&body, &m.body, None, &mut w)?;
+    Ok(w)
+}
+
+// The same with all targets known.
+fn write_all(alloc: Global, program: &Parts, m: &Method) -> Result<Vec<Instr>, Memory>
+    ensures { IfOk result (λ code. code.items ≡ laid.body_code (program_of program.now) (numbered_method_of m.now)) }
+{
+    let targets = write(alloc, program, m, &[])?.targets;
+    let mut code = write(alloc, program, m, &targets)?.code;
+    code.push(Instr::Return)?;
+    Ok(code)
+}
+
+// An instruction where to return is the end.
+fn main_instr(instr: Instr, end: Place) -> Instr
+    ensures { result ≡ laid.in_main end instr }
+{
+    match instr {
+        Instr::Return => Instr::Stop(end),
+        _ => instr,
+    }
+}
+
+// Instructions of the method where the run begins.
+fn main_instrs(alloc: Global, instrs: &[Instr], end: Place) -> Result<Vec<Instr>, Memory>
+    ensures { IfOk result (λ v. v.items ≡ map (laid.in_main end) instrs.now) }
+{
+    let mut found = Vec::new(alloc);
+    for instr in instrs {
+        found.push(main_instr(*instr, end))?;
+    }
+    Ok(found)
+}
+
+// The instructions of a method, where its end is that of the run or where it returns.
+fn instrs_of(
+    alloc: Global,
+    program: &Parts,
+    m: &Method,
+    end: Option<Place>,
+) -> Result<Vec<Instr>, Memory>
+    ensures { IfOk result (λ v. v.items ≡ laid.instrs_in end (laid.body_code (program_of program.now) (numbered_method_of m.now))) }
+{
+    let code = write_all(alloc, program, m)?;
+    match end {
+        Some(end) => main_instrs(alloc, &code, end),
+        None => Ok(code),
+    }
+}
+
+// How many parameters a method has besides `this`.
+#[tactic(auto, using(crate::proofs::Hiding::hidden_slots))]
+fn params_of(m: &Method) -> Result<u32, Memory>
+    ensures { IfOk result (λ n. n ≡ frame.params_of (numbered_method_of m.now)) }
+{
+    match &m.params {
+        Params::Words => Ok(0),
+        Params::Typed(params) => counted(params.len()),
+    }
+}
+
+// Whether a method has a `this`.
+fn is_instance(this: Option<u32>) -> bool
+    ensures { result ≡ frame.is_instance this }
+{
+    match this {
+        Some(_) => true,
+        None => false,
+    }
+}
+
+// The code of a method.
+fn method_code(
+    alloc: Global,
+    program: &Parts,
+    m: &Method,
+    end: Option<Place>,
+) -> Result<MethodCode, Memory>
+    ensures { IfOk result (λ code. code ≡ laid.method_code (program_of program.now) end (numbered_method_of m.now)) }
+{
+    let instrs = instrs_of(alloc, program, m, end)?;
+    Ok(MethodCode {
+        instance: is_instance(this_of(m)),
+        params: params_of(m)?,
+        instrs: Instrs::new(instrs),
+    })
+}
+
+// ---- programs
+
+// Where the run ends, in `main`.
+fn end_in(is_main: bool, m: &Method) -> Option<Place>
+    ensures { result ≡ laid.end_in is_main (numbered_method_of m.now) }
+{
+    if is_main { Some(m.end) } else { None }
+}
+
+// The code of methods, in order.
+fn methods_code(
+    alloc: Global,
+    program: &Parts,
+    methods: &[Method],
+) -> Result<Vec<MethodCode>, Memory>
+    ensures { IfOk result (λ v. v.items ≡ laid.methods_code (program_of program.now) 0 (map numbered_method_of methods.now)) }
+{
+    let mut found = Vec::new(alloc);
+    for (n, m) in methods.iter().enumerate() {
+        let end = end_in(n == program.main as usize, m);
+        found.push(method_code(alloc, program, m, end)?)?;
+    }
+    Ok(found)
+}
+
+/// The code of a checked program. It follows the program: for each number of processes, all ticks, each process and all answers that fit,
+/// it has next the action, the fault or the end that the program has, at the same place. Want of memory is the one other answer.
+pub fn lower(alloc: Global, c: &Checked) -> Result<Code, Memory>
+    ensures code { IfOk result (λ code. code ≡ laid.program_code (program_of c.now.program.parts)) }
+    ensures follows { IfOk result (λ code. Follows code (program_of c.now.program.parts)) }
+{
+    let program = &c.program().parts;
+    let methods = methods_code(alloc, program, &program.methods)?;
+    Ok(Code::new(methods, program.main))
+}
