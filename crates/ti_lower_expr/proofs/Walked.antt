@@ -20,7 +20,7 @@ use Rattle.ti_lower_expr.specs.declared.kinds.Laziness.{Laziness}
 use Rattle.ti_lower_expr.specs.declared.kinds.Laziness.TheVariants.{Never, Where}
 use Rattle.ti_lower_expr.specs.Knowing.{known_of}
 use Rattle.ti_lower_expr.specs.Coding.{jump_where, operator_code, laziness, operation_in, alone_code, conversion, local_test, own, rect_instr, kind_of_ranges, how_many_ranges, member_code, index_code, code_of, code_of_all, code_of_range, code_of_ranges}
-use Rattle.ti_lower_expr.specs.Walking.{around, walked, operated, walked_all, walked_range, walked_ranges}
+use Rattle.ti_lower_expr.specs.Mirrors.Walking.{around, walked, operated, walked_all, walked_range, walked_ranges}
 
 pub behind_counts : (at : ℕ) (xs : List Instr) → behind at xs ≡ at + length xs
 behind_counts at [] = omega arith

@@ -6,5 +6,4 @@ pub mod Doing
 pub mod Views
 pub mod Noted
 pub mod Contents
-pub mod Walking
-pub mod Sites
+pub mod Mirrors

@@ -12,8 +12,8 @@ ghost use Rattle.ti_lang.specs.Typing.Kinds.{is_point as is_point_spec, class_of
 ghost use Rattle.ti_lower_expr.specs.declared.kinds.Known.TheVariants as known;
 ghost use Rattle.ti_lower_expr.specs.Knowing as knowing;
 ghost use Rattle.ti_lower_expr.specs.Coding as coding;
-ghost use Rattle.ti_lower_expr.specs.Walking.{around, operated};
-ghost use Rattle.ti_lower_expr.specs.Sites.{type_in, known_in, called_behind, walked_in, all_in, range_in, ranges_in};
+ghost use Rattle.ti_lower_expr.specs.Mirrors.Walking.{around, operated};
+ghost use Rattle.ti_lower_expr.specs.Mirrors.Sites.{type_in, known_in, called_behind, walked_in, all_in, range_in, ranges_in};
 
 use crate::fields::field_behind;
 use crate::kinds::{

@@ -3,7 +3,7 @@ use Rattle.std.proofs.lemmas.Result.{on_ok_weaker}
 use Rattle.ti_lang.specs.Program.Expressions.{rect}
 use Rattle.ti_lang.specs.Program.Views.{program_of, bound_of}
 use Rattle.ti_lower_expr.specs.Contents.{names_in}
-use Rattle.ti_lower_expr.specs.Sites.{walked_in}
+use Rattle.ti_lower_expr.specs.Mirrors.Sites.{walked_in}
 use Rattle.ti_lower_expr.proofs.Walked.{walked_is}
 use Rattle.ti_lower_expr.proofs.entry.lower_rect.Goals as goal
 

@@ -1,7 +1,7 @@
 use Rattle.std.proofs.Common.{◌≡◌, map, drop}
 use Rattle.ti_lang.specs.Program.Expressions.{numbered_exps, numbered_ranges}
 use Rattle.ti_lang.specs.Program.Views.{expression_of, bound_of}
-use Rattle.ti_lower_expr.specs.Sites.{all_in, ranges_in}
+use Rattle.ti_lower_expr.specs.Mirrors.Sites.{all_in, ranges_in}
 use Rattle.ti_lower_expr.proofs.walker.+walk.Given as goal
 
 abbrev pub invariant-walk_all-loop-x : goal.invariant-walk_all-loop-x

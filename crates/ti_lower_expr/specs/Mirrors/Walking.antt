@@ -1,5 +1,4 @@
--- What the functions that write expressions make of the code that stands there. Nobody has to believe it: what the code of an expression is,
--- is said by `Coding`, and `lower_expr` says that it is that.
+-- Code with that of expressions behind it, as it is written.
 use Rattle.std.specs.Prelude.{ℕ, ◌+◌, Bool, List, [], ◌∷◌, ◌++◌, length, set, false, Option, None, unwrap_or, option_and_then}
 use Rattle.ti_base.specs.declared.place.Place.{Place}
 use Rattle.ti_base.specs.declared.value.Value.TheVariants as v

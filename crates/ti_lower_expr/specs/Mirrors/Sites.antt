@@ -11,7 +11,7 @@ use Rattle.ti_lower_expr.specs.declared.site.Site.{Site}
 use Rattle.ti_lower_expr.specs.declared.kinds.Known.{Known}
 use Rattle.ti_lower_expr.specs.Contents.{names_in}
 use Rattle.ti_lower_expr.specs.Knowing as knowing
-use Rattle.ti_lower_expr.specs.Walking as on
+use Rattle.ti_lower_expr.specs.Mirrors.Walking as on
 
 module _ (s : Site) where
   abbrev pub type_in : NumberedExp → ValueType
