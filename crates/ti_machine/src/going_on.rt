@@ -1,6 +1,6 @@
 // How a process begins, and goes on to what it has next.
 
-ghost use Rattle.std.specs.Prelude.{◌≡◌, ◌<◌, [], IfOk, OnOk, vec_len, vec_capacity};
+ghost use Rattle.std.specs.Prelude.{◌≡◌, ◌<◌, [], IfOk, IfSome, OnOk, vec_len, vec_capacity};
 ghost use Rattle.ti_base.specs.declared.entry.Next.{Next as Shown};
 ghost use Rattle.ti_code.specs.Follows.{HasNext};
 ghost use Rattle.ti_code.specs.Programs.{Code as Methods};
@@ -49,6 +49,29 @@ impl Machine {
         }
     }
 
+    /// The same, where the code has the method in which a run begins.
+    pub(crate) fn begin_there(alloc: Global, code: &Code, team: Team, fuel: u32) -> Option<Machine>
+        ensures { IfSome result (λ m. machine_of code.now m ≡ first code.now team.procs fuel team.number) }
+    {
+        let method = code.main() as usize;
+        let methods = code.methods();
+        if method >= methods.len() {
+            return None;
+        }
+        let desk = Desk {
+            at: 0,
+            slots: Vec::new(alloc),
+            stack: Vec::new(alloc),
+        };
+        Some(Machine {
+            team,
+            fuel,
+            spent: 0,
+            top: Frame { method, desk },
+            below: Vec::new(alloc),
+        })
+    }
+
     /// Silent instructions, up to what it has next.
     pub(crate) fn go_on(&mut self, alloc: Global, code: &Code) -> Result<Way, Memory>
         requires formed { IsFormed code.now }
@@ -64,6 +87,29 @@ impl Machine {
                 Turn::Stuck => unreachable!(),
             }
         }
+    }
+
+    /// The same, where it needn't have anything next, and for so many instructions at most: none where it has come to no end by then.
+    pub(crate) fn go_on_within(
+        &mut self,
+        alloc: Global,
+        code: &Code,
+        turns: u32,
+    ) -> Result<Option<Way>, Memory>
+        requires { IsFormed code.now }
+        ensures { IfOk result (λ o. IfSome o (λ w. IsWay code.now (machine_of code.now self.old) w (machine_of code.now self.new))) }
+    {
+        for n in 0..turns {
+            match self.step(alloc, code)? {
+                Turn::Went => {}
+                Turn::Stands(next, hears) => {
+                    let count = u64::from(n);
+                    return Ok(Some(Way { next, hears, count }));
+                }
+                Turn::Stuck => return Ok(None),
+            }
+        }
+        Ok(None)
     }
 
     /// There is room for an answer.

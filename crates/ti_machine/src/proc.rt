@@ -1,6 +1,7 @@
 // Processes of code.
 
-ghost use Rattle.std.specs.Prelude.{◌≡◌, ◌<◌, ◌^◌, [], ◌∷◌, ◌++◌, true, false, IfOk, IfErr, IsOk};
+ghost use Rattle.std.specs.Prelude.{◌≡◌, ◌<◌, ◌^◌, [], ◌∷◌, ◌++◌, true, false, IfOk, IfErr, IsOk, IfSome};
+ghost use Rattle.std.specs.Option.{option_map_or};
 ghost use Rattle.ti_eval.specs.Forms.{IsFormedAnswer};
 ghost use Rattle.ti_machine.specs.Standing.{is_act, HasNext, GoesOn, HasFinished, IsFormed};
 
@@ -73,6 +74,23 @@ impl Proc {
         })
     }
 
+    /// The same where nothing is known of what it has next; none where the code has no method in which a run begins.
+    pub fn start_there(alloc: Global, code: &Code, p: u32, procs: u32, fuel: u32) -> Option<Proc>
+        requires number { p < 2 ^ 31 }
+        requires procs { procs < 2 ^ 31 }
+        ensures { IfSome result (λ s. s ≡ record { code = code.now; procs = procs; fuel = fuel; number = p; told = []; asks = false }) }
+    {
+        let team = Team { number: p, procs };
+        let machine = Machine::begin_there(alloc, code, team, fuel)?;
+        Some(Proc {
+            machine,
+            state: State::Goes,
+            steps: 0,
+            finished: 0,
+            past: Past::of(code, &team, &fuel),
+        })
+    }
+
     /// What it has next: an action, its end or a fault of its own. Until it is answered this is the same again.
     ///
     /// After want of memory it isn't used further: each later call wants memory too.
@@ -95,6 +113,36 @@ impl Proc {
         self.steps = self.steps.saturating_add(way.count);
         self.state = State::Stands(way.next, way.hears);
         Ok(way.next)
+    }
+
+    /// The same where nothing is known of what it has next: none where it has come to nothing within so many instructions, and then it
+    /// isn't used further.
+    pub fn advance_within(
+        &mut self,
+        alloc: Global,
+        code: &Code,
+        turns: u32,
+    ) -> Result<Option<Next>, Memory>
+        requires code { code.now ≡ self.old.code }
+        requires formed { IsFormed code.now }
+        ensures next { IfOk result (λ o. IfSome o (λ n. HasNext self.old n)) }
+        ensures standing { IfOk result (λ o. self.new ≡ record self.old { asks = option_map_or is_act o false }) }
+        ensures memory { IfErr result (λ _. self.new ≡ record self.old { asks = false }) }
+    {
+        match self.state {
+            State::Stands(next, _) => return Ok(Some(next)),
+            State::Spent => return Ok(None),
+            State::Goes => {}
+        }
+        self.state = State::Spent;
+        let went = self.machine.go_on_within(alloc, code, turns)?;
+        let Some(way) = went else {
+            return Ok(None);
+        };
+        self.machine.make_room()?;
+        self.steps = self.steps.saturating_add(way.count);
+        self.state = State::Stands(way.next, way.hears);
+        Ok(Some(way.next))
     }
 
     /// It has got the answer to the action at which it stands.
