@@ -1,5 +1,6 @@
 -- Lists whose elements are the same are seen as the same list.
-use Rattle.std.proofs.Common.{◌≡◌, ℕ, ◌+◌, ◌<◌, List, [], ◌∷◌, ◌++◌, length, map, take, get_or, refl, sym, ap, subst, ◌∙◌}
+use Rattle.std.proofs.Common.{◌≡◌, ℕ, ◌+◌, ◌<◌, List, [], ◌∷◌, ◌++◌, length, map, take, get_or, Result, Ok, Err, refl, sym, ap, subst, ◌∙◌}
+use Rattle.std.specs.Prelude.{IfOk}
 use Rattle.std.proofs.lemmas.List.{take_more}
 use Rattle.ti_syntax.specs.declared.tree.types.Brackets.{Brackets}
 use Rattle.ti_syntax.specs.Trees.Views.{grid_of}
@@ -8,6 +9,7 @@ use Rattle.ti_lang.specs.declared.program.classes.Class.{Class}
 use Rattle.ti_lang.specs.declared.program.classes.Param.{Param}
 use Rattle.ti_lang.specs.declared.program.classes.Method.{Method}
 use Rattle.ti_lang.specs.declared.program.classes.Parts.{Parts}
+use Rattle.ti_lang.specs.Program.Classes.{NumberedProgram}
 use Rattle.ti_lang.specs.Program.Views as view
 use Rattle.ti_lang.specs.Mirrors.Copies.{AreSame}
 
@@ -54,16 +56,22 @@ same_texts [] (y ∷ ys) same = absurd same
 same_texts (x ∷ xs) [] same = absurd same
 same_texts (x ∷ xs) (y ∷ ys) same = ap (λ b. b ∷ xs) same.0 ∙ ap (λ rest. y ∷ rest) (same_texts xs ys same.1)
 
--- parts whose lists are the same, as slices of them
-pub same_parts : (a b : Parts) (classes : List Class) (methods : List Method) (names literals : List (List ℕ)) → classes ≡ b.classes.items → methods ≡ b.methods.items → names ≡ b.names.items → literals ≡ b.literals.items
-    → AreSame (λ x y. view.numbered_class_of x ≡ view.numbered_class_of y) a.classes.items classes
-    → AreSame (λ x y. view.numbered_method_of x ≡ view.numbered_method_of y) a.methods.items methods → a.main ≡ b.main
-    → AreSame (λ x y. x ≡ y) a.names.items names → AreSame (λ x y. x ≡ y) a.literals.items literals → view.program_of a ≡ view.program_of b
-same_parts a b classes methods names literals ca me na li one two main three four =
-    let cs : map view.numbered_class_of a.classes.items ≡ map view.numbered_class_of b.classes.items = same_classes a.classes.items classes one ∙ ap (map view.numbered_class_of) ca in
-    let ms : map view.numbered_method_of a.methods.items ≡ map view.numbered_method_of b.methods.items = same_methods a.methods.items methods two ∙ ap (map view.numbered_method_of) me in
-    let ns : a.names.items ≡ b.names.items = same_texts a.names.items names three ∙ na in
-    let ls : a.literals.items ≡ b.literals.items = same_texts a.literals.items literals four ∙ li in
-    cc
+-- what a value has that gives another property has that one
+pub had : {A E : Type 0} (r : Result A E) (P Q : A → Type 0) → ((a : A) → P a → Q a) → IfOk r P → IfOk r Q
+had (Ok a) P Q more holds = more a holds
+had (Err e) P Q more holds = holds
+
+-- a program whose lists are those of the parts, as slices of them
+pub same_parts : (p : NumberedProgram) (b : Parts) (cs classes : List Class) (ms methods : List Method) (ns names ls literals : List (List ℕ))
+    → p ≡ record { classes = map view.numbered_class_of cs; methods = map view.numbered_method_of ms; main = b.main; names = ns; literals = ls }
+    → classes ≡ b.classes.items → methods ≡ b.methods.items → names ≡ b.names.items → literals ≡ b.literals.items
+    → AreSame (λ x y. view.numbered_class_of x ≡ view.numbered_class_of y) cs classes → AreSame (λ x y. view.numbered_method_of x ≡ view.numbered_method_of y) ms methods
+    → AreSame (λ x y. x ≡ y) ns names → AreSame (λ x y. x ≡ y) ls literals → p ≡ view.program_of b
+same_parts p b cs classes ms methods ns names ls literals is ca me na li one two three four =
+    let c : map view.numbered_class_of cs ≡ map view.numbered_class_of b.classes.items = same_classes cs classes one ∙ ap (map view.numbered_class_of) ca in
+    let m : map view.numbered_method_of ms ≡ map view.numbered_method_of b.methods.items = same_methods ms methods two ∙ ap (map view.numbered_method_of) me in
+    let n : ns ≡ b.names.items = same_texts ns names three ∙ na in
+    let l : ls ≡ b.literals.items = same_texts ls literals four ∙ li in
+    is ∙ (λ j. record { classes = c j; methods = m j; main = b.main; names = n j; literals = l j })
 
 pub ruleset copies = (same_grids, same_fields, same_classes, same_params, same_methods, same_texts)

@@ -33,13 +33,6 @@ pub ruleset method_numbers = (number_here, number_past)
 
 -- ---- the first method of a class and a name
 
-place_mapped : {A B : Type 0} (view : A → B) (p : B → Bool) (xs : List A) → position_or_len p (map view xs) ≡ position_or_len (λ x. p (view x)) xs
-place_mapped view p [] = refl
-place_mapped view p (x ∷ xs) = ap (λ n. cond (not (p (view x))) (1 + n) 0) (place_mapped view p xs)
-
-position_mapped : {A B : Type 0} (view : A → B) (p : B → Bool) (xs : List A) → position (λ x. p (view x)) xs ≡ position p (map view xs)
-position_mapped view p xs = sym (rw (place_mapped view p xs, length-map xs view) refl)
-
 found_at : {A : Type 0} (xs : List A) (d : A) (n : ℕ) (b : Bool) → nat_lt n (length xs) ≡ b → slice_get xs n ≡ option_map (at xs d) (cond b (Some n) None)
 found_at xs d n true e = there xs d n (grind (arith, nat_tests))
 found_at xs d n false e = slice_get_past xs n (grind (arith, nat_tests))
@@ -48,10 +41,7 @@ found_at xs d n false e = slice_get_past xs n (grind (arith, nat_tests))
 first_at : {A : Type 0} (p : A → Bool) (xs : List A) (d : A) → find p xs ≡ option_map (at xs d) (position p xs)
 first_at p xs d = find_at p xs ∙ found_at xs d (position_or_len p xs) (nat_lt (position_or_len p xs) (length xs)) refl
 
-pub named_at : (methods : List Method) (class name : ℕ)
-    → find (λ (m : NumberedMethod). (m.class == class) && (m.name == name)) (map numbered_method_of methods)
-    ≡ option_map (λ n. unwrap_or (slice_get (map numbered_method_of methods) n) no_method) (position (λ (m : Method). (m.class == class) && (m.name == name)) methods)
-named_at methods class name =
-    let p : NumberedMethod → Bool = λ m. (m.class == class) && (m.name == name) in
-    first_at p (map numbered_method_of methods) no_method
-    ∙ ap (option_map (at (map numbered_method_of methods) no_method)) (sym (position_mapped numbered_method_of p methods))
+pub named_at : (methods : List NumberedMethod) (class name : ℕ)
+    → find (λ (m : NumberedMethod). (m.class == class) && (m.name == name)) methods
+    ≡ option_map (λ n. unwrap_or (slice_get methods n) no_method) (position (λ (m : NumberedMethod). (m.class == class) && (m.name == name)) methods)
+named_at methods class name = first_at (λ (m : NumberedMethod). (m.class == class) && (m.name == name)) methods no_method

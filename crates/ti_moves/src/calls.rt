@@ -3,7 +3,6 @@
 ghost use Rattle.std.specs.Prelude.{◌≡◌, ◌==◌, ◌&&◌, [], Option, Some, map, not, find, position, slice_get, option_map};
 ghost use Rattle.std.specs.declared.vec.Vec.{Vec as Row};
 ghost use Rattle.std.specs.declared.alloc.Global.{Global as Heap};
-ghost use Rattle.ti_lang.specs.declared.program.classes.Method.{Method as Coded};
 ghost use Rattle.ti_lang.specs.Program.Types.{Typed};
 ghost use Rattle.ti_lang.specs.Program.Expressions.{numbered_exps};
 ghost use Rattle.ti_lang.specs.Program.Statements.{NumberedStm};
@@ -69,20 +68,10 @@ fn declared(program: &Parts, number: u32) -> Option<usize>
 }
 
 // The number of the first method of a class and a name.
-fn first_named(methods: &[Method], class: u32, name: u32) -> Option<usize>
-    ensures { result ≡ position (λ (m : Coded). (m.class == class) && (m.name == name)) methods.now }
-{
-    methods
-        .iter()
-        .position(|m| m.class == class && m.name == name)
-}
-
-// The same, of the methods of a program.
-#[tactic(auto, using(crate::proofs::MethodLaws::named_at))]
 fn method_named(program: &Parts, class: u32, name: u32) -> Option<usize>
     ensures { find (λ (m : NumberedMethod). (m.class == class) && (m.name == name)) (program_of program.now).methods ≡ option_map (method_at (program_of program.now)) result }
 {
-    first_named(&program.methods, class, name)
+    program.first_method(class, name)
 }
 
 fn is_instance(m: Option<&Method>) -> bool

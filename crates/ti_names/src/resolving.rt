@@ -76,14 +76,10 @@ fn parts<'a>(
         literals,
         refusal,
     } = methods(alloc, tables, own)?;
+    let main = main_number(tables);
+    let part = Parts::of(alloc, numbered, methods, main, names, literals.texts)?;
     Ok(Resolved {
-        part: Parts {
-            classes: numbered,
-            methods,
-            main: main_number(tables),
-            names,
-            literals: literals.texts,
-        },
+        part,
         refusal: sooner(sooner(of_classes, refusal), of_main),
     })
 }

@@ -1,3 +1,4 @@
+pub mod NextOfCode
 pub mod Reached
 pub mod Simulated
 pub mod SliceSimulated

@@ -15,7 +15,8 @@ ghost use Rattle.ti_code.specs.Follows as code;
 ghost use Rattle.ti_code.specs.Machine.{first};
 ghost use Rattle.ti_lower_expr.specs.Doing.{Does, Pushes, who_in};
 ghost use Rattle.ti_lower.specs.Programs.{program_code};
-ghost use Rattle.ti_rows.specs.Refuted.Codes.{prints_at, pushes, start, stops, the_print};
+ghost use Rattle.ti_machine.specs.Standing as machine;
+ghost use Rattle.ti_rows.specs.Refuted.Codes.{prints_at, pushes, standing, start, stops, the_end, the_print};
 ghost use Rattle.ti_rows.specs.Refuted.Programs as programs;
 ghost use Rattle.ti_rows.specs.Refuted.Sets.{two_coordinates};
 ghost use Rattle.ti_rows.specs.Refuted.Things.{a_number, fresh};
@@ -41,4 +42,12 @@ pub fn codes()
     ensures the_print { code.HasNext (prints_at 62) (first (prints_at 62) 2 1000 0) [] the_print }
     ensures no_print { code.Follows stops programs.a_print → ⊥ }
     ensures a_print_elsewhere { code.Follows (prints_at 63) programs.a_print → ⊥ }
+{}
+
+/// What a process of code has next: one thing, and where the code follows no program, not what the program has.
+pub fn machines()
+    ensures the_print { machine.HasNext (standing (prints_at 62)) the_print }
+    ensures an_end_beside_it { machine.HasNext (standing (prints_at 62)) the_end → ⊥ }
+    ensures an_end { machine.HasNext (standing stops) the_end }
+    ensures no_print { machine.HasNext (standing stops) the_print → ⊥ }
 {}

@@ -559,12 +559,10 @@ impl Parts {
     pub fn copy(&self, alloc: Global) -> Result<Parts, Memory>
         ensures { IfOk result (λ p. view.program_of p ≡ view.program_of self.now) }
     {
-        Ok(Parts {
-            classes: copy_all(alloc, &self.classes)?,
-            methods: copy_all(alloc, &self.methods)?,
-            main: self.main,
-            names: copy_all(alloc, &self.names)?,
-            literals: copy_all(alloc, &self.literals)?,
-        })
+        let classes = copy_all(alloc, &self.classes)?;
+        let methods = copy_all(alloc, &self.methods)?;
+        let names = copy_all(alloc, &self.names)?;
+        let literals = copy_all(alloc, &self.literals)?;
+        Parts::of(alloc, classes, methods, self.main, names, literals)
     }
 }

@@ -85,16 +85,14 @@ fn field_at(fields: &[Field], number: usize) -> Option<&Field>
     }
 }
 
-/// The first field of a name.
-fn field_named(fields: &[Field], name: u32) -> Option<&Field>
-    ensures { option_map (λ f. numbered_field_of f.now) result ≡ find (λ (f : NumberedField). f.name == name) (map numbered_field_of fields.now) }
+/// The first field of a class and a name.
+fn field_named(program: &Parts, class: u32, name: u32) -> Option<&Field>
+    ensures { option_map (λ f. numbered_field_of f.now) result ≡ find (λ (f : NumberedField). f.name == name) (fields_of_class (program_of program.now) class) }
 {
-    for f in fields {
-        if f.name == name {
-            return Some(f);
-        }
+    match program.first_field(class, name) {
+        Some(number) => field_at(fields_of(program, class), number),
+        None => None,
     }
-    None
 }
 
 /// The declared type of the field of a number, in the class of one.
@@ -125,7 +123,7 @@ pub fn own_field_type<'a>(program: &'a Parts, this: Option<u32>, field: u32) -> 
 pub fn named_field_type<'a>(program: &'a Parts, class: u32, name: u32) -> Option<Seen<'a>>
     ensures { option_map seen result ≡ named_field_type (program_of program.now) class name }
 {
-    match field_named(fields_of(program, class), name) {
+    match field_named(program, class, name) {
         Some(field) => Some(Seen::of(&field.ty.ty, false)),
         None => None,
     }
@@ -163,15 +161,13 @@ pub fn method(program: &Parts, number: u32) -> Option<&Method>
 }
 
 /// The first method of a class and a name.
-fn method_named(methods: &[Method], class: u32, name: u32) -> Option<&Method>
-    ensures { option_map (λ m. numbered_method_of m.now) result ≡ find (λ (m : NumberedMethod). (m.class == class) && (m.name == name)) (map numbered_method_of methods.now) }
+fn method_named(program: &Parts, class: u32, name: u32) -> Option<&Method>
+    ensures { option_map (λ m. numbered_method_of m.now) result ≡ find (λ (m : NumberedMethod). (m.class == class) && (m.name == name)) (program_of program.now).methods }
 {
-    for m in methods {
-        if m.class == class && m.name == name {
-            return Some(m);
-        }
+    match program.first_method(class, name) {
+        Some(number) => method_at(&program.methods, number),
+        None => None,
     }
-    None
 }
 
 fn is_instance(m: &Method) -> bool
@@ -195,7 +191,7 @@ fn only_instance(m: Option<&Method>) -> Option<&Method>
 pub fn instance_method(program: &Parts, class: u32, name: u32) -> Option<&Method>
     ensures { option_map (λ m. numbered_method_of m.now) result ≡ instance_method (program_of program.now) class name }
 {
-    only_instance(method_named(&program.methods, class, name))
+    only_instance(method_named(program, class, name))
 }
 
 /// The instance method of a name, behind an object.
