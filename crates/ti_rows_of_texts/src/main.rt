@@ -5,6 +5,7 @@
 mod answers;
 mod commands;
 mod evaluation;
+mod parts;
 mod phases;
 mod rows;
 mod slices;

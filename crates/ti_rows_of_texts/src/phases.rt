@@ -4,6 +4,7 @@ ghost use Rattle.std.specs.Prelude.{IfOk};
 ghost use Rattle.ti_parse_expr.specs.Answers.{EndsAtEnd};
 
 use crate::answers::Stopped;
+use crate::parts::Parts as Shown;
 use std::alloc::{AllocError, Global};
 use std::fmt::Debug;
 use ti_base::Place;
@@ -198,13 +199,13 @@ fn tree(alloc: Global, text: &[u8]) -> Result<String, Stopped> {
 
 fn program(alloc: Global, text: &[u8]) -> Result<String, Stopped> {
     let program = resolved(alloc, text)?;
-    Ok(shown(alloc, &program.parts)?)
+    Ok(shown(alloc, &Shown::of(&program.parts))?)
 }
 
 /// What is shown of a copy, where it is another than what is shown of the original.
 fn compared(alloc: Global, parts: &Parts, copy: &Parts) -> Result<String, AllocError> {
-    let original = shown(alloc, parts)?;
-    let copied = shown(alloc, copy)?;
+    let original = shown(alloc, &Shown::of(parts))?;
+    let copied = shown(alloc, &Shown::of(copy))?;
     if copied == original {
         String::from_str(alloc, "the same")
     } else {
