@@ -83,11 +83,13 @@ fn single_result(is_single: bool, result_type: &ResultType) -> Option<Refusal>
 }
 
 // Global effects in a method that isn't single.
-fn effects(p: &Program, m: &Method, return_has: bool) -> Option<Refusal>
-    requires { return_has ≡ return_acts (program_of p.now.parts) (numbered_method_of m.now) }
+fn effects(p: &Program, m: &Method, return_has: bool, body: Doings) -> Option<Refusal>
+    requires return_has { return_has ≡ return_acts (program_of p.now.parts) (numbered_method_of m.now) }
+    requires body { doings_of body ≡ doings_of_method (program_of p.now.parts) (numbered_method_of m.now) }
     ensures { result ≡ first_of (effect_refusals (program_of p.now.parts) (numbered_method_of m.now)) }
 {
-    let acts = has_global_effects(return_has, false, doings_of_method(p, m));
+    let _ = p;
+    let acts = has_global_effects(return_has, false, body);
     refused_if(acts && !m.single, Rule::S6, m.place)
 }
 
