@@ -25,7 +25,7 @@ use Rattle.ti_single.specs.EffectsAt.{doings_in_loop}
 use Rattle.ti_single.specs.Mirrors.Maybe.{maybe_in}
 use Rattle.ti_single.proofs.Together.{together_nothing}
 use Rattle.ti_check.specs.declared.found.Found.{Found}
-use Rattle.ti_check.specs.declared.walked.Walked.{Walked}
+use Rattle.ti_check.specs.declared.found.Walked.{Walked}
 use Rattle.ti_check.specs.Mirrors.Found.{IsFirst, IsFound, below}
 use Rattle.ti_check.specs.Mirrors.Sites.{jump_in}
 use Rattle.ti_check.specs.Mirrors.Walked.{doing, single_where, found_where, IsWalked, doings_inside}

@@ -13,7 +13,6 @@ mod statements;
 mod targets;
 mod values;
 mod walk;
-mod walked;
 
 pub use checking::check;
 pub use error::CheckErr;

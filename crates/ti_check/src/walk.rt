@@ -17,8 +17,8 @@ ghost use Rattle.ti_check.specs.Mirrors.Found.{below as below_one};
 ghost use Rattle.ti_check.specs.Mirrors.Sites.{program_at, around_where, around_of, scope_at};
 ghost use Rattle.ti_check.specs.Mirrors.Walked.{single_where, IsWalked, doings_inside, jump_acts_inside};
 
+use crate::found::Walked;
 use crate::site::Site;
-use crate::walked::Walked;
 use std::alloc::Global;
 use ti_base::Memory;
 use ti_lang::program::{Expr, InScope, Scope, Stmt};

@@ -9,7 +9,7 @@ use Rattle.ti_single.specs.declared.doings.Doings.{Doings as DoingsHere}
 use Rattle.ti_single.specs.Doings.{doings_of}
 use Rattle.ti_check.specs.declared.found.Found.{Found}
 use Rattle.ti_check.specs.declared.site.Site.{Site}
-use Rattle.ti_check.specs.declared.walked.Walked.{Walked}
+use Rattle.ti_check.specs.declared.found.Walked.{Walked}
 use Rattle.ti_check.specs.Mirrors.Found.{IsFound}
 use Rattle.ti_check.specs.Mirrors.Sites.{program_at, around_of}
 

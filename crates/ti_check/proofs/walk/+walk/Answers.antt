@@ -10,7 +10,7 @@ use Rattle.ti_single.specs.Doings.{doings_of}
 use Rattle.ti_single.specs.EffectsAt.{doings_in_loop}
 use Rattle.ti_single.specs.Mirrors.Maybe.{maybe_in}
 use Rattle.ti_single.proofs.Together.{doings_step, doings_end}
-use Rattle.ti_check.specs.declared.walked.Walked.{Walked}
+use Rattle.ti_check.specs.declared.found.Walked.{Walked}
 use Rattle.ti_check.specs.Mirrors.Found.{below}
 use Rattle.ti_check.specs.Mirrors.Sites.{program_at, around_where, around_of}
 use Rattle.ti_check.specs.Mirrors.Walked.{IsWalked}

@@ -3,7 +3,7 @@ use Rattle.ti_lang.specs.Program.Scope.{contents_of}
 use Rattle.ti_lang.specs.Program.Views.{statement_of}
 use Rattle.ti_lang.specs.Typing.Effects.{together}
 use Rattle.ti_single.specs.Doings.{doings_of}
-use Rattle.ti_check.specs.declared.walked.Walked.{Walked}
+use Rattle.ti_check.specs.declared.found.Walked.{Walked}
 use Rattle.ti_check.specs.Mirrors.Sites.{program_at, around_where, around_of}
 use Rattle.ti_check.proofs.Where.{own_first, whole_walked}
 use Rattle.ti_check.proofs.site.Site.whole.Goals as goal
