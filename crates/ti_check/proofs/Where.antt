@@ -1,5 +1,5 @@
 -- What is found of statements before it is known what a jump out of the loop around them does.
-use Rattle.std.proofs.Common.{◌≡◌, Bool, true, false, ◌&&◌, ◌||◌, not, is_none, unwrap_or, ℕ, ◌+◌, ◌<◌, ◌≤◌, List, [], ◌∷◌, ◌++◌, map, length, get_or, Option, Some, None, refl, ap, sym, ◌∙◌, subst, append-nil}
+use Rattle.std.proofs.Common.{◌≡◌, Bool, true, false, ◌&&◌, ◌||◌, not, is_none, unwrap_or, ℕ, ◌+◌, ◌<◌, ◌≤◌, List, [], ◌∷◌, ◌++◌, map, length, get_or, Option, Some, None, refl, ap, sym, ◌∙◌, subst, append-nil, true≢false}
 use Rattle.std.specs.declared.boxed.Box.{Box}
 use Rattle.std.specs.declared.alloc.Global.{Global}
 use Rattle.ti_base.specs.declared.place.Place.{Place}
@@ -11,7 +11,7 @@ use Rattle.ti_lang.specs.Program.Scope.{ScopeVariable, this_of}
 use Rattle.ti_lang.specs.Program.Statements.{NumberedStm, MaybeNumbered, numbered_stms}
 use Rattle.ti_lang.specs.Program.Statements as st
 use Rattle.ti_lang.specs.Program.Views.{expression_of, statement_of}
-use Rattle.ti_lang.specs.Typing.Effects.{Doings, nothing, together, doings, doings_of_maybe, return_acts, jump_acts}
+use Rattle.ti_lang.specs.Typing.Effects.{Doings, nothing, together, kept_in_loop, doings, doings_of_maybe, return_acts, jump_acts}
 use Rattle.ti_rules.specs.declared.rule.Rule.TheVariants.{Y8, S1}
 use Rattle.ti_rules.specs.declared.refusal.Refusal.{Refusal}
 use Rattle.ti_rules.specs.Refusals.{refused_if}
@@ -26,7 +26,7 @@ use Rattle.ti_single.specs.Mirrors.Maybe.{maybe_in}
 use Rattle.ti_single.proofs.Together.{together_nothing}
 use Rattle.ti_check.specs.declared.found.Found.{Found}
 use Rattle.ti_check.specs.declared.found.Walked.{Walked}
-use Rattle.ti_check.specs.Mirrors.Found.{IsFirst, IsFound, below}
+use Rattle.ti_check.specs.Mirrors.Found.{IsFirst, IsFound, below, is_simple}
 use Rattle.ti_check.specs.Mirrors.Sites.{jump_in}
 use Rattle.ti_check.specs.Mirrors.Walked.{doing, single_where, found_where, IsWalked, doings_inside}
 use Rattle.ti_check.proofs.Walked.{whole_found, both_found, LeftOf, left_first, left_next, left_last}
@@ -109,7 +109,7 @@ moved_doings p q a b x y d is_p is_a is_x does =
 
 -- ---- loops
 
-inside_does : (p : NumberedProgram) (m : NumberedMethod) (update : MaybeNumbered) (body : NumberedStm) (u w : Walked) → doings_of u.doings ≡ doings_of_maybe p (this_of m) update → doings_of w.doings ≡ doings p (this_of m) body
+pub inside_does : (p : NumberedProgram) (m : NumberedMethod) (update : MaybeNumbered) (body : NumberedStm) (u w : Walked) → doings_of u.doings ≡ doings_of_maybe p (this_of m) update → doings_of w.doings ≡ doings p (this_of m) body
     → doings_inside u w ≡ doings_of_loop p m update body
 inside_does p m update body u w is_u is_w = ap (λ z. together z (doings_of w.doings)) is_u ∙ ap (together (doings_of_maybe p (this_of m) update)) is_w
 
@@ -129,7 +129,39 @@ loop_walked p m within us update body u w f is_u u_does is_w w_does types single
     by false = single
     by true = jumping
 
--- ---- forms with parts that may be missing
+-- without an update
+pub alone_walked : (p : NumberedProgram) (m : NumberedMethod) (within : Bool → Around) (body : NumberedStm) (d : DoingsHere) (u w f : Walked) → u ≡ doing d → doings_of d ≡ nothing → IsWalked p (λ jump_has. inside p (within jump_has) body) w
+    → doings_of w.doings ≡ doings p (this_of m) body → f.types ≡ sooner u.types w.types → f.single ≡ sooner u.single (single_where w (jump_acts (return_acts p m) (doings_inside u w)))
+    → f.jumping ≡ sooner u.jumping (single_where w (jump_acts (return_acts p m) (doings_inside u w))) → IsWalked p (λ jump_has. inside p (within (loop_acts p m st.NoStm body)) body) f
+alone_walked p m within body d u w f is_u none is_w w_does types single jumping =
+    loop_walked p m within (λ jump_has. []) st.NoStm body u w f (subst (IsWalked p (λ jump_has. [])) (sym is_u) (nothing_walked p d)) (ap (λ (z : Walked). doings_of z.doings) is_u ∙ none) is_w w_does types single jumping
+
+pub alone_does : (p : NumberedProgram) (m : NumberedMethod) (body : NumberedStm) (d : DoingsHere) (u w f : Walked) → u ≡ doing d → doings_of d ≡ nothing → doings_of w.doings ≡ doings p (this_of m) body
+    → doings_of f.doings ≡ kept_in_loop (doings_inside u w) → doings_of f.doings ≡ kept_in_loop (doings p (this_of m) body)
+alone_does p m body d u w f is_u none w_does is = is ∙ ap kept_in_loop (inside_does p m st.NoStm body u w (ap (λ (z : Walked). doings_of z.doings) is_u ∙ none) w_does)
+
+-- ---- forms with no parts, or with parts that may be missing
+
+not_simple : {A : Type 0} → false ≡ true → A
+not_simple is = absurd (true≢false (sym is))
+
+pub simple_below : (p : NumberedProgram) (around : Around) (x : NumberedStm) → is_simple x ≡ true → [] ≡ below p around x
+simple_below p around (st.Block body) is = not_simple is
+simple_below p around (st.If at c a) is = not_simple is
+simple_below p around (st.IfElse at c a b) is = not_simple is
+simple_below p around (st.While at c body) is = not_simple is
+simple_below p around (st.For at first c update body) is = not_simple is
+simple_below p around (st.Foreach at number domain body) is = not_simple is
+simple_below p around x is = refl
+
+pub simple_no_loop : (p : NumberedProgram) (m : NumberedMethod) (x : NumberedStm) → is_simple x ≡ true → nothing ≡ doings_in_loop p m x
+simple_no_loop p m (st.Block body) is = not_simple is
+simple_no_loop p m (st.If at c a) is = not_simple is
+simple_no_loop p m (st.IfElse at c a b) is = not_simple is
+simple_no_loop p m (st.While at c body) is = not_simple is
+simple_no_loop p m (st.For at first c update body) is = not_simple is
+simple_no_loop p m (st.Foreach at number domain body) is = not_simple is
+simple_no_loop p m x is = refl
 
 pub if_below : (p : NumberedProgram) (around : Around) (at : Place) (c : Expr) (a : Box Stmt Global) (b : Option (Box Stmt Global))
     → inside p around (statement_of a.value) ++ inside_maybe p around (maybe_in b) ≡ below p around (statement_of (If at c a b))

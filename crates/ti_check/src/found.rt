@@ -1,5 +1,5 @@
 // What counts of the rules that are broken somewhere.
-ghost use Rattle.std.specs.Prelude.{◌≡◌, [], None};
+ghost use Rattle.std.specs.Prelude.{◌≡◌, false, [], None};
 ghost use Rattle.ti_lang.specs.Typing.Effects.{together};
 ghost use Rattle.ti_rules.specs.Mirrors.First.{sooner as sooner_of};
 ghost use Rattle.ti_single.specs.Doings.{doings_of};

@@ -13,7 +13,7 @@ ghost use Rattle.ti_rules.specs.SingleRules.{single_refusals_at};
 ghost use Rattle.ti_single.specs.Doings.{doings_of};
 ghost use Rattle.ti_single.specs.EffectsAt.{doings_in_loop};
 ghost use Rattle.ti_single.specs.Mirrors.Maybe.{maybe_in};
-ghost use Rattle.ti_check.specs.Mirrors.Found.{below as below_one};
+ghost use Rattle.ti_check.specs.Mirrors.Found.{below as below_one, is_simple};
 ghost use Rattle.ti_check.specs.Mirrors.Sites.{program_at, around_where, around_of, scope_at};
 ghost use Rattle.ti_check.specs.Mirrors.Walked.{single_where, IsWalked, doings_inside, jump_acts_inside};
 
@@ -153,6 +153,16 @@ impl<'a> Site<'a> {
         own.and(below)
     }
 
+    // What is found of a statement with none in it.
+    fn simple(self, x: &'a Stmt) -> Walked
+        requires { is_simple (statement_of x.now) ≡ true }
+        ensures found { IsWalked (program_at self.entry) (λ jump_has. inside_one (program_at self.entry) (around_where self.entry jump_has) (statement_of x.now)) result }
+        ensures doings { doings_of result.doings ≡ doings (program_at self.entry) (this_of (around_of self.entry).method) (statement_of x.now) }
+    {
+        let does = doings_of_statement(self.program, self.this(), x);
+        self.whole(x, Walked::doing(does), Doings::none())
+    }
+
     // What is found of the update and the body of a loop, which keeps their jumps.
     fn looped(self, update: Walked, body: Walked) -> Walked
         ensures types { result.types ≡ sooner_of update.types body.types }
@@ -271,9 +281,6 @@ fn statement<'a>(alloc: Global, site: Site<'a>, x: &'a Stmt) -> Result<Walked, M
         | Stmt::Barrier(_)
         | Stmt::Break(_)
         | Stmt::Continue(_)
-        | Stmt::Return(_, _) => {
-            let does = doings_of_statement(site.program, site.this(), x);
-            Ok(site.whole(x, Walked::doing(does), Doings::none()))
-        }
+        | Stmt::Return(_, _) => Ok(site.simple(x)),
     }
 }
