@@ -208,11 +208,7 @@ pub fn statements<'a>(alloc: Global, site: Site<'a>, xs: &'a [Stmt]) -> Result<W
 
 // The same of one statement, if there is one.
 #[cycle(walk)]
-fn maybe<'a>(
-    alloc: Global,
-    site: Site<'a>,
-    x: &'a Option<Box<Stmt>>,
-) -> Result<Walked, Memory>
+fn maybe<'a>(alloc: Global, site: Site<'a>, x: &'a Option<Box<Stmt>>) -> Result<Walked, Memory>
     ensures found { IfOk result (λ w. IsWalked (program_at site.entry) (λ jump_has. inside_maybe (program_at site.entry) (around_where site.entry jump_has) (maybe_in x.now)) w) }
     ensures doings { IfOk result (λ w. doings_of w.doings ≡ doings_of_maybe (program_at site.entry) (this_of (around_of site.entry).method) (maybe_in x.now)) }
 {

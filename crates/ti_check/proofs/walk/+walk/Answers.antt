@@ -28,9 +28,9 @@ statements-loop-x-preserved t c =
     let p = program_at c.args.site in
     let found = doings_of c.loop-x.found.doings in (
       where_next p (around_where c.args.site) c.args.xs.now c.loop-x.x-index c.x-item.result c.loop-x.found c.in_ok-next.next c.and-found.result (omega arith) c.x-item.is c.loop-x.invariant.0 c.in_ok-next.ensures.found
-      c.and-found.ensures.types c.and-found.ensures.single c.and-found.ensures.jumping,
+          c.and-found.ensures.types c.and-found.ensures.single c.and-found.ensures.jumping,
       doings_step p (this_of (around_of c.args.site).method) c.args.xs.now c.loop-x.x-index c.x-item.result found (doings_of c.and-found.result.doings) _ (omega arith) c.x-item.is c.loop-x.invariant.1
-      (c.and-found.ensures.doings ∙ ap (together found) c.in_ok-next.ensures.doings),
+          (c.and-found.ensures.doings ∙ ap (together found) c.in_ok-next.ensures.doings),
     )
 
 pub statements-returns-clause-found : goal.statements-returns-clause-found
