@@ -3,4 +3,5 @@ pub mod Ends
 pub mod Grids
 pub mod Heads
 pub mod Walked
+pub mod Where
 pub mod Written

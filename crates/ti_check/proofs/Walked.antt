@@ -56,10 +56,6 @@ both_found p xs ys a b f is_a is_b types single = (
 pub same_found : (p : NumberedProgram) (xs ys : List Standing) (f : Found) → xs ≡ ys → IsFound p xs f → IsFound p ys f
 same_found p xs ys f is found = subst (λ l. IsFound p l f) is found
 
--- with the same around them
-pub moved : (p q : NumberedProgram) (a b : Around) (x y : NumberedStm) (f : Found) → q ≡ p → a ≡ b → x ≡ y → IsFound q (inside q a x) f → IsFound p (inside p b y) f
-moved p q a b x y f is_p is_a is_x found = subst (λ z. IsFound p (inside p b z) f) is_x (subst (λ z. IsFound p (inside p z x) f) is_a (subst (λ z. IsFound z (inside z a x) f) is_p found))
-
 -- ---- one after the other
 
 -- what was found so far, and what counts of the rest, count of the whole

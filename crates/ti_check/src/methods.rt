@@ -1,10 +1,11 @@
 // Methods: what stands before their bodies, and their bodies.
 ghost use Rattle.std.specs.Prelude.{◌≡◌, ◌<◌, map, flat_map, length, slice_get, IfOk};
 ghost use Rattle.ti_lang.specs.Program.Views.{program_of, statement_of, numbered_result_of, numbered_method_of};
-ghost use Rattle.ti_lang.specs.Typing.Effects.{return_acts};
+ghost use Rattle.ti_lang.specs.Typing.Effects.{doings_of_method, return_acts};
 ghost use Rattle.ti_rules.specs.Mirrors.First.{first_of};
 ghost use Rattle.ti_rules.specs.TypeRules.{is_return, ends_with_return, end_refusals, method_refusals};
 ghost use Rattle.ti_rules.specs.SingleRules.{word_refusals, result_refusals, effect_refusals, method_single_refusals};
+ghost use Rattle.ti_single.specs.Doings.{doings_of};
 ghost use Rattle.ti_check.specs.Mirrors.Found.{IsFirst};
 
 use crate::declarations::head;
@@ -15,7 +16,7 @@ use std::alloc::Global;
 use ti_base::Memory;
 use ti_lang::program::{Method, Program, ResultType, Scope, Stmt};
 use ti_rules::{Refusal, Rule, refused_if, sooner};
-use ti_single::{doings_of_method, has_global_effects, listed_statements, return_acts};
+use ti_single::{Doings, has_global_effects, listed_statements, return_acts};
 use ti_syntax::tree::{Qualifier, QualifierWord};
 use ti_types::result_type;
 
@@ -83,11 +84,13 @@ fn single_result(is_single: bool, result_type: &ResultType) -> Option<Refusal>
 }
 
 // Global effects in a method that isn't single.
-fn effects(p: &Program, m: &Method, return_has: bool) -> Option<Refusal>
-    requires { return_has ≡ return_acts (program_of p.now.parts) (numbered_method_of m.now) }
+fn effects(p: &Program, m: &Method, return_has: bool, body: Doings) -> Option<Refusal>
+    requires return_has { return_has ≡ return_acts (program_of p.now.parts) (numbered_method_of m.now) }
+    requires body { doings_of body ≡ doings_of_method (program_of p.now.parts) (numbered_method_of m.now) }
     ensures { result ≡ first_of (effect_refusals (program_of p.now.parts) (numbered_method_of m.now)) }
 {
-    let acts = has_global_effects(return_has, false, doings_of_method(p, m));
+    let _ = p;
+    let acts = has_global_effects(return_has, false, body);
     refused_if(acts && !m.single, Rule::S6, m.place)
 }
 
@@ -106,15 +109,15 @@ pub fn method(alloc: Global, p: &Program, number: u32, m: &Method) -> Result<Fou
         method: m,
         scope: &scope,
         return_has,
-        jump_has: None,
+        has_loop: false,
     };
     let body = statements(alloc, site, listed_statements(&m.body))?;
     let own = Found {
         types: sooner(head(m), end(m)),
         single: sooner(
-            effects(p, m, return_has),
+            effects(p, m, return_has, body.doings),
             single_result(m.single, &m.result),
         ),
     };
-    Ok(own.and(body))
+    Ok(own.and(body.outside()))
 }

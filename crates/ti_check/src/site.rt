@@ -14,8 +14,8 @@ pub struct Site<'a> {
     pub scope: &'a Scope,
     /// Whether a `return` of the method has an effect.
     pub return_has: bool,
-    /// Where there is a loop around it, whether a jump out of the innermost one has an effect.
-    pub jump_has: Option<bool>,
+    /// Whether there is a loop around it. What a jump out of that one does is known only behind its body.
+    pub has_loop: bool,
     ghost of_method: { scope.now.this ≡ this_of (numbered_method_of method.now) },
     ghost returning: { return_has ≡ return_acts (program_of program.now.parts) (numbered_method_of method.now) },
 }

@@ -319,7 +319,7 @@ impl<'a> Site<'a> {
     fn jump(self, place: Place) -> Option<Refusal>
         ensures { result ≡ first_of (refused_at (is_none (around_of self.entry).jump_has) Y8 place) }
     {
-        refused_if(self.jump_has.is_none(), Rule::Y8, place)
+        refused_if(!self.has_loop, Rule::Y8, place)
     }
 
     /// What counts of the rules of types that a statement breaks, apart from those that the statements in it break.

@@ -5,7 +5,7 @@ ghost use Rattle.ti_lang.specs.Members.{only_if};
 ghost use Rattle.ti_lang.specs.Program.Expressions.{numbered_ranges};
 ghost use Rattle.ti_lang.specs.Program.Scope.{this_of};
 ghost use Rattle.ti_lang.specs.Program.Views.{expression_of, bound_of, statement_of};
-ghost use Rattle.ti_lang.specs.Typing.Effects.{jump_acts, return_acts};
+ghost use Rattle.ti_lang.specs.Typing.Effects.{doings};
 ghost use Rattle.ti_lang.specs.Typing.Expressions.{bounds, range_count, operand_type};
 ghost use Rattle.ti_lang.specs.Typing.Kinds.{is_void};
 ghost use Rattle.ti_lang.specs.Typing.Seen.{seen};
@@ -18,16 +18,17 @@ ghost use Rattle.ti_rules.specs.Broken.Expressions.{refusals_at, exp_refusals};
 ghost use Rattle.ti_rules.specs.Broken.Misplaced.{gives_nothing, bounds_misplaced};
 ghost use Rattle.ti_rules.specs.Broken.RightSides.{inner_refusals, value_refusals};
 ghost use Rattle.ti_rules.specs.SingleRules.{single_refusals_at};
+ghost use Rattle.ti_single.specs.Doings.{doings_of};
 ghost use Rattle.ti_single.specs.EffectsAt.{doings_in_loop};
 ghost use Rattle.ti_single.specs.Sites as single;
 ghost use Rattle.ti_types.specs.Judging.{IsJudged, literal, literal_of};
-ghost use Rattle.ti_check.specs.Mirrors.Sites.{program_at, around_of, scope_at};
+ghost use Rattle.ti_check.specs.Mirrors.Sites.{program_at, jump_in, around_where, around_of, scope_at};
 
 use crate::site::Site;
 use ti_lang::program::{Expr, Range, Stmt};
 use ti_lang::typing::Seen;
 use ti_rules::{Refusal, Rule, refused_if, sooner};
-use ti_single::{SingleSite, this_of};
+use ti_single::{Doings, SingleSite, this_of};
 use ti_types::{Judge, Judged, Ranges};
 
 /// A value: its type, where it has one, and what counts of the rules of types that are broken in it.
@@ -55,6 +56,13 @@ fn given<'a>(t: Option<Seen<'a>>) -> Option<Seen<'a>>
         Some(t) => if t.is_void() { None } else { Some(t) },
         None => None,
     }
+}
+
+// Where there is a loop, whether a jump out of the innermost one has an effect.
+fn jump_in(has_loop: bool, jump_has: bool) -> Option<bool>
+    ensures { result ≡ jump_in has_loop jump_has }
+{
+    if has_loop { Some(jump_has) } else { None }
 }
 
 impl<'a> Site<'a> {
@@ -125,17 +133,17 @@ impl<'a> Site<'a> {
         this_of(self.method)
     }
 
-    // The same for the rules of single values.
-    fn single_site(self) -> SingleSite<'a>
+    // The same for the rules of single values, where a jump out of the innermost loop around has an effect or has none.
+    fn single_site(self, jump_has: bool) -> SingleSite<'a>
         ensures program { single.program_at result ≡ program_at self.entry }
-        ensures around { single.around_of result ≡ around_of self.entry }
+        ensures around { single.around_of result ≡ around_where self.entry jump_has }
     {
         SingleSite {
             program: self.program,
             method: self.method,
             scope: self.scope,
             return_has: self.return_has,
-            jump_has: self.jump_has,
+            jump_has: jump_in(self.has_loop, jump_has),
         }
     }
 
@@ -143,20 +151,17 @@ impl<'a> Site<'a> {
     pub fn is_single_inside(self, e: &Expr) -> bool
         ensures { result ≡ is_single_part (program_at self.entry) (this_of (around_of self.entry).method) (singles_in (scope_at self.entry)) (expression_of e.now) }
     {
-        self.single_site().is_single_inside(e)
+        self.single_site(false).is_single_inside(e)
     }
 
-    /// Whether a loop has global effects, and a jump out of it one.
-    pub fn loop_acts(self, x: &Stmt) -> bool
-        ensures { result ≡ jump_acts (return_acts (program_at self.entry) (around_of self.entry).method) (doings_in_loop (program_at self.entry) (around_of self.entry).method (statement_of x.now)) }
+    /// What counts of the rules of single values that a statement breaks, apart from those that the statements in it break, where a
+    /// jump out of the innermost loop around has an effect or has none. What it does is known, and so is what its update and its body
+    /// do where it is a loop.
+    pub fn single(self, x: &Stmt, jump_has: bool, own: Doings, inside: Doings) -> Option<Refusal>
+        requires own { doings_of own ≡ doings (program_at self) (this_of (around_of self).method) (statement_of x.now) }
+        requires inside { doings_of inside ≡ doings_in_loop (program_at self) (around_of self).method (statement_of x.now) }
+        ensures { result ≡ first_of (single_refusals_at (program_at self.entry) (around_where self.entry jump_has) (statement_of x.now)) }
     {
-        self.single_site().loop_acts(x)
-    }
-
-    /// What counts of the rules of single values that a statement breaks, apart from those that the statements in it break.
-    pub fn single(self, x: &Stmt) -> Option<Refusal>
-        ensures { result ≡ first_of (single_refusals_at (program_at self.entry) (around_of self.entry) (statement_of x.now)) }
-    {
-        self.single_site().refusal(x)
+        self.single_site(jump_has).refusal(x, own, inside)
     }
 }

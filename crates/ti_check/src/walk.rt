@@ -1,26 +1,30 @@
 // The statements of a method, each where it stands.
-ghost use Rattle.std.specs.Prelude.{◌≡◌, map, IfOk};
+ghost use Rattle.std.specs.Prelude.{◌≡◌, map, true, Some, IfOk};
 ghost use Rattle.std.specs.Option.{option_map, option_and_then};
-ghost use Rattle.ti_lang.specs.Program.Scope.{in_scope_of, contents_of};
+ghost use Rattle.ti_lang.specs.Program.Scope.{in_scope_of, contents_of, this_of};
 ghost use Rattle.ti_lang.specs.Program.Statements.{numbered_stms};
 ghost use Rattle.ti_lang.specs.Program.Views.{expression_of, statement_of};
-ghost use Rattle.ti_lang.specs.Typing.Effects.{jump_acts, return_acts};
+ghost use Rattle.ti_lang.specs.Typing.Effects.{kept_in_loop, doings, doings_of_maybe, doings_of_all};
 ghost use Rattle.ti_lang.specs.Typing.Kinds.{domain_dim};
 ghost use Rattle.ti_lang.specs.Typing.Seen.{seen};
-ghost use Rattle.ti_rules.specs.Standing.{with_point, variables_inside, inside, inside_all};
-ghost use Rattle.ti_rules.specs.Broken.Statements.{statement_refusals};
+ghost use Rattle.ti_rules.specs.Mirrors.First.{sooner as sooner_of, first_of};
+ghost use Rattle.ti_rules.specs.Standing.{with_point, variables_inside, inside as inside_one, inside_maybe, inside_all};
 ghost use Rattle.ti_rules.specs.SingleRules.{single_refusals_at};
+ghost use Rattle.ti_single.specs.Doings.{doings_of};
 ghost use Rattle.ti_single.specs.EffectsAt.{doings_in_loop};
-ghost use Rattle.ti_check.specs.Mirrors.Found.{IsFirst, IsFound};
-ghost use Rattle.ti_check.specs.Mirrors.Sites.{program_at, around_of, scope_at};
+ghost use Rattle.ti_single.specs.Mirrors.Maybe.{maybe_in};
+ghost use Rattle.ti_check.specs.Mirrors.Found.{below as below_one, is_simple};
+ghost use Rattle.ti_check.specs.Mirrors.Sites.{program_at, around_where, around_of, scope_at};
+ghost use Rattle.ti_check.specs.Mirrors.Walked.{single_where, IsWalked, doings_inside, jump_acts_inside};
 
-use crate::found::Found;
+use crate::found::Walked;
 use crate::site::Site;
 use std::alloc::Global;
 use ti_base::Memory;
 use ti_lang::program::{Expr, InScope, Scope, Stmt};
 use ti_lang::typing::Seen;
-use ti_single::{boxed_statement, listed_statements};
+use ti_rules::{Refusal, sooner};
+use ti_single::{Doings, boxed_statement, doings_of_statement, jump_acts, listed_statements};
 
 // ---- scopes
 
@@ -81,9 +85,9 @@ impl<'a> Site<'a> {
     }
 
     // In the body of a loop.
-    fn in_loop(self, x: &Stmt) -> Site<'a>
+    fn in_loop(self) -> Site<'a>
         ensures program { program_at result ≡ program_at self.entry }
-        ensures around { around_of result ≡ record (around_of self.entry) { jump_has = Some (jump_acts (return_acts (program_at self.entry) (around_of self.entry).method) (doings_in_loop (program_at self.entry) (around_of self.entry).method (statement_of x.now))) } }
+        ensures around { around_where result ≡ (λ jump_has. record (around_of self.entry) { jump_has = Some jump_has }) }
         ensures this { result.scope.now.this ≡ self.entry.scope.now.this }
     {
         Site {
@@ -91,7 +95,7 @@ impl<'a> Site<'a> {
             method: self.method,
             scope: self.scope,
             return_has: self.return_has,
-            jump_has: Some(self.loop_acts(x)),
+            has_loop: true,
         }
     }
 
@@ -99,24 +103,80 @@ impl<'a> Site<'a> {
     fn with_scope(self, scope: &'a Scope) -> Site<'a>
         requires { scope.now.this ≡ self.scope.now.this }
         ensures program { program_at result ≡ program_at self.entry }
-        ensures around { around_of result ≡ record (around_of self.entry) { variables = (contents_of scope.now).variables } }
+        ensures around { around_where result ≡ (λ jump_has. record (around_where self.entry jump_has) { variables = (contents_of scope.now).variables }) }
     {
         Site {
             program: self.program,
             method: self.method,
             scope,
             return_has: self.return_has,
-            jump_has: self.jump_has,
+            has_loop: self.has_loop,
         }
     }
 
-    // What counts of the rules that a statement breaks, apart from those that the statements in it break.
-    fn own(self, x: &'a Stmt) -> Found
-        ensures { IsFirst (statement_refusals (program_at self.entry) (around_of self.entry) (statement_of x.now)) (single_refusals_at (program_at self.entry) (around_of self.entry) (statement_of x.now)) result }
+    // The same as `single` where a jump out of the innermost loop around has an effect: another only where the statement has a jump.
+    fn single_jumping(
+        self,
+        x: &'a Stmt,
+        own: Doings,
+        inside: Doings,
+        single: Option<Refusal>,
+    ) -> Option<Refusal>
+        requires own { doings_of own ≡ doings (program_at self) (this_of (around_of self).method) (statement_of x.now) }
+        requires inside { doings_of inside ≡ doings_in_loop (program_at self) (around_of self).method (statement_of x.now) }
+        requires single { single ≡ first_of (single_refusals_at (program_at self) (around_of self) (statement_of x.now)) }
+        ensures { result ≡ first_of (single_refusals_at (program_at self.entry) (around_where self.entry true) (statement_of x.now)) }
     {
-        Found {
+        if own.jumps {
+            self.single(x, true, own, inside)
+        } else {
+            single
+        }
+    }
+
+    // What is found of a statement, from what is found below it, which does as much as itself, and from what its update and its body do
+    // where it is a loop.
+    fn whole(self, x: &'a Stmt, below: Walked, inside: Doings) -> Walked
+        requires below { IsWalked (program_at self) (λ jump_has. below_one (program_at self) (around_where self jump_has) (statement_of x.now)) below }
+        requires own { doings_of below.doings ≡ doings (program_at self) (this_of (around_of self).method) (statement_of x.now) }
+        requires inside { doings_of inside ≡ doings_in_loop (program_at self) (around_of self).method (statement_of x.now) }
+        ensures found { IsWalked (program_at self.entry) (λ jump_has. inside_one (program_at self.entry) (around_where self.entry jump_has) (statement_of x.now)) result }
+        ensures doings { doings_of result.doings ≡ doings (program_at self.entry) (this_of (around_of self.entry).method) (statement_of x.now) }
+    {
+        let single = self.single(x, false, below.doings, inside);
+        let own = Walked {
             types: self.types(x),
-            single: self.single(x),
+            single,
+            jumping: self.single_jumping(x, below.doings, inside, single),
+            doings: Doings::none(),
+        };
+        own.and(below)
+    }
+
+    // What is found of a statement with none in it.
+    fn simple(self, x: &'a Stmt) -> Walked
+        requires { is_simple (statement_of x.now) ≡ true }
+        ensures found { IsWalked (program_at self.entry) (λ jump_has. inside_one (program_at self.entry) (around_where self.entry jump_has) (statement_of x.now)) result }
+        ensures doings { doings_of result.doings ≡ doings (program_at self.entry) (this_of (around_of self.entry).method) (statement_of x.now) }
+    {
+        let does = doings_of_statement(self.program, self.this(), x);
+        self.whole(x, Walked::doing(does), Doings::none())
+    }
+
+    // What is found of the update and the body of a loop, which keeps their jumps.
+    fn looped(self, update: Walked, body: Walked) -> Walked
+        ensures types { result.types ≡ sooner_of update.types body.types }
+        ensures single { result.single ≡ sooner_of update.single (single_where body (jump_acts_inside self.entry update body)) }
+        ensures jumping { result.jumping ≡ sooner_of update.jumping (single_where body (jump_acts_inside self.entry update body)) }
+        ensures doings { doings_of result.doings ≡ kept_in_loop (doings_inside update body) }
+    {
+        let inside = update.doings.together(body.doings);
+        let single = body.single_where(jump_acts(self.return_has, inside));
+        Walked {
+            types: sooner(update.types, body.types),
+            single: sooner(update.single, single),
+            jumping: sooner(update.jumping, single),
+            doings: inside.kept_in_loop(),
         }
     }
 }
@@ -132,12 +192,13 @@ fn domain_dim(t: Option<Seen>) -> Option<usize>
 
 // ---- statements
 
-/// What counts of the rules that statements break, with all statements in them.
+/// What is found of statements, with all statements in them.
 #[cycle(walk)]
-pub fn statements<'a>(alloc: Global, site: Site<'a>, xs: &'a [Stmt]) -> Result<Found, Memory>
-    ensures { IfOk result (λ f. IsFound (program_at site.entry) (inside_all (program_at site.entry) (around_of site.entry) (numbered_stms (map statement_of xs.now))) f) }
+pub fn statements<'a>(alloc: Global, site: Site<'a>, xs: &'a [Stmt]) -> Result<Walked, Memory>
+    ensures found { IfOk result (λ w. IsWalked (program_at site.entry) (λ jump_has. inside_all (program_at site.entry) (around_where site.entry jump_has) (numbered_stms (map statement_of xs.now))) w) }
+    ensures doings { IfOk result (λ w. doings_of w.doings ≡ doings_of_all (program_at site.entry) (this_of (around_of site.entry).method) (numbered_stms (map statement_of xs.now))) }
 {
-    let mut found = Found::nothing();
+    let mut found = Walked::doing(Doings::none());
     for x in xs {
         let next = statement(alloc, site, x)?;
         found = found.and(next);
@@ -145,17 +206,28 @@ pub fn statements<'a>(alloc: Global, site: Site<'a>, xs: &'a [Stmt]) -> Result<F
     Ok(found)
 }
 
+// The same of one statement, if there is one.
+#[cycle(walk)]
+fn maybe<'a>(alloc: Global, site: Site<'a>, x: &'a Option<Box<Stmt>>) -> Result<Walked, Memory>
+    ensures found { IfOk result (λ w. IsWalked (program_at site.entry) (λ jump_has. inside_maybe (program_at site.entry) (around_where site.entry jump_has) (maybe_in x.now)) w) }
+    ensures doings { IfOk result (λ w. doings_of w.doings ≡ doings_of_maybe (program_at site.entry) (this_of (around_of site.entry).method) (maybe_in x.now)) }
+{
+    match x {
+        Some(x) => statement(alloc, site, boxed_statement(x)),
+        None => Ok(Walked::doing(Doings::none())),
+    }
+}
+
 // The same of one statement.
 #[cycle(walk)]
-#[tactic(auto, using(ti_rules::proofs::First::firsts))]
-fn statement<'a>(alloc: Global, site: Site<'a>, x: &'a Stmt) -> Result<Found, Memory>
-    ensures { IfOk result (λ f. IsFound (program_at site.entry) (inside (program_at site.entry) (around_of site.entry) (statement_of x.now)) f) }
+fn statement<'a>(alloc: Global, site: Site<'a>, x: &'a Stmt) -> Result<Walked, Memory>
+    ensures found { IfOk result (λ w. IsWalked (program_at site.entry) (λ jump_has. inside_one (program_at site.entry) (around_where site.entry jump_has) (statement_of x.now)) w) }
+    ensures doings { IfOk result (λ w. doings_of w.doings ≡ doings (program_at site.entry) (this_of (around_of site.entry).method) (statement_of x.now)) }
 {
-    let own = site.own(x);
     match x {
         Stmt::Block(body) => {
-            let inner = statements(alloc, site, listed_statements(body))?;
-            Ok(own.and(inner))
+            let below = statements(alloc, site, listed_statements(body))?;
+            Ok(site.whole(x, below, Doings::none()))
         }
         Stmt::If {
             then,
@@ -163,17 +235,13 @@ fn statement<'a>(alloc: Global, site: Site<'a>, x: &'a Stmt) -> Result<Found, Me
             ..
         } => {
             let then = statement(alloc, site, boxed_statement(then))?;
-            match otherwise {
-                Some(otherwise) => {
-                    let otherwise = statement(alloc, site, boxed_statement(otherwise))?;
-                    Ok(own.and(then.and(otherwise)))
-                }
-                None => Ok(own.and(then)),
-            }
+            let otherwise = maybe(alloc, site, otherwise)?;
+            Ok(site.whole(x, then.and(otherwise), Doings::none()))
         }
         Stmt::While { body, .. } => {
-            let inner = statement(alloc, site.in_loop(x), boxed_statement(body))?;
-            Ok(own.and(inner))
+            let body = statement(alloc, site.in_loop(), boxed_statement(body))?;
+            let below = site.looped(Walked::doing(Doings::none()), body);
+            Ok(site.whole(x, below, body.doings))
         }
         Stmt::For {
             first,
@@ -181,16 +249,11 @@ fn statement<'a>(alloc: Global, site: Site<'a>, x: &'a Stmt) -> Result<Found, Me
             body,
             ..
         } => {
-            let inner = statement(alloc, site.in_loop(x), boxed_statement(body))?;
-            let first = match first {
-                Some(first) => statement(alloc, site, boxed_statement(first))?,
-                None => Found::nothing(),
-            };
-            let update = match update {
-                Some(update) => statement(alloc, site, boxed_statement(update))?,
-                None => Found::nothing(),
-            };
-            Ok(own.and(first.and(update.and(inner))))
+            let first = maybe(alloc, site, first)?;
+            let update = maybe(alloc, site, update)?;
+            let body = statement(alloc, site.in_loop(), boxed_statement(body))?;
+            let below = first.and(site.looped(update, body));
+            Ok(site.whole(x, below, update.doings.together(body.doings)))
         }
         Stmt::Foreach {
             variable,
@@ -199,9 +262,10 @@ fn statement<'a>(alloc: Global, site: Site<'a>, x: &'a Stmt) -> Result<Found, Me
             ..
         } => {
             let scope = site.inside_foreach(alloc, *variable, domain)?;
-            let inside = site.in_loop(x);
-            let inner = statement(alloc, inside.with_scope(&scope), boxed_statement(body))?;
-            Ok(own.and(inner))
+            let within = site.in_loop();
+            let body = statement(alloc, within.with_scope(&scope), boxed_statement(body))?;
+            let below = site.looped(Walked::doing(Doings::none()), body);
+            Ok(site.whole(x, below, body.doings))
         }
         Stmt::Empty
         | Stmt::Declare { .. }
@@ -213,6 +277,6 @@ fn statement<'a>(alloc: Global, site: Site<'a>, x: &'a Stmt) -> Result<Found, Me
         | Stmt::Barrier(_)
         | Stmt::Break(_)
         | Stmt::Continue(_)
-        | Stmt::Return(_, _) => Ok(own),
+        | Stmt::Return(_, _) => Ok(site.simple(x)),
     }
 }

@@ -18,7 +18,7 @@ together_assoc a b c = λ j. record { acts = or_assoc a.acts b.acts c.acts j; re
     or_assoc true y z = refl
     or_assoc false y z = refl
 
-together_nothing : (a : Doings) → together a nothing ≡ a
+pub together_nothing : (a : Doings) → together a nothing ≡ a
 together_nothing a = λ j. record { acts = or_false a.acts j; returns = or_false a.returns j; jumps = or_false a.jumps j }
   where
     or_false : (x : Bool) → x || false ≡ x

@@ -80,7 +80,7 @@ impl Doings {
     }
 
     /// What a loop does whose body does so much: it keeps the jumps.
-    fn kept_in_loop(self) -> Doings
+    pub fn kept_in_loop(self) -> Doings
         ensures { doings_of result ≡ kept_in_loop (doings_of self) }
     {
         Doings {

@@ -6,23 +6,23 @@ ghost use Rattle.ti_lang.specs.Program.Expressions.{numbered_exps, place_of_numb
 ghost use Rattle.ti_lang.specs.Program.Scope.{this_of};
 ghost use Rattle.ti_lang.specs.Program.Views.{expression_of, type_use_of, initial_of, statement_of, numbered_param_of, numbered_method_of};
 ghost use Rattle.ti_lang.specs.Typing.Called.{member_called};
-ghost use Rattle.ti_lang.specs.Typing.Effects.{is_single_target, doings_of_maybe, jump_acts, return_acts};
+ghost use Rattle.ti_lang.specs.Typing.Effects.{is_single_target, doings, doings_of_maybe, jump_acts, return_acts, has_global_effects};
 ghost use Rattle.ti_lang.specs.Typing.Seen.{built_in_of};
 ghost use Rattle.ti_lang.specs.Typing.Singleness.{is_single_part};
 ghost use Rattle.ti_rules.specs.Standing.{singles_in};
 ghost use Rattle.ti_rules.specs.declared.rule.Rule.TheVariants.{S1, S2, S4, S5};
 ghost use Rattle.ti_rules.specs.Refusals.{refused_if as refused_at};
 ghost use Rattle.ti_rules.specs.Mirrors.First.{first_of};
-ghost use Rattle.ti_rules.specs.SingleRules.{is_plain_part, is_plain, is_plain_initial, is_plain_condition, has_effects, argument_refusals, call_refusals, is_delete, delete_refusals, whole_refusals, initial_refusals, return_refusals, single_refusals_at};
+ghost use Rattle.ti_rules.specs.SingleRules.{is_plain_part, is_plain, is_plain_initial, is_plain_condition, argument_refusals, call_refusals, is_delete, delete_refusals, whole_refusals, initial_refusals, return_refusals, single_refusals_at};
+ghost use Rattle.ti_single.specs.Doings.{doings_of};
 ghost use Rattle.ti_single.specs.EffectsAt.{doings_in_loop};
 ghost use Rattle.ti_single.specs.Sites.{program_at, around_of, scope_at};
 ghost use Rattle.ti_single.specs.Mirrors.Maybe.{maybe_in};
 
 use crate::boxes::{boxed_expression, boxed_initial, boxed_statement, listed_expressions};
 use crate::doings::{
-    doings_of_statement, has_global_effects, has_single_result, jump_acts, this_of,
+    Doings, doings_of_statement, has_global_effects, has_single_result, jump_acts, this_of,
 };
-use crate::loops::doings_in_loop;
 use crate::singleness::{is_single, is_single_initial, is_single_part, is_single_target};
 use crate::site::SingleSite;
 use ti_base::Place;
@@ -83,22 +83,18 @@ impl<'a> SingleSite<'a> {
         this_of(self.method)
     }
 
-    // Whether a statement has global effects.
-    fn has_effects(self, x: &Stmt) -> bool
-        ensures { result ≡ has_effects (program_at self.entry) (around_of self.entry) (statement_of x.now) }
+    // Whether a statement that does so much has global effects.
+    fn has_effects(self, own: Doings) -> bool
+        ensures { result ≡ has_global_effects (return_acts (program_at self.entry) (around_of self.entry).method) (unwrap_or (around_of self.entry).jump_has false) (doings_of own) }
     {
-        let jump_has = or_false(self.jump_has);
-        let this = self.this();
-        let doings = doings_of_statement(self.program, this, x);
-        has_global_effects(self.return_has, jump_has, doings)
+        has_global_effects(self.return_has, or_false(self.jump_has), own)
     }
 
-    /// Whether a loop has global effects, and a jump out of it one.
-    pub fn loop_acts(self, x: &Stmt) -> bool
-        ensures { result ≡ jump_acts (return_acts (program_at self.entry) (around_of self.entry).method) (doings_in_loop (program_at self.entry) (around_of self.entry).method (statement_of x.now)) }
+    // Whether a loop whose update and body do so much has global effects.
+    fn loop_acts(self, inside: Doings) -> bool
+        ensures { result ≡ jump_acts (return_acts (program_at self.entry) (around_of self.entry).method) (doings_of inside) }
     {
-        let doings = doings_in_loop(self.program, self.method, x);
-        jump_acts(self.return_has, doings)
+        jump_acts(self.return_has, inside)
     }
 
     // A plain argument for a single parameter.
@@ -230,21 +226,21 @@ impl<'a> SingleSite<'a> {
         sooner(self.whole(e), refused_if(plain, Rule::S4, place))
     }
 
-    fn branch(self, place: Place, x: &Stmt, condition: &Expr) -> Option<Refusal>
-        ensures { result ≡ first_of (refused_at (has_effects (program_at self.entry) (around_of self.entry) (statement_of x.now) && is_plain_part (program_at self.entry) (around_of self.entry) (expression_of condition.now)) S1 place) }
+    fn branch(self, place: Place, own: Doings, condition: &Expr) -> Option<Refusal>
+        ensures { result ≡ first_of (refused_at (has_global_effects (return_acts (program_at self.entry) (around_of self.entry).method) (unwrap_or (around_of self.entry).jump_has false) (doings_of own) && is_plain_part (program_at self.entry) (around_of self.entry) (expression_of condition.now)) S1 place) }
     {
         refused_if(
-            self.has_effects(x) && self.is_plain_part(condition),
+            self.has_effects(own) && self.is_plain_part(condition),
             Rule::S1,
             place,
         )
     }
 
-    fn looping(self, rule: Rule, place: Place, x: &Stmt, condition: &Expr) -> Option<Refusal>
-        ensures { result ≡ first_of (refused_at (jump_acts (return_acts (program_at self.entry) (around_of self.entry).method) (doings_in_loop (program_at self.entry) (around_of self.entry).method (statement_of x.now)) && is_plain_part (program_at self.entry) (around_of self.entry) (expression_of condition.now)) rule place) }
+    fn looping(self, rule: Rule, place: Place, inside: Doings, condition: &Expr) -> Option<Refusal>
+        ensures { result ≡ first_of (refused_at (jump_acts (return_acts (program_at self.entry) (around_of self.entry).method) (doings_of inside) && is_plain_part (program_at self.entry) (around_of self.entry) (expression_of condition.now)) rule place) }
     {
         refused_if(
-            self.loop_acts(x) && self.is_plain_part(condition),
+            self.loop_acts(inside) && self.is_plain_part(condition),
             rule,
             place,
         )
@@ -273,13 +269,13 @@ impl<'a> SingleSite<'a> {
     fn for_single(
         self,
         place: Place,
-        x: &Stmt,
+        inside: Doings,
         condition: &Option<Expr>,
         update: &Option<Box<Stmt>>,
     ) -> Option<Refusal>
-        ensures { result ≡ first_of (refused_at (jump_acts (return_acts (program_at self.entry) (around_of self.entry).method) (doings_in_loop (program_at self.entry) (around_of self.entry).method (statement_of x.now)) && is_plain_condition (program_at self.entry) (around_of self.entry) (maybe_of expression_of condition.now)) S2 place ++ refused_at (doings_of_maybe (program_at self.entry) (this_of (around_of self.entry).method) (maybe_in update.now)).jumps S2 place) }
+        ensures { result ≡ first_of (refused_at (jump_acts (return_acts (program_at self.entry) (around_of self.entry).method) (doings_of inside) && is_plain_condition (program_at self.entry) (around_of self.entry) (maybe_of expression_of condition.now)) S2 place ++ refused_at (doings_of_maybe (program_at self.entry) (this_of (around_of self.entry).method) (maybe_in update.now)).jumps S2 place) }
     {
-        let plain = self.loop_acts(x) && self.is_plain_condition(condition);
+        let plain = self.loop_acts(inside) && self.is_plain_condition(condition);
         let jumps = self.update_jumps(update);
         sooner(
             refused_if(plain, Rule::S2, place),
@@ -301,9 +297,12 @@ impl<'a> SingleSite<'a> {
         }
     }
 
-    /// What counts of the rules of single values that a statement breaks, apart from those that the statements in it break.
+    /// What counts of the rules of single values that a statement breaks, apart from those that the statements in it break. What it
+    /// does is known, and so is what its update and its body do where it is a loop.
     #[tactic(auto, unfolding(ti_rules::specs::Mirrors::First::first_of), using(ti_lang::proofs::ProgramBridges::program_bridges))]
-    pub fn refusal(self, x: &Stmt) -> Option<Refusal>
+    pub fn refusal(self, x: &Stmt, own: Doings, inside: Doings) -> Option<Refusal>
+        requires own { doings_of own ≡ doings (program_at self) (this_of (around_of self).method) (statement_of x.now) }
+        requires inside { doings_of inside ≡ doings_in_loop (program_at self) (around_of self).method (statement_of x.now) }
         ensures { result ≡ first_of (single_refusals_at (program_at self.entry) (around_of self.entry) (statement_of x.now)) }
     {
         match x {
@@ -329,19 +328,19 @@ impl<'a> SingleSite<'a> {
                 place,
                 condition,
                 ..
-            } => self.branch(*place, x, condition),
+            } => self.branch(*place, own, condition),
             Stmt::While {
                 place,
                 condition,
                 ..
-            } => self.looping(Rule::S2, *place, x, condition),
+            } => self.looping(Rule::S2, *place, inside, condition),
             Stmt::For {
                 place,
                 condition,
                 update,
                 ..
-            } => self.for_single(*place, x, condition, update),
-            Stmt::Foreach { place, domain, .. } => self.looping(Rule::S3, *place, x, domain),
+            } => self.for_single(*place, inside, condition, update),
+            Stmt::Foreach { place, domain, .. } => self.looping(Rule::S3, *place, inside, domain),
             Stmt::Return(place, value) => self.return_single(*place, value),
             Stmt::Empty
             | Stmt::Step { .. }

@@ -1,6 +1,6 @@
 -- Nobody has to believe this: it mirrors code, and only contracts of private functions speak of it.
 -- What is found of statements.
-use Rattle.std.specs.Prelude.{◌≡◌, List, [], ◌++◌, flat_map}
+use Rattle.std.specs.Prelude.{◌≡◌, Bool, true, false, List, [], ◌++◌, flat_map}
 use Rattle.ti_lang.specs.Program.Statements.{NumberedStm}
 use Rattle.ti_lang.specs.Program.Statements as st
 use Rattle.ti_lang.specs.Program.Classes.{NumberedProgram}
@@ -28,3 +28,13 @@ below p around (st.While at c body) = inside p (in_loop p around st.NoStm body) 
 below p around (st.For at first c update body) = inside_maybe p around first ++ (inside_maybe p around update ++ inside p (in_loop p around update body) body)
 below p around (st.Foreach at number domain body) = inside p (in_foreach p around number domain body) body
 below p around x = []
+
+-- no statement stands in it
+abbrev pub is_simple : NumberedStm → Bool
+is_simple (st.Block body) = false
+is_simple (st.If at c a) = false
+is_simple (st.IfElse at c a b) = false
+is_simple (st.While at c body) = false
+is_simple (st.For at first c update body) = false
+is_simple (st.Foreach at number domain body) = false
+is_simple x = true

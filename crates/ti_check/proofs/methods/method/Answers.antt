@@ -1,14 +1,20 @@
-use Rattle.std.proofs.Common.{◌≡◌, List, [], map, Option, None, ap, ◌∙◌}
+use Rattle.std.proofs.Common.{◌≡◌, false, List, [], map, Option, None, sym, ap, ◌∙◌, subst}
 use Rattle.std.specs.Option.{option_map_or}
 use Rattle.ti_lang.specs.Program.Classes.{NumberedMethod}
-use Rattle.ti_lang.specs.Program.Scope.{ScopeVariable, ScopeContents, contents_of, parameters, method_scope}
+use Rattle.ti_lang.specs.Program.Scope.{ScopeVariable, ScopeContents, contents_of, parameters, method_scope, this_of}
 use Rattle.ti_lang.specs.Program.Statements.{numbered_stms}
 use Rattle.ti_lang.specs.Program.Views.{program_of, statement_of, numbered_method_of}
+use Rattle.ti_lang.specs.Typing.Effects.{doings_of_all}
 use Rattle.ti_rules.specs.Standing.{Around, inside_all, standing_in_method}
 use Rattle.ti_check.specs.declared.found.Found.{Found}
+use Rattle.ti_check.specs.Mirrors.Found.{IsFound}
 use Rattle.ti_check.proofs.Heads.{method_found}
 use Rattle.ti_check.proofs.Walked.{same_found}
 use Rattle.ti_check.proofs.methods.method.Goals as goal
+
+pub effects-requires-clause-body : goal.effects-requires-clause-body
+effects-requires-clause-body c =
+    c.in_ok-body.ensures.doings ∙ ap (λ l. doings_of_all (program_of c.args.p.now.parts) (this_of (numbered_method_of c.args.m.now)) (numbered_stms (map statement_of l))) c.listed_statements.ensures
 
 pub returns : goal.returns
 returns c =
@@ -19,7 +25,8 @@ returns c =
     let variables = (contents_of c.in_ok-scope.scope).variables in
     let nowhere : ScopeContents = record { this_class = None; variables = [] } in
     let is_variables : variables ≡ parameters m.params = ap (λ (s : ScopeContents). s.variables) (c.in_ok-scope.ensures.contents ∙ ap (λ (o : Option NumberedMethod). option_map_or method_scope o nowhere) c.requires.is_method) in
-    method_found p m c.head.result c.end.result c.effects.result c.single_result.result own c.in_ok-body.body c.and.result c.head.ensures c.end.ensures c.sooner.ensures c.effects.ensures c.single_result.ensures c.sooner-2.ensures
-    (same_found p (inside_all p (around variables) (numbered_stms (map statement_of c.listed_statements.result.now))) (standing_in_method p m) c.in_ok-body.body
-    (ap (λ l. inside_all p (around variables) (numbered_stms (map statement_of l))) c.listed_statements.ensures ∙ ap (λ v. inside_all p (around v) (numbered_stms m.body)) is_variables) c.in_ok-body.ensures)
+    method_found p m c.head.result c.end.result c.effects.result c.single_result.result own c.outside.result c.and.result c.head.ensures c.end.ensures c.sooner.ensures c.effects.ensures c.single_result.ensures c.sooner-2.ensures
+    (same_found p (inside_all p (around variables) (numbered_stms (map statement_of c.listed_statements.result.now))) (standing_in_method p m) c.outside.result
+    (ap (λ l. inside_all p (around variables) (numbered_stms (map statement_of l))) c.listed_statements.ensures ∙ ap (λ v. inside_all p (around v) (numbered_stms m.body)) is_variables)
+    (subst (IsFound p (inside_all p (around variables) (numbered_stms (map statement_of c.listed_statements.result.now)))) (sym c.outside.ensures) (c.in_ok-body.ensures.found false)))
     c.and.ensures.types c.and.ensures.single

@@ -1,56 +1,224 @@
-use Rattle.std.proofs.Common.{◌≡◌, List, map, Some, ap, sym, ◌∙◌, arith}
-use Rattle.ti_lang.specs.Program.Scope.{ScopeVariable, contents_of}
+use Rattle.std.proofs.Common.{◌≡◌, Bool, List, [], ◌++◌, map, Some, ap, sym, ◌∙◌, subst, arith}
+use Rattle.ti_lang.specs.Program.Scope.{ScopeVariable, this_of, contents_of}
 use Rattle.ti_lang.specs.Program.Statements.{NumberedStm, numbered_stms}
-use Rattle.ti_lang.specs.Program.Statements as st
 use Rattle.ti_lang.specs.Program.Views.{expression_of, statement_of}
-use Rattle.ti_lang.specs.Typing.Effects.{jump_acts, return_acts}
-use Rattle.ti_rules.specs.Standing.{Around, scope_of, variables_inside, in_foreach, inside_all}
+use Rattle.ti_lang.specs.Typing.Effects.{together, kept_in_loop, doings, doings_of_all, doings_of_maybe}
+use Rattle.ti_rules.specs.Standing.{Around, scope_of, variables_inside, loop_acts, inside, inside_maybe, inside_all}
 use Rattle.ti_lang.proofs.ProgramBridges.{seen_numbered_block}
+use Rattle.ti_single.specs.Doings.{doings_of}
 use Rattle.ti_single.specs.EffectsAt.{doings_in_loop}
+use Rattle.ti_single.specs.Mirrors.Maybe.{maybe_in}
+use Rattle.ti_single.proofs.Together.{doings_step, doings_end}
+use Rattle.ti_check.specs.declared.found.Walked.{Walked}
 use Rattle.ti_check.specs.Mirrors.Found.{below}
-use Rattle.ti_check.specs.Mirrors.Sites.{program_at, around_of}
-use Rattle.ti_check.proofs.Walked.{left_first, left_next, left_last, whole_found, same_found, moved}
+use Rattle.ti_check.specs.Mirrors.Sites.{program_at, around_where, around_of}
+use Rattle.ti_check.specs.Mirrors.Walked.{IsWalked}
+use Rattle.ti_check.proofs.Where.{where_first, where_next, where_last, both_walked, same_walked, moved_walked, moved_doings, nothing_walked, loop_walked, inside_does, alone_walked, alone_does, if_below, if_does, if_no_loop, for_is}
 use Rattle.ti_check.proofs.walk.+walk.Goals as goal
 
 pub statements-loop-x-init : goal.statements-loop-x-init
-statements-loop-x-init t c = left_first _ _ c.nothing-found.result c.nothing-found.ensures.first
+statements-loop-x-init t c =
+    let all = doings_of_all (program_at c.args.site) (this_of (around_of c.args.site).method) (numbered_stms (map statement_of c.args.xs.now)) in (
+      where_first (program_at c.args.site) (around_where c.args.site) c.args.xs.now c.none.result c.doing-found.result c.doing-found.ensures,
+      sym (ap (λ (w : Walked). together (doings_of w.doings) all) c.doing-found.ensures ∙ ap (λ d. together d all) c.none.ensures),
+    )
 
 pub statements-loop-x-preserved : goal.statements-loop-x-preserved
 statements-loop-x-preserved t c =
-    left_next (program_at c.args.site) (around_of c.args.site) c.args.xs.now c.loop-x.x-index c.x-item.result c.loop-x.found c.in_ok-next.next c.and-found.result (omega arith) c.x-item.is c.loop-x.invariant c.in_ok-next.ensures
-    c.and-found.ensures.types c.and-found.ensures.single
+    let p = program_at c.args.site in
+    let found = doings_of c.loop-x.found.doings in (
+      where_next p (around_where c.args.site) c.args.xs.now c.loop-x.x-index c.x-item.result c.loop-x.found c.in_ok-next.next c.and-found.result (omega arith) c.x-item.is c.loop-x.invariant.0 c.in_ok-next.ensures.found
+          c.and-found.ensures.types c.and-found.ensures.single c.and-found.ensures.jumping,
+      doings_step p (this_of (around_of c.args.site).method) c.args.xs.now c.loop-x.x-index c.x-item.result found (doings_of c.and-found.result.doings) _ (omega arith) c.x-item.is c.loop-x.invariant.1
+          (c.and-found.ensures.doings ∙ ap (together found) c.in_ok-next.ensures.doings),
+    )
 
-pub statements-returns : goal.statements-returns
-statements-returns t c = left_last (program_at c.args.site) (around_of c.args.site) c.args.xs.now c.loop-x.x-index c.loop-x.found (omega arith) c.loop-x.invariant
+pub statements-returns-clause-found : goal.statements-returns-clause-found
+statements-returns-clause-found t c = where_last (program_at c.args.site) (around_where c.args.site) c.args.xs.now c.loop-x.x-index c.loop-x.found (omega arith) c.loop-x.invariant.0
 
-pub statement-returns-in_ok-inner-in-Block : goal.statement-returns-in_ok-inner-in-Block
-statement-returns-in_ok-inner-in-Block t c =
+pub statements-returns-clause-doings : goal.statements-returns-clause-doings
+statements-returns-clause-doings t c =
+    doings_end (program_at c.args.site) (this_of (around_of c.args.site).method) c.args.xs.now c.loop-x.x-index (doings_of c.loop-x.found.doings) _ (omega arith) c.loop-x.invariant.1
+
+pub maybe-returns-in-None-clause-found : goal.maybe-returns-in-None-clause-found
+maybe-returns-in-None-clause-found t c =
+    let p = program_at c.args.site in
+    let around = around_where c.args.site in
+    subst (λ o. IsWalked p (λ jump_has. inside_maybe p (around jump_has) (maybe_in o)) c.doing.result) (sym c.in-None.is) (subst (IsWalked p (λ jump_has. [])) (sym c.doing.ensures) (nothing_walked p c.none.result))
+
+-- ---- a block
+
+pub statement-whole-requires-clause-below : goal.statement-whole-requires-clause-below
+statement-whole-requires-clause-below t c =
+    let p = program_at c.args.site in
+    let around = around_where c.args.site in
+    same_walked p (λ jump_has. inside_all p (around jump_has) (numbered_stms (map statement_of c.listed_statements.result.now))) (λ jump_has. below p (around jump_has) (statement_of c.args.x.now)) c.in_ok-below-in-Block.below
+    (ap (λ l jump_has. inside_all p (around jump_has) (numbered_stms (map statement_of l))) c.listed_statements.ensures
+    ∙ sym (ap (λ z jump_has. below p (around jump_has) z) (seen_numbered_block c.args.x.now c.in-Block.body c.in-Block.is)))
+    c.in_ok-below-in-Block.ensures.found
+
+pub statement-whole-requires-clause-own : goal.statement-whole-requires-clause-own
+statement-whole-requires-clause-own t c =
+    let p = program_at c.args.site in
+    let this = this_of (around_of c.args.site).method in
+    c.in_ok-below-in-Block.ensures.doings ∙ ap (λ l. doings_of_all p this (numbered_stms (map statement_of l))) c.listed_statements.ensures
+    ∙ sym (ap (doings p this) (seen_numbered_block c.args.x.now c.in-Block.body c.in-Block.is))
+
+-- ---- an if
+
+pub statement-whole-requires-in-If-clause-below : goal.statement-whole-requires-in-If-clause-below
+statement-whole-requires-in-If-clause-below t c =
+    let p = program_at c.args.site in
+    let around = around_where c.args.site in
+    let then = λ (jump_has : Bool). inside p (around jump_has) (statement_of c.boxed_statement.result.now) in
+    let otherwise = λ (jump_has : Bool). inside_maybe p (around jump_has) (maybe_in c.in-If.otherwise) in
+    same_walked p (λ jump_has. then jump_has ++ otherwise jump_has) (λ jump_has. below p (around jump_has) (statement_of c.args.x.now)) c.and.result
+    (λ j jump_has. (ap (λ z. inside p (around jump_has) (statement_of z) ++ otherwise jump_has) c.boxed_statement.ensures ∙ if_below p (around jump_has) c.in-If.place c.in-If.condition c.in-If.then c.in-If.otherwise
+    ∙ sym (ap (λ z. below p (around jump_has) (statement_of z)) c.in-If.is)) j)
+    (both_walked p then otherwise c.in_ok-then-in-If.then c.in_ok-otherwise-in-If.otherwise c.and.result c.in_ok-then-in-If.ensures.found c.in_ok-otherwise-in-If.ensures.found c.and.ensures.types c.and.ensures.single
+    c.and.ensures.jumping)
+
+pub statement-whole-requires-in-If-clause-own : goal.statement-whole-requires-in-If-clause-own
+statement-whole-requires-in-If-clause-own t c =
+    let p = program_at c.args.site in
+    let this = this_of (around_of c.args.site).method in
+    c.and.ensures.doings
+    ∙ ap (λ d. together d (doings_of c.in_ok-otherwise-in-If.otherwise.doings)) (c.in_ok-then-in-If.ensures.doings ∙ ap (λ z. doings p this (statement_of z)) c.boxed_statement.ensures)
+    ∙ ap (together (doings p this (statement_of c.in-If.then.value))) c.in_ok-otherwise-in-If.ensures.doings
+    ∙ if_does p this c.in-If.place c.in-If.condition c.in-If.then c.in-If.otherwise
+    ∙ sym (ap (λ z. doings p this (statement_of z)) c.in-If.is)
+
+-- ---- a while
+
+pub statement-whole-requires-in-While-clause-below : goal.statement-whole-requires-in-While-clause-below
+statement-whole-requires-in-While-clause-below t c =
     let p = program_at c.args.site in
     let around = around_of c.args.site in
-    let x = statement_of c.args.x.now in
-    whole_found p around x c.own-own.result c.in_ok-inner-in-Block.inner c.and.result c.own-own.ensures
-    (same_found p (inside_all p around (numbered_stms (map statement_of c.listed_statements.result.now))) (below p around x) c.in_ok-inner-in-Block.inner
-    (ap (λ l. inside_all p around (numbered_stms (map statement_of l))) c.listed_statements.ensures ∙ sym (ap (below p around) (seen_numbered_block c.args.x.now c.in-Block.body c.in-Block.is)))
-    c.in_ok-inner-in-Block.ensures)
-    c.and.ensures.types c.and.ensures.single
+    let within : Bool → Around = λ jump_has. record around { jump_has = Some jump_has } in
+    let body = statement_of c.in-While.body.value in
+    let found = moved_walked p (program_at c.in_loop.result) (around_where c.in_loop.result) within (statement_of c.boxed_statement-in-While.result.now) body c.in_ok-body-in-While.body c.in_loop.ensures.program c.in_loop.ensures.around
+    (ap statement_of c.boxed_statement-in-While.ensures) c.in_ok-body-in-While.ensures.found in
+    let does = moved_doings p (program_at c.in_loop.result) (around_where c.in_loop.result) within (statement_of c.boxed_statement-in-While.result.now) body (doings_of c.in_ok-body-in-While.body.doings) c.in_loop.ensures.program
+    c.in_loop.ensures.around (ap statement_of c.boxed_statement-in-While.ensures) c.in_ok-body-in-While.ensures.doings in
+    subst (λ z. IsWalked p (λ jump_has. below p (around_where c.args.site jump_has) (statement_of z)) c.looped-below.result) (sym c.in-While.is)
+    (alone_walked p around.method within body c.none-in-While.result c.doing.result c.in_ok-body-in-While.body c.looped-below.result c.doing.ensures c.none-in-While.ensures found does c.looped-below.ensures.types
+    c.looped-below.ensures.single c.looped-below.ensures.jumping)
 
-pub statement-returns-in_ok-inner-in-Foreach : goal.statement-returns-in_ok-inner-in-Foreach
-statement-returns-in_ok-inner-in-Foreach t c =
+pub statement-whole-requires-in-While-clause-own : goal.statement-whole-requires-in-While-clause-own
+statement-whole-requires-in-While-clause-own t c =
+    let p = program_at c.args.site in
+    let around = around_of c.args.site in
+    let within : Bool → Around = λ jump_has. record around { jump_has = Some jump_has } in
+    let body = statement_of c.in-While.body.value in
+    let does = moved_doings p (program_at c.in_loop.result) (around_where c.in_loop.result) within (statement_of c.boxed_statement-in-While.result.now) body (doings_of c.in_ok-body-in-While.body.doings) c.in_loop.ensures.program
+    c.in_loop.ensures.around (ap statement_of c.boxed_statement-in-While.ensures) c.in_ok-body-in-While.ensures.doings in
+    alone_does p around.method body c.none-in-While.result c.doing.result c.in_ok-body-in-While.body c.looped-below.result c.doing.ensures c.none-in-While.ensures does c.looped-below.ensures.doings
+    ∙ sym (ap (λ z. doings p (this_of around.method) (statement_of z)) c.in-While.is)
+
+pub statement-whole-requires-in-While-clause-inside : goal.statement-whole-requires-in-While-clause-inside
+statement-whole-requires-in-While-clause-inside t c =
+    let p = program_at c.args.site in
+    let around = around_of c.args.site in
+    let within : Bool → Around = λ jump_has. record around { jump_has = Some jump_has } in
+    moved_doings p (program_at c.in_loop.result) (around_where c.in_loop.result) within (statement_of c.boxed_statement-in-While.result.now) (statement_of c.in-While.body.value) (doings_of c.in_ok-body-in-While.body.doings)
+    c.in_loop.ensures.program c.in_loop.ensures.around (ap statement_of c.boxed_statement-in-While.ensures) c.in_ok-body-in-While.ensures.doings
+    ∙ sym (ap (λ z. doings_in_loop p around.method (statement_of z)) c.in-While.is)
+
+-- ---- a for
+
+pub statement-whole-requires-in-For-clause-below : goal.statement-whole-requires-in-For-clause-below
+statement-whole-requires-in-For-clause-below t c =
     let p = program_at c.args.site in
     let around = around_of c.args.site in
     let m = around.method in
-    let x = statement_of c.args.x.now in
-    let domain = expression_of c.in-Foreach.domain in
+    let within : Bool → Around = λ jump_has. record around { jump_has = Some jump_has } in
+    let body = statement_of c.in-For.body.value in
+    let update = maybe_in c.in-For.update in
+    let first = λ (jump_has : Bool). inside_maybe p (around_where c.args.site jump_has) (maybe_in c.in-For.first) in
+    let updates = λ (jump_has : Bool). inside_maybe p (around_where c.args.site jump_has) update in
+    let found = moved_walked p (program_at c.in_loop-in-For.result) (around_where c.in_loop-in-For.result) within (statement_of c.boxed_statement-in-For.result.now) body c.in_ok-body-in-For.body c.in_loop-in-For.ensures.program
+    c.in_loop-in-For.ensures.around (ap statement_of c.boxed_statement-in-For.ensures) c.in_ok-body-in-For.ensures.found in
+    let does = moved_doings p (program_at c.in_loop-in-For.result) (around_where c.in_loop-in-For.result) within (statement_of c.boxed_statement-in-For.result.now) body (doings_of c.in_ok-body-in-For.body.doings)
+    c.in_loop-in-For.ensures.program c.in_loop-in-For.ensures.around (ap statement_of c.boxed_statement-in-For.ensures) c.in_ok-body-in-For.ensures.doings in
+    let others = loop_walked p m within updates update body c.in_ok-update-in-For.update c.in_ok-body-in-For.body c.looped.result c.in_ok-update-in-For.ensures.found c.in_ok-update-in-For.ensures.doings found does
+    c.looped.ensures.types c.looped.ensures.single c.looped.ensures.jumping in
+    same_walked p (λ jump_has. first jump_has ++ (updates jump_has ++ inside p (within (loop_acts p m update body)) body)) (λ jump_has. below p (around_where c.args.site jump_has) (statement_of c.args.x.now)) c.and-below.result
+    (sym (ap (λ z jump_has. below p (around_where c.args.site jump_has) z) (ap statement_of c.in-For.is ∙ for_is c.in-For.place c.in-For.first c.in-For.condition c.in-For.update c.in-For.body)))
+    (both_walked p first (λ jump_has. updates jump_has ++ inside p (within (loop_acts p m update body)) body) c.in_ok-first-in-For.first c.looped.result c.and-below.result c.in_ok-first-in-For.ensures.found others
+    c.and-below.ensures.types c.and-below.ensures.single c.and-below.ensures.jumping)
+
+pub statement-whole-requires-in-For-clause-own : goal.statement-whole-requires-in-For-clause-own
+statement-whole-requires-in-For-clause-own t c =
+    let p = program_at c.args.site in
+    let around = around_of c.args.site in
+    let m = around.method in
+    let within : Bool → Around = λ jump_has. record around { jump_has = Some jump_has } in
+    let body = statement_of c.in-For.body.value in
+    let does = moved_doings p (program_at c.in_loop-in-For.result) (around_where c.in_loop-in-For.result) within (statement_of c.boxed_statement-in-For.result.now) body (doings_of c.in_ok-body-in-For.body.doings)
+    c.in_loop-in-For.ensures.program c.in_loop-in-For.ensures.around (ap statement_of c.boxed_statement-in-For.ensures) c.in_ok-body-in-For.ensures.doings in
+    c.and-below.ensures.doings
+    ∙ ap (λ d. together d (doings_of c.looped.result.doings)) c.in_ok-first-in-For.ensures.doings
+    ∙ ap (together (doings_of_maybe p (this_of m) (maybe_in c.in-For.first)))
+    (c.looped.ensures.doings ∙ ap kept_in_loop (inside_does p m (maybe_in c.in-For.update) body c.in_ok-update-in-For.update c.in_ok-body-in-For.body c.in_ok-update-in-For.ensures.doings does))
+    ∙ sym (ap (doings p (this_of m)) (ap statement_of c.in-For.is ∙ for_is c.in-For.place c.in-For.first c.in-For.condition c.in-For.update c.in-For.body))
+
+pub statement-whole-requires-in-For-clause-inside : goal.statement-whole-requires-in-For-clause-inside
+statement-whole-requires-in-For-clause-inside t c =
+    let p = program_at c.args.site in
+    let around = around_of c.args.site in
+    let m = around.method in
+    let within : Bool → Around = λ jump_has. record around { jump_has = Some jump_has } in
+    let body = statement_of c.in-For.body.value in
+    let does = moved_doings p (program_at c.in_loop-in-For.result) (around_where c.in_loop-in-For.result) within (statement_of c.boxed_statement-in-For.result.now) body (doings_of c.in_ok-body-in-For.body.doings)
+    c.in_loop-in-For.ensures.program c.in_loop-in-For.ensures.around (ap statement_of c.boxed_statement-in-For.ensures) c.in_ok-body-in-For.ensures.doings in
+    c.together.ensures ∙ inside_does p m (maybe_in c.in-For.update) body c.in_ok-update-in-For.update c.in_ok-body-in-For.body c.in_ok-update-in-For.ensures.doings does
+    ∙ sym (ap (doings_in_loop p m) (ap statement_of c.in-For.is ∙ for_is c.in-For.place c.in-For.first c.in-For.condition c.in-For.update c.in-For.body))
+
+-- ---- a foreach
+
+pub statement-whole-requires-in-Foreach-clause-below : goal.statement-whole-requires-in-Foreach-clause-below
+statement-whole-requires-in-Foreach-clause-below t c =
+    let p = program_at c.args.site in
+    let around = around_of c.args.site in
+    let with_these : List ScopeVariable → Bool → Around = λ v jump_has. record { method = around.method; variables = v; jump_has = Some jump_has } in
     let body = statement_of c.in-Foreach.body.value in
-    let form = st.Foreach c.in-Foreach.place c.in-Foreach.variable domain body in
-    let within : List ScopeVariable → NumberedStm → Around = λ v z. record { method = m; variables = v; jump_has = Some (jump_acts (return_acts p m) (doings_in_loop p m z)) } in
-    let variables = (contents_of c.in_ok-scope-in-Foreach.scope).variables in
-    let with_these : Around → Around = λ z. record z { variables = variables } in
-    let is_around : around_of c.with_scope.result ≡ in_foreach p around c.in-Foreach.variable domain body =
-    c.with_scope.ensures.around ∙ ap with_these c.in_loop-inside.ensures.around ∙ ap (λ v. within v x) c.in_ok-scope-in-Foreach.ensures.variables
-    ∙ ap (λ z. within (variables_inside p (scope_of around) c.in-Foreach.variable domain) (statement_of z)) c.in-Foreach.is in
-    let found = moved p (program_at c.with_scope.result) (around_of c.with_scope.result) (in_foreach p around c.in-Foreach.variable domain body) (statement_of c.boxed_statement-in-Foreach.result.now) body c.in_ok-inner-in-Foreach.inner
-    (c.with_scope.ensures.program ∙ c.in_loop-inside.ensures.program) is_around (ap statement_of c.boxed_statement-in-Foreach.ensures) c.in_ok-inner-in-Foreach.ensures in
-    whole_found p around x c.own-own.result c.in_ok-inner-in-Foreach.inner c.and-in-Foreach.result c.own-own.ensures
-    (same_found p (below p around form) (below p around x) c.in_ok-inner-in-Foreach.inner (sym (ap (λ z. below p around (statement_of z)) c.in-Foreach.is)) found)
-    c.and-in-Foreach.ensures.types c.and-in-Foreach.ensures.single
+    let within = with_these (variables_inside p (scope_of around) c.in-Foreach.variable (expression_of c.in-Foreach.domain)) in
+    let with_scope : (Bool → Around) → Bool → Around = λ a jump_has. record (a jump_has) { variables = (contents_of c.in_ok-scope-in-Foreach.scope).variables } in
+    let is_around : around_where c.with_scope.result ≡ within =
+    c.with_scope.ensures.around ∙ ap with_scope c.in_loop-within.ensures.around
+    ∙ ap with_these c.in_ok-scope-in-Foreach.ensures.variables in
+    let is_program = c.with_scope.ensures.program ∙ c.in_loop-within.ensures.program in
+    let found = moved_walked p (program_at c.with_scope.result) (around_where c.with_scope.result) within (statement_of c.boxed_statement-in-Foreach.result.now) body c.in_ok-body-in-Foreach.body is_program is_around
+    (ap statement_of c.boxed_statement-in-Foreach.ensures) c.in_ok-body-in-Foreach.ensures.found in
+    let does = moved_doings p (program_at c.with_scope.result) (around_where c.with_scope.result) within (statement_of c.boxed_statement-in-Foreach.result.now) body (doings_of c.in_ok-body-in-Foreach.body.doings) is_program is_around
+    (ap statement_of c.boxed_statement-in-Foreach.ensures) c.in_ok-body-in-Foreach.ensures.doings in
+    subst (λ z. IsWalked p (λ jump_has. below p (around_where c.args.site jump_has) (statement_of z)) c.looped-below-in-Foreach.result) (sym c.in-Foreach.is)
+    (alone_walked p around.method within body c.none-in-Foreach.result c.doing-in-Foreach.result c.in_ok-body-in-Foreach.body c.looped-below-in-Foreach.result c.doing-in-Foreach.ensures c.none-in-Foreach.ensures found does
+    c.looped-below-in-Foreach.ensures.types c.looped-below-in-Foreach.ensures.single c.looped-below-in-Foreach.ensures.jumping)
+
+pub statement-whole-requires-in-Foreach-clause-own : goal.statement-whole-requires-in-Foreach-clause-own
+statement-whole-requires-in-Foreach-clause-own t c =
+    let p = program_at c.args.site in
+    let around = around_of c.args.site in
+    let with_these : Bool → Around = λ jump_has. record { method = around.method; variables = (contents_of c.in_ok-scope-in-Foreach.scope).variables; jump_has = Some jump_has } in
+    let body = statement_of c.in-Foreach.body.value in
+    let with_scope : (Bool → Around) → Bool → Around = λ a jump_has. record (a jump_has) { variables = (contents_of c.in_ok-scope-in-Foreach.scope).variables } in
+    let is_around : around_where c.with_scope.result ≡ with_these =
+    c.with_scope.ensures.around ∙ ap with_scope c.in_loop-within.ensures.around in
+    let does = moved_doings p (program_at c.with_scope.result) (around_where c.with_scope.result) with_these (statement_of c.boxed_statement-in-Foreach.result.now) body (doings_of c.in_ok-body-in-Foreach.body.doings)
+    (c.with_scope.ensures.program ∙ c.in_loop-within.ensures.program) is_around (ap statement_of c.boxed_statement-in-Foreach.ensures) c.in_ok-body-in-Foreach.ensures.doings in
+    alone_does p around.method body c.none-in-Foreach.result c.doing-in-Foreach.result c.in_ok-body-in-Foreach.body c.looped-below-in-Foreach.result c.doing-in-Foreach.ensures c.none-in-Foreach.ensures does
+    c.looped-below-in-Foreach.ensures.doings
+    ∙ sym (ap (λ z. doings p (this_of around.method) (statement_of z)) c.in-Foreach.is)
+
+pub statement-whole-requires-in-Foreach-clause-inside : goal.statement-whole-requires-in-Foreach-clause-inside
+statement-whole-requires-in-Foreach-clause-inside t c =
+    let p = program_at c.args.site in
+    let around = around_of c.args.site in
+    let with_these : Bool → Around = λ jump_has. record { method = around.method; variables = (contents_of c.in_ok-scope-in-Foreach.scope).variables; jump_has = Some jump_has } in
+    let with_scope : (Bool → Around) → Bool → Around = λ a jump_has. record (a jump_has) { variables = (contents_of c.in_ok-scope-in-Foreach.scope).variables } in
+    let is_around : around_where c.with_scope.result ≡ with_these =
+    c.with_scope.ensures.around ∙ ap with_scope c.in_loop-within.ensures.around in
+    moved_doings p (program_at c.with_scope.result) (around_where c.with_scope.result) with_these (statement_of c.boxed_statement-in-Foreach.result.now) (statement_of c.in-Foreach.body.value)
+    (doings_of c.in_ok-body-in-Foreach.body.doings) (c.with_scope.ensures.program ∙ c.in_loop-within.ensures.program) is_around (ap statement_of c.boxed_statement-in-Foreach.ensures) c.in_ok-body-in-Foreach.ensures.doings
+    ∙ sym (ap (λ z. doings_in_loop p around.method (statement_of z)) c.in-Foreach.is)

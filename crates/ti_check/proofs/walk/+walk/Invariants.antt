@@ -1,6 +1,17 @@
-use Rattle.ti_check.specs.Mirrors.Sites.{program_at, around_of}
-use Rattle.ti_check.proofs.Walked.{LeftOf}
+use Rattle.std.proofs.Common.{◌≡◌, map}
+use Rattle.ti_lang.specs.Program.Scope.{this_of}
+use Rattle.ti_lang.specs.Program.Statements.{numbered_stms}
+use Rattle.ti_lang.specs.Program.Views.{statement_of}
+use Rattle.ti_lang.specs.Typing.Effects.{together, doings_of_all}
+use Rattle.ti_single.specs.Doings.{doings_of}
+use Rattle.ti_single.proofs.Together.{doings_from}
+use Rattle.ti_check.specs.Mirrors.Sites.{program_at, around_where, around_of}
+use Rattle.ti_check.proofs.Where.{LeftWhere}
 use Rattle.ti_check.proofs.walk.+walk.Given as goal
 
 abbrev pub invariant-statements-loop-x : goal.invariant-statements-loop-x
-invariant-statements-loop-x l = LeftOf (program_at l.site) (around_of l.site) l.xs l.found l.x-index
+invariant-statements-loop-x l =
+    let p = program_at l.site in
+    let this = this_of (around_of l.site).method in
+    LeftWhere p (around_where l.site) l.xs l.found l.x-index
+    × (doings_of_all p this (numbered_stms (map statement_of l.xs)) ≡ together (doings_of l.found.doings) (doings_from p this l.xs l.x-index))

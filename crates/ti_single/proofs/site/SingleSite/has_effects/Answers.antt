@@ -1,15 +1,13 @@
-use Rattle.std.proofs.Common.{false, ap, ◌∙◌, unwrap_or}
-use Rattle.ti_lang.specs.Program.Views.{statement_of, numbered_method_of}
-use Rattle.ti_lang.specs.Typing.Effects.{doings, return_acts, has_global_effects}
+use Rattle.std.proofs.Common.{false, ap, ◌∙◌}
+use Rattle.ti_lang.specs.Program.Views.{numbered_method_of}
+use Rattle.ti_lang.specs.Typing.Effects.{return_acts, has_global_effects}
 use Rattle.ti_single.specs.Doings.{doings_of}
 use Rattle.ti_single.specs.Sites.{program_at}
 use Rattle.ti_single.proofs.site.SingleSite.has_effects.Goals as goal
 
 pub returns : goal.returns
 returns c =
-    let p = program_at c.args.self in
-    let m = numbered_method_of c.args.self.method.now in
+    let own = doings_of c.args.own in
     c.has_global_effects.ensures
-    ∙ ap (λ r. has_global_effects r c.or_false-jump_has.result (doings_of c.doings_of_statement-doings.result)) c.args.self.returning
-    ∙ ap (λ j. has_global_effects (return_acts p m) j (doings_of c.doings_of_statement-doings.result)) c.or_false-jump_has.ensures
-    ∙ ap (has_global_effects (return_acts p m) (unwrap_or c.args.self.jump_has false)) (c.doings_of_statement-doings.ensures ∙ ap (λ this. doings p this (statement_of c.args.x.now)) c.this-this.ensures)
+    ∙ ap (λ r. has_global_effects r c.or_false.result own) c.args.self.returning
+    ∙ ap (λ j. has_global_effects (return_acts (program_at c.args.self) (numbered_method_of c.args.self.method.now)) j own) c.or_false.ensures
