@@ -100,13 +100,13 @@ none_some code e = cc
 
 -- there is no code, and none is owed
 no_code : (job : Job) (c : Call) → c.code ≡ None → (c.status ≡ 0 → job.mode ≡ Code → (program : NumberedProgram) → HasProgram c.text program → ⊥) → RunsCode job c
-no_code job c none unowed = record {
+no_code job c gone unowed = record {
   there = λ is mode program has. absurd (unowed is mode program has);
-  is = λ code some. absurd (none_some code (sym none ∙ some));
-  follows = λ code some. absurd (none_some code (sym none ∙ some));
-  only_where = λ code some. absurd (none_some code (sym none ∙ some));
-  none = λ _. none;
-  no_other_mode = λ _. none;
+  is = λ code some. absurd (none_some code (sym gone ∙ some));
+  follows = λ code some. absurd (none_some code (sym gone ∙ some));
+  only_where = λ code some. absurd (none_some code (sym gone ∙ some));
+  none = λ _. gone;
+  no_other_mode = λ _. gone;
 }
 
 -- where nothing was run, no fault is last
@@ -282,13 +282,13 @@ faulted_not_memory : (before : Ending) (fault : Fault) → before ≡ Faulted fa
 faulted_not_memory before fault x y = let e = sym x ∙ y in cc
 
 run_or_check : (mode : Mode) → Runs mode → mode ≡ Check → ⊥
-run_or_check mode runs check = subst Runs check runs
+run_or_check m runs check = subst Runs check runs
 
 run_or_code : (mode : Mode) → Runs mode → mode ≡ Code → ⊥
-run_or_code mode runs code = subst Runs code runs
+run_or_code m runs code = subst Runs code runs
 
-check_or_code : (mode : Mode) → mode ≡ Check → mode ≡ Code → ⊥
-check_or_code mode check code = let e = sym check ∙ code in cc
+pub check_or_code : (mode : Mode) → mode ≡ Check → mode ≡ Code → ⊥
+check_or_code m check code = let e = sym check ∙ code in cc
 
 -- the program was run
 clauses_ran : (before : Ending) (job : Job) (c : Call) → Runs job.mode → IsCommand c job → StatusFrom before c → HasText job c → Ran job (wanted job c.watchers) c.text c.out c.out_after c.history c.code before → Clauses job c
@@ -433,7 +433,7 @@ clauses_checked job c command mode from whole x =
 
 -- the code of the program was written
 clauses_coded : (before : Ending) (job : Job) (c : Call) → IsCommand c job → job.mode ≡ Code → (before ≡ Done) ⊎ (before ≡ CantWrite) → StatusFrom before c → HasText job c → WasCoded c.text c.out c.out_after c.history c.code before → Clauses job c
-clauses_coded before job c command mode known from whole x =
+clauses_coded before job c command mode either from whole x =
     let only = x.compiled.only in
     let unrefused = x.compiled.unrefused in
     let accepted : IsAccepted c.text = (x.program, x.compiled.has) in
@@ -467,7 +467,7 @@ clauses_coded before job c command mode known from whole x =
         not_whole = λ j some cut. absurd (cut (subst (λ j. HasText j c) (job_same c job j command some) whole));
         no_program = λ h. absurd (h x.program x.compiled.has);
         checked = λ j some check. absurd (check_or_code job.mode (subst (λ k. k.mode ≡ Check) (job_same c j job some command) check) mode);
-        uncoded = λ _ _ _ none. absurd (none_some (program_code x.program) (sym none ∙ x.wrote.there));
+        uncoded = λ _ _ _ gone. absurd (none_some (program_code x.program) (sym gone ∙ x.wrote.there));
         failed = λ _ told. alone (λ j q. GrewByFront c.out c.out_after (output j q c.history (wanted j c.watchers))) (subst (λ t. GrewByFront c.out c.out_after t) (sym text_is) (x.wrote.part told));
         no_memory = λ is. absurd (other 6 (λ e. omega arith) (λ e. omega arith) is);
       };
@@ -487,7 +487,7 @@ clauses_coded before job c command mode known from whole x =
     }
   where
     by_end : {P : Type 0} → (before ≡ Done → P) → (before ≡ CantWrite → P) → P
-    by_end f g = elim known [ inl e ↦ f e | inr e ↦ g e ]
+    by_end f g = elim either [ inl e ↦ f e | inr e ↦ g e ]
 
     -- a status that none of the two endings has
     other : (n : ℕ) → (0 ≡ n → ⊥) → (5 ≡ n → ⊥) → c.status ≡ n → ⊥
@@ -498,8 +498,8 @@ clauses_coded before job c command mode known from whole x =
 
     written : (c.status ≡ 0) ⊎ ((c.status ≡ 5) × SinkRose c)
     written = by_end
-        (λ e. elim from [ inl same ↦ inl (same ∙ ap status_of e) | inr cut ↦ inr (cut.0, inr cut.1) ])
-        (λ e. elim from [ inl same ↦ inr (same ∙ ap status_of e, inl (x.wrote.rose e)) | inr cut ↦ inr (cut.0, inr cut.1) ])
+        (λ e. elim from [ inl is ↦ inl (is ∙ ap status_of e) | inr cut ↦ inr (cut.0, inr cut.1) ])
+        (λ e. elim from [ inl is ↦ inr (is ∙ ap status_of e, inl (x.wrote.rose e)) | inr cut ↦ inr (cut.0, inr cut.1) ])
 
     text_is : output job x.program c.history (wanted job c.watchers) ≡ code_text (program_code x.program)
     text_is = ap (λ (m : Mode). output_in m (run_of x.program job) c.history (wanted job c.watchers)) mode

@@ -17,6 +17,7 @@ use Rattle.ti_top.specs.Reports.{wanted, output}
 use Rattle.ti_top.specs.Call.{most_read, Call, IsCommand, IsNoCommand, SinkRose, Yields, WantsReport}
 use Rattle.ti_top.specs.Clauses.{ReadsText, MakesText, GetsText, WritesAll, NothingFailed, IsComplete, Meets}
 use Rattle.ti_top.specs.Agreement.{IsUndisturbed, AskAlike, BothGrew, EndAlike}
+use Rattle.ti_top.proofs.ClausesMet.{check_or_code}
 use Rattle.ti_top.proofs.EmptyText.{no_program}
 use Rattle.ti_top.proofs.OneRun.{one_run}
 
@@ -69,9 +70,6 @@ missing_alike known job c d m n x y four fourth none nought = record {
 }
 
 -- ---- the text is judged
-
-check_or_code : (mode : Mode) → mode ≡ Check → mode ≡ Code → ⊥
-check_or_code mode check code = let e = sym check ∙ code in cc
 
 -- in the other modes there is no code
 uncoded_alike : (job : Job) (c d : Call) → Meets c → Meets d → IsCommand c job → IsCommand d job → (job.mode ≡ Code → ⊥) → c.code ≡ d.code

@@ -62,18 +62,18 @@ coded_text NoMemory p text out after h code compiled none says = record { unwrit
 
 -- the modes that run
 pub run_or_gen : (mode : Mode) → (mode ≡ Run) ⊎ (mode ≡ Gen) → Runs mode
-run_or_gen mode (inl is) = subst Runs (sym is) tt
-run_or_gen mode (inr is) = subst Runs (sym is) tt
+run_or_gen m (inl is) = subst Runs (sym is) tt
+run_or_gen m (inr is) = subst Runs (sym is) tt
 
 -- what was done where a file is named
 pub done_by_file : (mode : Mode) (job : Job) (ending : Ending) (w : Work) → (mode ≡ Run) ⊎ (mode ≡ Check) ⊎ (mode ≡ Code) → FileDone job ending w → WorkSays mode job ending w
-done_by_file mode job ending w (inl is) done = subst (λ (m : Mode). WorkSays m job ending w) (sym is) done
-done_by_file mode job ending w (inr (inl is)) done = subst (λ (m : Mode). WorkSays m job ending w) (sym is) done
-done_by_file mode job ending w (inr (inr is)) done = subst (λ (m : Mode). WorkSays m job ending w) (sym is) done
+done_by_file m job ending w (inl is) done = subst (λ (m : Mode). WorkSays m job ending w) (sym is) done
+done_by_file m job ending w (inr (inl is)) done = subst (λ (m : Mode). WorkSays m job ending w) (sym is) done
+done_by_file m job ending w (inr (inr is)) done = subst (λ (m : Mode). WorkSays m job ending w) (sym is) done
 
 -- and where none is
 pub done_by_seed : (mode : Mode) (job : Job) (ending : Ending) (w : Work) → mode ≡ Gen → SeedDone job ending w → WorkSays mode job ending w
-done_by_seed mode job ending w is done = subst (λ (m : Mode). WorkSays m job ending w) (sym is) done
+done_by_seed m job ending w is done = subst (λ (m : Mode). WorkSays m job ending w) (sym is) done
 
 -- what a run says is said in its mode
 pub run_in_mode : (mode : Mode) (ending : Ending) (job : Job) (ws : List Watcher) (text : List ℕ) (out after : SinkState) (h : List Entry) (code : Option coded.Code) → Runs mode → RunTextSays ending job ws text out after h code → TextSays mode ending job ws text out after h code
