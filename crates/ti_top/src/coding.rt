@@ -24,28 +24,28 @@ pub struct Coded {
 
 // Code, and its text.
 #[derive(Drop)]
-struct Lowered {
+struct Listing {
     code: Code,
     text: Vec<u8>,
 }
 
 // The code of a program, which follows it, and the text of the code.
-fn lowered(alloc: Global, checked: &Checked) -> Result<Lowered, Memory>
+fn listing_of(alloc: Global, checked: &Checked) -> Result<Listing, Memory>
     ensures code { IfOk result (λ l. l.code ≡ program_code (program_of checked.now.program.parts)) }
     ensures follows { IfOk result (λ l. Follows l.code (program_of checked.now.program.parts)) }
     ensures text { IfOk result (λ l. l.text.items ≡ text_spec l.code) }
 {
     let code = lower(alloc, checked)?;
     let text = code_text(alloc, &code)?;
-    Ok(Lowered { code, text })
+    Ok(Listing { code, text })
 }
 
 /// Writes the code of a program, as one piece. Where memory is wanting nothing is written.
 pub fn write_code<K: Sink>(alloc: Global, checked: &Checked, out: &mut K) -> Coded
     ensures { CodeSays result.ending (program_of checked.now.program.parts) (K.state out.old) (K.state out.new) result.code }
 {
-    match lowered(alloc, checked) {
-        Ok(Lowered { code, text }) => match write_text(out, &text) {
+    match listing_of(alloc, checked) {
+        Ok(Listing { code, text }) => match write_text(out, &text) {
             Ok(()) => Coded {
                 ending: Ending::Done,
                 code: Some(code),
