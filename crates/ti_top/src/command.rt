@@ -21,8 +21,8 @@ pub struct Outcome {
     pub status: u8,
     /// What was read, or in mode gen what was made.
     pub text: Vec<u8>,
-    /// The code of the text's program: in mode code there where the status is 0, and else only where out took a part of its text and then
-    /// couldn't be written. In each other mode there is none.
+    /// The code of the text's program: in mode code there where the status is 0, and where its text couldn't be written whole to out. Else
+    /// there is none.
     pub code: Option<Code>,
     /// The entries of the run, in order.
     pub history: Vec<Entry>,
