@@ -1,5 +1,6 @@
 -- From what was done and how the line on err was written to the clauses of the command.
-use Rattle.std.proofs.Common.{◌≡◌, ◌⊎◌, inl, inr, ℕ, ◌≤◌, true, List, [], ◌∷◌, ◌++◌, length, refl, sym, ◌∙◌, ap, subst, arith, append-nil}
+use Rattle.std.proofs.Common.{◌≡◌, ◌⊎◌, inl, inr, ℕ, ◌≤◌, true, List, [], ◌∷◌, ◌++◌, length, Option, None, Some, refl, sym, ◌∙◌, ap, subst, arith, append-nil}
+use Rattle.std.proofs.lemmas.Option.{same_Some}
 use Rattle.ti_base.specs.declared.entry.Entry.{Entry}
 use Rattle.ti_io.specs.Source.{IsMissing, SameFiles}
 use Rattle.ti_io.specs.Sink.{SinkState, GrewBy, GrewByFront}
@@ -7,6 +8,10 @@ use Rattle.ti_lang.specs.Program.Classes.{NumberedProgram}
 use Rattle.ti_lang.specs.Meaning.Processes.{Setting}
 use Rattle.ti_lang.specs.Meaning.Runs.{AllEnded, IsRun, IsSolo, IsComplete as IsCompleteRun, none}
 use Rattle.ti_align.specs.Alignment.{IsAligned}
+use Rattle.ti_code.specs.CodeText.{code_text}
+use Rattle.ti_code.specs.Follows.{Follows}
+use Rattle.ti_code.specs.Programs as coded
+use Rattle.ti_lower.specs.Programs.{program_code}
 use Rattle.ti_rules.specs.declared.refusal.Refusal.{Refusal}
 use Rattle.ti_rules.specs.RefusalOf.{HasProgram}
 use Rattle.ti_top.specs.declared.fault.Fault.{Fault}
@@ -16,16 +21,16 @@ use Rattle.ti_top.specs.declared.ending.Ending.{Ending}
 use Rattle.ti_top.specs.declared.ending.Ending.TheVariants.{Done, Refused, Faulted, NoCommand, CantRead, CantWrite, NoMemory}
 use Rattle.ti_words.specs.declared.job.Job.{Job}
 use Rattle.ti_words.specs.declared.job.Mode.{Mode}
-use Rattle.ti_words.specs.declared.job.Mode.TheVariants.{Run, Check, Gen}
+use Rattle.ti_words.specs.declared.job.Mode.TheVariants.{Run, Check, Code, Gen}
 use Rattle.ti_top.specs.Reports.{wanted, output_in, output, WroteFew}
 use Rattle.ti_top.specs.Mirrors.Reading.{ReadsWhole}
 use Rattle.ti_top.specs.Ending.{status_of}
 use Rattle.ti_top.specs.Summary.{summary}
 use Rattle.ti_top.specs.Mirrors.Ended.{Ended}
 use Rattle.ti_top.specs.Run.{HasFile, Runs, run_of, fault_entry, EndsWithFault}
-use Rattle.ti_top.specs.Mirrors.Work.{RanNothing, Ran, WasRefused, WasChecked, RunTextSays, TextSays, FileSays, FileDone, SeedDone, WorkSays, work_of, DidNothing}
-use Rattle.ti_top.specs.Call.{most_read, Call, IsCommand, IsNoCommand, file_in, file_of, SourceRose, ErrRose, Yields, WantsReport}
-use Rattle.ti_top.specs.Clauses.{IsAccepted, IsReadWhole, IsWholeIn, HasText, ReadsText, MakesText, GetsText, RefusesExactly, KeepsRun, WhereRun, WritesAll, WritesOutput, IsAlignedRun, EndsRun, NothingFailed, IsComplete, MeetsBesideErr, Says, before_err, Meets}
+use Rattle.ti_top.specs.Mirrors.Work.{RanNothing, Ran, WasRefused, WasChecked, WasCoded, RunTextSays, CodeTextSays, TextSays, FileSays, FileDone, SeedDone, WorkSays, work_of, DidNothing}
+use Rattle.ti_top.specs.Call.{most_read, Call, IsCommand, IsNoCommand, file_in, file_of, SourceRose, SinkRose, ErrRose, Yields, WantsReport}
+use Rattle.ti_top.specs.Clauses.{IsAccepted, IsReadWhole, IsWholeIn, HasText, ReadsText, MakesText, GetsText, RefusesExactly, KeepsRun, RunsCode, WhereAccepted, WhereRun, WritesAll, WritesOutput, IsAlignedRun, EndsRun, NothingFailed, IsComplete, MeetsBesideErr, Says, before_err, Meets}
 use Rattle.ti_top.proofs.StatusFrom.{StatusFrom, status_from, not_five, is_done, is_faulted, is_no_memory}
 use Rattle.ti_top.proofs.WordsAnswered.{known, not_both, no_command_answers, command_answers}
 use Rattle.ti_top.proofs.TextRead.{EndsAs, read_whole, reads_text}
@@ -49,19 +54,20 @@ calm before c (inl same) h = same
 calm before c (inr cut) h = absurd (h cut.1)
 
 -- of a run that hasn't begun nothing is written
-nothing_of_unbegun : (mode : Mode) (run : Setting) → (IsCompleteRun run [] → ⊥) → output_in mode run [] [] ≡ []
-nothing_of_unbegun Run run cut = refl
-nothing_of_unbegun Check run cut = refl
-nothing_of_unbegun Gen run cut = append-nil (summary run []) ∙ no_summary run [] (λ ended. cut (inr ended))
+nothing_of_unbegun : (mode : Mode) (run : Setting) → Runs mode → (IsCompleteRun run [] → ⊥) → output_in mode run [] [] ≡ []
+nothing_of_unbegun Run run runs cut = refl
+nothing_of_unbegun Check run runs cut = absurd runs
+nothing_of_unbegun Code run runs cut = absurd runs
+nothing_of_unbegun Gen run runs cut = append-nil (summary run []) ∙ no_summary run [] (λ ended. cut (inr ended))
 
--- where nothing was run, nothing was written: the text isn't one that is to be run, the status owes no report, and an empty history isn't complete
-output_nothing : (c : Call) → (c.status ≡ 0 → WhereRun c (λ job program. ⊥)) → (c.status ≡ 2 → WhereRun c (λ job program. ⊥)) → (c.status ≡ 6 → WhereRun c (λ job program. IsCompleteRun (run_of program job) [] → ⊥)) → RanNothing c.out c.out_after c.history → WritesOutput c
-output_nothing c not_done not_faulted not_complete x =
+-- where nothing was written, the status owes nothing, and an empty history isn't complete
+output_nothing : (c : Call) → (c.status ≡ 0 → WhereAccepted c (λ job program. output job program c.history (wanted job c.watchers) ≡ [])) → (c.status ≡ 2 → WhereAccepted c (λ job program. ⊥)) → (c.status ≡ 6 → WhereRun c (λ job program. IsCompleteRun (run_of program job) [] → ⊥)) → RanNothing c.out c.out_after c.history c.code → WritesOutput c
+output_nothing c done_of_none not_faulted not_complete x =
     let same : c.out_after.taken ≡ c.out.taken = ap (λ s. s.taken) x.unwritten in
     let grew_none : c.out_after.taken ≡ c.out.taken ++ [] = same ∙ sym (append-nil c.out.taken) in
     record {
-      done = λ is _ job command mode program has. absurd (not_done is job command mode program has);
-      faulted = λ is _ job command mode program has. absurd (not_faulted is job command mode program has);
+      done = λ is _ job command program has. grew_none ∙ ap (λ t. c.out.taken ++ t) (sym (done_of_none is job command program has));
+      faulted = λ is _ job command program has. absurd (not_faulted is job command program has);
       nothing_at_one = λ _. same;
       nothing_at_three = λ _. same;
       nothing_at_four = λ _. same;
@@ -69,28 +75,43 @@ output_nothing c not_done not_faulted not_complete x =
       not_whole = λ _ _ _. same;
       no_program = λ _. same;
       checked = λ _ _ _. same;
-      failed = λ _ _ job _ _ program _. ([], (output job program c.history (wanted job c.watchers), refl), grew_none);
+      uncoded = λ _ _ _ _. same;
+      failed = λ _ _ job _ program _. ([], (output job program c.history (wanted job c.watchers), refl), grew_none);
       no_memory = λ is _ job command mode program has. record {
         few = [];
         others = wanted job c.watchers;
         first = refl;
-        grew = grew_none ∙ ap (λ t. c.out.taken ++ t) (sym (ap (λ h. output job program h []) x.no_entry ∙ nothing_of_unbegun job.mode (run_of program job) (not_complete is job command mode program has)));
+        grew = grew_none ∙ ap (λ t. c.out.taken ++ t) (sym (ap (λ h. output job program h []) x.no_entry ∙ nothing_of_unbegun job.mode (run_of program job) mode (not_complete is job command mode program has)));
         none_of_cut = λ _. refl;
         not_all = λ complete. absurd (not_complete is job command mode program has (subst (λ h. IsCompleteRun (run_of program job) h) x.no_entry complete));
       };
     }
 
-run_nothing : (job : Job) (c : Call) → RanNothing c.out c.out_after c.history → KeepsRun job c
-run_nothing job c x = record {
-  run = λ program _. subst (IsRun (run_of program job)) (sym x.no_entry) none;
-  solo = λ program _. subst (IsSolo (run_of program job)) (sym x.no_entry) none;
-  none = λ _. x.no_entry;
-  checked = λ _. x.no_entry;
+run_nothing : (job : Job) (c : Call) → c.history ≡ [] → KeepsRun job c
+run_nothing job c no_entry = record {
+  run = λ program _. subst (IsRun (run_of program job)) (sym no_entry) none;
+  solo = λ program _. subst (IsSolo (run_of program job)) (sym no_entry) none;
+  none = λ _. no_entry;
+  unrun = λ _. no_entry;
+}
+
+none_some : (code : coded.Code) → ◌≡◌ {A = Option coded.Code} None (Some code) → ⊥
+none_some code e = cc
+
+-- there is no code, and none is owed
+no_code : (job : Job) (c : Call) → c.code ≡ None → (c.status ≡ 0 → job.mode ≡ Code → (program : NumberedProgram) → HasProgram c.text program → ⊥) → RunsCode job c
+no_code job c gone unowed = record {
+  there = λ is mode program has. absurd (unowed is mode program has);
+  is = λ code some. absurd (none_some code (sym gone ∙ some));
+  follows = λ code some. absurd (none_some code (sym gone ∙ some));
+  only_where = λ code some. absurd (none_some code (sym gone ∙ some));
+  none = λ _. gone;
+  no_other_mode = λ _. gone;
 }
 
 -- where nothing was run, no fault is last
-no_fault_of_nothing : (c : Call) (fault : Fault) → RanNothing c.out c.out_after c.history → EndsWithFault c.history fault → ⊥
-no_fault_of_nothing c fault x e = short e.before (fault_entry fault) (sym x.no_entry ∙ e.last)
+no_fault_of_nothing : (c : Call) (fault : Fault) → c.history ≡ [] → EndsWithFault c.history fault → ⊥
+no_fault_of_nothing c fault no_entry e = short e.before (fault_entry fault) (sym no_entry ∙ e.last)
   where
     short : (before : List Entry) (e : Entry) → [] ≡ before ++ e ∷ [] → ⊥
     short [] e h = cc
@@ -99,10 +120,11 @@ no_fault_of_nothing c fault x e = short e.before (fault_entry fault) (sym x.no_e
 -- the words are no command
 beside_no_command : (c : Call) → IsNoCommand c → DidNothing c → StatusFrom NoCommand c → MeetsBesideErr c
 beside_no_command c no_job x from = record {
-  words = no_command_answers c no_job x.source x.text x.nothing.no_entry from;
+  words = no_command_answers c no_job x.source x.text x.nothing.no_code x.nothing.no_entry from;
   text = λ job some. absurd (not_both c job some no_job);
   refusal = λ job some. absurd (not_both c job some no_job);
   run = λ job some. absurd (not_both c job some no_job);
+  code = λ job some. absurd (not_both c job some no_job);
   output = output_nothing c (λ _ job some. absurd (not_both c job some no_job)) (λ _ job some. absurd (not_both c job some no_job)) (λ _ job some. absurd (not_both c job some no_job)) x.nothing;
   alignment = record {
     done = λ is. absurd (never NoCommand c 0 from (λ e. omega arith) (λ e. omega arith) is);
@@ -122,6 +144,7 @@ meets_no_command c no_job x told = let ended = subst (λ file. Ended NoCommand f
 pub record Clauses (job : Job) (c : Call) : Type 0 where
   pub refusal : RefusesExactly job c
   pub run : KeepsRun job c
+  pub code : RunsCode job c
   pub output : WritesOutput c
   pub alignment : IsAlignedRun c
   pub end : EndsRun job c
@@ -136,18 +159,20 @@ not_no_command Read.CantRead before fits is = let x = sym fits ∙ is in cc
 not_no_command Read.NoMemory before fits is = let x = sym fits ∙ is in cc
 
 -- the text is refused
-clauses_refused : (refusal : Refusal) (job : Job) (c : Call) → StatusFrom (Refused refusal) c → HasText job c → WasRefused c.text c.out c.out_after c.history refusal → Clauses job c
+clauses_refused : (refusal : Refusal) (job : Job) (c : Call) → StatusFrom (Refused refusal) c → HasText job c → WasRefused c.text c.out c.out_after c.history c.code refusal → Clauses job c
 clauses_refused refusal job c from whole refused = let x = refused.nothing in record {
   refusal = record {
     only_where = λ _. (refusal, record { whole = whole; refused = refused.is });
     everywhere = λ _ _. yields (Refused refusal) c from (λ same. inl same) (λ y. inr (inl y));
+    no_code = λ _ _. x.no_code;
     no_history = λ _ _. x.no_entry;
     no_output = λ _ _. ap (λ s. s.taken) x.unwritten;
     accepted_at_zero = λ is. absurd (never (Refused refusal) c 0 from (λ e. omega arith) (λ e. omega arith) is);
     accepted_at_two = λ is. absurd (never (Refused refusal) c 2 from (λ e. omega arith) (λ e. omega arith) is);
   };
-  run = run_nothing job c x;
-  output = output_nothing c (λ _ _ _ _ program has. refused.no_program program has) (λ _ _ _ _ program has. refused.no_program program has) (λ _ _ _ _ program has. absurd (refused.no_program program has)) x;
+  run = run_nothing job c x.no_entry;
+  code = no_code job c x.no_code (λ _ _ program has. refused.no_program program has);
+  output = output_nothing c (λ _ _ _ program has. absurd (refused.no_program program has)) (λ _ _ _ program has. refused.no_program program has) (λ _ _ _ _ program has. absurd (refused.no_program program has)) x;
   alignment = record {
     done = λ _ program has. absurd (refused.no_program program has);
     faulted = λ _ program has. absurd (refused.no_program program has);
@@ -155,7 +180,7 @@ clauses_refused refusal job c from whole refused = let x = refused.nothing in re
   end = record {
     ended = λ _ _ program has. absurd (refused.no_program program has);
     fault_only_where = λ is. absurd (never (Refused refusal) c 2 from (λ e. omega arith) (λ e. omega arith) is);
-    fault_everywhere = λ fault e. absurd (no_fault_of_nothing c fault x e);
+    fault_everywhere = λ fault e. absurd (no_fault_of_nothing c fault x.no_entry e);
     unfinished = λ _ program has. absurd (refused.no_program program has);
   };
   completeness = λ nothing. record {
@@ -170,22 +195,25 @@ clauses_refused refusal job c from whole refused = let x = refused.nothing in re
 was_read : (mode : Mode) (job : Job) (c : Call) → HasFile mode → IsWholeIn mode job c → IsReadWhole job c
 was_read Run job c named whole = whole
 was_read Check job c named whole = whole
+was_read Code job c named whole = whole
 was_read Gen job c named whole = absurd named
 
 -- the file can't be read
-clauses_cant_read : (job : Job) (c : Call) → HasFile job.mode → StatusFrom CantRead c → IsMissing c.source job.file ⊎ SourceRose c → RanNothing c.out c.out_after c.history → Clauses job c
+clauses_cant_read : (job : Job) (c : Call) → HasFile job.mode → StatusFrom CantRead c → IsMissing c.source job.file ⊎ SourceRose c → RanNothing c.out c.out_after c.history c.code → Clauses job c
 clauses_cant_read job c named from cause x = record {
   refusal = record {
     only_where = λ is. absurd (never CantRead c 1 from (λ e. omega arith) (λ e. omega arith) is);
     everywhere = λ refusal refused. yields CantRead c from
         (λ same. elim cause [ inl missing ↦ absurd ((was_read job.mode job c named refused.whole).there missing) | inr rose ↦ inr (inr (same, rose)) ])
         (λ y. inr (inl y));
+    no_code = λ _ _. x.no_code;
     no_history = λ _ _. x.no_entry;
     no_output = λ _ _. ap (λ s. s.taken) x.unwritten;
     accepted_at_zero = λ is. absurd (never CantRead c 0 from (λ e. omega arith) (λ e. omega arith) is);
     accepted_at_two = λ is. absurd (never CantRead c 2 from (λ e. omega arith) (λ e. omega arith) is);
   };
-  run = run_nothing job c x;
+  run = run_nothing job c x.no_entry;
+  code = no_code job c x.no_code (λ is. absurd (never CantRead c 0 from (λ e. omega arith) (λ e. omega arith) is));
   output = output_nothing c (λ is. absurd (never CantRead c 0 from (λ e. omega arith) (λ e. omega arith) is)) (λ is. absurd (never CantRead c 2 from (λ e. omega arith) (λ e. omega arith) is)) (λ is. absurd (never CantRead c 6 from (λ e. omega arith) (λ e. omega arith) is)) x;
   alignment = record {
     done = λ is. absurd (never CantRead c 0 from (λ e. omega arith) (λ e. omega arith) is);
@@ -194,24 +222,26 @@ clauses_cant_read job c named from cause x = record {
   end = record {
     ended = λ is. absurd (never CantRead c 0 from (λ e. omega arith) (λ e. omega arith) is);
     fault_only_where = λ is. absurd (never CantRead c 2 from (λ e. omega arith) (λ e. omega arith) is);
-    fault_everywhere = λ fault e. absurd (no_fault_of_nothing c fault x e);
+    fault_everywhere = λ fault e. absurd (no_fault_of_nothing c fault x.no_entry e);
     unfinished = λ is. absurd (never CantRead c 6 from (λ e. omega arith) (λ e. omega arith) is);
   };
   completeness = λ nothing. elim cause [ inl missing ↦ absurd (nothing.there named missing) | inr rose ↦ absurd (nothing.source rose) ];
 }
 
 -- out of memory before the run
-clauses_no_memory : (job : Job) (c : Call) → IsCommand c job → ((other : Job) → IsCommand c other → 1 ≤ other.procs) → StatusFrom NoMemory c → RanNothing c.out c.out_after c.history → Clauses job c
+clauses_no_memory : (job : Job) (c : Call) → IsCommand c job → ((other : Job) → IsCommand c other → 1 ≤ other.procs) → StatusFrom NoMemory c → RanNothing c.out c.out_after c.history c.code → Clauses job c
 clauses_no_memory job c command some from x = record {
   refusal = record {
     only_where = λ is. absurd (never NoMemory c 1 from (λ e. omega arith) (λ e. omega arith) is);
     everywhere = λ _ _. yields NoMemory c from (λ same. inr (inl (inl same))) (λ y. inr (inl y));
+    no_code = λ _ _. x.no_code;
     no_history = λ _ _. x.no_entry;
     no_output = λ _ _. ap (λ s. s.taken) x.unwritten;
     accepted_at_zero = λ is. absurd (never NoMemory c 0 from (λ e. omega arith) (λ e. omega arith) is);
     accepted_at_two = λ is. absurd (never NoMemory c 2 from (λ e. omega arith) (λ e. omega arith) is);
   };
-  run = run_nothing job c x;
+  run = run_nothing job c x.no_entry;
+  code = no_code job c x.no_code (λ is. absurd (never NoMemory c 0 from (λ e. omega arith) (λ e. omega arith) is));
   output = output_nothing c (λ is. absurd (never NoMemory c 0 from (λ e. omega arith) (λ e. omega arith) is)) (λ is. absurd (never NoMemory c 2 from (λ e. omega arith) (λ e. omega arith) is)) (λ _ other is _ program _. unbegun (run_of program other) (some other is)) x;
   alignment = record {
     done = λ is. absurd (never NoMemory c 0 from (λ e. omega arith) (λ e. omega arith) is);
@@ -220,7 +250,7 @@ clauses_no_memory job c command some from x = record {
   end = record {
     ended = λ is. absurd (never NoMemory c 0 from (λ e. omega arith) (λ e. omega arith) is);
     fault_only_where = λ is. absurd (never NoMemory c 2 from (λ e. omega arith) (λ e. omega arith) is);
-    fault_everywhere = λ fault e. absurd (no_fault_of_nothing c fault x e);
+    fault_everywhere = λ fault e. absurd (no_fault_of_nothing c fault x.no_entry e);
     unfinished = λ _ program _ complete. absurd (unbegun (run_of program job) (some job command) (subst (λ h. IsCompleteRun (run_of program job) h) x.no_entry complete));
   };
   completeness = λ nothing. absurd (nothing.memory (calm NoMemory c from nothing.err));
@@ -252,10 +282,16 @@ faulted_not_memory : (before : Ending) (fault : Fault) → before ≡ Faulted fa
 faulted_not_memory before fault x y = let e = sym x ∙ y in cc
 
 run_or_check : (mode : Mode) → Runs mode → mode ≡ Check → ⊥
-run_or_check mode runs check = subst Runs check runs
+run_or_check m runs check = subst Runs check runs
+
+run_or_code : (mode : Mode) → Runs mode → mode ≡ Code → ⊥
+run_or_code m runs code = subst Runs code runs
+
+pub check_or_code : (mode : Mode) → mode ≡ Check → mode ≡ Code → ⊥
+check_or_code m check code = let e = sym check ∙ code in cc
 
 -- the program was run
-clauses_ran : (before : Ending) (job : Job) (c : Call) → Runs job.mode → IsCommand c job → StatusFrom before c → HasText job c → Ran job (wanted job c.watchers) c.text c.out c.out_after c.history before → Clauses job c
+clauses_ran : (before : Ending) (job : Job) (c : Call) → Runs job.mode → IsCommand c job → StatusFrom before c → HasText job c → Ran job (wanted job c.watchers) c.text c.out c.out_after c.history c.code before → Clauses job c
 clauses_ran before job c mode command from whole x =
     let says = x.says in
     let only = x.compiled.only in
@@ -265,6 +301,7 @@ clauses_ran before job c mode command from whole x =
       refusal = record {
         only_where = λ is. absurd (other 1 (λ e. omega arith) (λ e. omega arith) (λ e. omega arith) (λ e. omega arith) is);
         everywhere = λ refusal refused. absurd (unrefused refusal refused.refused);
+        no_code = λ refusal refused. absurd (unrefused refusal refused);
         no_history = λ refusal refused. absurd (unrefused refusal refused);
         no_output = λ refusal refused. absurd (unrefused refusal refused);
         accepted_at_zero = λ _. accepted;
@@ -274,8 +311,9 @@ clauses_ran before job c mode command from whole x =
         run = λ p has. subst (λ q. IsRun (run_of q job) c.history) (sym (only p has)) says.run;
         solo = λ p has. subst (λ q. IsSolo (run_of q job) c.history) (sym (only p has)) says.solo;
         none = λ h. absurd (h x.program x.compiled.has);
-        checked = λ check. absurd (run_or_check job.mode mode check);
+        unrun = λ unrun. absurd (unrun mode);
       };
+      code = no_code job c x.no_code (λ _ code _ _. run_or_code job.mode mode code);
       output = record {
         done = λ is told. all (done_not_cut before (done_at before c from is)) (done_not_memory before (done_at before c from is)) told;
         faulted = λ is told. let f = faulted_at before c from is in all (faulted_not_cut before f.0 f.1) (faulted_not_memory before f.0 f.1) told;
@@ -286,8 +324,9 @@ clauses_ran before job c mode command from whole x =
         not_whole = λ j some cut. absurd (cut (subst (λ j. HasText j c) (job_same c job j command some) whole));
         no_program = λ h. absurd (h x.program x.compiled.has);
         checked = λ j some check. absurd (run_or_check job.mode mode (subst (λ k. k.mode ≡ Check) (job_same c j job some command) check));
-        failed = λ _ told. run_alone (λ j q. GrewByFront c.out c.out_after (output j q c.history (wanted j c.watchers))) (says.part told);
-        no_memory = λ is told. run_alone (λ j q. WroteFew j.mode (run_of q j) (wanted j c.watchers) c.history c.out c.out_after) (says.few (no_memory_at before c from is) told);
+        uncoded = λ j some code _. absurd (run_or_code job.mode mode (subst (λ k. k.mode ≡ Code) (job_same c j job some command) code));
+        failed = λ _ told. alone (λ j q. GrewByFront c.out c.out_after (output j q c.history (wanted j c.watchers))) (says.part told);
+        no_memory = λ is told j some _. alone (λ j q. WroteFew j.mode (run_of q j) (wanted j c.watchers) c.history c.out c.out_after) (says.few (no_memory_at before c from is) told) j some;
       };
       alignment = record {
         done = λ _ p has. subst IsAligned (sym (only p has)) x.compiled.aligned;
@@ -348,16 +387,16 @@ clauses_ran before job c mode command from whole x =
     other n a b d e is = never before c n from (λ s. by_end (λ k. a (sym (ap status_of k) ∙ s)) (λ k. b (sym (ap status_of k.1) ∙ s)) (λ k. d (sym (ap status_of k) ∙ s)) (λ k. e (sym (ap status_of k) ∙ s))) e is
 
     -- what holds of this job and this program holds of each that the call has
-    run_alone : (P : Job → NumberedProgram → Type 0) → P job x.program → WhereRun c P
-    run_alone P it j some _ p has = subst (λ k. P k p) (job_same c job j command some) (subst (P job) (sym (x.compiled.only p has)) it)
+    alone : (P : Job → NumberedProgram → Type 0) → P job x.program → WhereAccepted c P
+    alone P it j some p has = subst (λ k. P k p) (job_same c job j command some) (subst (P job) (sym (x.compiled.only p has)) it)
 
     all : (before ≡ CantWrite → ⊥) → (before ≡ NoMemory → ⊥) → c.out.tells ≡ true → WritesAll c
-    all whole there told = run_alone (λ j q. GrewBy c.out c.out_after (output j q c.history (wanted j c.watchers))) (x.says.all whole there told)
+    all whole there told = alone (λ j q. GrewBy c.out c.out_after (output j q c.history (wanted j c.watchers))) (x.says.all whole there told)
 
 -- the text was checked, and has a program
-clauses_checked : (job : Job) (c : Call) → IsCommand c job → job.mode ≡ Check → StatusFrom Done c → HasText job c → WasChecked c.text c.out c.out_after c.history → Clauses job c
+clauses_checked : (job : Job) (c : Call) → IsCommand c job → job.mode ≡ Check → StatusFrom Done c → HasText job c → WasChecked c.text c.out c.out_after c.history c.code → Clauses job c
 clauses_checked job c command mode from whole x =
-    let unrun : (other : Job) → IsCommand c other → Runs other.mode → ⊥ = λ other is runs. run_or_check job.mode (subst (λ (k : Job). Runs k.mode) (job_same c other job is command) runs) mode in
+    let checks : (other : Job) → IsCommand c other → other.mode ≡ Check = λ other is. subst (λ (k : Job). k.mode ≡ Check) (job_same c job other command is) mode in
     let unrefused = x.compiled.unrefused in
     let accepted : IsAccepted c.text = (x.program, x.compiled.has) in
     let aligned : (p : NumberedProgram) → HasProgram c.text p → IsAligned p = λ p has. subst IsAligned (sym (x.compiled.only p has)) x.compiled.aligned in
@@ -365,18 +404,23 @@ clauses_checked job c command mode from whole x =
       refusal = record {
         only_where = λ is. absurd (never Done c 1 from (λ e. omega arith) (λ e. omega arith) is);
         everywhere = λ refusal refused. absurd (unrefused refusal refused.refused);
+        no_code = λ _ _. x.nothing.no_code;
         no_history = λ _ _. x.nothing.no_entry;
         no_output = λ _ _. ap (λ s. s.taken) x.nothing.unwritten;
         accepted_at_zero = λ _. accepted;
         accepted_at_two = λ _. accepted;
       };
-      run = run_nothing job c x.nothing;
-      output = output_nothing c (λ _ other is run _ _. unrun other is run) (λ _ other is run _ _. unrun other is run) (λ _ other is run _ _. absurd (unrun other is run)) x.nothing;
+      run = run_nothing job c x.nothing.no_entry;
+      code = no_code job c x.nothing.no_code (λ _ code _ _. check_or_code job.mode mode code);
+      output = output_nothing c
+          (λ _ other is program _. ap (λ (m : Mode). output_in m (run_of program other) c.history (wanted other c.watchers)) (checks other is))
+          (λ is. absurd (never Done c 2 from (λ e. omega arith) (λ e. omega arith) is))
+          (λ is. absurd (never Done c 6 from (λ e. omega arith) (λ e. omega arith) is)) x.nothing;
       alignment = record { done = λ _. aligned; faulted = λ _. aligned };
       end = record {
         ended = λ _ run. absurd (run_or_check job.mode run mode);
         fault_only_where = λ is. absurd (never Done c 2 from (λ e. omega arith) (λ e. omega arith) is);
-        fault_everywhere = λ fault e. absurd (no_fault_of_nothing c fault x.nothing e);
+        fault_everywhere = λ fault e. absurd (no_fault_of_nothing c fault x.nothing.no_entry e);
         unfinished = λ is. absurd (never Done c 6 from (λ e. omega arith) (λ e. omega arith) is);
       };
       completeness = λ nothing. record {
@@ -387,6 +431,83 @@ clauses_checked job c command mode from whole x =
       };
     }
 
+-- the code of the program was written
+clauses_coded : (before : Ending) (job : Job) (c : Call) → IsCommand c job → job.mode ≡ Code → (before ≡ Done) ⊎ (before ≡ CantWrite) → StatusFrom before c → HasText job c → WasCoded c.text c.out c.out_after c.history c.code before → Clauses job c
+clauses_coded before job c command mode either from whole x =
+    let only = x.compiled.only in
+    let unrefused = x.compiled.unrefused in
+    let accepted : IsAccepted c.text = (x.program, x.compiled.has) in
+    let aligned : (p : NumberedProgram) → HasProgram c.text p → IsAligned p = λ p has. subst IsAligned (sym (only p has)) x.compiled.aligned in
+    record {
+      refusal = record {
+        only_where = λ is. absurd (other 1 (λ e. omega arith) (λ e. omega arith) is);
+        everywhere = λ refusal refused. absurd (unrefused refusal refused.refused);
+        no_code = λ refusal refused. absurd (unrefused refusal refused);
+        no_history = λ refusal refused. absurd (unrefused refusal refused);
+        no_output = λ refusal refused. absurd (unrefused refusal refused);
+        accepted_at_zero = λ _. accepted;
+        accepted_at_two = λ _. accepted;
+      };
+      run = run_nothing job c x.no_entry;
+      code = record {
+        there = λ _ _ p has. x.wrote.there ∙ ap (λ (q : NumberedProgram). Some (program_code q)) (sym (only p has));
+        is = λ code some p has. sym (same code some) ∙ ap program_code (sym (only p has));
+        follows = λ code some p has. subst (λ (k : coded.Code). Follows k p) (same code some) (subst (λ (q : NumberedProgram). Follows (program_code x.program) q) (sym (only p has)) x.wrote.follows);
+        only_where = λ _ _. written;
+        none = λ h. absurd (h x.program x.compiled.has);
+        no_other_mode = λ h. absurd (h mode);
+      };
+      output = record {
+        done = λ is told. alone (λ j q. GrewBy c.out c.out_after (output j q c.history (wanted j c.watchers))) (subst (λ t. GrewBy c.out c.out_after t) (sym text_is) (x.wrote.all (done_at before c from is) told));
+        faulted = λ is. absurd (other 2 (λ e. omega arith) (λ e. omega arith) is);
+        nothing_at_one = λ is. absurd (other 1 (λ e. omega arith) (λ e. omega arith) is);
+        nothing_at_three = λ is. absurd (other 3 (λ e. omega arith) (λ e. omega arith) is);
+        nothing_at_four = λ is. absurd (other 4 (λ e. omega arith) (λ e. omega arith) is);
+        no_command = λ none. absurd (not_both c job command none);
+        not_whole = λ j some cut. absurd (cut (subst (λ j. HasText j c) (job_same c job j command some) whole));
+        no_program = λ h. absurd (h x.program x.compiled.has);
+        checked = λ j some check. absurd (check_or_code job.mode (subst (λ k. k.mode ≡ Check) (job_same c j job some command) check) mode);
+        uncoded = λ _ _ _ gone. absurd (none_some (program_code x.program) (sym gone ∙ x.wrote.there));
+        failed = λ _ told. alone (λ j q. GrewByFront c.out c.out_after (output j q c.history (wanted j c.watchers))) (subst (λ t. GrewByFront c.out c.out_after t) (sym text_is) (x.wrote.part told));
+        no_memory = λ is. absurd (other 6 (λ e. omega arith) (λ e. omega arith) is);
+      };
+      alignment = record { done = λ _. aligned; faulted = λ _. aligned };
+      end = record {
+        ended = λ _ run. absurd (run_or_code job.mode run mode);
+        fault_only_where = λ is. absurd (other 2 (λ e. omega arith) (λ e. omega arith) is);
+        fault_everywhere = λ fault e. absurd (no_fault_of_nothing c fault x.no_entry e);
+        unfinished = λ is. absurd (other 6 (λ e. omega arith) (λ e. omega arith) is);
+      };
+      completeness = λ nothing. record {
+        refused = λ refusal is. absurd (unrefused refusal is);
+        accepted = λ _. inl (by_end (λ e. calm before c from nothing.err ∙ ap status_of e) (λ e. absurd (nothing.out (x.wrote.rose e))));
+        program = λ _. accepted;
+        ended = λ run. absurd (run_or_code job.mode run mode);
+      };
+    }
+  where
+    by_end : {P : Type 0} → (before ≡ Done → P) → (before ≡ CantWrite → P) → P
+    by_end f g = elim either [ inl e ↦ f e | inr e ↦ g e ]
+
+    -- a status that none of the two endings has
+    other : (n : ℕ) → (0 ≡ n → ⊥) → (5 ≡ n → ⊥) → c.status ≡ n → ⊥
+    other n a b is = never before c n from (λ s. by_end (λ k. a (sym (ap status_of k) ∙ s)) (λ k. b (sym (ap status_of k) ∙ s))) b is
+
+    same : (code : coded.Code) → c.code ≡ Some code → program_code x.program ≡ code
+    same code some = same_Some (program_code x.program) code (sym x.wrote.there ∙ some)
+
+    written : (c.status ≡ 0) ⊎ ((c.status ≡ 5) × SinkRose c)
+    written = by_end
+        (λ e. elim from [ inl is ↦ inl (is ∙ ap status_of e) | inr cut ↦ inr (cut.0, inr cut.1) ])
+        (λ e. elim from [ inl is ↦ inr (is ∙ ap status_of e, inl (x.wrote.rose e)) | inr cut ↦ inr (cut.0, inr cut.1) ])
+
+    text_is : output job x.program c.history (wanted job c.watchers) ≡ code_text (program_code x.program)
+    text_is = ap (λ (m : Mode). output_in m (run_of x.program job) c.history (wanted job c.watchers)) mode
+
+    -- what holds of this job and this program holds of each that the call has
+    alone : (P : Job → NumberedProgram → Type 0) → P job x.program → WhereAccepted c P
+    alone P it j some p has = subst (λ k. P k p) (job_same c job j command some) (subst (P job) (sym (x.compiled.only p has)) it)
+
 -- ---- a call whose words are a command
 
 -- what was done in it
@@ -395,7 +516,7 @@ record Commanded (before : Ending) (job : Job) (c : Call) : Type 0 where
   pub some : 1 ≤ job.procs
   pub work : WorkSays job.mode job before (work_of job c)
 
-ends_run : (before : Ending) (job : Job) (c : Call) → RunTextSays before job (wanted job c.watchers) c.text c.out c.out_after c.history → EndsAs Read.Whole before
+ends_run : (before : Ending) (job : Job) (c : Call) → RunTextSays before job (wanted job c.watchers) c.text c.out c.out_after c.history c.code → EndsAs Read.Whole before
 ends_run Done job c says = (λ e. let x = e in cc, λ e. let x = e in cc)
 ends_run (Refused refusal) job c says = (λ e. let x = e in cc, λ e. let x = e in cc)
 ends_run (Faulted fault) job c says = (λ e. let x = e in cc, λ e. let x = e in cc)
@@ -404,9 +525,19 @@ ends_run CantRead job c says = absurd says
 ends_run CantWrite job c says = (λ e. let x = e in cc, λ e. let x = e in cc)
 ends_run NoMemory job c says = (λ e. let x = e in cc, λ e. let x = e in cc)
 
-ends_text : (mode : Mode) (before : Ending) (job : Job) (c : Call) → TextSays mode before job (wanted job c.watchers) c.text c.out c.out_after c.history → EndsAs Read.Whole before
+ends_code : (before : Ending) (c : Call) → CodeTextSays before c.text c.out c.out_after c.history c.code → EndsAs Read.Whole before
+ends_code Done c says = (λ e. let x = e in cc, λ e. let x = e in cc)
+ends_code (Refused refusal) c says = (λ e. let x = e in cc, λ e. let x = e in cc)
+ends_code (Faulted fault) c says = absurd says
+ends_code NoCommand c says = absurd says
+ends_code CantRead c says = absurd says
+ends_code CantWrite c says = (λ e. let x = e in cc, λ e. let x = e in cc)
+ends_code NoMemory c says = (λ e. let x = e in cc, λ e. let x = e in cc)
+
+ends_text : (mode : Mode) (before : Ending) (job : Job) (c : Call) → TextSays mode before job (wanted job c.watchers) c.text c.out c.out_after c.history c.code → EndsAs Read.Whole before
 ends_text Run before job c says = ends_run before job c says
 ends_text Gen before job c says = ends_run before job c says
+ends_text Code before job c says = ends_code before c says
 ends_text Check Done job c says = (λ e. let x = e in cc, λ e. let x = e in cc)
 ends_text Check (Refused refusal) job c says = (λ e. let x = e in cc, λ e. let x = e in cc)
 ends_text Check (Faulted fault) job c says = absurd says
@@ -436,15 +567,15 @@ record ToldOf (before : Ending) (job : Job) (c : Call) : Type 0 where
 each_has : (job : Job) (c : Call) → IsCommand c job → 1 ≤ job.procs → (other : Job) → IsCommand c other → 1 ≤ other.procs
 each_has job c command some other is = subst (λ (j : Job). 1 ≤ j.procs) (job_same c job other command is) some
 
-told_refused : (refusal : Refusal) (job : Job) (c : Call) → IsCommand c job → StatusFrom (Refused refusal) c → HasText job c → WasRefused c.text c.out c.out_after c.history refusal → ToldOf (Refused refusal) job c
+told_refused : (refusal : Refusal) (job : Job) (c : Call) → IsCommand c job → StatusFrom (Refused refusal) c → HasText job c → WasRefused c.text c.out c.out_after c.history c.code refusal → ToldOf (Refused refusal) job c
 told_refused refusal job c command from whole refused = record { clauses = clauses_refused refusal job c from whole refused; says = (job, command, record { whole = whole; refused = refused.is }) }
 
-told_unrun : (job : Job) (c : Call) → IsCommand c job → 1 ≤ job.procs → RanNothing c.out c.out_after c.history → StatusFrom NoMemory c → ToldOf NoMemory job c
+told_unrun : (job : Job) (c : Call) → IsCommand c job → 1 ≤ job.procs → RanNothing c.out c.out_after c.history c.code → StatusFrom NoMemory c → ToldOf NoMemory job c
 told_unrun job c command some nothing from = record { clauses = clauses_no_memory job c command (each_has job c command some) from nothing; says = tt }
 
 -- the text was to be run
 told_run : (before : Ending) (job : Job) (c : Call) → Runs job.mode → IsCommand c job → 1 ≤ job.procs → HasText job c
-    → RunTextSays before job (wanted job c.watchers) c.text c.out c.out_after c.history → StatusFrom before c → ToldOf before job c
+    → RunTextSays before job (wanted job c.watchers) c.text c.out c.out_after c.history c.code → StatusFrom before c → ToldOf before job c
 told_run Done job c runs command some whole says from =
     record { clauses = clauses_ran Done job c runs command from whole says; says = (job, command, (says.program, says.compiled.has)) }
 told_run (Refused refusal) job c runs command some whole says from = told_refused refusal job c command from whole says
@@ -456,7 +587,7 @@ told_run NoMemory job c runs command some whole says from =
     elim says [ inl nothing ↦ told_unrun job c command some nothing from | inr ran ↦ record { clauses = clauses_ran NoMemory job c runs command from whole ran; says = tt } ]
 
 told_text : (mode : Mode) (before : Ending) (job : Job) (c : Call) → job.mode ≡ mode → IsCommand c job → 1 ≤ job.procs → HasText job c
-    → TextSays mode before job (wanted job c.watchers) c.text c.out c.out_after c.history → StatusFrom before c → ToldOf before job c
+    → TextSays mode before job (wanted job c.watchers) c.text c.out c.out_after c.history c.code → StatusFrom before c → ToldOf before job c
 told_text Run before job c mode command some whole says from = told_run before job c (subst Runs (sym mode) tt) command some whole says from
 told_text Gen before job c mode command some whole says from = told_run before job c (subst Runs (sym mode) tt) command some whole says from
 told_text Check Done job c mode command some whole says from =
@@ -467,11 +598,21 @@ told_text Check NoCommand job c mode command some whole says from = absurd says
 told_text Check CantRead job c mode command some whole says from = absurd says
 told_text Check CantWrite job c mode command some whole says from = absurd says
 told_text Check NoMemory job c mode command some whole says from = told_unrun job c command some says from
+told_text Code Done job c mode command some whole says from =
+    record { clauses = clauses_coded Done job c command mode (inl refl) from whole says; says = (job, command, (says.program, says.compiled.has)) }
+told_text Code (Refused refusal) job c mode command some whole says from = told_refused refusal job c command from whole says
+told_text Code (Faulted fault) job c mode command some whole says from = absurd says
+told_text Code NoCommand job c mode command some whole says from = absurd says
+told_text Code CantRead job c mode command some whole says from = absurd says
+told_text Code CantWrite job c mode command some whole says from =
+    record { clauses = clauses_coded CantWrite job c command mode (inr refl) from whole says; says = (job, command, says.wrote.rose refl) }
+told_text Code NoMemory job c mode command some whole says from = told_unrun job c command some says from
 
 -- where a file is named, a text that was read whole is whole
 whole_read : (mode : Mode) (job : Job) (c : Call) → HasFile mode → IsReadWhole job c → IsWholeIn mode job c
 whole_read Run job c named whole = whole
 whole_read Check job c named whole = whole
+whole_read Code job c named whole = whole
 whole_read Gen job c named whole = absurd named
 
 told_file : (before : Ending) (end : ReadEnd) (job : Job) (c : Call) → HasFile job.mode → IsCommand c job → 1 ≤ job.procs → ReadsWhole job.file c.source c.source_after c.text end → FileSays end before job (work_of job c) → StatusFrom before c → ToldOf before job c
@@ -488,6 +629,7 @@ told_file before Read.NoMemory job c named command some read says from =
 gets_read : (mode : Mode) (job : Job) (c : Call) → HasFile mode → ReadsText job c → GetsText mode job c
 gets_read Run job c named reads = reads
 gets_read Check job c named reads = reads
+gets_read Code job c named reads = reads
 gets_read Gen job c named reads = absurd named
 
 told_read : (before : Ending) (job : Job) (c : Call) → HasFile job.mode → IsCommand c job → 1 ≤ job.procs → FileDone job before (work_of job c) → StatusFrom before c → Told before job c
@@ -525,6 +667,7 @@ told_made before job c gen command some work from = elim work.says [
 told_in : (mode : Mode) (before : Ending) (job : Job) (c : Call) → job.mode ≡ mode → IsCommand c job → 1 ≤ job.procs → WorkSays mode job before (work_of job c) → StatusFrom before c → Told before job c
 told_in Run before job c mode command some work from = told_read before job c (subst HasFile (sym mode) tt) command some work from
 told_in Check before job c mode command some work from = told_read before job c (subst HasFile (sym mode) tt) command some work from
+told_in Code before job c mode command some work from = told_read before job c (subst HasFile (sym mode) tt) command some work from
 told_in Gen before job c mode command some work from = told_made before job c mode command some work from
 
 told : (before : Ending) (job : Job) (c : Call) → Commanded before job c → StatusFrom before c → Told before job c
@@ -539,6 +682,7 @@ beside_command before job c x from =
       text = λ other some. subst (λ (j : Job). GetsText j.mode j c) (job_same c job other x.command some) t.text;
       refusal = λ other some. subst (λ j. RefusesExactly j c) (job_same c job other x.command some) k.refusal;
       run = λ other some. subst (λ j. KeepsRun j c) (job_same c job other x.command some) k.run;
+      code = λ other some. subst (λ j. RunsCode j c) (job_same c job other x.command some) k.code;
       output = k.output;
       alignment = k.alignment;
       end = λ other some. subst (λ j. EndsRun j c) (job_same c job other x.command some) k.end;
@@ -579,6 +723,7 @@ makes_nothing job c x from = makes_text NoMemory job c x.source (inr (x.text, re
 gets_nothing : (mode : Mode) (job : Job) (c : Call) → DidNothing c → StatusFrom NoMemory c → GetsText mode job c
 gets_nothing Run job c x from = reads_nothing job c x from
 gets_nothing Check job c x from = reads_nothing job c x from
+gets_nothing Code job c x from = reads_nothing job c x from
 gets_nothing Gen job c x from = makes_nothing job c x from
 
 -- it answers as one whose words are a command, and as one whose words are none
@@ -590,11 +735,13 @@ beside_unread c some x from = record {
     everywhere = λ _. yields NoMemory c from (λ same. inr (inl same)) inr;
     source_as_before = λ _. x.source;
     no_text = λ _. x.text;
+    no_code = λ _. x.nothing.no_code;
     no_history = λ _. x.nothing.no_entry;
   };
   text = λ job _. gets_nothing job.mode job c x from;
   refusal = λ job command. (clauses_no_memory job c command some from x.nothing).refusal;
   run = λ job command. (clauses_no_memory job c command some from x.nothing).run;
+  code = λ job command. (clauses_no_memory job c command some from x.nothing).code;
   output = output_nothing c (λ is. absurd (never NoMemory c 0 from (λ e. omega arith) (λ e. omega arith) is)) (λ is. absurd (never NoMemory c 2 from (λ e. omega arith) (λ e. omega arith) is)) (λ _ other is _ program _. unbegun (run_of program other) (some other is)) x.nothing;
   alignment = record {
     done = λ is. absurd (never NoMemory c 0 from (λ e. omega arith) (λ e. omega arith) is);

@@ -9,7 +9,7 @@ use Rattle.ti_rules.specs.declared.refusal.Refusal.{Refusal}
 use Rattle.ti_rules.specs.RefusalOf.{HasProgram, IsRefusal}
 use Rattle.ti_words.specs.declared.job.Job.{Job}
 use Rattle.ti_words.specs.declared.job.Mode.{Mode}
-use Rattle.ti_words.specs.declared.job.Mode.TheVariants.{Run, Check, Gen}
+use Rattle.ti_words.specs.declared.job.Mode.TheVariants.{Run, Check, Code, Gen}
 use Rattle.ti_words.specs.Job.{job_of}
 use Rattle.ti_top.specs.declared.fault.Fault.{Fault}
 use Rattle.ti_top.specs.Run.{HasFile, Runs, run_of, EndsWithFault}
@@ -17,6 +17,7 @@ use Rattle.ti_top.specs.Reports.{wanted, output}
 use Rattle.ti_top.specs.Call.{most_read, Call, IsCommand, IsNoCommand, SinkRose, Yields, WantsReport}
 use Rattle.ti_top.specs.Clauses.{ReadsText, MakesText, GetsText, WritesAll, NothingFailed, IsComplete, Meets}
 use Rattle.ti_top.specs.Agreement.{IsUndisturbed, AskAlike, BothGrew, EndAlike}
+use Rattle.ti_top.proofs.ClausesMet.{check_or_code}
 use Rattle.ti_top.proofs.EmptyText.{no_program}
 use Rattle.ti_top.proofs.OneRun.{one_run}
 
@@ -47,27 +48,32 @@ no_command : (c d : Call) → Meets c → Meets d → IsUndisturbed c → IsUndi
 no_command c d m n u v x y = record {
   status = or_not (no_yield c u) (m.beside_err.words.everywhere x) ∙ sym (or_not (no_yield d v) (n.beside_err.words.everywhere y));
   text = m.beside_err.words.no_text x ∙ sym (n.beside_err.words.no_text y);
+  code = m.beside_err.words.no_code x ∙ sym (n.beside_err.words.no_code y);
   history = m.beside_err.words.no_history x ∙ sym (n.beside_err.words.no_history y);
   output = λ watchers told heard. nothing_grew c d (m.beside_err.output.no_command x) (n.beside_err.output.no_command y);
 }
 
 -- ---- the text is missing
 
--- nothing is run of it
-nothing_run : OneAnswer → (job : Job) (c : Call) → Meets c → IsCommand c job → c.text ≡ [] → c.history ≡ []
-nothing_run known job c m x none =
-    (m.beside_err.run job x).none (λ program has. no_program known.one_list program (subst (λ text. HasProgram text program) none has))
+-- it has no program
+nothing_has : OneAnswer → (c : Call) → c.text ≡ [] → (program : NumberedProgram) → HasProgram c.text program → ⊥
+nothing_has known c none program has = no_program known.one_list program (subst (λ text. HasProgram text program) none has)
 
 missing_alike : OneAnswer → (job : Job) (c d : Call) → Meets c → Meets d → IsCommand c job → IsCommand d job
     → (c.status ≡ 4) → (d.status ≡ 4) → c.text ≡ [] → d.text ≡ [] → EndAlike c d
 missing_alike known job c d m n x y four fourth none nought = record {
   status = four ∙ sym fourth;
   text = none ∙ sym nought;
-  history = nothing_run known job c m x none ∙ sym (nothing_run known job d n y nought);
+  code = (m.beside_err.code job x).none (nothing_has known c none) ∙ sym ((n.beside_err.code job y).none (nothing_has known d nought));
+  history = (m.beside_err.run job x).none (nothing_has known c none) ∙ sym ((n.beside_err.run job y).none (nothing_has known d nought));
   output = λ watchers told heard. nothing_grew c d (m.beside_err.output.nothing_at_four four) (n.beside_err.output.nothing_at_four fourth);
 }
 
 -- ---- the text is judged
+
+-- in the other modes there is no code
+uncoded_alike : (job : Job) (c d : Call) → Meets c → Meets d → IsCommand c job → IsCommand d job → (job.mode ≡ Code → ⊥) → c.code ≡ d.code
+uncoded_alike job c d m n x y other = (m.beside_err.code job x).no_other_mode other ∙ sym ((n.beside_err.code job y).no_other_mode other)
 
 -- a call on a text that is there ends with status 0, 1 or 2
 abbrev Ends : Call → Type 0
@@ -90,23 +96,52 @@ refused_alike job c d m n x y whole all same refusal is =
     record {
       status = one ∙ sym first;
       text = same;
+      code = (m.beside_err.refusal job x).no_code refusal is ∙ sym ((n.beside_err.refusal job y).no_code refusal is_too);
       history = (m.beside_err.refusal job x).no_history refusal is ∙ sym ((n.beside_err.refusal job y).no_history refusal is_too);
       output = λ watchers told heard. nothing_grew c d (m.beside_err.output.nothing_at_one one) (n.beside_err.output.nothing_at_one first);
     }
 
--- a text with a program is only checked
-checked_alike : (job : Job) (c d : Call) → Meets c → Meets d → IsCommand c job → IsCommand d job → c.text ≡ d.text
-    → (c.status ≡ 0) ⊎ (c.status ≡ 2) → (d.status ≡ 0) ⊎ (d.status ≡ 2) → job.mode ≡ Check → EndAlike c d
-checked_alike job c d m n x y same a b mode = record {
+-- what two calls with the same history write of a program
+wrote_alike : (job : Job) (c d : Call) → IsCommand c job → IsCommand d job → WritesAll c → WritesAll d → c.text ≡ d.text → c.history ≡ d.history → c.watchers ≡ d.watchers
+    → (program : NumberedProgram) → HasProgram c.text program → (text : List ℕ) × BothGrew c d text
+wrote_alike job c d x y wrote written same one watchers program has = (
+  output job program c.history (wanted job c.watchers),
+  (
+    wrote job x program has,
+    subst (λ es. GrewBy d.out d.out_after (output job program es (wanted job c.watchers))) (sym one)
+        (subst (λ ws. GrewBy d.out d.out_after (output job program d.history (wanted job ws))) (sym watchers)
+        (written job y program (subst (λ text. HasProgram text program) same has))),
+  ),
+)
+
+-- a text with a program is only checked, or its code is written
+unrun_alike : (job : Job) (c d : Call) → Meets c → Meets d → IsCommand c job → IsCommand d job → c.text ≡ d.text
+    → (c.status ≡ 0) ⊎ (c.status ≡ 2) → (d.status ≡ 0) ⊎ (d.status ≡ 2) → (job.mode ≡ Check) ⊎ (job.mode ≡ Code)
+    → (program : NumberedProgram) → HasProgram c.text program → EndAlike c d
+unrun_alike job c d m n x y same a b mode program has = record {
   status = done c m x a ∙ sym (done d n y b);
   text = same;
-  history = (m.beside_err.run job x).checked mode ∙ sym ((n.beside_err.run job y).checked mode);
-  output = λ watchers told heard. nothing_grew c d (m.beside_err.output.checked job x mode) (n.beside_err.output.checked job y mode);
+  code = codes mode;
+  history = histories;
+  output = λ watchers told heard.
+      wrote_alike job c d x y (m.beside_err.output.done (done c m x a) told) (n.beside_err.output.done (done d n y b) heard) same histories watchers program has;
 }
   where
+    unrun : Runs job.mode → ⊥
+    unrun runs = elim mode [ inl is ↦ subst Runs is runs | inr is ↦ subst Runs is runs ]
+
     done : (e : Call) → Meets e → IsCommand e job → (e.status ≡ 0) ⊎ (e.status ≡ 2) → e.status ≡ 0
     done e k z (inl none) = none
-    done e k z (inr two) = absurd (subst Runs mode ((k.beside_err.end job z).fault_only_where two).0)
+    done e k z (inr two) = absurd (unrun ((k.beside_err.end job z).fault_only_where two).0)
+
+    histories : c.history ≡ d.history
+    histories = (m.beside_err.run job x).unrun unrun ∙ sym ((n.beside_err.run job y).unrun unrun)
+
+    codes : (job.mode ≡ Check) ⊎ (job.mode ≡ Code) → c.code ≡ d.code
+    codes (inl is) = uncoded_alike job c d m n x y (λ code. check_or_code job.mode is code)
+    codes (inr is) =
+        (m.beside_err.code job x).there (done c m x a) is program has
+        ∙ sym ((n.beside_err.code job y).there (done d n y b) is program (subst (λ text. HasProgram text program) same has))
 
 -- a text with a program is run
 run_alike : OneAnswer → (job : Job) (c d : Call) → Meets c → Meets d → IsUndisturbed c → IsUndisturbed d → IsCommand c job → IsCommand d job → IsComplete job c → IsComplete job d
@@ -115,15 +150,9 @@ run_alike : OneAnswer → (job : Job) (c d : Call) → Meets c → Meets d → I
 run_alike known job c d m n u v x y whole all same a b runs program has = record {
   status = statuses a b;
   text = same;
+  code = uncoded_alike job c d m n x y (λ code. subst Runs code runs);
   history = one;
-  output = λ watchers told heard. (
-    output job program c.history (wanted job c.watchers),
-    (
-      grew c m a told job x runs program has,
-      subst (λ es. GrewBy d.out d.out_after (output job program es (wanted job c.watchers))) (sym one)
-          (subst (λ ws. GrewBy d.out d.out_after (output job program d.history (wanted job ws))) (sym watchers) (grew d n b heard job y runs program has_too)),
-    ),
-  );
+  output = λ watchers told heard. wrote_alike job c d x y (grew c m a told) (grew d n b heard) same one watchers program has;
 }
   where
     has_too : HasProgram d.text program
@@ -164,7 +193,8 @@ judged_alike known job c d m n u v x y whole all same = by (known.some c.text)
   where
     by_mode : (mode : Mode) → job.mode ≡ mode → (c.status ≡ 0) ⊎ (c.status ≡ 2) → (d.status ≡ 0) ⊎ (d.status ≡ 2) → (program : NumberedProgram) → HasProgram c.text program → EndAlike c d
     by_mode Run e a b program has = run_alike known job c d m n u v x y whole all same a b (subst Runs (sym e) tt) program has
-    by_mode Check e a b program has = checked_alike job c d m n x y same a b e
+    by_mode Check e a b program has = unrun_alike job c d m n x y same a b (inl e) program has
+    by_mode Code e a b program has = unrun_alike job c d m n x y same a b (inr e) program has
     by_mode Gen e a b program has = run_alike known job c d m n u v x y whole all same a b (subst Runs (sym e) tt) program has
 
     by : ((program : NumberedProgram) × HasProgram c.text program) ⊎ ((refusal : Refusal) × IsRefusal c.text refusal) → EndAlike c d
@@ -226,6 +256,7 @@ ended_alike known c d m n ask u v = by (job_of c.words) refl
     by_mode : (job : Job) (mode : Mode) → job.mode ≡ mode → IsCommand c job → IsCommand d job → GetsText mode job c → GetsText mode job d → EndAlike c d
     by_mode job Run e x y a b = read_alike known job c d m n ask u v x y a b
     by_mode job Check e x y a b = read_alike known job c d m n ask u v x y a b
+    by_mode job Code e x y a b = read_alike known job c d m n ask u v x y a b
     by_mode job Gen e x y a b = made_alike known job c d m n u v x y e a b
 
     by : (o : Option Job) → job_of c.words ≡ o → EndAlike c d

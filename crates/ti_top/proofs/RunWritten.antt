@@ -10,7 +10,7 @@ use Rattle.ti_lang.specs.Meaning.Histories.{has_fault}
 use Rattle.ti_lang.specs.Meaning.Runs.{IsComplete, IsRun, IsSolo, AllEnded}
 use Rattle.ti_words.specs.declared.job.Job.{Job}
 use Rattle.ti_words.specs.declared.job.Mode.{Mode}
-use Rattle.ti_words.specs.declared.job.Mode.TheVariants.{Run, Check, Gen}
+use Rattle.ti_words.specs.declared.job.Mode.TheVariants.{Run, Check, Code, Gen}
 use Rattle.ti_top.specs.declared.fault.Fault.{Fault}
 use Rattle.ti_top.specs.declared.reports.ReportEnd.{ReportEnd}
 use Rattle.ti_top.specs.declared.reports.ReportEnd.TheVariants as Report
@@ -149,6 +149,7 @@ run_known ended ending s h ends (inr other) = inr (inr other)
 output_is : (mode : Mode) (ended : Ending) (s : Setting) (h : List Entry) (ws : List Watcher) → Runs mode → IsRun s h → RunEnds s h ended → output_in mode s h ws ≡ head_after mode ended s.program h ++ reports ws h
 output_is Run ended s h ws runs run ends = refl
 output_is Check ended s h ws runs run ends = absurd runs
+output_is Code ended s h ws runs run ends = absurd runs
 output_is Gen ended s h ws runs run ends = ap (λ t. t ++ reports ws h) (summary_is ended s h run ends)
 
 -- the run of a program, and what was written of it

@@ -1,20 +1,22 @@
 -- From what was done with a program to what became of its text.
-use Rattle.std.proofs.Common.{◌≡◌, ◌⊎◌, inl, inr, ℕ, List, sym, subst}
+use Rattle.std.proofs.Common.{◌≡◌, ◌⊎◌, inl, inr, ℕ, List, [], Option, None, sym, subst}
 use Rattle.ti_base.specs.declared.entry.Entry.{Entry}
 use Rattle.ti_io.specs.Sink.{SinkState}
 use Rattle.ti_lang.specs.Program.Classes.{NumberedProgram}
+use Rattle.ti_code.specs.Programs as coded
 use Rattle.ti_rules.specs.declared.refusal.Refusal.{Refusal}
 use Rattle.ti_rules.specs.RefusalOf.{IsRefusal}
 use Rattle.ti_words.specs.declared.job.Job.{Job}
 use Rattle.ti_words.specs.declared.job.Mode.{Mode}
-use Rattle.ti_words.specs.declared.job.Mode.TheVariants.{Run, Check, Gen}
+use Rattle.ti_words.specs.declared.job.Mode.TheVariants.{Run, Check, Code, Gen}
 use Rattle.ti_top.specs.declared.fault.Fault.{Fault}
 use Rattle.ti_top.specs.declared.ending.Ending.{Ending}
 use Rattle.ti_top.specs.declared.ending.Ending.TheVariants.{Done, Refused, Faulted, NoCommand, CantRead, CantWrite, NoMemory}
 use Rattle.ti_top.specs.Run.{Runs}
 use Rattle.ti_top.specs.Reports.{Watcher}
+use Rattle.ti_top.specs.Mirrors.Coding.{CodeSays}
 use Rattle.ti_top.specs.Mirrors.Compiling.{IsCompiled, HasNoProgram}
-use Rattle.ti_top.specs.Mirrors.Work.{RanNothing, RunSays, WasChecked, RunTextSays, TextSays, Work, FileDone, SeedDone, WorkSays}
+use Rattle.ti_top.specs.Mirrors.Work.{RanNothing, RunSays, WasChecked, RunTextSays, CodeTextSays, TextSays, Work, FileDone, SeedDone, WorkSays}
 
 -- the endings of a run
 abbrev IsOfRun : Ending → Type 0
@@ -39,47 +41,61 @@ not_cant_read (inr (inr (inl e))) = let x = e in cc
 not_cant_read (inr (inr (inr e))) = let x = e in cc
 
 -- the program of the text was run
-pub ran_text : (ending : Ending) (p : NumberedProgram) (job : Job) (ws : List Watcher) (text : List ℕ) (out after : SinkState) (h : List Entry) → IsCompiled text p → RunSays p job ws out after h ending → RunTextSays ending job ws text out after h
-ran_text Done p job ws text out after h compiled says = record { program = p; compiled = compiled; says = says }
-ran_text (Refused refusal) p job ws text out after h compiled says = absurd (not_refused refusal says.known)
-ran_text (Faulted fault) p job ws text out after h compiled says = record { program = p; compiled = compiled; says = says }
-ran_text NoCommand p job ws text out after h compiled says = absurd (not_no_command says.known)
-ran_text CantRead p job ws text out after h compiled says = absurd (not_cant_read says.known)
-ran_text CantWrite p job ws text out after h compiled says = record { program = p; compiled = compiled; says = says }
-ran_text NoMemory p job ws text out after h compiled says = inr (record { program = p; compiled = compiled; says = says })
+pub ran_text : (ending : Ending) (p : NumberedProgram) (job : Job) (ws : List Watcher) (text : List ℕ) (out after : SinkState) (h : List Entry) (code : Option coded.Code) → IsCompiled text p → code ≡ None → RunSays p job ws out after h ending → RunTextSays ending job ws text out after h code
+ran_text Done p job ws text out after h code compiled none says = record { program = p; compiled = compiled; says = says; no_code = none }
+ran_text (Refused refusal) p job ws text out after h code compiled none says = absurd (not_refused refusal says.known)
+ran_text (Faulted fault) p job ws text out after h code compiled none says = record { program = p; compiled = compiled; says = says; no_code = none }
+ran_text NoCommand p job ws text out after h code compiled none says = absurd (not_no_command says.known)
+ran_text CantRead p job ws text out after h code compiled none says = absurd (not_cant_read says.known)
+ran_text CantWrite p job ws text out after h code compiled none says = record { program = p; compiled = compiled; says = says; no_code = none }
+ran_text NoMemory p job ws text out after h code compiled none says = inr (record { program = p; compiled = compiled; says = says; no_code = none })
+
+-- the code of the text's program was written
+pub coded_text : (ending : Ending) (p : NumberedProgram) (text : List ℕ) (out after : SinkState) (h : List Entry) (code : Option coded.Code) → IsCompiled text p → h ≡ [] → CodeSays ending p out after code → CodeTextSays ending text out after h code
+coded_text Done p text out after h code compiled none says = record { program = p; compiled = compiled; wrote = says; no_entry = none }
+coded_text (Refused refusal) p text out after h code compiled none says = absurd says
+coded_text (Faulted fault) p text out after h code compiled none says = absurd says
+coded_text NoCommand p text out after h code compiled none says = absurd says
+coded_text CantRead p text out after h code compiled none says = absurd says
+coded_text CantWrite p text out after h code compiled none says = record { program = p; compiled = compiled; wrote = says; no_entry = none }
+coded_text NoMemory p text out after h code compiled none says = record { unwritten = says.0; no_entry = none; no_code = says.1 }
 
 -- the modes that run
 pub run_or_gen : (mode : Mode) → (mode ≡ Run) ⊎ (mode ≡ Gen) → Runs mode
-run_or_gen mode (inl is) = subst Runs (sym is) tt
-run_or_gen mode (inr is) = subst Runs (sym is) tt
+run_or_gen m (inl is) = subst Runs (sym is) tt
+run_or_gen m (inr is) = subst Runs (sym is) tt
 
 -- what was done where a file is named
-pub done_by_file : (mode : Mode) (job : Job) (ending : Ending) (w : Work) → (mode ≡ Run) ⊎ (mode ≡ Check) → FileDone job ending w → WorkSays mode job ending w
-done_by_file mode job ending w (inl is) done = subst (λ (m : Mode). WorkSays m job ending w) (sym is) done
-done_by_file mode job ending w (inr is) done = subst (λ (m : Mode). WorkSays m job ending w) (sym is) done
+pub done_by_file : (mode : Mode) (job : Job) (ending : Ending) (w : Work) → (mode ≡ Run) ⊎ (mode ≡ Check) ⊎ (mode ≡ Code) → FileDone job ending w → WorkSays mode job ending w
+done_by_file m job ending w (inl is) done = subst (λ (m : Mode). WorkSays m job ending w) (sym is) done
+done_by_file m job ending w (inr (inl is)) done = subst (λ (m : Mode). WorkSays m job ending w) (sym is) done
+done_by_file m job ending w (inr (inr is)) done = subst (λ (m : Mode). WorkSays m job ending w) (sym is) done
 
 -- and where none is
 pub done_by_seed : (mode : Mode) (job : Job) (ending : Ending) (w : Work) → mode ≡ Gen → SeedDone job ending w → WorkSays mode job ending w
-done_by_seed mode job ending w is done = subst (λ (m : Mode). WorkSays m job ending w) (sym is) done
+done_by_seed m job ending w is done = subst (λ (m : Mode). WorkSays m job ending w) (sym is) done
 
 -- what a run says is said in its mode
-pub run_in_mode : (mode : Mode) (ending : Ending) (job : Job) (ws : List Watcher) (text : List ℕ) (out after : SinkState) (h : List Entry) → Runs mode → RunTextSays ending job ws text out after h → TextSays mode ending job ws text out after h
-run_in_mode Run ending job ws text out after h runs says = says
-run_in_mode Check ending job ws text out after h runs says = absurd runs
-run_in_mode Gen ending job ws text out after h runs says = says
+pub run_in_mode : (mode : Mode) (ending : Ending) (job : Job) (ws : List Watcher) (text : List ℕ) (out after : SinkState) (h : List Entry) (code : Option coded.Code) → Runs mode → RunTextSays ending job ws text out after h code → TextSays mode ending job ws text out after h code
+run_in_mode Run ending job ws text out after h code runs says = says
+run_in_mode Check ending job ws text out after h code runs says = absurd runs
+run_in_mode Code ending job ws text out after h code runs says = absurd runs
+run_in_mode Gen ending job ws text out after h code runs says = says
 
 -- the text has a refusal
-pub refused_text : (mode : Mode) (refusal : Refusal) (job : Job) (ws : List Watcher) (text : List ℕ) (out after : SinkState) (h : List Entry) → IsRefusal text refusal × HasNoProgram text → RanNothing out after h → TextSays mode (Refused refusal) job ws text out after h
-refused_text Run refusal job ws text out after h is nothing = record { is = is.0; no_program = is.1; nothing = nothing }
-refused_text Check refusal job ws text out after h is nothing = record { is = is.0; no_program = is.1; nothing = nothing }
-refused_text Gen refusal job ws text out after h is nothing = record { is = is.0; no_program = is.1; nothing = nothing }
+pub refused_text : (mode : Mode) (refusal : Refusal) (job : Job) (ws : List Watcher) (text : List ℕ) (out after : SinkState) (h : List Entry) (code : Option coded.Code) → IsRefusal text refusal × HasNoProgram text → RanNothing out after h code → TextSays mode (Refused refusal) job ws text out after h code
+refused_text Run refusal job ws text out after h code is nothing = record { is = is.0; no_program = is.1; nothing = nothing }
+refused_text Check refusal job ws text out after h code is nothing = record { is = is.0; no_program = is.1; nothing = nothing }
+refused_text Code refusal job ws text out after h code is nothing = record { is = is.0; no_program = is.1; nothing = nothing }
+refused_text Gen refusal job ws text out after h code is nothing = record { is = is.0; no_program = is.1; nothing = nothing }
 
 -- memory was wanting before a run
-pub unrun_text : (mode : Mode) (job : Job) (ws : List Watcher) (text : List ℕ) (out after : SinkState) (h : List Entry) → RanNothing out after h → TextSays mode NoMemory job ws text out after h
-unrun_text Run job ws text out after h nothing = inl nothing
-unrun_text Check job ws text out after h nothing = nothing
-unrun_text Gen job ws text out after h nothing = inl nothing
+pub unrun_text : (mode : Mode) (job : Job) (ws : List Watcher) (text : List ℕ) (out after : SinkState) (h : List Entry) (code : Option coded.Code) → RanNothing out after h code → TextSays mode NoMemory job ws text out after h code
+unrun_text Run job ws text out after h code nothing = inl nothing
+unrun_text Check job ws text out after h code nothing = nothing
+unrun_text Code job ws text out after h code nothing = nothing
+unrun_text Gen job ws text out after h code nothing = inl nothing
 
 -- the text has a program, and is checked alone
-pub checked_text : (p : NumberedProgram) (text : List ℕ) (out after : SinkState) (h : List Entry) → IsCompiled text p → RanNothing out after h → WasChecked text out after h
-checked_text p text out after h compiled nothing = record { program = p; compiled = compiled; nothing = nothing }
+pub checked_text : (p : NumberedProgram) (text : List ℕ) (out after : SinkState) (h : List Entry) (code : Option coded.Code) → IsCompiled text p → RanNothing out after h code → WasChecked text out after h code
+checked_text p text out after h code compiled nothing = record { program = p; compiled = compiled; nothing = nothing }

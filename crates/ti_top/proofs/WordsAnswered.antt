@@ -1,5 +1,5 @@
 -- From the ending of a call to the clause on its words.
-use Rattle.std.proofs.Common.{◌≡◌, inl, inr, [], arith}
+use Rattle.std.proofs.Common.{◌≡◌, inl, inr, [], None, arith}
 use Rattle.ti_top.specs.declared.ending.Ending.{Ending}
 use Rattle.ti_top.specs.declared.ending.Ending.TheVariants.{NoCommand, CantWrite}
 use Rattle.ti_words.specs.declared.job.Job.{Job}
@@ -17,13 +17,14 @@ pub not_both : (c : Call) (job : Job) → IsCommand c job → IsNoCommand c → 
 not_both c job some none = cc
 
 -- the words are no command, and nothing was done
-pub no_command_answers : (c : Call) → IsNoCommand c → c.source_after ≡ c.source → c.text ≡ [] → c.history ≡ [] → StatusFrom NoCommand c → AnswersWords c
-no_command_answers c none source text history from = record {
+pub no_command_answers : (c : Call) → IsNoCommand c → c.source_after ≡ c.source → c.text ≡ [] → c.code ≡ None → c.history ≡ [] → StatusFrom NoCommand c → AnswersWords c
+no_command_answers c none source text code history from = record {
   known = known NoCommand c from;
   only_where = λ _. none;
   everywhere = λ _. elim from [ inl same ↦ inl same | inr cut ↦ inr (inr (cut.0, inr cut.1)) ];
   source_as_before = λ _. source;
   no_text = λ _. text;
+  no_code = λ _. code;
   no_history = λ _. history;
 }
 
@@ -35,5 +36,6 @@ command_answers before c job some other from = record {
   everywhere = λ none. absurd (not_both c job some none);
   source_as_before = λ none. absurd (not_both c job some none);
   no_text = λ none. absurd (not_both c job some none);
+  no_code = λ none. absurd (not_both c job some none);
   no_history = λ none. absurd (not_both c job some none);
 }

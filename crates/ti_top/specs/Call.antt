@@ -6,6 +6,7 @@ use Rattle.ti_io.specs.Faults.{Rose}
 use Rattle.ti_io.specs.Source.{SourceState}
 use Rattle.ti_io.specs.Sink.{SinkState}
 use Rattle.ti_rules.specs.LexicalRefusals.{most_bytes}
+use Rattle.ti_code.specs.Programs.{Code}
 use Rattle.ti_words.specs.declared.job.Job.{Job}
 use Rattle.ti_words.specs.Job.{job_of}
 use Rattle.ti_top.specs.Reports.{Watcher, wanted}
@@ -27,6 +28,8 @@ pub record Call : Type 0 where
   pub status : ℕ
   -- what was read, or made
   pub text : List ℕ
+  -- the code of the program
+  pub code : Option Code
   -- the entries of the run
   pub history : List Entry
 

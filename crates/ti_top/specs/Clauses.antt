@@ -1,16 +1,19 @@
 -- The contract of the command, a record for each of its clauses.
-use Rattle.std.specs.Prelude.{◌≡◌, ◌⊎◌, ℕ, ◌≤◌, true, false, List, [], length, take}
+use Rattle.std.specs.Prelude.{◌≡◌, ◌⊎◌, ℕ, ◌≤◌, true, false, List, [], length, take, None, Some}
 use Rattle.ti_gen.specs.Source.{source_text}
 use Rattle.ti_io.specs.Source.{SameFiles, IsMissing, Holds}
 use Rattle.ti_io.specs.Sink.{IsFront, GrewBy, GrewByFront}
 use Rattle.ti_lang.specs.Program.Classes.{NumberedProgram}
 use Rattle.ti_lang.specs.Meaning.Runs.{AllEnded, IsRun, IsSolo, IsComplete as IsCompleteRun}
 use Rattle.ti_align.specs.Alignment.{IsAligned}
+use Rattle.ti_code.specs.Follows.{Follows}
+use Rattle.ti_code.specs.Programs as coded
+use Rattle.ti_lower.specs.Programs.{program_code}
 use Rattle.ti_rules.specs.declared.refusal.Refusal.{Refusal}
 use Rattle.ti_rules.specs.RefusalOf.{HasNone, HasProgram, IsRefusal}
 use Rattle.ti_words.specs.declared.job.Job.{Job}
 use Rattle.ti_words.specs.declared.job.Mode.{Mode}
-use Rattle.ti_words.specs.declared.job.Mode.TheVariants.{Run, Check, Gen}
+use Rattle.ti_words.specs.declared.job.Mode.TheVariants.{Run, Check, Code, Gen}
 use Rattle.ti_top.specs.declared.fault.Fault.{Fault}
 use Rattle.ti_top.specs.declared.ending.Ending.{Ending}
 use Rattle.ti_top.specs.declared.ending.Ending.TheVariants.{Done, Refused, Faulted, NoCommand, CantRead, CantWrite, NoMemory}
@@ -27,6 +30,7 @@ pub record AnswersWords (c : Call) : Type 0 where
   pub everywhere : IsNoCommand c → (c.status ≡ 3) ⊎ Yields c
   pub source_as_before : IsNoCommand c → c.source_after ≡ c.source
   pub no_text : IsNoCommand c → c.text ≡ []
+  pub no_code : IsNoCommand c → c.code ≡ None
   pub no_history : IsNoCommand c → c.history ≡ []
 
 -- The text was read whole: the file isn't missing, and the text is what it holds, or its first bytes where it holds more
@@ -45,6 +49,7 @@ IsMade job c = c.text ≡ source_text job.seed
 abbrev pub IsWholeIn : Mode → Job → Call → Type 0
 IsWholeIn Run job c = IsReadWhole job c
 IsWholeIn Check job c = IsReadWhole job c
+IsWholeIn Code job c = IsReadWhole job c
 IsWholeIn Gen job c = IsMade job c
 
 abbrev pub HasText : Job → Call → Type 0
@@ -72,6 +77,7 @@ pub record MakesText (job : Job) (c : Call) : Type 0 where
 abbrev pub GetsText : Mode → Job → Call → Type 0
 GetsText Run job c = ReadsText job c
 GetsText Check job c = ReadsText job c
+GetsText Code job c = ReadsText job c
 GetsText Gen job c = MakesText job c
 
 -- the text has a program
@@ -83,32 +89,49 @@ pub record IsRefused (job : Job) (c : Call) (refusal : Refusal) : Type 0 where
   pub whole : HasText job c
   pub refused : IsRefusal c.text refusal
 
--- The refusal: status 1 says that the text is refused, and then nothing was run and nothing written; with status 0 or 2 it
--- is accepted.
+-- The refusal: status 1 says that the text is refused, and then there is no code, and nothing was run and nothing written; with status 0 or 2
+-- it is accepted.
 pub record RefusesExactly (job : Job) (c : Call) : Type 0 where
   pub only_where : c.status ≡ 1 → (refusal : Refusal) × IsRefused job c refusal
   -- it may run out of memory, and a sink or a reading may fail
   pub everywhere : (refusal : Refusal) → IsRefused job c refusal → (c.status ≡ 1) ⊎ (Yields c ⊎ ((c.status ≡ 4) × SourceRose c))
+  pub no_code : (refusal : Refusal) → IsRefusal c.text refusal → c.code ≡ None
   pub no_history : (refusal : Refusal) → IsRefusal c.text refusal → c.history ≡ []
   pub no_output : (refusal : Refusal) → IsRefusal c.text refusal → c.out_after.taken ≡ c.out.taken
   pub accepted_at_zero : c.status ≡ 0 → IsAccepted c.text
   pub accepted_at_two : c.status ≡ 2 → IsAccepted c.text
 
 -- The run: whatever the status, the history is a run of the text's program, and as far as it goes the one in which each
--- entry is that of the lowest-numbered process that can take one; where there is no program, or the text is only checked, it is empty.
+-- entry is that of the lowest-numbered process that can take one; where there is no program, or the mode isn't one that runs it, it is empty.
 pub record KeepsRun (job : Job) (c : Call) : Type 0 where
   pub run : (program : NumberedProgram) → HasProgram c.text program → IsRun (run_of program job) c.history
   pub solo : (program : NumberedProgram) → HasProgram c.text program → IsSolo (run_of program job) c.history
   pub none : ((program : NumberedProgram) → HasProgram c.text program → ⊥) → c.history ≡ []
-  pub checked : job.mode ≡ Check → c.history ≡ []
+  pub unrun : (Runs job.mode → ⊥) → c.history ≡ []
 
--- this holds of the job and the program wherever the text is to be run and has one
+-- The code: with status 0 in mode code it is there. One that is there is that of the text's program, and follows it: for each number of
+-- processes, all ticks, each process and all answers that fit, it has next the action, the fault or the end that the program has, at the
+-- same place. It is there in no other mode, and with no other status, unless a sink failed.
+pub record RunsCode (job : Job) (c : Call) : Type 0 where
+  pub there : c.status ≡ 0 → job.mode ≡ Code → (program : NumberedProgram) → HasProgram c.text program → c.code ≡ Some (program_code program)
+  pub is : (code : coded.Code) → c.code ≡ Some code → (program : NumberedProgram) → HasProgram c.text program → code ≡ program_code program
+  pub follows : (code : coded.Code) → c.code ≡ Some code → (program : NumberedProgram) → HasProgram c.text program → Follows code program
+  pub only_where : (code : coded.Code) → c.code ≡ Some code → (c.status ≡ 0) ⊎ ((c.status ≡ 5) × SinkRose c)
+  pub none : ((program : NumberedProgram) → HasProgram c.text program → ⊥) → c.code ≡ None
+  pub no_other_mode : (job.mode ≡ Code → ⊥) → c.code ≡ None
+
+-- this holds of the job and the program wherever the text has one
+abbrev pub WhereAccepted : Call → (Job → NumberedProgram → Type 0) → Type 0
+WhereAccepted c P = (job : Job) → IsCommand c job → (program : NumberedProgram) → HasProgram c.text program → P job program
+
+-- wherever it has one, and is to be run
 abbrev pub WhereRun : Call → (Job → NumberedProgram → Type 0) → Type 0
 WhereRun c P = (job : Job) → IsCommand c job → Runs job.mode → (program : NumberedProgram) → HasProgram c.text program → P job program
 
--- out grew by the lines of the history or the summary of the run, and the reports of all wanted watchers
+-- out grew by all that the job's mode writes: the lines of the history or the summary of the run, and the reports of all wanted watchers;
+-- or the text of the code
 abbrev pub WritesAll : Call → Type 0
-WritesAll c = WhereRun c (λ job program. GrewBy c.out c.out_after (output job program c.history (wanted job c.watchers)))
+WritesAll c = WhereAccepted c (λ job program. GrewBy c.out c.out_after (output job program c.history (wanted job c.watchers)))
 
 -- The output: what out has taken in the call.
 pub record WritesOutput (c : Call) : Type 0 where
@@ -121,8 +144,10 @@ pub record WritesOutput (c : Call) : Type 0 where
   pub not_whole : (job : Job) → IsCommand c job → (HasText job c → ⊥) → c.out_after.taken ≡ c.out.taken
   pub no_program : ((program : NumberedProgram) → HasProgram c.text program → ⊥) → c.out_after.taken ≡ c.out.taken
   pub checked : (job : Job) → IsCommand c job → job.mode ≡ Check → c.out_after.taken ≡ c.out.taken
+  -- where code is wanted and there is none
+  pub uncoded : (job : Job) → IsCommand c job → job.mode ≡ Code → c.code ≡ None → c.out_after.taken ≡ c.out.taken
   -- a write to out or err failed
-  pub failed : c.status ≡ 5 → c.out.tells ≡ true → WhereRun c (λ job program. GrewByFront c.out c.out_after (output job program c.history (wanted job c.watchers)))
+  pub failed : c.status ≡ 5 → c.out.tells ≡ true → WhereAccepted c (λ job program. GrewByFront c.out c.out_after (output job program c.history (wanted job c.watchers)))
   -- the lines of the kept history or its summary are written, and whole reports
   pub no_memory : c.status ≡ 6 → c.out.tells ≡ true → WhereRun c (λ job program. WroteFew job.mode (run_of program job) (wanted job c.watchers) c.history c.out c.out_after)
 
@@ -146,6 +171,7 @@ pub record MeetsBesideErr (c : Call) : Type 0 where
   pub text : (job : Job) → IsCommand c job → GetsText job.mode job c
   pub refusal : (job : Job) → IsCommand c job → RefusesExactly job c
   pub run : (job : Job) → IsCommand c job → KeepsRun job c
+  pub code : (job : Job) → IsCommand c job → RunsCode job c
   pub output : WritesOutput c
   pub alignment : IsAlignedRun c
   pub end : (job : Job) → IsCommand c job → EndsRun job c

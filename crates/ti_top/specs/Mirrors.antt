@@ -1,4 +1,5 @@
 -- Definitions that mirror code, as its private contracts speak of it: nobody has to believe them.
+pub mod Coding
 pub mod Compiling
 pub mod Ended
 pub mod Line

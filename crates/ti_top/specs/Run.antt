@@ -7,19 +7,21 @@ use Rattle.ti_lang.specs.Program.Classes.{NumberedProgram}
 use Rattle.ti_lang.specs.Meaning.Processes.{Setting}
 use Rattle.ti_words.specs.declared.job.Job.{Job}
 use Rattle.ti_words.specs.declared.job.Mode.{Mode}
-use Rattle.ti_words.specs.declared.job.Mode.TheVariants.{Run, Check, Gen}
+use Rattle.ti_words.specs.declared.job.Mode.TheVariants.{Run, Check, Code, Gen}
 use Rattle.ti_top.specs.declared.fault.Fault.{Fault}
 
 -- in these modes a file is named, and its text read
 abbrev pub HasFile : Mode → Type 0
 HasFile Run = Unit {0}
 HasFile Check = Unit {0}
+HasFile Code = Unit {0}
 HasFile Gen = ⊥
 
 -- in these modes the program of the text is run
 abbrev pub Runs : Mode → Type 0
 Runs Run = Unit {0}
 Runs Check = ⊥
+Runs Code = ⊥
 Runs Gen = Unit {0}
 
 -- the program, run by as many processes as the job asks for, with as many ticks each

@@ -1,5 +1,5 @@
 // The whole command.
-ghost use Rattle.std.specs.Prelude.{◌≡◌, [], map, string_bytes};
+ghost use Rattle.std.specs.Prelude.{◌≡◌, [], None, map, string_bytes};
 ghost use Rattle.ti_top.specs.Clauses.{Meets};
 ghost use Rattle.ti_top.specs.Reports.{Watcher};
 
@@ -7,6 +7,7 @@ use crate::ending::{Ending, end_with};
 use crate::work::work;
 use std::alloc::{AllocGlobal, Global};
 use ti_base::Entry;
+use ti_code::Code;
 use ti_io::{Sink, Source};
 use ti_watch::Watch;
 use ti_words::{WordsErr, read_words};
@@ -20,6 +21,9 @@ pub struct Outcome {
     pub status: u8,
     /// What was read, or in mode gen what was made.
     pub text: Vec<u8>,
+    /// The code of the text's program: in mode code there where the status is 0, and where its text couldn't be written whole to out. Else
+    /// there is none.
+    pub code: Option<Code>,
     /// The entries of the run, in order.
     pub history: Vec<Entry>,
 }
@@ -29,11 +33,13 @@ impl Outcome {
     fn nothing(alloc: Global, status: u8) -> Self
         ensures status { result.status ≡ status }
         ensures text { result.text.items ≡ [] }
+        ensures code { result.code ≡ None }
         ensures history { result.history.items ≡ [] }
     {
         Outcome {
             status,
             text: Vec::new(alloc),
+            code: None,
             history: Vec::new(alloc),
         }
     }
@@ -42,10 +48,10 @@ impl Outcome {
 /// The command of these words, those after the program's name: reads the file that they name, refuses
 /// its text or runs it, writes the lines of the run to `out` and behind them the reports of the watchers
 /// whose flag is given, and where it can't be done a line to `err`. In mode check it runs nothing and writes
-/// nothing to `out`. In mode gen no file is named: it makes the text from a seed, and in place of the lines
-/// writes one that sums up the run.
+/// nothing to `out`. In mode code it runs nothing either, and writes the code of the program. In mode gen no
+/// file is named: it makes the text from a seed, and in place of the lines writes one that sums up the run.
 ///
-/// The words are `--mode run`, `--mode check` or `--mode gen`, `--procs`, `--workers`, `--fuel`, each with a
+/// The words are `--mode run`, `--mode check`, `--mode code` or `--mode gen`, `--procs`, `--workers`, `--fuel`, each with a
 /// number, and `--trace` and `--stats`, each at most once, and a file's name, or in mode gen `--seed` with a
 /// number; `docs/LANGUAGE.md` says their ranges. What the call promises is `Meets`, one record of
 /// `specs/Clauses.antt` for each clause.
@@ -68,6 +74,7 @@ pub fn titan_top<R: AllocGlobal, S: Source, K: Sink>(
       err_after = K.state err.new;
       status = result.status;
       text = result.text.items;
+      code = result.code;
       history = result.history.items;
     }) }
 {
@@ -86,6 +93,7 @@ pub fn titan_top<R: AllocGlobal, S: Source, K: Sink>(
     Outcome {
         status,
         text: worked.text,
+        code: worked.code,
         history: worked.history,
     }
 }

@@ -1,6 +1,7 @@
 //! The whole of titan as one call.
 #![tactic(auto)]
 
+mod coding;
 mod command;
 mod compiling;
 mod ending;

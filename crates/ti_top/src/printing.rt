@@ -121,7 +121,7 @@ pub fn write_head<K: Sink>(
 {
     match mode {
         Mode::Run => write_lines(out, line, program, history),
-        Mode::Check => Ok(()),
+        Mode::Check | Mode::Code => Ok(()),
         Mode::Gen => write_summary(out, ended, history),
     }
 }

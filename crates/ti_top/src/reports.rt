@@ -72,8 +72,8 @@ fn tell(watcher: &mut Box<dyn Watch>, history: &[Entry]) -> Result<(), Memory>
     Ok(())
 }
 
-// Writes a report as one piece, and flushes out.
-fn write_text<K: Sink>(out: &mut K, text: &[u8]) -> Result<(), Failed>
+/// Writes a text as one piece, and flushes out.
+pub fn write_text<K: Sink>(out: &mut K, text: &[u8]) -> Result<(), Failed>
     ensures { Writes text.now (K.state out.old) (K.state out.new) result }
 {
     write_piece(out, text)?;

@@ -1,5 +1,5 @@
 // What is done before the line on err.
-ghost use Rattle.std.specs.Prelude.{◌≡◌, ℕ, List, [], map};
+ghost use Rattle.std.specs.Prelude.{◌≡◌, ℕ, List, [], None, map};
 ghost use Rattle.ti_lang.specs.Meaning.Processes.{Setting};
 ghost use Rattle.ti_lang.specs.Program.Views.{program_of};
 ghost use Rattle.ti_runtime.specs.Ran.{Ran};
@@ -7,10 +7,11 @@ ghost use Rattle.ti_store.specs.Conditions.{IsWithin};
 ghost use Rattle.ti_top.specs.Mirrors.Compiling.{IsCompiled};
 ghost use Rattle.ti_top.specs.Mirrors.Line.{HasRoom};
 ghost use Rattle.ti_top.specs.Mirrors.RunEnds.{RunEnds};
-ghost use Rattle.ti_top.specs.Mirrors.Work.{ending_after as after_spec, ReportsAfter, RunSays, RunTextSays, TextSays, SeedSays, FileDone, WorkSays};
+ghost use Rattle.ti_top.specs.Mirrors.Work.{ending_after as after_spec, ReportsAfter, RunSays, RunTextSays, CodeTextSays, TextSays, SeedSays, FileDone, WorkSays};
 ghost use Rattle.ti_top.specs.Reports.{Watcher, wanted};
 ghost use Rattle.ti_top.specs.Run.{Runs};
 
+use crate::coding::write_code;
 use crate::compiling::{CompileErr, compile};
 use crate::ending::Ending;
 use crate::fault::Fault;
@@ -20,6 +21,7 @@ use crate::reports::{ReportEnd, keep_wanted, write_reports};
 use crate::run_line::RunLine;
 use std::alloc::Global;
 use ti_base::{Entry, Memory};
+use ti_code::Code;
 use ti_gen::gen_source;
 use ti_io::{Sink, Source};
 use ti_rules::Checked;
@@ -27,18 +29,20 @@ use ti_runtime::{How, RunEnd, run};
 use ti_watch::Watch;
 use ti_words::{Job, Mode};
 
-/// How the work ended, what was read or made, and the entries of the run.
+/// How the work ended, what was read or made, its code, and the entries of the run.
 #[derive(Drop)]
 pub struct Worked {
     pub ending: Ending,
     pub text: Vec<u8>,
+    pub code: Option<Code>,
     pub history: Vec<Entry>,
 }
 
-// How what was done with a text ended, and the entries of its run.
+// How what was done with a text ended, its code, and the entries of its run.
 #[derive(Drop)]
 struct Written {
     ending: Ending,
+    code: Option<Code>,
     history: Vec<Entry>,
 }
 
@@ -46,10 +50,12 @@ impl Written {
     // Nothing was run and nothing written.
     fn nothing(alloc: Global, ending: Ending) -> Self
         ensures ending { result.ending ≡ ending }
+        ensures code { result.code ≡ None }
         ensures history { result.history.items ≡ [] }
     {
         Written {
             ending,
+            code: None,
             history: Vec::new(alloc),
         }
     }
@@ -110,17 +116,20 @@ fn run_program<K: Sink>(
     requires within { IsWithin job.now.procs job.now.fuel }
     requires mode { Runs job.now.mode }
     requires room { HasRoom checked.now.program.parts.literals.items line.old }
-    ensures { RunSays (program_of checked.now.program.parts) job.now (map {B = Watcher} (λ w. record { kind = kind_of w; told = told w }) watchers.items) (K.state out.old) (K.state out.new) result.history.items result.ending }
+    ensures code { result.code ≡ None }
+    ensures run { RunSays (program_of checked.now.program.parts) job.now (map {B = Watcher} (λ w. record { kind = kind_of w; told = told w }) watchers.items) (K.state out.old) (K.state out.new) result.history.items result.ending }
 {
     let end = run(alloc, checked, job.procs, job.fuel);
     let ended = ending_of(&end);
     match write_head(out, line, job.mode, ended, &checked.program, &end.history) {
         Ok(()) => Written {
             ending: report_after(alloc, ended, &end.history, watchers, out),
+            code: None,
             history: end.history,
         },
         Err(_) => Written {
             ending: Ending::CantWrite,
+            code: None,
             history: end.history,
         },
     }
@@ -136,7 +145,7 @@ fn run_compiled<K: Sink>(
 ) -> Written
     requires within { IsWithin job.now.procs job.now.fuel }
     requires mode { Runs job.now.mode }
-    ensures { (text : List ℕ) → IsCompiled text (program_of checked.now.program.parts) → RunTextSays result.ending job.now (map {B = Watcher} (λ w. record { kind = kind_of w; told = told w }) watchers.items) text (K.state out.old) (K.state out.new) result.history.items }
+    ensures { (text : List ℕ) → IsCompiled text (program_of checked.now.program.parts) → RunTextSays result.ending job.now (map {B = Watcher} (λ w. record { kind = kind_of w; told = told w }) watchers.items) text (K.state out.old) (K.state out.new) result.history.items result.code }
 {
     match RunLine::with_room(alloc, &checked.program.parts.literals) {
         Ok(mut line) => run_program(alloc, job, checked, &mut line, watchers, out),
@@ -144,7 +153,19 @@ fn run_compiled<K: Sink>(
     }
 }
 
-// Checks a whole text, and runs it where the job asks for that.
+// Writes the code of a text's program.
+fn code_compiled<K: Sink>(alloc: Global, checked: &Checked, out: &mut K) -> Written
+    ensures { (text : List ℕ) → IsCompiled text (program_of checked.now.program.parts) → CodeTextSays result.ending text (K.state out.old) (K.state out.new) result.history.items result.code }
+{
+    let coded = write_code(alloc, checked, out);
+    Written {
+        ending: coded.ending,
+        code: coded.code,
+        history: Vec::new(alloc),
+    }
+}
+
+// Checks a whole text, and runs it or writes its code where the job asks for that.
 fn do_text<K: Sink>(
     alloc: Global,
     job: &Job,
@@ -153,11 +174,12 @@ fn do_text<K: Sink>(
     out: &mut K,
 ) -> Written
     requires { IsWithin job.now.procs job.now.fuel }
-    ensures { TextSays job.now.mode result.ending job.now (map {B = Watcher} (λ w. record { kind = kind_of w; told = told w }) watchers.items) text.now (K.state out.old) (K.state out.new) result.history.items }
+    ensures { TextSays job.now.mode result.ending job.now (map {B = Watcher} (λ w. record { kind = kind_of w; told = told w }) watchers.items) text.now (K.state out.old) (K.state out.new) result.history.items result.code }
 {
     match compile(alloc, text) {
         Ok(checked) => match job.mode {
             Mode::Check => Written::nothing(alloc, Ending::Done),
+            Mode::Code => code_compiled(alloc, &checked, out),
             Mode::Run | Mode::Gen => run_compiled(alloc, job, &checked, watchers, out),
         },
         Err(CompileErr::Refused(refusal)) => Written::nothing(alloc, Ending::Refused(refusal)),
@@ -165,7 +187,7 @@ fn do_text<K: Sink>(
     }
 }
 
-// Reads the file of a job and checks the text, and runs it where the job asks for that.
+// Reads the file of a job and checks the text, and runs it or writes its code where the job asks for that.
 fn work_on_file<S: Source, K: Sink>(
     alloc: Global,
     job: &Job,
@@ -181,6 +203,7 @@ fn work_on_file<S: Source, K: Sink>(
       out = K.state out.old;
       out_after = K.state out.new;
       text = result.text.items;
+      code = result.code;
       history = result.history.items;
     }) }
 {
@@ -193,6 +216,7 @@ fn work_on_file<S: Source, K: Sink>(
     Worked {
         ending: written.ending,
         text,
+        code: written.code,
         history: written.history,
     }
 }
@@ -205,7 +229,7 @@ fn work_on_seed<K: Sink>(
     watchers: Vec<Box<dyn Watch>>,
 ) -> Worked
     requires { IsWithin job.now.procs job.now.fuel }
-    ensures { SeedSays result.ending job.now (map {B = Watcher} (λ w. record { kind = kind_of w; told = told w }) watchers.items) result.text.items (K.state out.old) (K.state out.new) result.history.items }
+    ensures { SeedSays result.ending job.now (map {B = Watcher} (λ w. record { kind = kind_of w; told = told w }) watchers.items) result.text.items (K.state out.old) (K.state out.new) result.history.items result.code }
 {
     match gen_source(alloc, job.seed) {
         Ok(text) => {
@@ -213,20 +237,22 @@ fn work_on_seed<K: Sink>(
             Worked {
                 ending: written.ending,
                 text,
+                code: written.code,
                 history: written.history,
             }
         }
         Err(Memory) => Worked {
             ending: Ending::NoMemory,
             text: Vec::new(alloc),
+            code: None,
             history: Vec::new(alloc),
         },
     }
 }
 
 /// Does what a job asks for: reads its file, or in mode gen makes the text of its seed, and checks the text; and where the program is to
-/// be run, runs it and writes the lines of the run or its summary and the reports of the watchers whose flag is given. The others are
-/// dropped first.
+/// be run, runs it and writes the lines of the run or its summary and the reports of the watchers whose flag is given; or writes its code. The
+/// other watchers are dropped first.
 pub fn work<S: Source, K: Sink>(
     alloc: Global,
     job: &Job,
@@ -242,13 +268,14 @@ pub fn work<S: Source, K: Sink>(
       out = K.state out.old;
       out_after = K.state out.new;
       text = result.text.items;
+      code = result.code;
       history = result.history.items;
     }) }
 {
     let mut watchers = watchers;
     keep_wanted(&mut watchers, job);
     match job.mode {
-        Mode::Run | Mode::Check => work_on_file(alloc, job, source, out, watchers),
+        Mode::Run | Mode::Check | Mode::Code => work_on_file(alloc, job, source, out, watchers),
         Mode::Gen => work_on_seed(alloc, job, out, watchers),
     }
 }

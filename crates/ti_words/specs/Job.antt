@@ -8,7 +8,7 @@ use Rattle.std.specs.Str.Parse.{digits_value}
 use Rattle.ti_words.specs.Uses.{Word, Use, is_each_once, is_used, piece_of, uses_of, value_of}
 use Rattle.ti_words.specs.declared.job.Job.{Job}
 use Rattle.ti_words.specs.declared.job.Mode.{Mode}
-use Rattle.ti_words.specs.declared.job.Mode.TheVariants.{Run, Check, Gen}
+use Rattle.ti_words.specs.declared.job.Mode.TheVariants.{Run, Check, Code, Gen}
 
 -- what the words give each argument
 pub record Values : Type 0 where
@@ -48,6 +48,7 @@ mode_of None = Some Run
 mode_of (Some word) =
     if bytes_eq word (codes "run") then Some Run
     else if bytes_eq word (codes "check") then Some Check
+    else if bytes_eq word (codes "code") then Some Code
     else if bytes_eq word (codes "gen") then Some Gen
     else None
 
@@ -104,12 +105,14 @@ abbrev pub seed_of : Mode → Option Word → Option ℕ
 seed_of Gen word = number_within 0 most_seed 1 word
 seed_of Run word = unsaid 1 word
 seed_of Check word = unsaid 1 word
+seed_of Code word = unsaid 1 word
 
 -- the name of the file, which is there in every mode but gen, and empty in that
 abbrev pub file_of : Mode → Option Word → Option Word
 file_of Gen word = unsaid [] word
 file_of Run word = word
 file_of Check word = word
+file_of Code word = word
 
 -- the job of these values, of which each has to be one that its argument may have
 abbrev pub job_by : Values → Option Job

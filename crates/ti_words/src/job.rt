@@ -11,6 +11,8 @@ pub enum Mode {
     Run,
     /// The text of the file is checked.
     Check,
+    /// The code of the program of the file is written.
+    Code,
     /// A program is generated and run.
     Gen,
 }

@@ -43,6 +43,7 @@ fn mode_of(word: Option<&str>) -> Option<Mode>
         None => Some(Mode::Run),
         Some("run") => Some(Mode::Run),
         Some("check") => Some(Mode::Check),
+        Some("code") => Some(Mode::Code),
         Some("gen") => Some(Mode::Gen),
         Some(_) => None,
     }

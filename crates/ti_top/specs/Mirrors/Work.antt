@@ -1,6 +1,6 @@
 -- Nobody has to believe this: it mirrors code, and only contracts of private functions speak of it.
 -- What was done before the line on err, for each way in which it may end.
-use Rattle.std.specs.Prelude.{◌≡◌, ◌⊎◌, ℕ, ◌≤◌, true, false, List, [], ◌++◌}
+use Rattle.std.specs.Prelude.{◌≡◌, ◌⊎◌, ℕ, ◌≤◌, true, false, List, [], ◌++◌, Option, None}
 use Rattle.ti_gen.specs.Source.{source_text}
 use Rattle.ti_base.specs.declared.entry.Entry.{Entry}
 use Rattle.ti_io.specs.Faults.{Rose}
@@ -17,11 +17,13 @@ use Rattle.ti_top.specs.declared.reports.ReportEnd.{ReportEnd}
 use Rattle.ti_top.specs.declared.reports.ReportEnd.TheVariants as Report
 use Rattle.ti_top.specs.declared.ending.Ending.{Ending}
 use Rattle.ti_top.specs.declared.ending.Ending.TheVariants.{Done, Refused, Faulted, NoCommand, CantRead, CantWrite, NoMemory}
+use Rattle.ti_code.specs.Programs as coded
 use Rattle.ti_rules.specs.declared.refusal.Refusal.{Refusal}
 use Rattle.ti_rules.specs.RefusalOf.{IsRefusal}
 use Rattle.ti_words.specs.declared.job.Job.{Job}
 use Rattle.ti_words.specs.declared.job.Mode.{Mode}
-use Rattle.ti_words.specs.declared.job.Mode.TheVariants.{Run, Check, Gen}
+use Rattle.ti_words.specs.declared.job.Mode.TheVariants.{Run, Check, Code, Gen}
+use Rattle.ti_top.specs.Mirrors.Coding.{WroteCode}
 use Rattle.ti_top.specs.Mirrors.Compiling.{IsCompiled, HasNoProgram}
 use Rattle.ti_top.specs.Call.{Call}
 use Rattle.ti_top.specs.Reports.{Watcher, wanted, reports, output, WroteFew}
@@ -30,7 +32,7 @@ use Rattle.ti_top.specs.Mirrors.Reading.{ReadsWhole}
 use Rattle.ti_top.specs.Mirrors.Reporting.{Reported}
 use Rattle.ti_top.specs.Run.{run_of, EndsWithFault}
 
--- the watchers that are wanted, the source and out before and after, what was read or made, and the entries of the run
+-- the watchers that are wanted, the source and out before and after, what was read or made, its code, and the entries of the run
 pub record Work : Type 0 where
   pub watchers : List Watcher
   pub source : SourceState
@@ -38,6 +40,7 @@ pub record Work : Type 0 where
   pub out : SinkState
   pub out_after : SinkState
   pub text : List ℕ
+  pub code : Option coded.Code
   pub history : List Entry
 
 -- how the work ends after reports that ended so
@@ -55,6 +58,7 @@ summary_after ended history = []
 abbrev pub head_after : Mode → Ending → NumberedProgram → List Entry → List ℕ
 head_after Run ended program history = lines_of program history
 head_after Check ended program history = []
+head_after Code ended program history = []
 head_after Gen ended program history = summary_after ended history
 
 -- these watchers reported on a run that ended so, and the work then ends so; where memory was wanting in the run, none did
@@ -87,10 +91,11 @@ pub record WroteRun (ended : Ending) (head : List ℕ) (watchers : List Watcher)
   pub needed : ending ≡ NoMemory → (ended ≡ NoMemory → ⊥) → watchers ≡ [] → ⊥
   pub few : ending ≡ NoMemory → out.tells ≡ true → WroteFewOf ended head watchers history out out_after
 
--- nothing was run and nothing written
-pub record RanNothing (out out_after : SinkState) (history : List Entry) : Type 0 where
+-- nothing was run and nothing written, and there is no code
+pub record RanNothing (out out_after : SinkState) (history : List Entry) (code : Option coded.Code) : Type 0 where
   pub unwritten : out_after ≡ out
   pub no_entry : history ≡ []
+  pub no_code : code ≡ None
 
 -- the program was run, and what is written of it in the job's mode was written up to the first call that failed
 pub record RunSays (program : NumberedProgram) (job : Job) (watchers : List Watcher) (out out_after : SinkState) (history : List Entry) (ending : Ending) : Type 0 where
@@ -109,51 +114,68 @@ pub record RunSays (program : NumberedProgram) (job : Job) (watchers : List Watc
   pub few : ending ≡ NoMemory → out.tells ≡ true → WroteFew job.mode (run_of program job) watchers history out out_after
 
 -- so was the program of the text
-pub record Ran (job : Job) (watchers : List Watcher) (text : List ℕ) (out out_after : SinkState) (history : List Entry) (ending : Ending) : Type 0 where
+pub record Ran (job : Job) (watchers : List Watcher) (text : List ℕ) (out out_after : SinkState) (history : List Entry) (code : Option coded.Code) (ending : Ending) : Type 0 where
   pub program : NumberedProgram
   pub compiled : IsCompiled text program
   pub says : RunSays program job watchers out out_after history ending
+  pub no_code : code ≡ None
 
 -- the text is refused, and nothing was run
-pub record WasRefused (text : List ℕ) (out out_after : SinkState) (history : List Entry) (refusal : Refusal) : Type 0 where
+pub record WasRefused (text : List ℕ) (out out_after : SinkState) (history : List Entry) (code : Option coded.Code) (refusal : Refusal) : Type 0 where
   pub is : IsRefusal text refusal
   pub no_program : HasNoProgram text
-  pub nothing : RanNothing out out_after history
+  pub nothing : RanNothing out out_after history code
 
 -- the text has a program, and nothing was run
-pub record WasChecked (text : List ℕ) (out out_after : SinkState) (history : List Entry) : Type 0 where
+pub record WasChecked (text : List ℕ) (out out_after : SinkState) (history : List Entry) (code : Option coded.Code) : Type 0 where
   pub program : NumberedProgram
   pub compiled : IsCompiled text program
-  pub nothing : RanNothing out out_after history
+  pub nothing : RanNothing out out_after history code
+
+-- so it became of the program of the text
+pub record WasCoded (text : List ℕ) (out out_after : SinkState) (history : List Entry) (code : Option coded.Code) (ending : Ending) : Type 0 where
+  pub program : NumberedProgram
+  pub compiled : IsCompiled text program
+  pub wrote : WroteCode program out out_after code ending
+  pub no_entry : history ≡ []
 
 -- what became of a whole text that is to be run
-abbrev pub RunTextSays : Ending → Job → List Watcher → List ℕ → SinkState → SinkState → List Entry → Type 0
-RunTextSays Done job watchers text out out_after history = Ran job watchers text out out_after history Done
-RunTextSays (Refused refusal) job watchers text out out_after history = WasRefused text out out_after history refusal
-RunTextSays (Faulted fault) job watchers text out out_after history = Ran job watchers text out out_after history (Faulted fault)
-RunTextSays CantWrite job watchers text out out_after history = Ran job watchers text out out_after history CantWrite
-RunTextSays NoMemory job watchers text out out_after history = RanNothing out out_after history ⊎ Ran job watchers text out out_after history NoMemory
-RunTextSays NoCommand job watchers text out out_after history = ⊥
-RunTextSays CantRead job watchers text out out_after history = ⊥
+abbrev pub RunTextSays : Ending → Job → List Watcher → List ℕ → SinkState → SinkState → List Entry → Option coded.Code → Type 0
+RunTextSays Done job watchers text out out_after history code = Ran job watchers text out out_after history code Done
+RunTextSays (Refused refusal) job watchers text out out_after history code = WasRefused text out out_after history code refusal
+RunTextSays (Faulted fault) job watchers text out out_after history code = Ran job watchers text out out_after history code (Faulted fault)
+RunTextSays CantWrite job watchers text out out_after history code = Ran job watchers text out out_after history code CantWrite
+RunTextSays NoMemory job watchers text out out_after history code = RanNothing out out_after history code ⊎ Ran job watchers text out out_after history code NoMemory
+RunTextSays NoCommand job watchers text out out_after history code = ⊥
+RunTextSays CantRead job watchers text out out_after history code = ⊥
 
 -- what became of one that is to be checked
-abbrev pub CheckTextSays : Ending → List ℕ → SinkState → SinkState → List Entry → Type 0
-CheckTextSays Done text out out_after history = WasChecked text out out_after history
-CheckTextSays (Refused refusal) text out out_after history = WasRefused text out out_after history refusal
-CheckTextSays NoMemory text out out_after history = RanNothing out out_after history
-CheckTextSays ending text out out_after history = ⊥
+abbrev pub CheckTextSays : Ending → List ℕ → SinkState → SinkState → List Entry → Option coded.Code → Type 0
+CheckTextSays Done text out out_after history code = WasChecked text out out_after history code
+CheckTextSays (Refused refusal) text out out_after history code = WasRefused text out out_after history code refusal
+CheckTextSays NoMemory text out out_after history code = RanNothing out out_after history code
+CheckTextSays ending text out out_after history code = ⊥
+
+-- what became of one whose code is to be written
+abbrev pub CodeTextSays : Ending → List ℕ → SinkState → SinkState → List Entry → Option coded.Code → Type 0
+CodeTextSays Done text out out_after history code = WasCoded text out out_after history code Done
+CodeTextSays (Refused refusal) text out out_after history code = WasRefused text out out_after history code refusal
+CodeTextSays CantWrite text out out_after history code = WasCoded text out out_after history code CantWrite
+CodeTextSays NoMemory text out out_after history code = RanNothing out out_after history code
+CodeTextSays ending text out out_after history code = ⊥
 
 -- what became of a whole text, in a mode
-abbrev pub TextSays : Mode → Ending → Job → List Watcher → List ℕ → SinkState → SinkState → List Entry → Type 0
-TextSays Run ending job watchers text out out_after history = RunTextSays ending job watchers text out out_after history
-TextSays Check ending job watchers text out out_after history = CheckTextSays ending text out out_after history
-TextSays Gen ending job watchers text out out_after history = RunTextSays ending job watchers text out out_after history
+abbrev pub TextSays : Mode → Ending → Job → List Watcher → List ℕ → SinkState → SinkState → List Entry → Option coded.Code → Type 0
+TextSays Run ending job watchers text out out_after history code = RunTextSays ending job watchers text out out_after history code
+TextSays Check ending job watchers text out out_after history code = CheckTextSays ending text out out_after history code
+TextSays Code ending job watchers text out out_after history code = CodeTextSays ending text out out_after history code
+TextSays Gen ending job watchers text out out_after history code = RunTextSays ending job watchers text out out_after history code
 
 -- what a reading that ended so leads to
 abbrev pub FileSays : ReadEnd → Ending → Job → Work → Type 0
-FileSays Read.Whole ending job w = TextSays job.mode ending job w.watchers w.text w.out w.out_after w.history
-FileSays Read.CantRead ending job w = (ending ≡ CantRead) × RanNothing w.out w.out_after w.history
-FileSays Read.NoMemory ending job w = (ending ≡ NoMemory) × RanNothing w.out w.out_after w.history
+FileSays Read.Whole ending job w = TextSays job.mode ending job w.watchers w.text w.out w.out_after w.history w.code
+FileSays Read.CantRead ending job w = (ending ≡ CantRead) × RanNothing w.out w.out_after w.history w.code
+FileSays Read.NoMemory ending job w = (ending ≡ NoMemory) × RanNothing w.out w.out_after w.history w.code
 
 -- what was done where a file is named
 pub record FileDone (job : Job) (ending : Ending) (w : Work) : Type 0 where
@@ -162,19 +184,20 @@ pub record FileDone (job : Job) (ending : Ending) (w : Work) : Type 0 where
   pub says : FileSays end ending job w
 
 -- the text of the seed was made, or it ran out of memory before
-abbrev pub SeedSays : Ending → Job → List Watcher → List ℕ → SinkState → SinkState → List Entry → Type 0
-SeedSays ending job watchers text out out_after history =
-    ((text ≡ source_text job.seed) × TextSays job.mode ending job watchers text out out_after history) ⊎ ((text ≡ []) × (ending ≡ NoMemory) × RanNothing out out_after history)
+abbrev pub SeedSays : Ending → Job → List Watcher → List ℕ → SinkState → SinkState → List Entry → Option coded.Code → Type 0
+SeedSays ending job watchers text out out_after history code =
+    ((text ≡ source_text job.seed) × TextSays job.mode ending job watchers text out out_after history code) ⊎ ((text ≡ []) × (ending ≡ NoMemory) × RanNothing out out_after history code)
 
 -- what was done where none is
 pub record SeedDone (job : Job) (ending : Ending) (w : Work) : Type 0 where
   pub unread : w.source_after ≡ w.source
-  pub says : SeedSays ending job w.watchers w.text w.out w.out_after w.history
+  pub says : SeedSays ending job w.watchers w.text w.out w.out_after w.history w.code
 
 -- what was done for a command, in a mode
 abbrev pub WorkSays : Mode → Job → Ending → Work → Type 0
 WorkSays Run job ending w = FileDone job ending w
 WorkSays Check job ending w = FileDone job ending w
+WorkSays Code job ending w = FileDone job ending w
 WorkSays Gen job ending w = SeedDone job ending w
 
 -- what was done in a call for a job before the line on err
@@ -186,6 +209,7 @@ work_of job c = record {
   out = c.out;
   out_after = c.out_after;
   text = c.text;
+  code = c.code;
   history = c.history;
 }
 
@@ -193,4 +217,4 @@ work_of job c = record {
 pub record DidNothing (c : Call) : Type 0 where
   pub source : c.source_after ≡ c.source
   pub text : c.text ≡ []
-  pub nothing : RanNothing c.out c.out_after c.history
+  pub nothing : RanNothing c.out c.out_after c.history c.code

@@ -1,0 +1,7 @@
+use Rattle.ti_lang.specs.Program.Views.{program_of}
+use Rattle.ti_top.proofs.TextsDone.{coded_text}
+use Rattle.ti_top.proofs.work.code_compiled.Goals as goal
+
+pub returns : goal.returns
+returns g c = λ text is.
+    coded_text c.write_code-coded.result.ending (program_of c.args.checked.now.program.parts) text (g.K.Sink.state c.args.out.now) (g.K.Sink.state c.write_code-coded.new.out) _ c.write_code-coded.result.code is c.new.ensures.items c.write_code-coded.ensures

@@ -1,0 +1,63 @@
+// The code of a program, written to out.
+ghost use Rattle.std.specs.Prelude.{◌≡◌, IfOk};
+ghost use Rattle.ti_code.specs.CodeText.{code_text as text_spec};
+ghost use Rattle.ti_code.specs.Follows.{Follows};
+ghost use Rattle.ti_lang.specs.Program.Views.{program_of};
+ghost use Rattle.ti_lower.specs.Programs.{program_code};
+ghost use Rattle.ti_top.specs.Mirrors.Coding.{CodeSays};
+
+use crate::ending::Ending;
+use crate::reports::write_text;
+use std::alloc::Global;
+use ti_base::Memory;
+use ti_code::{Code, code_text};
+use ti_io::Sink;
+use ti_lower::lower;
+use ti_rules::Checked;
+
+/// How the writing of a program's code ended, and the code.
+#[derive(Drop)]
+pub struct Coded {
+    pub ending: Ending,
+    pub code: Option<Code>,
+}
+
+// Code, and its text.
+#[derive(Drop)]
+struct Listing {
+    code: Code,
+    text: Vec<u8>,
+}
+
+// The code of a program, which follows it, and the text of the code.
+fn listing_of(alloc: Global, checked: &Checked) -> Result<Listing, Memory>
+    ensures code { IfOk result (λ l. l.code ≡ program_code (program_of checked.now.program.parts)) }
+    ensures follows { IfOk result (λ l. Follows l.code (program_of checked.now.program.parts)) }
+    ensures text { IfOk result (λ l. l.text.items ≡ text_spec l.code) }
+{
+    let code = lower(alloc, checked)?;
+    let text = code_text(alloc, &code)?;
+    Ok(Listing { code, text })
+}
+
+/// Writes the code of a program, as one piece. Where memory is wanting nothing is written.
+pub fn write_code<K: Sink>(alloc: Global, checked: &Checked, out: &mut K) -> Coded
+    ensures { CodeSays result.ending (program_of checked.now.program.parts) (K.state out.old) (K.state out.new) result.code }
+{
+    match listing_of(alloc, checked) {
+        Ok(Listing { code, text }) => match write_text(out, &text) {
+            Ok(()) => Coded {
+                ending: Ending::Done,
+                code: Some(code),
+            },
+            Err(_) => Coded {
+                ending: Ending::CantWrite,
+                code: Some(code),
+            },
+        },
+        Err(Memory) => Coded {
+            ending: Ending::NoMemory,
+            code: None,
+        },
+    }
+}
