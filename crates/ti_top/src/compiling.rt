@@ -92,7 +92,8 @@ pub fn one_answer()
 }
 
 /// The program of a text, which is aligned: the text becomes tokens, these become a tree, the tree becomes a program with a number in
-/// place of each name, and a program is checked against the rules of types, qualifiers and single values.
+/// place of each name, and a program is checked against the rules of types, qualifiers and single values. What isn't needed any more
+/// gives its room back at once.
 pub fn compile(alloc: Global, text: &[u8]) -> Result<Checked, CompileErr>
     ensures { Compiles text.now result }
 {
@@ -100,7 +101,9 @@ pub fn compile(alloc: Global, text: &[u8]) -> Result<Checked, CompileErr>
     one_program();
     let tokens = lex(alloc, text)?;
     let tree = parse(alloc, &tokens)?;
+    drop(tokens);
     let program = resolve(alloc, &tree)?;
+    drop(tree);
     let checked = check(alloc, program)?;
     aligned(&checked);
     Ok(checked)
