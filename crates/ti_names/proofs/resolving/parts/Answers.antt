@@ -37,5 +37,5 @@ returns-clause-part c =
     let methods_are : map numbered_method_of c.in_ok-methods.field-0.methods.items ≡ number_methods text 0 (methods_of text) = c.in_ok-methods.ensures.part ∙ (λ j. number_methods (same j) 0 (owns j)) in
     let literals_are : c.in_ok-methods.field-0.literals.texts.items ≡ literals_of_text text = c.in_ok-methods.ensures.literals ∙ ap (flat_map (λ (own : OwnMethod). literals_in (stms own.method.body))) owns in
     let names_are : c.args.names.items ≡ names_of text = c.requires.names in
-    let main_is : c.main_number.result ≡ unwrap_or (main_method text) 0 = c.main_number.ensures ∙ ap (λ t. unwrap_or (main_method t) 0) same in
-    λ j. record { classes = classes_are j; methods = methods_are j; main = main_is j; names = names_are j; literals = literals_are j }
+    let main_is : c.main_number-main.result ≡ unwrap_or (main_method text) 0 = c.main_number-main.ensures ∙ ap (λ t. unwrap_or (main_method t) 0) same in
+    c.in_ok-part.ensures ∙ (λ j. record { classes = classes_are j; methods = methods_are j; main = main_is j; names = names_are j; literals = literals_are j })
