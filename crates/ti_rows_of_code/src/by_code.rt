@@ -99,8 +99,7 @@ pub(crate) fn follow(
     requires number { number < 2 ^ 31 }
     requires procs { limits.procs < 2 ^ 31 }
 {
-    let Some(mut process) = Proc::start_there(alloc, code, number, limits.procs, limits.fuel)
-    else {
+    let Some(mut process) = Proc::start_there(alloc, code, number, limits.procs, limits.fuel) else {
         return Err(Stray {
             entry: 0,
             next: None,

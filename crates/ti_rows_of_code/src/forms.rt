@@ -69,13 +69,7 @@ pub(crate) fn formed(answer: Answer) -> Option<Answer>
 {
     match answer {
         Answer::Val(Value::Rc(r)) => formed_rect(&r),
-        Answer::Val(Value::Pt(p)) => {
-            if is_point(p) {
-                Some(answer)
-            } else {
-                None
-            }
-        }
+        Answer::Val(Value::Pt(p)) => { if is_point(p) { Some(answer) } else { None } }
         _ => Some(answer),
     }
 }

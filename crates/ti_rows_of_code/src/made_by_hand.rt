@@ -1,6 +1,6 @@
 // Code that is made by hand: its text, and how many instructions a process of it has finished in front of each thing that it has next.
 
-ghost use Rattle.std.specs.Prelude.{◌≡◌, IsTrue, IfOk};
+ghost use Rattle.std.specs.Prelude.{◌≡◌, IsTrue, IfOk, false};
 ghost use Rattle.ti_code.specs.JumpRule.{jumps_fit};
 ghost use Rattle.ti_machine.specs.Standing.{IsFormed};
 
@@ -19,14 +19,19 @@ fn at(line: u32, col: u32) -> Place {
 fn alone(alloc: Global, instrs: Vec<Instr>) -> Result<Code, AllocError>
     requires { IsTrue (jumps_fit (record { instance = false; params = 0; instrs = instrs.items })) }
 {
-    let methods = vec![in alloc; MethodCode { instance: false, params: 0, instrs: Instrs::new(instrs) }]?;
+    let methods = vec![in alloc;
+        MethodCode {
+            instance: false,
+            params: 0,
+            instrs: Instrs::new(instrs)
+        },
+    ]?;
     Ok(Code::new(methods, 0))
 }
 
 /// Code that prints a number.
 fn printing(alloc: Global) -> Result<Code, AllocError> {
-    let instrs = vec![
-        in alloc;
+    let instrs = vec![in alloc;
         Instr::Const(Value::Int(3)),
         Instr::Print(None, true, at(1, 62)),
         Instr::Stop(at(1, 74)),
@@ -36,8 +41,7 @@ fn printing(alloc: Global) -> Result<Code, AllocError> {
 
 /// Code that prints the own number again and again, up to its last tick.
 fn turning(alloc: Global) -> Result<Code, AllocError> {
-    let instrs = vec![
-        in alloc;
+    let instrs = vec![in alloc;
         Instr::Tick(at(1, 1)),
         Instr::ThisProc,
         Instr::Print(None, true, at(1, 5)),

@@ -38,7 +38,13 @@ fn heading(line: &str) -> Option<(Limits, &str)>
 }
 
 /// Judges the program of a text, and counts it where it agrees.
-fn judge(rt: &HostRuntime, name: &str, text: &str, limits: Limits, count: Count) -> io::Result<Count>
+fn judge(
+    rt: &HostRuntime,
+    name: &str,
+    text: &str,
+    limits: Limits,
+    count: Count,
+) -> io::Result<Count>
     requires { IsWithin limits.procs limits.fuel }
 {
     match judged(rt.alloc(), text.as_bytes(), limits) {

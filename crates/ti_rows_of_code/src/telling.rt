@@ -49,7 +49,12 @@ fn tell_next(rt: &HostRuntime, label: &str, line: &[u8]) -> io::Result<()> {
 }
 
 /// Tells what a process has next, behind a label.
-pub(crate) fn tell(rt: &HostRuntime, label: &str, number: u32, next: Option<Next>) -> io::Result<()> {
+pub(crate) fn tell(
+    rt: &HostRuntime,
+    label: &str,
+    number: u32,
+    next: Option<Next>,
+) -> io::Result<()> {
     let Some(next) = next else {
         return println!(rt; "  {label} nothing");
     };
