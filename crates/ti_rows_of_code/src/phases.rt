@@ -1,5 +1,8 @@
 // The checked program of a text.
 
+ghost use Rattle.std.specs.Prelude.{IfSome};
+ghost use Rattle.ti_parse_expr.specs.Answers.{EndsAtEnd};
+
 use std::alloc::Global;
 use ti_check::check;
 use ti_lang::program::Program;
@@ -7,13 +10,21 @@ use ti_lex::lex;
 use ti_names::resolve;
 use ti_parse::parse;
 use ti_rules::Checked;
+use ti_syntax::Token;
 use ti_syntax::tree::Tree;
 
-fn parsed(alloc: Global, text: &[u8]) -> Option<Tree> {
+fn tokens(alloc: Global, text: &[u8]) -> Option<Vec<Token>>
+    ensures { IfSome result (λ list. EndsAtEnd list.items) }
+{
     match lex(alloc, text) {
-        Ok(tokens) => parse(alloc, &tokens).ok(),
+        Ok(list) => Some(list),
         Err(_) => None,
     }
+}
+
+fn parsed(alloc: Global, text: &[u8]) -> Option<Tree> {
+    let list = tokens(alloc, text)?;
+    parse(alloc, &list).ok()
 }
 
 fn resolved(alloc: Global, text: &[u8]) -> Option<Program> {
