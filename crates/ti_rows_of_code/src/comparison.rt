@@ -1,0 +1,152 @@
+// The run of a program by trees against its code.
+
+ghost use Rattle.std.specs.Prelude.{◌≤◌, ◌<◌};
+ghost use Rattle.ti_store.specs.Conditions.{IsWithin};
+ghost use Rattle.ti_machine.specs.Standing.{IsFormed};
+
+use crate::by_code::{Course, Stray, follow, is_same, next_in};
+use crate::by_trees::{Limits, next_by_trees};
+use crate::phases::checked_of;
+use std::alloc::Global;
+use ti_base::{Entry, Next};
+use ti_code::Code;
+use ti_lower::lower;
+use ti_machine::is_formed;
+use ti_rules::Checked;
+use ti_runtime::{How, RunEnd, run};
+
+/// Where a process of code does something else than that of trees: at the entry of this number in the history, or behind the last; what
+/// each of the two has next there.
+#[derive(Clone, Copy)]
+pub(crate) struct Parting {
+    pub number: u32,
+    pub entry: usize,
+    pub expected: Option<Next>,
+    pub found: Option<Next>,
+}
+
+/// What comes of a program.
+#[derive(Clone, Copy)]
+pub(crate) enum Outcome {
+    /// All processes of code agree with their entries, of which there are so many.
+    Agrees(usize),
+    /// One of them doesn't.
+    Parts(Parting),
+    /// The text is refused, or memory is wanting for its program or its code.
+    Refused,
+    /// Memory is wanting for the run.
+    Memory,
+    /// An instruction of the code isn't in its form.
+    Formless,
+    /// An entry is of no process.
+    Stranger,
+}
+
+/// A program, its code and its run by trees.
+#[derive(Drop)]
+struct Ran {
+    checked: Checked,
+    code: Code,
+    end: RunEnd,
+}
+
+fn ran_of(alloc: Global, text: &[u8], limits: Limits) -> Option<Ran>
+    requires { IsWithin limits.procs limits.fuel }
+{
+    let checked = checked_of(alloc, text)?;
+    let code = lower(alloc, &checked).ok()?;
+    let end = run(alloc, &checked, limits.procs, limits.fuel);
+    Some(Ran { checked, code, end })
+}
+
+/// Whether a process may have this next where a run is over.
+fn may_stand(how: How, next: Next) -> bool {
+    match how {
+        How::Ended => matches!(next, Next::End(_)),
+        How::Faulted | How::Memory => true,
+    }
+}
+
+/// Whether code has the same next behind a history as trees have.
+fn is_agreed(how: How, expected: Option<Next>, found: Option<Next>) -> bool {
+    match (expected, found) {
+        (Some(expected), Some(found)) => is_same(expected, found) && may_stand(how, found),
+        _ => false,
+    }
+}
+
+/// What the history says that the process had next at an entry.
+fn expected_at(history: &[Entry], n: usize) -> Option<Next> {
+    match history.get(n) {
+        Some(entry) => Some(next_in(entry)),
+        None => None,
+    }
+}
+
+/// How many entries a process has, where its code agrees with them and with its trees behind them.
+fn compared(alloc: Global, ran: &Ran, limits: Limits, number: u32) -> Result<usize, Parting>
+    requires formed { IsFormed ran.now.code }
+    requires few { limits.procs ≤ 32 }
+    requires number { number < limits.procs }
+{
+    let history = ran.end.history.as_slice();
+    match follow(alloc, &ran.code, limits, number, history) {
+        Err(Stray { entry, next }) => Err(Parting {
+            number,
+            entry,
+            expected: expected_at(history, entry),
+            found: next,
+        }),
+        Ok(Course { entries, next }) => {
+            let expected = next_by_trees(alloc, &ran.checked, limits, number, history).ok();
+            if is_agreed(ran.end.how, expected, next) {
+                Ok(entries)
+            } else {
+                Err(Parting {
+                    number,
+                    entry: history.len(),
+                    expected,
+                    found: next,
+                })
+            }
+        }
+    }
+}
+
+/// How many entries all processes have, where their code agrees.
+fn all_compared(alloc: Global, ran: &Ran, limits: Limits) -> Result<usize, Parting>
+    requires formed { IsFormed ran.now.code }
+    requires few { limits.procs ≤ 32 }
+{
+    let mut entries = 0usize;
+    for number in 0..limits.procs {
+        entries = entries.wrapping_add(compared(alloc, ran, limits, number)?);
+    }
+    Ok(entries)
+}
+
+fn judged_run(alloc: Global, ran: &Ran, limits: Limits) -> Outcome
+    requires { limits.procs ≤ 32 }
+{
+    if !is_formed(&ran.code) {
+        return Outcome::Formless;
+    }
+    if matches!(ran.end.how, How::Memory) {
+        return Outcome::Memory;
+    }
+    match all_compared(alloc, ran, limits) {
+        Ok(entries) if entries == ran.end.history.len() => Outcome::Agrees(entries),
+        Ok(_) => Outcome::Stranger,
+        Err(parting) => Outcome::Parts(parting),
+    }
+}
+
+/// What comes of the program of a text, with so many processes and ticks.
+pub(crate) fn judged(alloc: Global, text: &[u8], limits: Limits) -> Outcome
+    requires { IsWithin limits.procs limits.fuel }
+{
+    match ran_of(alloc, text, limits) {
+        Some(ran) => judged_run(alloc, &ran, limits),
+        None => Outcome::Refused,
+    }
+}

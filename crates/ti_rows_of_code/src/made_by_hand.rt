@@ -1,0 +1,115 @@
+// Code that is made by hand: its text, and how many instructions a process of it has finished in front of each thing that it has next.
+
+ghost use Rattle.std.specs.Prelude.{◌≡◌, IsTrue, IfOk, false};
+ghost use Rattle.ti_code.specs.JumpRule.{jumps_fit};
+ghost use Rattle.ti_machine.specs.Standing.{IsFormed};
+
+use crate::telling::tell;
+use std::alloc::{AllocError, Global};
+use std::io;
+use ti_base::{Answer, Next, Place, Value};
+use ti_code::{Code, Instr, Instrs, MethodCode, code_text};
+use ti_machine::{Proc, is_formed};
+
+fn at(line: u32, col: u32) -> Place {
+    Place { line, col }
+}
+
+/// The code of one method without a `this` and without parameters.
+fn alone(alloc: Global, instrs: Vec<Instr>) -> Result<Code, AllocError>
+    requires { IsTrue (jumps_fit (record { instance = false; params = 0; instrs = instrs.items })) }
+{
+    let methods = vec![in alloc;
+        MethodCode {
+            instance: false,
+            params: 0,
+            instrs: Instrs::new(instrs)
+        },
+    ]?;
+    Ok(Code::new(methods, 0))
+}
+
+/// Code that prints a number.
+fn printing(alloc: Global) -> Result<Code, AllocError> {
+    let instrs = vec![in alloc;
+        Instr::Const(Value::Int(3)),
+        Instr::Print(None, true, at(1, 62)),
+        Instr::Stop(at(1, 74)),
+    ]?;
+    alone(alloc, instrs)
+}
+
+/// Code that prints the own number again and again, up to its last tick.
+fn turning(alloc: Global) -> Result<Code, AllocError> {
+    let instrs = vec![in alloc;
+        Instr::Tick(at(1, 1)),
+        Instr::ThisProc,
+        Instr::Print(None, true, at(1, 5)),
+        Instr::Const(Value::Bool(true)),
+        Instr::JumpIf(0),
+        Instr::Stop(at(1, 9)),
+    ]?;
+    alone(alloc, instrs)
+}
+
+/// Tells how many instructions a process has finished, and what it has next; then it is told that this was done.
+fn tell_next(rt: &HostRuntime, code: &Code, process: &mut Proc) -> io::Result<bool>
+    requires code { code.now ≡ process.old.code }
+    requires formed { IsFormed code.now }
+    ensures { IfOk result (λ _. code.now ≡ process.new.code) }
+{
+    let Ok(next) = process.advance_within(rt.alloc(), code, 100) else {
+        return Ok(false);
+    };
+    let finished = process.finished();
+    println!(rt; "finished {finished}")?;
+    tell(rt, "next", 0, next)?;
+    if let Some(Next::Act(_, _)) = next {
+        process.answer(Answer::Done);
+        return Ok(true);
+    }
+    Ok(false)
+}
+
+/// Tells that of a process alone with 4 ticks, up to its end.
+fn tell_course(rt: &HostRuntime, code: &Code) -> io::Result<()>
+    requires { IsFormed code.now }
+{
+    let Some(mut process) = Proc::start_there(rt.alloc(), code, 0, 1, 4) else {
+        return Ok(());
+    };
+    for _ in 0..9 {
+        if !tell_next(rt, code, &mut process)? {
+            return Ok(());
+        }
+    }
+    Ok(())
+}
+
+fn tell_text(rt: &HostRuntime, code: &Code) -> io::Result<()> {
+    match code_text(rt.alloc(), code) {
+        Ok(text) => {
+            let text = String::from_utf8_lossy(rt.alloc(), &text)?;
+            print!(rt; "{text}")
+        }
+        Err(_) => println!(rt; "the text wants memory"),
+    }
+}
+
+/// Tells the text of code, and the course of a process.
+fn tell_code(rt: &HostRuntime, code: &Code) -> io::Result<()> {
+    tell_text(rt, code)?;
+    if is_formed(code) {
+        tell_course(rt, code)
+    } else {
+        println!(rt; "an instruction isn't in its form")
+    }
+}
+
+/// Tells what comes of code that is made by hand.
+pub(crate) fn tell_made(rt: &HostRuntime) -> io::Result<()> {
+    let printing = printing(rt.alloc())?;
+    tell_code(rt, &printing)?;
+    let turning = turning(rt.alloc())?;
+    tell_code(rt, &turning)
+}

@@ -1,0 +1,30 @@
+//! Programs whose code must do what their trees do, from the files that the arguments name. A program whose code does something else is
+//! printed with the first entry where it does, and at the end how many programs agree and how many entries they have; then comes the text
+//! of code that is made by hand, and how many instructions a process of it finishes. Nothing of the programs is proved.
+#![tactic(auto)]
+
+mod by_code;
+mod by_trees;
+mod comparison;
+mod forms;
+mod made_by_hand;
+mod phases;
+mod programs;
+mod telling;
+
+use made_by_hand::tell_made;
+use programs::{Count, judge_file};
+use std::{env, io};
+
+fn main(rt: HostRuntime) -> io::Result<()> {
+    let mut count = Count {
+        programs: 0,
+        entries: 0,
+    };
+    for file in env::args(&rt)?.skip(1) {
+        count = judge_file(&rt, file.as_str(), count)?;
+    }
+    let Count { programs, entries } = count;
+    println!(rt; "{programs} programs agree, {entries} entries")?;
+    tell_made(&rt)
+}
