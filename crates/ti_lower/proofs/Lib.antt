@@ -1,6 +1,7 @@
 mod Writing
 mod Cutting
 mod Receiving
+mod FirstPlaces
 mod Lengths
 mod Arguments
 mod Meeting

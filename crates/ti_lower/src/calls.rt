@@ -1,6 +1,6 @@
 // Calls of declared methods.
 
-ghost use Rattle.std.specs.Prelude.{◌≡◌, ◌==◌, ◌&&◌, Some, OnOk, IfOk, map};
+ghost use Rattle.std.specs.Prelude.{◌≡◌, ◌==◌, ◌&&◌, Some, OnOk, IfOk, length, map};
 ghost use Rattle.std.specs.List.{position_or_len};
 ghost use Rattle.std.specs.Option.{option_map};
 ghost use Rattle.ti_lang.specs.Program.Classes.{NumberedMethod};
@@ -90,18 +90,20 @@ pub fn call_at<'a>(program: &'a Parts, this: Option<u32>, x: &'a Expr) -> Option
     }
 }
 
-// The number of the first method of a class and a name, or how many there are.
-fn position_of(methods: &[Method], class: u32, name: u32) -> usize
-    ensures { result ≡ position_or_len (λ (m : NumberedMethod). (m.class == class) && (m.name == name)) (map numbered_method_of methods.now) }
+fn how_many(methods: &[Method]) -> usize
+    ensures { result ≡ length methods.now }
 {
-    let mut i = 0;
-    while i < methods.len() {
-        if methods[i].class == class && methods[i].name == name {
-            return i;
-        }
-        i += 1;
+    methods.len()
+}
+
+// The number of the first method of a class and a name, or how many there are.
+fn position_of(program: &Parts, class: u32, name: u32) -> usize
+    ensures { result ≡ position_or_len (λ (m : NumberedMethod). (m.class == class) && (m.name == name)) (program_of program.now).methods }
+{
+    match program.first_method(class, name) {
+        Some(number) => number,
+        None => how_many(&program.methods),
     }
-    i
 }
 
 /// The number of the method that an expression calls; of another expression it means nothing.
@@ -125,7 +127,7 @@ pub fn number_called(program: &Parts, this: Option<u32>, x: &Expr) -> Result<u32
             name,
             args: _,
         } => match type_in_text(program, this, receiver) {
-            Seen::Class { class, local: _ } => counted(position_of(&program.methods, class, *name)),
+            Seen::Class { class, local: _ } => counted(position_of(program, class, *name)),
             _ => Ok(0),
         },
         _ => Ok(0),
