@@ -1,8 +1,8 @@
 -- How a run begins and ends.
-use Rattle.std.proofs.Common.{◌≡◌, ℕ, ◌<◌, ◌≤◌, nat_lt, Bool, true, false, List, [], ◌∷◌, ◌++◌, length, get_or, Some, refl, sym, ◌∙◌, subst, arith, ltb-true, length-append}
+use Rattle.std.proofs.Common.{◌≡◌, ℕ, ◌+◌, ◌<◌, ◌≤◌, nat_lt, ◌==◌, Bool, true, false, List, [], ◌∷◌, ◌++◌, length, get_or, slice_set, Some, refl, sym, ap, ◌∙◌, subst, arith, eqb-true, ltb-true, length-append, get_or-set_same, get_or-set_other}
 use Rattle.std.specs.Prelude.{slice_get}
-use Rattle.std.proofs.lemmas.Bool.{ltb-false}
-use Rattle.std.proofs.lemmas.List.{get_or_append_left, get_or_push}
+use Rattle.std.proofs.lemmas.Bool.{eqb-false, ltb-false}
+use Rattle.std.proofs.lemmas.List.{get_or_append_left, get_or_default, get_or_push}
 use Rattle.std.proofs.lemmas.Option.{get_or_from_slice_get, slice_get_within}
 use Rattle.ti_base.specs.declared.entry.Entry.{Entry}
 use Rattle.ti_lang.specs.Meaning.Processes.{Setting}
@@ -10,9 +10,14 @@ use Rattle.ti_lang.specs.Meaning.Histories.{has_end, has_fault}
 use Rattle.ti_lang.specs.Meaning.Runs.{IsRun, IsSolo, AllEnded}
 use Rattle.ti_lang.specs.Meaning.Runs as run
 use Rattle.ti_lang.proofs.MeaningLaws.Running.{solo_run}
-use Rattle.ti_align.specs.Alignment.{NoneStuck}
+use Rattle.ti_align.specs.Alignment.{NoneStuck, IsAligned, OfEveryRun}
+use Rattle.ti_align.specs.Answering.{AnswersFit}
+use Rattle.ti_align.specs.Stopping.{RoundsBalance}
+use Rattle.ti_store.specs.Conditions.{IsWithin}
+use Rattle.ti_store.specs.Stores.{StoreState, setting_of}
 use Rattle.ti_code.specs.Programs.{Code}
-use Rattle.ti_machine.specs.Standing.{HasFinished}
+use Rattle.ti_code.specs.Follows.{Follows}
+use Rattle.ti_machine.specs.Standing.{HasFinished, IsFormed}
 use Rattle.ti_machine.proofs.Withins.{some_there}
 use Rattle.ti_runtime.specs.declared.cursor.Cursor.{Cursor}
 use Rattle.ti_runtime.specs.declared.seat.Seat.{Seat}
@@ -22,7 +27,7 @@ use Rattle.ti_runtime.specs.declared.runner.How.TheVariants as how
 use Rattle.ti_runtime.specs.declared.runner.RunEnd.{RunEnd}
 use Rattle.ti_runtime.specs.Ran.{standing_of, IsDone, Ran}
 use Rattle.ti_runtime.specs.MirrorsWaiting.{Waits, Rests}
-use Rattle.ti_runtime.specs.MirrorsTeam.{Seated, AllSeated, Stands, Stopped, CameTo}
+use Rattle.ti_runtime.specs.MirrorsTeam.{Seated, AllSeated, IsOpen, Stands, Stopped, CameTo}
 use Rattle.ti_runtime.proofs.Waiting.{rest_takes_none}
 
 true_false : true ≡ false → ⊥
@@ -62,6 +67,23 @@ begins code s seats count seated = record {
     together = λ i l. none_below (λ k. Waits s [] k → (j : ℕ) → j < 0 → Rests s [] j) i l;
   };
 }
+
+-- a store before the first entry
+pub opens : (code : Code) (s : Setting) (st : StoreState) → setting_of st ≡ s → st.entries ≡ [] → st.halted ≡ false → IsWithin s.procs s.fuel → Follows code s.program → IsFormed code
+    → IsAligned s.program → OfEveryRun RoundsBalance s.program → OfEveryRun AnswersFit s.program → IsOpen code st
+opens code s st is none unhalted within follows formed aligned balance fit = record {
+  unhalted = unhalted;
+  goes_on = ap has_fault none;
+  within = subst (λ (x : Setting). IsWithin x.procs x.fuel) (sym is) within;
+  follows = subst (λ (x : Setting). Follows code x.program) (sym is) follows;
+  formed = formed;
+  aligned = subst (λ (x : Setting). IsAligned x.program) (sym is) aligned;
+  balance = subst (λ (x : Setting). OfEveryRun RoundsBalance x.program) (sym is) balance;
+  fit = subst (λ (x : Setting). OfEveryRun AnswersFit x.program) (sym is) fit;
+}
+
+pub stands_first : (code : Code) (s : Setting) (st : StoreState) (seats : List Seat) (c : Cursor) → setting_of st ≡ s → st.entries ≡ [] → Stands code s [] seats c → Stands code (setting_of st) st.entries seats c
+stands_first code s st seats c is none x = subst (λ t. Stands code t st.entries seats c) (sym is) (subst (λ es. Stands code s es seats c) (sym none) x)
 
 -- ---- the end
 
@@ -112,6 +134,20 @@ unbegun code s end l m e = record {
   where
     some : (n : ℕ) → 1 ≤ n → 0 < n
     some n l = omega arith
+
+-- one number more
+pub finished_on : (seats : List Seat) (done : List ℕ) (n k : ℕ) (seat : Seat) → n < length seats → length done ≡ length seats → seat ≡ get_or seats n seat → HasFinished seat.process k
+    → ((d : Seat) (i : ℕ) → i < n → HasFinished (get_or seats i d).process (get_or done i 0)) → (d : Seat) (i : ℕ) → i < n + 1 → HasFinished (get_or seats i d).process (get_or (slice_set done n k) i 0)
+finished_on seats done n k seat inside even is one before d i l = by (n == i) refl
+  where
+    by : (b : Bool) → (n == i) ≡ b → HasFinished (get_or seats i d).process (get_or (slice_set done n k) i 0)
+    by true h =
+        let here : get_or seats n d ≡ seat = get_or_default seats n d seat inside ∙ sym is in
+        let there = subst (λ j. HasFinished seat.process j) (sym (get_or-set_same done n k 0 (omega arith))) one in
+        subst (λ j. HasFinished (get_or seats j d).process (get_or (slice_set done n k) j 0)) (eqb-true n i h) (subst (λ (x : Seat). HasFinished x.process (get_or (slice_set done n k) n 0)) (sym here) there)
+    by false h =
+        let apart = eqb-false n i h in
+        subst (λ j. HasFinished (get_or seats i d).process j) (sym (get_or-set_other done n i k 0 (λ e. apart (sym e)))) (before d i (omega (arith, apart)))
 
 -- the numbers that the seats tell are those of the answers of the run
 done_is : (code : Code) (s : Setting) (es : List Entry) (seats : List Seat) (done : List ℕ) → length seats ≡ s.procs → AllSeated code s es seats → length done ≡ length seats

@@ -258,8 +258,7 @@ module _ (code : Code) (st : StoreState) (o : IsOpen code st) (solo : IsSolo (se
   faulted new kind r =
       let e = fault_entry i (place_of old) kind in
       let after : new.entries ≡ es ++ e ∷ [] = ap (λ (x : StoreState). x.entries) r.1 in
-      let unended : has_end i (es ++ e ∷ []) ≡ old.ended = end_more i es e refl ∙ or_none (has_end i es) false refl ∙ y.ended in
-      (
+      let unended : has_end i (es ++ e ∷ []) ≡ old.ended = end_more i es e refl ∙ or_none (has_end i es) false refl ∙ y.ended in (
         record { entry = e; can = taken code st i old e l o.goes_on u y r.0; after = after },
         refl,
         subst (λ xs. Seated code s xs i old) (sym after) (seated_with code s es (es ++ e ∷ []) i old old.ended (answers_still i es e refl refl) unended y),
@@ -269,7 +268,7 @@ module _ (code : Code) (st : StoreState) (o : IsOpen code st) (solo : IsSolo (se
 
 -- a process that advanced stands at what it has next
 pub stood : (t u v : Standing) (n : Next) (ended : Bool) → u ≡ t → HasNext u n → v ≡ record u { asks = is_act n } → StandsAt t (record { process = v; next = n; ended = ended })
-stood t u v n ended e h k = record { process = k ∙ ap (λ x. record x { asks = is_act n }) e; next = subst (λ x. HasNext x n) e h }
+stood t u v n ended e h k = record { process = k ∙ ap (λ (x : Standing). record x { asks = is_act n }) e; next = subst (λ x. HasNext x n) e h }
 
 pub moved : (old : Seat) (answer : Answer) (u v : Standing) (n : Next) (t : Turn) → t ≡ (if is_arrival (action_of old) then turn.Arrived else turn.Went) → is_act old.next ≡ true
     → u ≡ told_more old.process answer → HasNext u n → v ≡ record u { asks = is_act n } → Moves old answer (record { process = v; next = n; ended = old.ended }) t

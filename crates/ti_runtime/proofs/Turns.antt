@@ -14,6 +14,7 @@ use Rattle.ti_align.specs.Alignment.{OfEveryRun}
 use Rattle.ti_align.specs.Stopping.{RoundsBalance}
 use Rattle.ti_align.proofs.Vars.{or_right}
 use Rattle.ti_store.specs.Conditions.{IsWithin}
+use Rattle.ti_store.specs.Stores.{StoreState}
 use Rattle.ti_store.proofs.OneMore.{fault_more}
 use Rattle.ti_code.specs.Programs.{Code}
 use Rattle.ti_runtime.specs.declared.cursor.Cursor.{Cursor}
@@ -23,7 +24,7 @@ use Rattle.ti_runtime.specs.declared.seat.Seat.{Seat}
 use Rattle.ti_runtime.specs.declared.seat.Stop.{Stop}
 use Rattle.ti_runtime.specs.declared.seat.Stop.TheVariants as stop
 use Rattle.ti_runtime.specs.MirrorsWaiting.{Waits, Rests}
-use Rattle.ti_runtime.specs.MirrorsTeam.{Seated, AllSeated, Takes, steps_left, all_steps_left, GoesOn, StopsAt, TurnLeaves, cursor_after, Points, Stands, StandsOn, Stopped}
+use Rattle.ti_runtime.specs.MirrorsTeam.{IsOpen, Seated, AllSeated, Takes, steps_left, all_steps_left, GoesOn, StopsAt, TurnLeaves, cursor_after, Points, Stands, StandsOn, Stopped}
 use Rattle.ti_runtime.proofs.Entries.{end_more, other_more}
 use Rattle.ti_runtime.proofs.Seats.{seated_with}
 use Rattle.ti_runtime.proofs.Waiting.{rest_takes_none, rests_still, wait_together}
@@ -35,6 +36,19 @@ true_false e = cc
 -- what holds of every run of a program holds of a solo run
 pub law_of : (fact : Setting → List Entry → Type 0) (s : Setting) (es : List Entry) → OfEveryRun fact s.program → IsWithin s.procs s.fuel → IsSolo s es → fact s es
 law_of fact s es all w solo = all s.procs s.fuel es w.some w.few w.fueled w.limited (solo_run s es solo)
+
+-- a store goes on being open as it grows
+pub open_on : (code : Code) (old new : StoreState) → new ≡ record old { entries = new.entries } → has_fault new.entries ≡ false → IsOpen code old → IsOpen code new
+open_on code old new is f o = subst (IsOpen code) (sym is) (record {
+  unhalted = o.unhalted;
+  goes_on = f;
+  within = o.within;
+  follows = o.follows;
+  formed = o.formed;
+  aligned = o.aligned;
+  balance = o.balance;
+  fit = o.fit;
+})
 
 -- ---- a run with one entry more
 
