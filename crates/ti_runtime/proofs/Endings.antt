@@ -22,7 +22,6 @@ use Rattle.ti_machine.proofs.Withins.{some_there}
 use Rattle.ti_runtime.specs.declared.cursor.Cursor.{Cursor}
 use Rattle.ti_runtime.specs.declared.seat.Seat.{Seat}
 use Rattle.ti_runtime.specs.declared.seat.Stop.TheVariants as stop
-use Rattle.ti_runtime.specs.declared.runner.How.{How}
 use Rattle.ti_runtime.specs.declared.runner.How.TheVariants as how
 use Rattle.ti_runtime.specs.declared.runner.RunEnd.{RunEnd}
 use Rattle.ti_runtime.specs.Ran.{standing_of, IsDone, Ran}

@@ -263,17 +263,3 @@ module _ (code : Code) (st : StoreState) (o : IsOpen code st) (solo : IsSolo (se
         refl,
         subst (λ xs. Seated code s xs i old) (sym after) (seated_with code s es (es ++ e ∷ []) i old old.ended (answers_still i es e refl refl) unended y),
       )
-
--- ---- seats that are taken, and that hear an answer
-
--- a process that advanced stands at what it has next
-pub stood : (t u v : Standing) (n : Next) (ended : Bool) → u ≡ t → HasNext u n → v ≡ record u { asks = is_act n } → StandsAt t (record { process = v; next = n; ended = ended })
-stood t u v n ended e h k = record { process = k ∙ ap (λ (x : Standing). record x { asks = is_act n }) e; next = subst (λ x. HasNext x n) e h }
-
-pub moved : (old : Seat) (answer : Answer) (u v : Standing) (n : Next) (t : Turn) → t ≡ (if is_arrival (action_of old) then turn.Arrived else turn.Went) → is_act old.next ≡ true
-    → u ≡ told_more old.process answer → HasNext u n → v ≡ record u { asks = is_act n } → Moves old answer (record { process = v; next = n; ended = old.ended }) t
-moved old answer u v n t w x e h k = record {
-  turn = w;
-  ends = λ y. absurd (true_false (sym x ∙ y));
-  hears = λ y. record { stands = stood (told_more old.process answer) u v n old.ended e h k; ended = refl };
-}
