@@ -18,7 +18,6 @@ use Rattle.ti_store.specs.Stores.{StoreState, setting_of}
 use Rattle.ti_code.specs.Programs.{Code}
 use Rattle.ti_code.specs.Follows.{Follows}
 use Rattle.ti_machine.specs.Standing.{HasFinished, IsFormed}
-use Rattle.ti_machine.proofs.Withins.{some_there}
 use Rattle.ti_runtime.specs.declared.cursor.Cursor.{Cursor}
 use Rattle.ti_runtime.specs.declared.seat.Seat.{Seat}
 use Rattle.ti_runtime.specs.declared.seat.Stop.TheVariants as stop
@@ -148,6 +147,10 @@ finished_on seats done n k seat inside even is one before d i l = by (n == i) re
         let apart = eqb-false n i h in
         subst (λ j. HasFinished (get_or seats i d).process j) (sym (get_or-set_other done n i k 0 (λ e. apart (sym e)))) (before d i (omega (arith, apart)))
 
+some_seat : (seats : List Seat) (i : ℕ) → i < length seats → Seat
+some_seat [] i l = absurd (omega arith)
+some_seat (x ∷ xs) i l = x
+
 -- the numbers that the seats tell are those of the answers of the run
 done_is : (code : Code) (s : Setting) (es : List Entry) (seats : List Seat) (done : List ℕ) → length seats ≡ s.procs → AllSeated code s es seats → length done ≡ length seats
     → ((d : Seat) (i : ℕ) → i < length seats → HasFinished (get_or seats i d).process (get_or done i 0)) → IsDone code s es done
@@ -156,7 +159,7 @@ done_is code s es seats done count seated even each = record { count = even ∙ 
     one : (i n : ℕ) → slice_get done i ≡ Some n → HasFinished (standing_of code s es i) n
     one i n z =
         let inside : i < length seats = omega (arith, slice_get_within done i n z, even) in
-        let d = (some_there seats i inside).0 in
+        let d = some_seat seats i inside in
         subst (λ t. HasFinished t n) (seated d i inside).process (subst (λ k. HasFinished (get_or seats i d).process k) (get_or_from_slice_get done i n 0 z) (each d i inside))
 
 pub ran : (code : Code) (s : Setting) (end : RunEnd) (es : List Entry) (seats : List Seat) → end.history.items ≡ es → CameTo code s es seats end.how → length end.done.items ≡ length seats

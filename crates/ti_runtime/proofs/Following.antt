@@ -16,8 +16,7 @@ use Rattle.ti_lang.proofs.MeaningLaws.Total.{next_some}
 use Rattle.ti_align.specs.Answering.{AnswersFit}
 use Rattle.ti_code.specs.Programs.{Code}
 use Rattle.ti_code.specs.Follows.{Fit, Follows}
-use Rattle.ti_machine.specs.Standing.{HasNext, GoesOn, begun_of}
-use Rattle.ti_machine.proofs.Paths.{next_same}
+use Rattle.ti_machine.specs.Standing.{Standing, HasNext, GoesOn}
 use Rattle.ti_store.specs.Conditions.{IsWithin}
 use Rattle.ti_runtime.specs.declared.seat.Seat.{Seat}
 use Rattle.ti_runtime.specs.Ran.{standing_of}
@@ -116,6 +115,10 @@ world_more s es e p at a x is told =
 
 -- ---- the code stands there too
 
+-- a process of code has one thing next
+abbrev pub OneNext : Type 0
+OneNext = (t : Standing) (m n : Next) → HasNext t m → HasNext t n → m ≡ n
+
 no_entry : (before rest : List Entry) (e : Entry) → [] ≡ before ++ e ∷ rest → ⊥
 no_entry [] rest e z = cc
 no_entry (x ∷ before) rest e z = cc
@@ -131,10 +134,10 @@ module _ (code : Code) (s : Setting) (f : Follows code s.program) (w : IsWithin 
   code_goes_on = let n = next_some q in (n.0, code_next n.0 n.1)
 
   -- what the code has next is what the program has
-  pub seated : (seat : Seat) → StandsAt (standing_of code s es i) seat → has_end i es ≡ seat.ended → Seated code s es i seat
-  seated seat y e =
+  pub seated : OneNext → (seat : Seat) → StandsAt (standing_of code s es i) seat → has_end i es ≡ seat.ended → Seated code s es i seat
+  seated one seat y e =
       let n = next_some q in
-      let same : n.0 ≡ seat.next = next_same code (begun_of (standing_of code s es i)) (answers_of i es) n.0 seat.next (code_next n.0 n.1) y.next in
+      let same : n.0 ≡ seat.next = one (standing_of code s es i) n.0 seat.next (code_next n.0 n.1) y.next in
       record {
         process = y.process;
         there = q;
@@ -148,5 +151,5 @@ module _ (code : Code) (s : Setting) (f : Follows code s.program) (w : IsWithin 
   pub begins_on : GoesOn (standing_of code s [] i)
   begins_on = code_goes_on code s f w [] (fits_none s) i l (begin s i) none
 
-  pub begins_seated : (seat : Seat) → StandsAt (standing_of code s [] i) seat → seat.ended ≡ false → Seated code s [] i seat
-  begins_seated seat y e = seated code s f w [] (fits_none s) i l (begin s i) none seat y (sym e)
+  pub begins_seated : OneNext → (seat : Seat) → StandsAt (standing_of code s [] i) seat → seat.ended ≡ false → Seated code s [] i seat
+  begins_seated one seat y e = seated code s f w [] (fits_none s) i l (begin s i) none one seat y (sym e)

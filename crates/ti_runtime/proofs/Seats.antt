@@ -35,7 +35,7 @@ use Rattle.ti_runtime.specs.Ran.{standing_of}
 use Rattle.ti_runtime.specs.MirrorsWaiting.{Waits}
 use Rattle.ti_runtime.specs.MirrorsTeam.{doing_of, place_of, action_of, told_more, StandsAt, Seated, Hears, Moves, IsOpen, steps_left, GoesOn, StopsAt, TurnLeaves}
 use Rattle.ti_runtime.proofs.Entries.{end_more, answers_more, answers_still}
-use Rattle.ti_runtime.proofs.Following.{world_more, code_goes_on, seated}
+use Rattle.ti_runtime.proofs.Following.{OneNext, world_more, code_goes_on, seated}
 
 true_false : true ≡ false → ⊥
 true_false e = cc
@@ -181,19 +181,19 @@ module _ (code : Code) (st : StoreState) (o : IsOpen code st) (solo : IsSolo (se
         let q = world_on e in
         subst machine.GoesOn (sym (told e)) (code_goes_on code s o.follows o.within all fit i l q.0 q.1)
 
-    seated_heard : (seat : Seat) → is_act old.next ≡ true → Hears old answer seat → Seated code s all i seat
-    seated_heard seat e h =
+    seated_heard : OneNext → (seat : Seat) → is_act old.next ≡ true → Hears old answer seat → Seated code s all i seat
+    seated_heard one seat e h =
         let q = world_on e in
         let unended : has_end i all ≡ has_end i es = end_more i es here refl ∙ or_none (has_end i es) (is_end (action_of old)) (answered_act y.there old.next y.is_next e).0 in
-        seated code s o.follows o.within all fit i l q.0 q.1 seat (subst (λ t. StandsAt t seat) (told e) h.stands) (unended ∙ y.ended ∙ sym h.ended)
+        seated code s o.follows o.within all fit i l q.0 q.1 one seat (subst (λ t. StandsAt t seat) (told e) h.stands) (unended ∙ y.ended ∙ sym h.ended)
 
     -- fewer steps are left
     lighter_end : steps_left s (record old { ended = true }) < steps_left s old
     lighter_end = rw u (omega arith)
 
-    lighter_heard : (seat : Seat) → is_act old.next ≡ true → Hears old answer seat → steps_left s seat < steps_left s old
-    lighter_heard seat e h =
-        let limit : length seat.process.told ≤ s.fuel = few code s all i seat (seated_heard seat e h) in
+    lighter_heard : OneNext → (seat : Seat) → is_act old.next ≡ true → Hears old answer seat → steps_left s seat < steps_left s old
+    lighter_heard one seat e h =
+        let limit : length seat.process.told ≤ s.fuel = few code s all i seat (seated_heard one seat e h) in
         let more : length seat.process.told ≡ length old.process.told + 1 = ap (λ (x : Standing). length x.told) h.stands.process ∙ length-append old.process.told (answer ∷ []) in
         rw (h.ended, u) (one_fewer s.fuel (length old.process.told) (length seat.process.told) more limit)
       where
@@ -201,8 +201,8 @@ module _ (code : Code) (st : StoreState) (o : IsOpen code st) (solo : IsSolo (se
         one_fewer fuel m n k l = omega arith
 
     -- the process went on, and was answered
-    went_with : (seat : Seat) (t : Turn) → Moves old answer seat t → (b : Bool) → is_arrival (action_of old) ≡ b → GoesOn code s es i old new.entries seat b
-    went_with seat t m b a = record {
+    went_with : OneNext → (seat : Seat) (t : Turn) → Moves old answer seat t → (b : Bool) → is_arrival (action_of old) ≡ b → GoesOn code s es i old new.entries seat b
+    went_with one seat t m b a = record {
       takes = record { entry = here; can = can; after = after };
       arrives_is = a;
       no_fault = d.no_fault;
@@ -212,18 +212,18 @@ module _ (code : Code) (st : StoreState) (o : IsOpen code st) (solo : IsSolo (se
       where
         seated_on : (b : Bool) → is_act old.next ≡ b → Seated code s all i seat
         seated_on false e = subst (Seated code s all i) (sym (m.ends e)) (seated_end e)
-        seated_on true e = seated_heard seat e (m.hears e)
+        seated_on true e = seated_heard one seat e (m.hears e)
 
         lighter : (b : Bool) → is_act old.next ≡ b → steps_left s seat < steps_left s old
         lighter false e = subst (λ x. steps_left s x < steps_left s old) (sym (m.ends e)) lighter_end
-        lighter true e = lighter_heard seat e (m.hears e)
+        lighter true e = lighter_heard one seat e (m.hears e)
 
-    pub went : (seat : Seat) (t : Turn) → Moves old answer seat t → TurnLeaves code s es i old new.entries seat (Ok t)
-    went seat t m = by (is_arrival (action_of old)) refl m.turn
+    pub went : OneNext → (seat : Seat) (t : Turn) → Moves old answer seat t → TurnLeaves code s es i old new.entries seat (Ok t)
+    went one seat t m = by (is_arrival (action_of old)) refl m.turn
       where
         by : (b : Bool) → is_arrival (action_of old) ≡ b → t ≡ (if b then turn.Arrived else turn.Went) → TurnLeaves code s es i old new.entries seat (Ok t)
-        by true a e = subst (λ x. TurnLeaves code s es i old new.entries seat (Ok x)) (sym e) (went_with seat t m true a)
-        by false a e = subst (λ x. TurnLeaves code s es i old new.entries seat (Ok x)) (sym e) (went_with seat t m false a)
+        by true a e = subst (λ x. TurnLeaves code s es i old new.entries seat (Ok x)) (sym e) (went_with one seat t m true a)
+        by false a e = subst (λ x. TurnLeaves code s es i old new.entries seat (Ok x)) (sym e) (went_with one seat t m false a)
 
     -- memory was wanting behind the answer
     pub wants_behind : (seat : Seat) → is_act old.next ≡ true → StopsAt code s es i new.entries seat stop.Memory

@@ -11,7 +11,7 @@ use crate::cursor::Turn;
 use std::alloc::Global;
 use ti_base::{Action, Answer, Memory, Next, Place};
 use ti_code::Code;
-use ti_machine::Proc;
+use ti_machine::{Proc, has_one_next};
 use ti_store::{ActErr, Store};
 
 /// Why a run stops before all processes have their end.
@@ -112,6 +112,7 @@ impl Seat {
         ensures leaves { TurnLeaves code.now (setting_of store.old) store.old.entries number self.old store.new.entries self.new result }
         ensures store { store.new ≡ record store.old { entries = store.new.entries } }
     {
+        has_one_next();
         if self.ended {
             return Ok(Turn::Ended);
         }

@@ -13,6 +13,7 @@ use crate::seat::{Seat, Stop};
 use std::alloc::Global;
 use ti_base::Memory;
 use ti_code::Code;
+use ti_machine::has_one_next;
 use ti_store::Store;
 
 /// The processes of a run by their numbers, and which is tried next.
@@ -30,6 +31,7 @@ impl Team {
         requires formed { IsFormed code.now }
         ensures { IfOk result (λ team. (program : NumberedProgram) → Follows code.now program → Stands code.now (record { program = program; procs = procs; fuel = fuel }) [] team.seats.items team.cursor) }
     {
+        has_one_next();
         let mut seats = Vec::with_capacity(alloc, procs as usize)?;
         for number in 0..procs {
             let seat = Seat::take(alloc, code, number, procs, fuel)?;

@@ -12,7 +12,7 @@ go_on-requires-clause-goes c =
 pub returns-in-Ok-go_on-clause-leaves : goal.returns-in-Ok-go_on-clause-leaves
 returns-in-Ok-go_on-clause-leaves c =
     went c.args.code.now c.args.store.now c.requires.open c.requires.solo c.args.number c.requires.number c.args.self.now c.requires.seated c.if-self.false c.in-Ok.answer c.act.new.self
-    (rw c.doing-action.ensures at c.in-Ok.ensures.ok) c.go_on.new.self c.in-Ok-go_on.turn c.in-Ok-go_on.ensures.moves
+    (rw c.doing-action.ensures at c.in-Ok.ensures.ok) c.has_one_next.ensures c.go_on.new.self c.in-Ok-go_on.turn c.in-Ok-go_on.ensures.moves
 
 pub returns-in-Err-clause-leaves : goal.returns-in-Err-clause-leaves
 returns-in-Err-clause-leaves c =
