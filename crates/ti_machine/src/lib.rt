@@ -14,7 +14,10 @@ mod operand;
 mod operands;
 mod past;
 mod perform;
+mod pieces;
 mod proc;
+mod running;
+mod strides;
 mod values;
 
 pub use desk::{Desk, Hears};
@@ -23,4 +26,5 @@ pub use going_on::Way;
 pub use laws::{following_code_goes_on, has_one_next, process_is_sent};
 pub use machine::{Frame, Machine, Turn};
 pub use operand::Operand;
+pub use pieces::Piece;
 pub use proc::Proc;
