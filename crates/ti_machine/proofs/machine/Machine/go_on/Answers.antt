@@ -21,9 +21,9 @@ steps-preserved c =
     let e = subst (λ (t : Turn). IsTurn p (turn p m) t n) c.in-Went.is c.in_ok-step.ensures in
     record {
       way =
-        passes_then p o m n c.saturating_add-count.result 1 c.saturating_add-count-in-Went.result
-        (passes_then p o (machine_of p c.steps.self) m c.steps.count c.hurry-more.result c.saturating_add-count.result c.steps.invariant.way c.hurry-more.ensures c.saturating_add-count.ensures)
-        (passes_one p m n (known p c.hurry-more.new.self) e) c.saturating_add-count-in-Went.ensures;
+          passes_then p o m n c.saturating_add-count.result 1 c.saturating_add-count-in-Went.result
+          (passes_then p o (machine_of p c.steps.self) m c.steps.count c.hurry-more.result c.saturating_add-count.result c.steps.invariant.way c.hurry-more.ensures c.saturating_add-count.ensures)
+          (passes_one p m n (known p c.hurry-more.new.self) e) c.saturating_add-count-in-Went.ensures;
       goes = (g.0, next_on p m n g.0 (e []) (next_silently p g.0 c.hurry-more.ensures.2 g.1));
     }
 
