@@ -46,6 +46,7 @@ impl Machine {
             spent: 0,
             top: Frame { method, desk },
             below: Vec::new(alloc),
+            spare: Vec::new(alloc),
         }
     }
 
@@ -69,6 +70,7 @@ impl Machine {
             spent: 0,
             top: Frame { method, desk },
             below: Vec::new(alloc),
+            spare: Vec::new(alloc),
         })
     }
 
