@@ -46,6 +46,7 @@ impl Machine {
             spent: 0,
             top: Frame { method, desk },
             below: Vec::new(alloc),
+            spare: Vec::new(alloc),
         }
     }
 
@@ -69,6 +70,7 @@ impl Machine {
             spent: 0,
             top: Frame { method, desk },
             below: Vec::new(alloc),
+            spare: Vec::new(alloc),
         })
     }
 
@@ -81,6 +83,8 @@ impl Machine {
         let _rule = code.methods();
         let mut count: u64 = 0;
         'steps: loop {
+            let more = self.hurry(code);
+            count = count.saturating_add(more);
             match self.step(alloc, code)? {
                 Turn::Went => count = count.saturating_add(1),
                 Turn::Stands(next, hears) => return Ok(Way { next, hears, count }),
@@ -99,13 +103,16 @@ impl Machine {
         requires { IsFormed code.now }
         ensures { IfOk result (λ o. IfSome o (λ w. IsWay code.now (machine_of code.now self.old) w (machine_of code.now self.new))) }
     {
-        for n in 0..turns {
+        let mut count: u64 = 0;
+        for _ in 0..turns {
+            let more = self.hurry(code);
+            count = count.saturating_add(more);
+            if count >= u64::from(turns) {
+                return Ok(None);
+            }
             match self.step(alloc, code)? {
-                Turn::Went => {}
-                Turn::Stands(next, hears) => {
-                    let count = u64::from(n);
-                    return Ok(Some(Way { next, hears, count }));
-                }
+                Turn::Went => count = count.saturating_add(1),
+                Turn::Stands(next, hears) => return Ok(Some(Way { next, hears, count })),
                 Turn::Stuck => return Ok(None),
             }
         }

@@ -2,7 +2,7 @@ use Rattle.std.proofs.Common.{◌≡◌, ◌∙◌, ap, sym, ℕ, suc, ◌+◌, 
 use Rattle.ti_code.specs.Effects.{Spot, top, below, taken, under}
 use Rattle.ti_machine.specs.MirrorsDesks.{spot_of}
 use Rattle.ti_machine.proofs.Reversed.{reverse_push}
-use Rattle.ti_machine.proofs.desk.Desk.take_args.Goals as goal
+use Rattle.ti_machine.proofs.desk.Desk.take_args_into.Goals as goal
 
 pub loop-k-preserved : goal.loop-k-preserved
 loop-k-preserved c =
