@@ -2,14 +2,13 @@
 
 ghost use Rattle.std.specs.Prelude.{◌≡◌, IsTrue, IfOk, false};
 ghost use Rattle.ti_code.specs.JumpRule.{jumps_fit};
-ghost use Rattle.ti_machine.specs.Standing.{IsFormed};
 
 use crate::telling::tell;
 use std::alloc::{AllocError, Global};
 use std::io;
 use ti_base::{Answer, Next, Place, Value};
 use ti_code::{Code, Instr, Instrs, MethodCode, code_text};
-use ti_machine::{Proc, is_formed};
+use ti_machine::Proc;
 
 fn at(line: u32, col: u32) -> Place {
     Place { line, col }
@@ -54,8 +53,7 @@ fn turning(alloc: Global) -> Result<Code, AllocError> {
 
 /// Tells how many instructions a process has finished, and what it has next; then it is told that this was done.
 fn tell_next(rt: &HostRuntime, code: &Code, process: &mut Proc) -> io::Result<bool>
-    requires code { code.now ≡ process.old.code }
-    requires formed { IsFormed code.now }
+    requires { code.now ≡ process.old.code }
     ensures { IfOk result (λ _. code.now ≡ process.new.code) }
 {
     let Ok(next) = process.advance_within(rt.alloc(), code, 100) else {
@@ -73,7 +71,6 @@ fn tell_next(rt: &HostRuntime, code: &Code, process: &mut Proc) -> io::Result<bo
 
 /// Tells that of a process alone with 4 ticks, up to its end.
 fn tell_course(rt: &HostRuntime, code: &Code) -> io::Result<()>
-    requires { IsFormed code.now }
 {
     let Some(mut process) = Proc::start_there(rt.alloc(), code, 0, 1, 4) else {
         return Ok(());
@@ -99,11 +96,7 @@ fn tell_text(rt: &HostRuntime, code: &Code) -> io::Result<()> {
 /// Tells the text of code, and the course of a process.
 fn tell_code(rt: &HostRuntime, code: &Code) -> io::Result<()> {
     tell_text(rt, code)?;
-    if is_formed(code) {
-        tell_course(rt, code)
-    } else {
-        println!(rt; "an instruction isn't in its form")
-    }
+    tell_course(rt, code)
 }
 
 /// Tells what comes of code that is made by hand.
