@@ -6,7 +6,6 @@ use Rattle.ti_eval.proofs.team.Team.TheSendSync as team
 use Rattle.ti_machine.specs.contracts.desk.Desk as Desk
 use Rattle.ti_machine.specs.contracts.machine.Frame as Frame
 use Rattle.ti_machine.specs.contracts.machine.Machine as Machine
-use Rattle.ti_machine.specs.contracts.operand.Operand as Operand
 use Rattle.ti_machine.specs.contracts.past.Past as Past
 use Rattle.ti_machine.specs.contracts.proc.Proc as Proc
 use Rattle.ti_machine.proofs.operand.Operand.TheSendSync as operand

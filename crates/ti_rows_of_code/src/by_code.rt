@@ -1,7 +1,6 @@
 // A process of code, led along a history.
 
 ghost use Rattle.std.specs.Prelude.{◌≡◌, ◌<◌, ◌^◌, IfOk};
-ghost use Rattle.ti_machine.specs.Standing.{IsFormed};
 
 use crate::by_trees::{Limits, told};
 use std::alloc::Global;
@@ -59,7 +58,6 @@ fn fits(next: Next, entry: &Entry) -> bool {
 /// What a process has next; none where memory is wanting, or it comes to nothing in so many instructions.
 fn next_of(alloc: Global, code: &Code, process: &mut Proc) -> Option<Next>
     requires code { code.now ≡ process.old.code }
-    requires formed { IsFormed code.now }
 {
     match process.advance_within(alloc, code, TURNS) {
         Ok(next) => next,
@@ -70,7 +68,6 @@ fn next_of(alloc: Global, code: &Code, process: &mut Proc) -> Option<Next>
 /// The process takes an entry of its own; else the error is what it has next in place of that.
 fn take(alloc: Global, code: &Code, process: &mut Proc, entry: &Entry) -> Result<(), Option<Next>>
     requires code { code.now ≡ process.old.code }
-    requires formed { IsFormed code.now }
     ensures { IfOk result (λ _. code.now ≡ process.new.code) }
 {
     let Ok(Some(next)) = process.advance_within(alloc, code, TURNS) else {
@@ -95,7 +92,6 @@ pub(crate) fn follow(
     number: u32,
     history: &[Entry],
 ) -> Result<Course, Stray>
-    requires formed { IsFormed code.now }
     requires number { number < 2 ^ 31 }
     requires procs { limits.procs < 2 ^ 31 }
 {

@@ -2,7 +2,6 @@
 
 ghost use Rattle.std.specs.Prelude.{◌≤◌, ◌<◌};
 ghost use Rattle.ti_store.specs.Conditions.{IsWithin};
-ghost use Rattle.ti_machine.specs.Standing.{IsFormed};
 
 use crate::by_code::{Course, Stray, follow, is_same, next_in};
 use crate::by_trees::{Limits, next_by_trees};
@@ -11,7 +10,6 @@ use std::alloc::Global;
 use ti_base::{Entry, Next};
 use ti_code::Code;
 use ti_lower::lower;
-use ti_machine::is_formed;
 use ti_rules::Checked;
 use ti_runtime::{How, RunEnd, run};
 
@@ -36,8 +34,6 @@ pub(crate) enum Outcome {
     Refused,
     /// Memory is wanting for the run.
     Memory,
-    /// An instruction of the code isn't in its form.
-    Formless,
     /// An entry is of no process.
     Stranger,
 }
@@ -85,7 +81,6 @@ fn expected_at(history: &[Entry], n: usize) -> Option<Next> {
 
 /// How many entries a process has, where its code agrees with them and with its trees behind them.
 fn compared(alloc: Global, ran: &Ran, limits: Limits, number: u32) -> Result<usize, Parting>
-    requires formed { IsFormed ran.now.code }
     requires few { limits.procs ≤ 32 }
     requires number { number < limits.procs }
 {
@@ -115,7 +110,6 @@ fn compared(alloc: Global, ran: &Ran, limits: Limits, number: u32) -> Result<usi
 
 /// How many entries all processes have, where their code agrees.
 fn all_compared(alloc: Global, ran: &Ran, limits: Limits) -> Result<usize, Parting>
-    requires formed { IsFormed ran.now.code }
     requires few { limits.procs ≤ 32 }
 {
     let mut entries = 0usize;
@@ -128,9 +122,6 @@ fn all_compared(alloc: Global, ran: &Ran, limits: Limits) -> Result<usize, Parti
 fn judged_run(alloc: Global, ran: &Ran, limits: Limits) -> Outcome
     requires { limits.procs ≤ 32 }
 {
-    if !is_formed(&ran.code) {
-        return Outcome::Formless;
-    }
     if matches!(ran.end.how, How::Memory) {
         return Outcome::Memory;
     }

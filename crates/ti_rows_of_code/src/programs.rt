@@ -57,7 +57,6 @@ fn judge(
         Outcome::Parts(parting) => tell_parting(rt, name, parting)?,
         Outcome::Refused => println!(rt; "{name}: no program")?,
         Outcome::Memory => println!(rt; "{name}: the run wants memory")?,
-        Outcome::Formless => println!(rt; "{name}: an instruction isn't in its form")?,
         Outcome::Stranger => println!(rt; "{name}: an entry is of no process")?,
     }
     Ok(count)
