@@ -12,3 +12,4 @@ pub mod Teams
 pub mod Tellings
 pub mod Weights
 pub mod Withins
+pub mod Formed

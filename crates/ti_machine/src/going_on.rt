@@ -7,7 +7,6 @@ ghost use Rattle.ti_code.specs.Programs.{Code as Methods};
 ghost use Rattle.ti_code.specs.Machine.{first};
 ghost use Rattle.ti_machine.specs.MirrorsMachines.{machine_of};
 ghost use Rattle.ti_machine.specs.MirrorsGoingOn.{IsWay};
-ghost use Rattle.ti_machine.specs.Standing.{IsFormed};
 
 use crate::desk::{Desk, Hears};
 use crate::machine::{Frame, Machine, Turn};
@@ -76,7 +75,6 @@ impl Machine {
 
     /// Silent instructions, up to what it has next.
     pub(crate) fn go_on(&mut self, alloc: Global, code: &Code) -> Result<Way, Memory>
-        requires formed { IsFormed code.now }
         requires goes { (n : Shown) × HasNext code.now (machine_of code.now self.old) [] n }
         ensures { IfOk result (λ w. IsWay code.now (machine_of code.now self.old) w (machine_of code.now self.new)) }
     {
@@ -100,7 +98,6 @@ impl Machine {
         code: &Code,
         turns: u32,
     ) -> Result<Option<Way>, Memory>
-        requires { IsFormed code.now }
         ensures { IfOk result (λ o. IfSome o (λ w. IsWay code.now (machine_of code.now self.old) w (machine_of code.now self.new))) }
     {
         let mut count: u64 = 0;

@@ -4,7 +4,6 @@
 mod cells;
 mod desk;
 mod domains;
-mod forms;
 mod going_on;
 mod instructions;
 mod ints;
@@ -22,7 +21,6 @@ mod strides;
 mod values;
 
 pub use desk::{Desk, Hears};
-pub use forms::is_formed;
 pub use going_on::Way;
 pub use ints::{IntPiece, Number, TruthPiece};
 pub use laws::{following_code_goes_on, has_one_next, process_is_sent};

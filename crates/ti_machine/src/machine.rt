@@ -8,11 +8,11 @@ ghost use Rattle.ti_code.specs.Programs.{Code as Methods};
 ghost use Rattle.ti_code.specs.declared.code.MethodCode.{MethodCode as Method};
 ghost use Rattle.ti_code.specs.declared.instr.Instr.TheVariants as i;
 ghost use Rattle.ti_code.specs.Effects.{Spot};
+ghost use Rattle.ti_code.specs.Forms.{IsFormedInstr};
 ghost use Rattle.ti_code.specs.Machine as seen;
-ghost use Rattle.ti_machine.specs.MirrorsDesks.{spot_of, heard, Made, hears_of, IsFormedInstr};
+ghost use Rattle.ti_machine.specs.MirrorsDesks.{spot_of, heard, Made, hears_of};
 ghost use Rattle.ti_machine.specs.MirrorsInstrs.{stays, instrs_at};
 ghost use Rattle.ti_machine.specs.MirrorsMachines.{machine_of, answered, AsksAt, IsTurn, IsDone, IsWithin, IsEntered};
-ghost use Rattle.ti_machine.specs.Standing.{IsFormed};
 
 use crate::desk::{Desk, Hears};
 use crate::operand::Operand;
@@ -282,7 +282,6 @@ impl Machine {
 
     /// Its next instruction.
     pub(crate) fn step(&mut self, alloc: Global, code: &Code) -> Result<Turn, Memory>
-        requires { IsFormed code.now }
         ensures { IfOk result (λ t. IsTurn code.now (seen.turn code.now (machine_of code.now self.old)) t (machine_of code.now self.new)) }
     {
         let methods = code.methods();

@@ -1,7 +1,8 @@
 // Code that is made by hand: its text, and how many instructions a process of it has finished in front of each thing that it has next.
 
-ghost use Rattle.std.specs.Prelude.{◌≡◌, IsTrue, IfOk, false};
+ghost use Rattle.std.specs.Prelude.{◌≡◌, All, IsTrue, IfOk, false};
 ghost use Rattle.ti_code.specs.JumpRule.{jumps_fit};
+ghost use Rattle.ti_code.specs.Forms.{IsFormedInstr};
 
 use crate::telling::tell;
 use std::alloc::{AllocError, Global};
@@ -16,7 +17,8 @@ fn at(line: u32, col: u32) -> Place {
 
 /// The code of one method without a `this` and without parameters.
 fn alone(alloc: Global, instrs: Vec<Instr>) -> Result<Code, AllocError>
-    requires { IsTrue (jumps_fit (record { instance = false; params = 0; instrs = instrs.items })) }
+    requires rule { IsTrue (jumps_fit (record { instance = false; params = 0; instrs = instrs.items })) }
+    requires formed { All IsFormedInstr instrs.items }
 {
     let methods = vec![in alloc;
         MethodCode {
@@ -53,7 +55,7 @@ fn turning(alloc: Global) -> Result<Code, AllocError> {
 
 /// Tells how many instructions a process has finished, and what it has next; then it is told that this was done.
 fn tell_next(rt: &HostRuntime, code: &Code, process: &mut Proc) -> io::Result<bool>
-    requires { code.now ≡ process.old.code }
+    requires code { code.now ≡ process.old.code }
     ensures { IfOk result (λ _. code.now ≡ process.new.code) }
 {
     let Ok(next) = process.advance_within(rt.alloc(), code, 100) else {
@@ -70,8 +72,7 @@ fn tell_next(rt: &HostRuntime, code: &Code, process: &mut Proc) -> io::Result<bo
 }
 
 /// Tells that of a process alone with 4 ticks, up to its end.
-fn tell_course(rt: &HostRuntime, code: &Code) -> io::Result<()>
-{
+fn tell_course(rt: &HostRuntime, code: &Code) -> io::Result<()> {
     let Some(mut process) = Proc::start_there(rt.alloc(), code, 0, 1, 4) else {
         return Ok(());
     };
