@@ -17,7 +17,7 @@ use Rattle.ti_store.specs.Conditions.{IsWithin}
 use Rattle.ti_store.specs.Stores.{StoreState, setting_of}
 use Rattle.ti_code.specs.Programs.{Code}
 use Rattle.ti_code.specs.Follows.{Follows}
-use Rattle.ti_machine.specs.Standing.{HasFinished, IsFormed}
+use Rattle.ti_machine.specs.Standing.{HasFinished}
 use Rattle.ti_runtime.specs.declared.cursor.Cursor.{Cursor}
 use Rattle.ti_runtime.specs.declared.seat.Seat.{Seat}
 use Rattle.ti_runtime.specs.declared.seat.Stop.TheVariants as stop
@@ -67,14 +67,13 @@ begins code s seats count seated = record {
 }
 
 -- a store before the first entry
-pub opens : (code : Code) (s : Setting) (st : StoreState) → setting_of st ≡ s → st.entries ≡ [] → st.halted ≡ false → IsWithin s.procs s.fuel → Follows code s.program → IsFormed code
+pub opens : (code : Code) (s : Setting) (st : StoreState) → setting_of st ≡ s → st.entries ≡ [] → st.halted ≡ false → IsWithin s.procs s.fuel → Follows code s.program
     → IsAligned s.program → OfEveryRun RoundsBalance s.program → OfEveryRun AnswersFit s.program → IsOpen code st
-opens code s st is none unhalted within follows formed aligned balance fit = record {
+opens code s st is none unhalted within follows aligned balance fit = record {
   unhalted = unhalted;
   goes_on = ap has_fault none;
   within = subst (λ (x : Setting). IsWithin x.procs x.fuel) (sym is) within;
   follows = subst (λ (x : Setting). Follows code x.program) (sym is) follows;
-  formed = formed;
   aligned = subst (λ (x : Setting). IsAligned x.program) (sym is) aligned;
   balance = subst (λ (x : Setting). OfEveryRun RoundsBalance x.program) (sym is) balance;
   fit = subst (λ (x : Setting). OfEveryRun AnswersFit x.program) (sym is) fit;

@@ -44,7 +44,6 @@ open_on code old new is f o = subst (IsOpen code) (sym is) (record {
   goes_on = f;
   within = o.within;
   follows = o.follows;
-  formed = o.formed;
   aligned = o.aligned;
   balance = o.balance;
   fit = o.fit;

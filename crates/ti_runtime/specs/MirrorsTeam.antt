@@ -20,7 +20,7 @@ use Rattle.ti_store.specs.Conditions.{IsWithin}
 use Rattle.ti_store.specs.Stores.{StoreState}
 use Rattle.ti_code.specs.Programs.{Code}
 use Rattle.ti_code.specs.Follows.{Follows}
-use Rattle.ti_machine.specs.Standing.{Standing, HasNext, IsFormed, is_act}
+use Rattle.ti_machine.specs.Standing.{Standing, HasNext, is_act}
 use Rattle.ti_runtime.specs.declared.cursor.Cursor.{Cursor}
 use Rattle.ti_runtime.specs.declared.cursor.Turn.{Turn}
 use Rattle.ti_runtime.specs.declared.cursor.Turn.TheVariants as turn
@@ -118,7 +118,6 @@ pub record IsOpen (code : Code) (store : StoreState) : Type 0 where
   pub goes_on : has_fault store.entries ≡ false
   pub within : IsWithin store.procs store.fuel
   pub follows : Follows code (program_of store.program)
-  pub formed : IsFormed code
   pub aligned : OfEveryRun IsAlignedRun (program_of store.program)
   pub balance : OfEveryRun RoundsBalance (program_of store.program)
   pub fit : OfEveryRun AnswersFit (program_of store.program)

@@ -5,7 +5,6 @@ ghost use Rattle.ti_lang.specs.Program.Views.{program_of};
 ghost use Rattle.ti_lang.specs.Meaning.Processes.{Setting};
 ghost use Rattle.ti_code.specs.Programs.{Code as Methods};
 ghost use Rattle.ti_code.specs.Follows.{Follows};
-ghost use Rattle.ti_machine.specs.Standing.{IsFormed};
 ghost use Rattle.ti_store.specs.Conditions.{IsWithin};
 ghost use Rattle.ti_store.specs.Stores.{setting_of};
 ghost use Rattle.ti_runtime.specs.Ran.{Ran};
@@ -74,7 +73,6 @@ fn play(alloc: Global, code: &Code, team: &mut Team, store: &mut Store) -> How
 pub fn run(alloc: Global, c: &Checked, code: &Code, procs: u32, fuel: u32) -> RunEnd
     requires within { IsWithin procs fuel }
     requires follows { Follows code.now (program_of c.now.program.parts) }
-    requires formed { IsFormed code.now }
     ensures { Ran code.now (record { program = program_of c.now.program.parts; procs = procs; fuel = fuel }) result }
 {
     let Ok(mut store) = Store::new(alloc, c, procs, fuel) else {

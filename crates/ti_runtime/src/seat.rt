@@ -3,7 +3,7 @@ ghost use Rattle.std.specs.Prelude.{◌≡◌, ◌<◌, ◌^◌, [], true, false
 ghost use Rattle.ti_lang.specs.Meaning.Histories.{is_arrival};
 ghost use Rattle.ti_lang.specs.Meaning.Runs.{IsSolo};
 ghost use Rattle.ti_eval.specs.Forms.{IsFormedAnswer};
-ghost use Rattle.ti_machine.specs.Standing.{GoesOn, IsFormed, is_act};
+ghost use Rattle.ti_machine.specs.Standing.{GoesOn, is_act};
 ghost use Rattle.ti_store.specs.Stores.{setting_of};
 ghost use Rattle.ti_runtime.specs.MirrorsTeam.{doing_of, told_more, StandsAt, Seated, Moves, IsOpen, TurnLeaves};
 
@@ -64,7 +64,6 @@ impl Seat {
     ) -> Result<Seat, Memory>
         requires number { number < 2 ^ 31 }
         requires procs { procs < 2 ^ 31 }
-        requires formed { IsFormed code.now }
         requires goes { GoesOn (record { code = code.now; procs = procs; fuel = fuel; number = number; told = []; asks = false }) }
         ensures stands { IfOk result (λ seat. StandsAt (record { code = code.now; procs = procs; fuel = fuel; number = number; told = []; asks = false }) seat) }
         ensures unended { IfOk result (λ seat. seat.ended ≡ false) }
@@ -81,7 +80,6 @@ impl Seat {
     // Goes on behind what it has next, which got this answer.
     fn go_on(&mut self, alloc: Global, code: &Code, answer: Answer) -> Result<Turn, Memory>
         requires code { code.now ≡ self.old.process.code }
-        requires formed { IsFormed code.now }
         requires asks { is_act self.old.next ≡ true → self.old.process.asks ≡ true }
         requires form { IsFormedAnswer answer }
         requires goes { is_act self.old.next ≡ true → GoesOn (told_more self.old.process answer) }

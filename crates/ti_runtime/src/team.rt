@@ -2,7 +2,7 @@
 ghost use Rattle.std.specs.Prelude.{◌≡◌, ◌<◌, ℕ, [], length, slice_index_or, IfOk};
 ghost use Rattle.ti_lang.specs.Program.Classes.{NumberedProgram};
 ghost use Rattle.ti_code.specs.Follows.{Follows};
-ghost use Rattle.ti_machine.specs.Standing.{IsFormed, HasFinished};
+ghost use Rattle.ti_machine.specs.Standing.{HasFinished};
 ghost use Rattle.ti_store.specs.Conditions.{IsWithin};
 ghost use Rattle.ti_store.specs.Stores.{setting_of};
 ghost use Rattle.ti_runtime.specs.declared.seat.Seat.{Seat as OneSeat};
@@ -28,7 +28,6 @@ impl Team {
     pub fn begin(alloc: Global, code: &Code, procs: u32, fuel: u32) -> Result<Team, Memory>
         requires within { IsWithin procs fuel }
         requires follows { (program : NumberedProgram) × Follows code.now program }
-        requires formed { IsFormed code.now }
         ensures { IfOk result (λ team. (program : NumberedProgram) → Follows code.now program → Stands code.now (record { program = program; procs = procs; fuel = fuel }) [] team.seats.items team.cursor) }
     {
         has_one_next();
