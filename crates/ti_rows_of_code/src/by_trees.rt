@@ -10,7 +10,12 @@ use ti_exec::TreeProc;
 use ti_rules::Checked;
 
 /// The process takes an entry of its own; else the error is what it has next in place of that.
-fn take(alloc: Global, c: &Checked, process: &mut TreeProc, entry: &Entry) -> Result<(), Option<Next>>
+fn take(
+    alloc: Global,
+    c: &Checked,
+    process: &mut TreeProc,
+    entry: &Entry,
+) -> Result<(), Option<Next>>
     requires { program_of c.now.program.parts ≡ program_of process.old.program }
     ensures { IfOk result (λ _. program_of c.now.program.parts ≡ program_of process.new.program) }
 {

@@ -103,7 +103,7 @@ none_some code e = cc
 pub runs_has : (mode : Mode) → Runs mode → HasCode mode
 runs_has Run runs = tt
 runs_has Check runs = runs
-runs_has Code runs = runs
+runs_has Code runs = absurd runs
 runs_has Gen runs = tt
 
 -- there is no code, and none is owed

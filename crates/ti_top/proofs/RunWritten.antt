@@ -204,3 +204,7 @@ run_says ended p job ws s0 s1 kept ending runs run solo ends by wrote = record {
 
     done : ending ≡ Done → AllEnded s h × (has_fault h ≡ false)
     done is = subst (RunEnds s h) (ending_is ended ending Done wrote.known is (λ e. let x = e in cc) (λ e. let x = e in cc)) ends
+
+-- the same of what is kept in another place
+pub said_of : (p : NumberedProgram) (job : Job) (ws : List Watcher) (s0 s1 : SinkState) (kept k : Kept) (ending : Ending) → k ≡ kept → RunSays p job ws s0 s1 kept ending → RunSays p job ws s0 s1 k ending
+said_of p job ws s0 s1 kept k ending same says = subst (λ (x : Kept). RunSays p job ws s0 s1 x ending) (sym same) says

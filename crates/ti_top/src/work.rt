@@ -130,7 +130,14 @@ fn run_program<K: Sink>(
     let Ready { code, mut line } = ready;
     let end = run(alloc, checked, &code, job.procs, job.fuel);
     let ended = ending_of(&end, &code);
-    match write_head(out, &mut line, job.mode, ended, &checked.program, &end.history) {
+    match write_head(
+        out,
+        &mut line,
+        job.mode,
+        ended,
+        &checked.program,
+        &end.history,
+    ) {
         Ok(()) => Written {
             ending: report_after(alloc, ended, &end.history, watchers, out),
             kept: kept_of_run(code, end),
