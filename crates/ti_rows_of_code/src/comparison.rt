@@ -1,6 +1,8 @@
 // The run of a program by its code against its trees.
 
-ghost use Rattle.std.specs.Prelude.{◌≤◌, ◌<◌};
+ghost use Rattle.std.specs.Prelude.{◌≤◌, ◌<◌, IfSome};
+ghost use Rattle.ti_code.specs.Follows.{Follows};
+ghost use Rattle.ti_lang.specs.Program.Views.{program_of};
 ghost use Rattle.ti_store.specs.Conditions.{IsWithin};
 
 use crate::by_code::next_by_code;
@@ -47,11 +49,21 @@ struct Ran {
     end: RunEnd,
 }
 
+/// The code of a program, where there is memory for it.
+fn code_of(alloc: Global, checked: &Checked) -> Option<Code>
+    ensures { IfSome result (λ code. Follows code (program_of checked.now.program.parts)) }
+{
+    match lower(alloc, checked) {
+        Ok(code) => Some(code),
+        Err(_) => None,
+    }
+}
+
 fn ran_of(alloc: Global, text: &[u8], limits: Limits) -> Option<Ran>
     requires { IsWithin limits.procs limits.fuel }
 {
     let checked = checked_of(alloc, text)?;
-    let code = lower(alloc, &checked).ok()?;
+    let code = code_of(alloc, &checked)?;
     let end = run(alloc, &checked, &code, limits.procs, limits.fuel);
     Some(Ran { checked, code, end })
 }
