@@ -1,6 +1,6 @@
 use Rattle.std.proofs.Common.{◌≡◌, Bool, List, [], ◌++◌, map, Some, ap, sym, ◌∙◌, subst, arith}
 use Rattle.ti_lang.specs.Program.Scope.{ScopeVariable, this_of, contents_of}
-use Rattle.ti_lang.specs.Program.Statements.{NumberedStm, numbered_stms}
+use Rattle.ti_lang.specs.Program.Statements.{numbered_stms}
 use Rattle.ti_lang.specs.Program.Views.{expression_of, statement_of}
 use Rattle.ti_lang.specs.Typing.Effects.{together, kept_in_loop, doings, doings_of_all, doings_of_maybe}
 use Rattle.ti_rules.specs.Standing.{Around, scope_of, variables_inside, loop_acts, inside, inside_maybe, inside_all}
@@ -13,7 +13,7 @@ use Rattle.ti_check.specs.declared.found.Walked.{Walked}
 use Rattle.ti_check.specs.Mirrors.Found.{below}
 use Rattle.ti_check.specs.Mirrors.Sites.{program_at, around_where, around_of}
 use Rattle.ti_check.specs.Mirrors.Walked.{IsWalked}
-use Rattle.ti_check.proofs.Where.{where_first, where_next, where_last, both_walked, same_walked, moved_walked, moved_doings, nothing_walked, loop_walked, inside_does, alone_walked, alone_does, if_below, if_does, if_no_loop, for_is}
+use Rattle.ti_check.proofs.Where.{where_first, where_next, where_last, both_walked, same_walked, moved_walked, moved_doings, nothing_walked, loop_walked, inside_does, alone_walked, alone_does, if_below, if_does, for_is}
 use Rattle.ti_check.proofs.walk.+walk.Goals as goal
 
 pub statements-loop-x-init : goal.statements-loop-x-init

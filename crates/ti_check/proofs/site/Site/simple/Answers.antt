@@ -1,5 +1,4 @@
 use Rattle.std.proofs.Common.{[], sym, ap, ◌∙◌, subst}
-use Rattle.ti_lang.specs.Program.Scope.{this_of}
 use Rattle.ti_lang.specs.Program.Views.{statement_of}
 use Rattle.ti_lang.specs.Typing.Effects.{doings}
 use Rattle.ti_single.specs.Doings.{doings_of}
