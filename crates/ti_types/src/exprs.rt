@@ -106,9 +106,33 @@ impl<'a> Judge<'a> {
     pub fn exp(&self, scope: &'a Scope, e: &'a Expr) -> Judged<'a>
         ensures { IsJudged (program_of self.now.program.now) (contents_of scope.now) (expression_of e.now) result }
     {
-        match self.leaf(scope, e) {
+        if let Some(judged) = self.leaf(scope, e) {
+            return judged;
+        }
+        match self.operated(scope, e) {
             Some(judged) => judged,
             None => self.form(scope, e),
+        }
+    }
+
+    /// What is known of an operator between two operands.
+    #[cycle(exp)]
+    #[tactic(auto, using(ti_rules::proofs::First::firsts, ti_lang::proofs::ProgramBridges::program_bridges))]
+    fn operated(&self, scope: &'a Scope, e: &'a Expr) -> Option<Judged<'a>>
+        ensures { IfSome result (λ j. IsJudged (program_of self.now.program.now) (contents_of scope.now) (expression_of e.now) j) }
+    {
+        match e {
+            Expr::Binary {
+                place,
+                operator,
+                left,
+                right,
+            } => {
+                let first = self.exp(scope, left);
+                let second = self.exp(scope, right);
+                Some(first.binary(left.place(), second, right.place(), *place, *operator))
+            }
+            _ => None,
         }
     }
 

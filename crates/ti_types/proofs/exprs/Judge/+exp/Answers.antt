@@ -67,6 +67,14 @@ form-returns-in-Binary t c =
     (binary_form p s c.in-Binary.place c.in-Binary.operator (expression_of c.in-Binary.left.value) (expression_of c.in-Binary.right.value) c.place-in-Binary.result c.place-in-Binary-2.result c.exp-first.result c.exp-second.result c.binary.result
     (search rules) (search rules) (search rules) (search rules) c.binary.ensures.known c.binary.ensures.first)
 
+pub operated-returns-in-Binary : goal.operated-returns-in-Binary
+operated-returns-in-Binary t c =
+    let p = program_of c.args.self.now.program.now in
+    let s = contents_of c.args.scope.now in
+    subst (λ z. IsJudged p s z c.binary.result) (sym (ap expression_of c.in-Binary.is))
+    (binary_form p s c.in-Binary.place c.in-Binary.operator (expression_of c.in-Binary.left.value) (expression_of c.in-Binary.right.value) c.place.result c.place-in-Binary.result c.exp-first.result c.exp-second.result c.binary.result
+    (search rules) (search rules) (search rules) (search rules) c.binary.ensures.known c.binary.ensures.first)
+
 pub form-returns-in-Member : goal.form-returns-in-Member
 form-returns-in-Member t c =
     let p = program_of c.args.self.now.program.now in
