@@ -153,7 +153,13 @@ impl<'a> Site<'a> {
         ensures doings { doings_of result.doings ≡ doings (program_at self.entry) (this_of (around_of self.entry).method) (statement_of x.now) }
     {
         let does = doings_of_statement(self.program, self.this(), x);
-        self.whole(x, Walked::doing(does), Doings::none())
+        let single = self.single(x, false, does, Doings::none());
+        Walked {
+            types: self.types(x),
+            single,
+            jumping: self.single_jumping(x, does, Doings::none(), single),
+            doings: does,
+        }
     }
 
     // What is found of the update and the body of a loop, which keeps their jumps.
@@ -221,9 +227,41 @@ fn maybe<'a>(
     }
 }
 
-// The same of one statement.
+// Whether no statement stands in a statement.
+#[tactic(auto, using(ti_lang::proofs::ProgramBridges::program_bridges))]
+fn is_simple(x: &Stmt) -> bool
+    ensures { result ≡ is_simple (statement_of x.now) }
+{
+    match x {
+        Stmt::Block(_) | Stmt::While { .. } | Stmt::For { .. } | Stmt::Foreach { .. } => false,
+        Stmt::If { otherwise, .. } => match otherwise {
+            Some(_) => false,
+            None => false,
+        },
+        _ => true,
+    }
+}
+
+// The same of one statement. Most have none in them, and need not pay for what the walk over the others wants.
 #[cycle(walk)]
 fn statement<'a>(
+    alloc: Global,
+    unused: &mut Unused,
+    site: Site<'a>,
+    x: &'a Stmt,
+) -> Result<Walked, Memory>
+    ensures found { IfOk result (λ w. IsWalked (program_at site.entry) (λ jump_has. inside_one (program_at site.entry) (around_where site.entry jump_has) (statement_of x.now)) w) }
+    ensures doings { IfOk result (λ w. doings_of w.doings ≡ doings (program_at site.entry) (this_of (around_of site.entry).method) (statement_of x.now)) }
+{
+    if is_simple(x) {
+        return Ok(site.simple(x));
+    }
+    compound(alloc, unused, site, x)
+}
+
+// The same of one statement of any form.
+#[cycle(walk)]
+fn compound<'a>(
     alloc: Global,
     unused: &mut Unused,
     site: Site<'a>,
