@@ -1,4 +1,5 @@
 pub mod Again
+pub mod Copies
 pub mod Ends
 pub mod Grids
 pub mod Heads

@@ -1,5 +1,5 @@
 -- What is found of statements before it is known what a jump out of the loop around them does.
-use Rattle.std.proofs.Common.{◌≡◌, Bool, true, false, ◌&&◌, ◌||◌, not, is_none, unwrap_or, ℕ, ◌+◌, ◌<◌, ◌≤◌, List, [], ◌∷◌, ◌++◌, map, length, get_or, Option, Some, None, refl, ap, sym, ◌∙◌, subst, append-nil, true≢false}
+use Rattle.std.proofs.Common.{◌≡◌, Bool, true, false, ◌&&◌, ◌||◌, not, is_none, unwrap_or, ℕ, ◌+◌, ◌<◌, ◌≤◌, List, [], ◌++◌, map, length, get_or, Option, Some, None, refl, ap, sym, ◌∙◌, subst, append-nil, true≢false}
 use Rattle.std.specs.declared.boxed.Box.{Box}
 use Rattle.std.specs.declared.alloc.Global.{Global}
 use Rattle.ti_base.specs.declared.place.Place.{Place}
@@ -13,7 +13,6 @@ use Rattle.ti_lang.specs.Program.Statements as st
 use Rattle.ti_lang.specs.Program.Views.{expression_of, statement_of}
 use Rattle.ti_lang.specs.Typing.Effects.{Doings, nothing, together, kept_in_loop, doings, doings_of_maybe, return_acts, jump_acts}
 use Rattle.ti_rules.specs.declared.rule.Rule.TheVariants.{Y8, S1}
-use Rattle.ti_rules.specs.declared.refusal.Refusal.{Refusal}
 use Rattle.ti_rules.specs.Refusals.{refused_if}
 use Rattle.ti_rules.specs.Mirrors.First.{sooner, first_of}
 use Rattle.ti_rules.specs.Standing.{Around, Standing, doings_of_loop, loop_acts, inside, inside_maybe, inside_all}
@@ -24,9 +23,8 @@ use Rattle.ti_single.specs.Doings.{doings_of}
 use Rattle.ti_single.specs.EffectsAt.{doings_in_loop}
 use Rattle.ti_single.specs.Mirrors.Maybe.{maybe_in}
 use Rattle.ti_single.proofs.Together.{together_nothing}
-use Rattle.ti_check.specs.declared.found.Found.{Found}
 use Rattle.ti_check.specs.declared.found.Walked.{Walked}
-use Rattle.ti_check.specs.Mirrors.Found.{IsFirst, IsFound, below, is_simple}
+use Rattle.ti_check.specs.Mirrors.Found.{IsFirst, below, is_simple}
 use Rattle.ti_check.specs.Mirrors.Sites.{jump_in}
 use Rattle.ti_check.specs.Mirrors.Walked.{doing, single_where, found_where, IsWalked, doings_inside}
 use Rattle.ti_check.proofs.Walked.{whole_found, both_found, LeftOf, left_first, left_next, left_last}

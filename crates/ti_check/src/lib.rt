@@ -2,6 +2,7 @@
 #![tactic(auto)]
 
 mod checking;
+mod copied;
 mod declarations;
 mod error;
 mod found;

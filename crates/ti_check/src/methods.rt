@@ -8,6 +8,7 @@ ghost use Rattle.ti_rules.specs.SingleRules.{word_refusals, result_refusals, eff
 ghost use Rattle.ti_single.specs.Doings.{doings_of};
 ghost use Rattle.ti_check.specs.Mirrors.Found.{IsFirst};
 
+use crate::copied::Unused;
 use crate::declarations::head;
 use crate::found::Found;
 use crate::site::Site;
@@ -111,7 +112,8 @@ pub fn method(alloc: Global, p: &Program, number: u32, m: &Method) -> Result<Fou
         return_has,
         has_loop: false,
     };
-    let body = statements(alloc, site, listed_statements(&m.body))?;
+    let mut unused = Unused::none(alloc);
+    let body = statements(alloc, &mut unused, site, listed_statements(&m.body))?;
     let own = Found {
         types: sooner(head(m), end(m)),
         single: sooner(

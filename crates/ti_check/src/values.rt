@@ -28,7 +28,7 @@ use crate::site::Site;
 use ti_lang::program::{Expr, Range, Stmt};
 use ti_lang::typing::Seen;
 use ti_rules::{Refusal, Rule, refused_if, sooner};
-use ti_single::{Doings, SingleSite, this_of};
+use ti_single::{Doings, SingleSite};
 use ti_types::{Judge, Judged, Ranges};
 
 /// A value: its type, where it has one, and what counts of the rules of types that are broken in it.
@@ -130,7 +130,7 @@ impl<'a> Site<'a> {
     pub fn this(self) -> Option<u32>
         ensures { result ≡ this_of (around_of self.entry).method }
     {
-        this_of(self.method)
+        self.scope.this
     }
 
     // The same for the rules of single values, where a jump out of the innermost loop around has an effect or has none.

@@ -17,6 +17,7 @@ ghost use Rattle.ti_check.specs.Mirrors.Found.{below as below_one, is_simple};
 ghost use Rattle.ti_check.specs.Mirrors.Sites.{program_at, around_where, around_of, scope_at};
 ghost use Rattle.ti_check.specs.Mirrors.Walked.{single_where, IsWalked, doings_inside, jump_acts_inside};
 
+use crate::copied::{Unused, copied};
 use crate::found::Walked;
 use crate::site::Site;
 use std::alloc::Global;
@@ -28,24 +29,10 @@ use ti_single::{Doings, boxed_statement, doings_of_statement, jump_acts, listed_
 
 // ---- scopes
 
-// The same variables, in room of their own.
-fn copied(alloc: Global, variables: &[InScope]) -> Result<Vec<InScope>, Memory>
-    ensures { IfOk result (λ v. map in_scope_of v.items ≡ map in_scope_of variables.now) }
-{
-    let mut found = Vec::new(alloc);
-    for v in variables {
-        found.push(InScope {
-            number: v.number,
-            ty: v.ty.copy(alloc)?,
-            single: v.single,
-        })?;
-    }
-    Ok(found)
-}
-
 // The variables with that of a foreach over a domain of so many dimensions; over what is no domain there is none.
 fn with_point(
     alloc: Global,
+    unused: Vec<InScope>,
     variables: &[InScope],
     number: u32,
     is_single: bool,
@@ -53,7 +40,7 @@ fn with_point(
 ) -> Result<Vec<InScope>, Memory>
     ensures { IfOk result (λ v. map in_scope_of v.items ≡ with_point (map in_scope_of variables.now) number is_single dim) }
 {
-    let mut found = copied(alloc, variables)?;
+    let mut found = copied(alloc, unused, variables)?;
     match dim {
         Some(dim) => {
             found.push(InScope {
@@ -69,13 +56,19 @@ fn with_point(
 
 impl<'a> Site<'a> {
     // What is in scope in the body of a foreach.
-    fn inside_foreach(self, alloc: Global, number: u32, domain: &'a Expr) -> Result<Scope, Memory>
+    fn inside_foreach(
+        self,
+        alloc: Global,
+        unused: Vec<InScope>,
+        number: u32,
+        domain: &'a Expr,
+    ) -> Result<Scope, Memory>
         ensures this { IfOk result (λ s. s.this ≡ self.entry.scope.now.this) }
         ensures variables { IfOk result (λ s. (contents_of s).variables ≡ variables_inside (program_at self.entry) (scope_at self.entry) number (expression_of domain.now)) }
     {
         let is_single = self.is_single_inside(domain);
         let dim = domain_dim(self.target(domain).ty);
-        let variables = with_point(alloc, &self.scope.variables, number, is_single, dim)?;
+        let variables = with_point(alloc, unused, &self.scope.variables, number, is_single, dim)?;
         Ok(Scope {
             this: self.scope.this,
             variables,
@@ -160,7 +153,13 @@ impl<'a> Site<'a> {
         ensures doings { doings_of result.doings ≡ doings (program_at self.entry) (this_of (around_of self.entry).method) (statement_of x.now) }
     {
         let does = doings_of_statement(self.program, self.this(), x);
-        self.whole(x, Walked::doing(does), Doings::none())
+        let single = self.single(x, false, does, Doings::none());
+        Walked {
+            types: self.types(x),
+            single,
+            jumping: self.single_jumping(x, does, Doings::none(), single),
+            doings: does,
+        }
     }
 
     // What is found of the update and the body of a loop, which keeps their jumps.
@@ -194,13 +193,18 @@ fn domain_dim(t: Option<Seen>) -> Option<usize>
 
 /// What is found of statements, with all statements in them.
 #[cycle(walk)]
-pub fn statements<'a>(alloc: Global, site: Site<'a>, xs: &'a [Stmt]) -> Result<Walked, Memory>
+pub fn statements<'a>(
+    alloc: Global,
+    unused: &mut Unused,
+    site: Site<'a>,
+    xs: &'a [Stmt],
+) -> Result<Walked, Memory>
     ensures found { IfOk result (λ w. IsWalked (program_at site.entry) (λ jump_has. inside_all (program_at site.entry) (around_where site.entry jump_has) (numbered_stms (map statement_of xs.now))) w) }
     ensures doings { IfOk result (λ w. doings_of w.doings ≡ doings_of_all (program_at site.entry) (this_of (around_of site.entry).method) (numbered_stms (map statement_of xs.now))) }
 {
     let mut found = Walked::doing(Doings::none());
     for x in xs {
-        let next = statement(alloc, site, x)?;
+        let next = statement(alloc, unused, site, x)?;
         found = found.and(next);
     }
     Ok(found)
@@ -208,25 +212,67 @@ pub fn statements<'a>(alloc: Global, site: Site<'a>, xs: &'a [Stmt]) -> Result<W
 
 // The same of one statement, if there is one.
 #[cycle(walk)]
-fn maybe<'a>(alloc: Global, site: Site<'a>, x: &'a Option<Box<Stmt>>) -> Result<Walked, Memory>
+fn maybe<'a>(
+    alloc: Global,
+    unused: &mut Unused,
+    site: Site<'a>,
+    x: &'a Option<Box<Stmt>>,
+) -> Result<Walked, Memory>
     ensures found { IfOk result (λ w. IsWalked (program_at site.entry) (λ jump_has. inside_maybe (program_at site.entry) (around_where site.entry jump_has) (maybe_in x.now)) w) }
     ensures doings { IfOk result (λ w. doings_of w.doings ≡ doings_of_maybe (program_at site.entry) (this_of (around_of site.entry).method) (maybe_in x.now)) }
 {
     match x {
-        Some(x) => statement(alloc, site, boxed_statement(x)),
+        Some(x) => statement(alloc, unused, site, boxed_statement(x)),
         None => Ok(Walked::doing(Doings::none())),
     }
 }
 
-// The same of one statement.
+// Whether no statement stands in a statement.
+#[tactic(auto, using(ti_lang::proofs::ProgramBridges::program_bridges))]
+fn is_simple(x: &Stmt) -> bool
+    ensures { result ≡ is_simple (statement_of x.now) }
+{
+    match x {
+        Stmt::Block(_) | Stmt::While { .. } | Stmt::For { .. } | Stmt::Foreach { .. } => false,
+        Stmt::If { otherwise, .. } => match otherwise {
+            Some(_) => false,
+            None => false,
+        },
+        _ => true,
+    }
+}
+
+// The same of one statement. Most have none in them, and need not pay for what the walk over the others wants.
 #[cycle(walk)]
-fn statement<'a>(alloc: Global, site: Site<'a>, x: &'a Stmt) -> Result<Walked, Memory>
+fn statement<'a>(
+    alloc: Global,
+    unused: &mut Unused,
+    site: Site<'a>,
+    x: &'a Stmt,
+) -> Result<Walked, Memory>
+    ensures found { IfOk result (λ w. IsWalked (program_at site.entry) (λ jump_has. inside_one (program_at site.entry) (around_where site.entry jump_has) (statement_of x.now)) w) }
+    ensures doings { IfOk result (λ w. doings_of w.doings ≡ doings (program_at site.entry) (this_of (around_of site.entry).method) (statement_of x.now)) }
+{
+    if is_simple(x) {
+        return Ok(site.simple(x));
+    }
+    compound(alloc, unused, site, x)
+}
+
+// The same of one statement of any form.
+#[cycle(walk)]
+fn compound<'a>(
+    alloc: Global,
+    unused: &mut Unused,
+    site: Site<'a>,
+    x: &'a Stmt,
+) -> Result<Walked, Memory>
     ensures found { IfOk result (λ w. IsWalked (program_at site.entry) (λ jump_has. inside_one (program_at site.entry) (around_where site.entry jump_has) (statement_of x.now)) w) }
     ensures doings { IfOk result (λ w. doings_of w.doings ≡ doings (program_at site.entry) (this_of (around_of site.entry).method) (statement_of x.now)) }
 {
     match x {
         Stmt::Block(body) => {
-            let below = statements(alloc, site, listed_statements(body))?;
+            let below = statements(alloc, unused, site, listed_statements(body))?;
             Ok(site.whole(x, below, Doings::none()))
         }
         Stmt::If {
@@ -234,12 +280,12 @@ fn statement<'a>(alloc: Global, site: Site<'a>, x: &'a Stmt) -> Result<Walked, M
             otherwise,
             ..
         } => {
-            let then = statement(alloc, site, boxed_statement(then))?;
-            let otherwise = maybe(alloc, site, otherwise)?;
+            let then = statement(alloc, unused, site, boxed_statement(then))?;
+            let otherwise = maybe(alloc, unused, site, otherwise)?;
             Ok(site.whole(x, then.and(otherwise), Doings::none()))
         }
         Stmt::While { body, .. } => {
-            let body = statement(alloc, site.in_loop(), boxed_statement(body))?;
+            let body = statement(alloc, unused, site.in_loop(), boxed_statement(body))?;
             let below = site.looped(Walked::doing(Doings::none()), body);
             Ok(site.whole(x, below, body.doings))
         }
@@ -249,9 +295,9 @@ fn statement<'a>(alloc: Global, site: Site<'a>, x: &'a Stmt) -> Result<Walked, M
             body,
             ..
         } => {
-            let first = maybe(alloc, site, first)?;
-            let update = maybe(alloc, site, update)?;
-            let body = statement(alloc, site.in_loop(), boxed_statement(body))?;
+            let first = maybe(alloc, unused, site, first)?;
+            let update = maybe(alloc, unused, site, update)?;
+            let body = statement(alloc, unused, site.in_loop(), boxed_statement(body))?;
             let below = first.and(site.looped(update, body));
             Ok(site.whole(x, below, update.doings.together(body.doings)))
         }
@@ -261,9 +307,15 @@ fn statement<'a>(alloc: Global, site: Site<'a>, x: &'a Stmt) -> Result<Walked, M
             body,
             ..
         } => {
-            let scope = site.inside_foreach(alloc, *variable, domain)?;
+            let scope = site.inside_foreach(alloc, unused.take(), *variable, domain)?;
             let within = site.in_loop();
-            let body = statement(alloc, within.with_scope(&scope), boxed_statement(body))?;
+            let body = statement(
+                alloc,
+                unused,
+                within.with_scope(&scope),
+                boxed_statement(body),
+            )?;
+            unused.keep(scope.variables)?;
             let below = site.looped(Walked::doing(Doings::none()), body);
             Ok(site.whole(x, below, body.doings))
         }

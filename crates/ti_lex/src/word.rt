@@ -1,5 +1,5 @@
 // Names and reserved words.
-ghost use Rattle.std.specs.Prelude.{◌≡◌, ◌<◌, Some, slice_get, take};
+ghost use Rattle.std.specs.Prelude.{◌≡◌, ◌<◌, ◌≤◌, ℕ, List, ◌∷◌, drop, Some, None, slice_get, take};
 ghost use Rattle.std.specs.List.{prefix_len};
 ghost use Rattle.std.specs.Map.{lookup};
 ghost use Rattle.std.specs.Str.{bytes_eq};
@@ -62,11 +62,46 @@ fn reserved_at(number: usize) -> (&'static [u8], TokenKind)
     }
 }
 
+/// Which reserved words begin with a byte: the number of the first, and the number behind the last.
+#[tactic(auto, unfolding(crate::specs::Mirrors::Reading::reserved))]
+fn reserved_with(first: u8) -> (usize, usize)
+    ensures order { result.0 ≤ result.1 }
+    ensures within { result.1 ≤ 34 }
+    ensures before { (rest : List ℕ) → lookup (bytes_eq (first ∷ rest)) (drop result.0 reserved) ≡ lookup (bytes_eq (first ∷ rest)) reserved }
+    ensures behind { (rest : List ℕ) → lookup (bytes_eq (first ∷ rest)) (drop result.1 reserved) ≡ None }
+{
+    match first {
+        b'b' => (0, 3),
+        b'c' => (3, 5),
+        b'D' => (5, 6),
+        b'e' => (6, 7),
+        b'f' => (7, 11),
+        b'i' => (11, 13),
+        b'l' => (13, 15),
+        b'n' => (15, 17),
+        b'P' => (17, 18),
+        b'p' => (18, 22),
+        b'R' => (22, 23),
+        b'r' => (23, 24),
+        b'S' => (24, 29),
+        b's' => (25, 27),
+        b't' => (29, 32),
+        b'T' => (30, 31),
+        b'v' => (32, 33),
+        b'w' => (33, 34),
+        _ => (34, 34),
+    }
+}
+
 /// The kind of a word, where it is reserved.
 fn reserved_word(word: &[u8]) -> Option<TokenKind>
     ensures { result ≡ lookup (bytes_eq word.now) reserved }
 {
-    for number in 0..RESERVED {
+    let [first, ..] = word else {
+        return None;
+    };
+    let (start, end) = reserved_with(*first);
+    for number in start..end {
         let (spelling, kind) = reserved_at(number);
         if word == spelling {
             return Some(kind);

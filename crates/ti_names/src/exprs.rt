@@ -37,10 +37,9 @@ impl<'t, 'a> Site<'t, 'a> {
     fn name(&self, place: Place, name: &[u8]) -> Result<Expr, Memory>
         ensures { IfOk result (λ y. expression_of y ≡ number_exp (site_of self.now) (t.Name place name.now)) }
     {
-        let field = self.own_field(name);
         match self.variable(name) {
             Some(variable) => Ok(Expr::Variable(place, variable.copy(self.alloc)?)),
-            None => match field {
+            None => match self.own_field(name) {
                 Some(field) => Ok(Expr::OwnField(place, field)),
                 None => Ok(Expr::Null(place)),
             },
@@ -126,7 +125,7 @@ impl<'t, 'a> Site<'t, 'a> {
     fn exps(&self, xs: &[tree::Expr]) -> Result<Vec<Expr>, Memory>
         ensures { IfOk result (λ ys. map expression_of ys.items ≡ map (number_exp (site_of self.now)) (map exp_of xs.now)) }
     {
-        let mut ys = Vec::new(self.alloc);
+        let mut ys = Vec::with_capacity(self.alloc, xs.len())?;
         for x in xs {
             ys.push(self.exp(x)?)?;
         }
@@ -155,7 +154,7 @@ impl<'t, 'a> Site<'t, 'a> {
     pub fn ranges(&self, ranges: &[tree::Range]) -> Result<Vec<Range>, Memory>
         ensures { IfOk result (λ rs. map bound_of rs.items ≡ map (number_range (site_of self.now)) (map range_of ranges.now)) }
     {
-        let mut found = Vec::new(self.alloc);
+        let mut found = Vec::with_capacity(self.alloc, ranges.len())?;
         for range in ranges {
             found.push(self.range(range)?)?;
         }

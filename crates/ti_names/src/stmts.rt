@@ -376,9 +376,28 @@ impl<'t, 'a> Site<'t, 'a> {
         })
     }
 
-    /// A statement.
+    /// A statement. The commonest need not pay for what the others want.
     #[cycle(walk_stmt)]
     pub fn stm(&mut self, x: &'a tree::Stmt) -> Result<Resolved<Stmt>, Memory>
+        ensures part { IfOk result (λ r. statement_of r.part ≡ number_stm (site_of self.old) (stm_of x.now)) }
+        ensures refusal { IfOk result (λ r. r.refusal ≡ first_in (stm_nodes (site_of self.old) (stm_of x.now))) }
+        ensures site { OnOk result (site_of self.new ≡ behind (site_of self.old) (stm_of x.now)) }
+    {
+        match x {
+            tree::Stmt::Empty => Ok(Resolved::clean(Stmt::Empty)),
+            tree::Stmt::Assign {
+                place,
+                target,
+                value,
+            } => self.assignment(*place, target, value),
+            tree::Stmt::Block(body) => self.block(body),
+            _ => self.any_stm(x),
+        }
+    }
+
+    /// A statement of any form.
+    #[cycle(walk_stmt)]
+    fn any_stm(&mut self, x: &'a tree::Stmt) -> Result<Resolved<Stmt>, Memory>
         ensures part { IfOk result (λ r. statement_of r.part ≡ number_stm (site_of self.old) (stm_of x.now)) }
         ensures refusal { IfOk result (λ r. r.refusal ≡ first_in (stm_nodes (site_of self.old) (stm_of x.now))) }
         ensures site { OnOk result (site_of self.new ≡ behind (site_of self.old) (stm_of x.now)) }

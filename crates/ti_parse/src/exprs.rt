@@ -223,29 +223,39 @@ impl Reader {
         Ok(Init::Broadcast { place, value, root })
     }
 
-    /// A right side.
+    /// A new thing, after its `new`, on the heap.
+    fn boxed_new(self, tokens: &mut Tokens<'_>, place: Place) -> Result<Box<Init>, Stop>
+        ensures { ReadsAs boxed_init (spec.new_thing plain self.turns place tokens.old) result tokens.new }
+    {
+        Ok(Box::new(self.alloc, self.new_thing(tokens, place)?)?)
+    }
+
+    /// A broadcast, after its word, on the heap.
+    fn boxed_broadcast(self, tokens: &mut Tokens<'_>, place: Place) -> Result<Box<Init>, Stop>
+        ensures { ReadsAs boxed_init (spec.broadcast plain self.turns place tokens.old) result tokens.new }
+    {
+        Ok(Box::new(self.alloc, self.broadcast(tokens, place)?)?)
+    }
+
+    /// A right side, on the heap.
     #[tactic(auto, unfolding(crate::specs::Mirrors::Parts::initial))]
-    pub fn initial(self, tokens: &mut Tokens<'_>) -> Result<Init, Stop>
-        ensures { ReadsAs init_of (spec.initial plain self.turns tokens.old) result tokens.new }
+    pub fn boxed_initial(self, tokens: &mut Tokens<'_>) -> Result<Box<Init>, Stop>
+        ensures { ReadsAs boxed_init (spec.initial plain self.turns tokens.old) result tokens.new }
     {
         let place = tokens.place();
         match tokens.peek() {
             TokenKind::KeywordNew => {
                 tokens.take();
-                self.new_thing(tokens, place)
+                self.boxed_new(tokens, place)
             }
             TokenKind::KeywordBroadcast => {
                 tokens.take();
-                self.broadcast(tokens, place)
+                self.boxed_broadcast(tokens, place)
             }
-            _ => Ok(Init::Value(self.expr(tokens)?)),
+            _ => {
+                let value = self.expr(tokens)?;
+                Ok(Box::new(self.alloc, Init::Value(value))?)
+            }
         }
-    }
-
-    /// A right side, on the heap.
-    pub fn boxed_initial(self, tokens: &mut Tokens<'_>) -> Result<Box<Init>, Stop>
-        ensures { ReadsAs boxed_init (spec.initial plain self.turns tokens.old) result tokens.new }
-    {
-        Ok(Box::new(self.alloc, self.initial(tokens)?)?)
     }
 }

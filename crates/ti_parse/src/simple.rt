@@ -1,11 +1,11 @@
 // Statements with no others in them.
 
 ghost use Rattle.std.specs.Prelude.{◌≡◌, false};
-ghost use Rattle.ti_syntax.specs.Trees.Views.{exp_of, print_of, stm_of, type_of};
+ghost use Rattle.ti_syntax.specs.Trees.Views.{exp_of, print_of, type_of};
 ghost use Rattle.ti_syntax.specs.Spelling.Expressions.{Target};
 ghost use Rattle.ti_parse.specs.Mirrors.Parts as spec;
 ghost use Rattle.ti_syntax.specs.declared.token.TokenKind.TheVariants.{KeywordPrintln};
-ghost use Rattle.ti_parse.specs.Mirrors.Seen.{begun_of, before_semicolon};
+ghost use Rattle.ti_parse.specs.Mirrors.Seen.{begun_of, before_semicolon, boxed_stm};
 ghost use Rattle.ti_parse.specs.Mirrors.Way.{plain};
 ghost use Rattle.ti_parse_expr.specs.Mirrors.Input.{Reads, ReadsAs};
 ghost use Rattle.ti_parse_expr.specs.Mirrors.Seen.{operand_of};
@@ -34,39 +34,46 @@ impl Reader {
 
     /// A declaration, after its type.
     #[tactic(auto, unfolding(crate::specs::Mirrors::Parts::declared))]
-    pub fn declared(self, tokens: &mut Tokens<'_>, ty: TypeName) -> Result<Stmt, Stop>
-        ensures { ReadsAs stm_of (spec.declared plain self.turns (type_of ty) tokens.old) result tokens.new }
+    pub fn declared(self, tokens: &mut Tokens<'_>, ty: TypeName) -> Result<Box<Stmt>, Stop>
+        ensures { ReadsAs boxed_stm (spec.declared plain self.turns (type_of ty) tokens.old) result tokens.new }
     {
         let place = tokens.place();
         let name = tokens.name(self.alloc)?;
         tokens.expect(TokenKind::Assign)?;
         let value = self.boxed_initial(tokens)?;
-        Ok(Stmt::Declare {
+        let whole = Stmt::Declare {
             place,
             ty,
             name,
             value,
-        })
+        };
+        Ok(Box::new(self.alloc, whole)?)
     }
 
     /// A declaration with its semicolon, after its type.
-    pub fn declared_alone(self, tokens: &mut Tokens<'_>, ty: TypeName) -> Result<Stmt, Stop>
-        ensures { ReadsAs stm_of (before_semicolon (spec.declared plain self.turns (type_of ty)) tokens.old) result tokens.new }
+    pub fn declared_alone(self, tokens: &mut Tokens<'_>, ty: TypeName) -> Result<Box<Stmt>, Stop>
+        ensures { ReadsAs boxed_stm (before_semicolon (spec.declared plain self.turns (type_of ty)) tokens.old) result tokens.new }
     {
         let declared = self.declared(tokens, ty)?;
         followed(tokens, TokenKind::Semicolon, declared)
     }
 
     /// An assignment, after its `=`.
-    fn assigned(self, tokens: &mut Tokens<'_>, place: Place, target: Expr) -> Result<Stmt, Stop>
-        ensures { ReadsAs stm_of (spec.assigned plain self.turns place (exp_of target) tokens.old) result tokens.new }
+    fn assigned(
+        self,
+        tokens: &mut Tokens<'_>,
+        place: Place,
+        target: Expr,
+    ) -> Result<Box<Stmt>, Stop>
+        ensures { ReadsAs boxed_stm (spec.assigned plain self.turns place (exp_of target) tokens.old) result tokens.new }
     {
         let value = self.boxed_initial(tokens)?;
-        Ok(Stmt::Assign {
+        let whole = Stmt::Assign {
             place,
             target,
             value,
-        })
+        };
+        Ok(Box::new(self.alloc, whole)?)
     }
 
     /// An update, after its operator.
@@ -76,21 +83,22 @@ impl Reader {
         place: Place,
         operator: BinaryOperator,
         target: Expr,
-    ) -> Result<Stmt, Stop>
-        ensures { ReadsAs stm_of (spec.updated plain self.turns place operator (exp_of target) tokens.old) result tokens.new }
+    ) -> Result<Box<Stmt>, Stop>
+        ensures { ReadsAs boxed_stm (spec.updated plain self.turns place operator (exp_of target) tokens.old) result tokens.new }
     {
         let value = self.expr(tokens)?;
-        Ok(Stmt::Update {
+        let whole = Stmt::Update {
             place,
             operator,
             target,
             value,
-        })
+        };
+        Ok(Box::new(self.alloc, whole)?)
     }
 
     /// A change, after its target.
-    fn changed_target(self, tokens: &mut Tokens<'_>, target: Expr) -> Result<Stmt, Stop>
-        ensures { ReadsAs stm_of (spec.changed_if plain self.turns (exp_of target) Target tokens.old) result tokens.new }
+    fn changed_target(self, tokens: &mut Tokens<'_>, target: Expr) -> Result<Box<Stmt>, Stop>
+        ensures { ReadsAs boxed_stm (spec.changed_if plain self.turns (exp_of target) Target tokens.old) result tokens.new }
     {
         let place = tokens.place();
         if tokens.sees(TokenKind::Assign) {
@@ -104,11 +112,12 @@ impl Reader {
         match step_of(tokens.peek()) {
             Some(op) => {
                 tokens.take();
-                Ok(Stmt::Step {
+                let whole = Stmt::Step {
                     place,
                     operator: op,
                     target,
-                })
+                };
+                Ok(Box::new(self.alloc, whole)?)
             }
             None => Err(Stop::Refused),
         }
@@ -116,8 +125,8 @@ impl Reader {
 
     /// A change, after the operand that it begins with.
     #[tactic(auto, unfolding(crate::specs::Mirrors::Parts::changed))]
-    pub fn changed(self, tokens: &mut Tokens<'_>, operand: Operand) -> Result<Stmt, Stop>
-        ensures { ReadsAs stm_of (spec.changed plain self.turns (operand_of operand) tokens.old) result tokens.new }
+    pub fn changed(self, tokens: &mut Tokens<'_>, operand: Operand) -> Result<Box<Stmt>, Stop>
+        ensures { ReadsAs boxed_stm (spec.changed plain self.turns (operand_of operand) tokens.old) result tokens.new }
     {
         match operand.ending {
             Ending::Target => self.changed_target(tokens, operand.expr),
@@ -126,8 +135,8 @@ impl Reader {
     }
 
     /// A change with its semicolon, after the operand that it begins with.
-    fn changed_alone(self, tokens: &mut Tokens<'_>, operand: Operand) -> Result<Stmt, Stop>
-        ensures { ReadsAs stm_of (spec.simple_if plain self.turns (operand_of operand) false tokens.old) result tokens.new }
+    fn changed_alone(self, tokens: &mut Tokens<'_>, operand: Operand) -> Result<Box<Stmt>, Stop>
+        ensures { ReadsAs boxed_stm (spec.simple_if plain self.turns (operand_of operand) false tokens.old) result tokens.new }
     {
         let changed = self.changed(tokens, operand)?;
         followed(tokens, TokenKind::Semicolon, changed)
@@ -135,20 +144,20 @@ impl Reader {
 
     /// A call or a change with its semicolon, after the operand that it begins with.
     #[tactic(auto, unfolding(crate::specs::Mirrors::Parts::simple))]
-    pub fn simple(self, tokens: &mut Tokens<'_>, operand: Operand) -> Result<Stmt, Stop>
-        ensures { ReadsAs stm_of (spec.simple plain self.turns (operand_of operand) tokens.old) result tokens.new }
+    pub fn simple(self, tokens: &mut Tokens<'_>, operand: Operand) -> Result<Box<Stmt>, Stop>
+        ensures { ReadsAs boxed_stm (spec.simple plain self.turns (operand_of operand) tokens.old) result tokens.new }
     {
         if matches!(operand.ending, Ending::Call) && tokens.sees(TokenKind::Semicolon) {
             tokens.take();
-            return Ok(Stmt::Call(operand.expr));
+            return Ok(Box::new(self.alloc, Stmt::Call(operand.expr))?);
         }
         self.changed_alone(tokens, operand)
     }
 
     /// A change.
     #[tactic(auto, unfolding(crate::specs::Mirrors::Parts::change))]
-    pub fn change(self, tokens: &mut Tokens<'_>) -> Result<Stmt, Stop>
-        ensures { ReadsAs stm_of (spec.change plain self.turns tokens.old) result tokens.new }
+    pub fn change(self, tokens: &mut Tokens<'_>) -> Result<Box<Stmt>, Stop>
+        ensures { ReadsAs boxed_stm (spec.change plain self.turns tokens.old) result tokens.new }
     {
         if !starts(tokens.peek()) {
             return Err(Stop::Refused);
@@ -271,21 +280,21 @@ impl Reader {
 
     /// A print.
     #[tactic(auto, unfolding(crate::specs::Mirrors::Parts::print))]
-    pub fn print(self, tokens: &mut Tokens<'_>) -> Result<Stmt, Stop>
-        ensures { ReadsAs stm_of (spec.print plain self.turns tokens.old) result tokens.new }
+    pub fn print(self, tokens: &mut Tokens<'_>) -> Result<Box<Stmt>, Stop>
+        ensures { ReadsAs boxed_stm (spec.print plain self.turns tokens.old) result tokens.new }
     {
         let place = self.printer(tokens)?;
         tokens.expect(TokenKind::LeftParen)?;
         let printed = self.printed(tokens)?;
         let printed = followed(tokens, TokenKind::RightParen, printed)?;
         let printed = followed(tokens, TokenKind::Semicolon, printed)?;
-        Ok(Stmt::Print(place, printed))
+        Ok(Box::new(self.alloc, Stmt::Print(place, printed))?)
     }
 
     /// A barrier, after `Ti`.
     #[tactic(auto, unfolding(crate::specs::Mirrors::Parts::barrier))]
-    pub fn barrier(self, tokens: &mut Tokens<'_>) -> Result<Stmt, Stop>
-        ensures { ReadsAs stm_of (spec.barrier plain self.turns tokens.old) result tokens.new }
+    pub fn barrier(self, tokens: &mut Tokens<'_>) -> Result<Box<Stmt>, Stop>
+        ensures { ReadsAs boxed_stm (spec.barrier plain self.turns tokens.old) result tokens.new }
     {
         tokens.expect(TokenKind::Dot)?;
         let place = tokens.place();
@@ -293,42 +302,42 @@ impl Reader {
         tokens.expect(TokenKind::LeftParen)?;
         tokens.expect(TokenKind::RightParen)?;
         tokens.expect(TokenKind::Semicolon)?;
-        Ok(Stmt::Barrier(place))
+        Ok(Box::new(self.alloc, Stmt::Barrier(place))?)
     }
 
     // ---- jumps, from their words on
 
     /// `break;`
     #[tactic(auto, unfolding(crate::specs::Mirrors::Parts::break_out))]
-    pub fn break_out(self, tokens: &mut Tokens<'_>) -> Result<Stmt, Stop>
-        ensures { ReadsAs stm_of (spec.break_out plain self.turns tokens.old) result tokens.new }
+    pub fn break_out(self, tokens: &mut Tokens<'_>) -> Result<Box<Stmt>, Stop>
+        ensures { ReadsAs boxed_stm (spec.break_out plain self.turns tokens.old) result tokens.new }
     {
         let place = tokens.place();
         tokens.take();
         tokens.expect(TokenKind::Semicolon)?;
-        Ok(Stmt::Break(place))
+        Ok(Box::new(self.alloc, Stmt::Break(place))?)
     }
 
     /// `continue;`
     #[tactic(auto, unfolding(crate::specs::Mirrors::Parts::continue_on))]
-    pub fn continue_on(self, tokens: &mut Tokens<'_>) -> Result<Stmt, Stop>
-        ensures { ReadsAs stm_of (spec.continue_on plain self.turns tokens.old) result tokens.new }
+    pub fn continue_on(self, tokens: &mut Tokens<'_>) -> Result<Box<Stmt>, Stop>
+        ensures { ReadsAs boxed_stm (spec.continue_on plain self.turns tokens.old) result tokens.new }
     {
         let place = tokens.place();
         tokens.take();
         tokens.expect(TokenKind::Semicolon)?;
-        Ok(Stmt::Continue(place))
+        Ok(Box::new(self.alloc, Stmt::Continue(place))?)
     }
 
     /// `return;` or `return e;`
     #[tactic(auto, unfolding(crate::specs::Mirrors::Parts::return_from))]
-    pub fn return_from(self, tokens: &mut Tokens<'_>) -> Result<Stmt, Stop>
-        ensures { ReadsAs stm_of (spec.return_from plain self.turns tokens.old) result tokens.new }
+    pub fn return_from(self, tokens: &mut Tokens<'_>) -> Result<Box<Stmt>, Stop>
+        ensures { ReadsAs boxed_stm (spec.return_from plain self.turns tokens.old) result tokens.new }
     {
         let place = tokens.place();
         tokens.take();
         let value = self.optional(tokens)?;
         let value = followed(tokens, TokenKind::Semicolon, value)?;
-        Ok(Stmt::Return(place, value))
+        Ok(Box::new(self.alloc, Stmt::Return(place, value))?)
     }
 }

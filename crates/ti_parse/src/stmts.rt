@@ -1,7 +1,7 @@
 // Statements. The rules take the reader of the statements inside as a parameter, so that each is proved by itself.
 
 ghost use Rattle.std.specs.Prelude.{[], ◌≡◌};
-ghost use Rattle.ti_syntax.specs.Trees.Views.{exp_of, maybe_of, stm_of, stms_of};
+ghost use Rattle.ti_syntax.specs.Trees.Views.{exp_of, maybe_of, stms_of};
 ghost use Rattle.ti_parse.specs.Mirrors.Nests.{Nests};
 ghost use Rattle.ti_parse.specs.Mirrors.Parts as parts;
 ghost use Rattle.ti_parse.specs.Mirrors.Pieces as pieces;
@@ -40,27 +40,20 @@ pub struct Statements<F> {
     pub stmt: F,
 }
 
-impl<F: Fn(Reader, &mut Tokens<'_>, u32) -> Result<Stmt, Stop>> Statements<F> {
-    fn stmt(&self, tokens: &mut Tokens<'_>) -> Result<Stmt, Stop>
-        requires { Nests self.now.reader self.now.levels (F.pre self.now.stmt) (F.post self.now.stmt) }
-        ensures { ReadsAs stm_of (spec.stmt plain self.now.reader.turns self.now.levels tokens.old) result tokens.new }
-    {
-        (self.stmt)(self.reader, tokens, self.levels)
-    }
-
-    fn boxed_stmt(&self, tokens: &mut Tokens<'_>) -> Result<Box<Stmt>, Stop>
+impl<F: Fn(Reader, &mut Tokens<'_>, u32) -> Result<Box<Stmt>, Stop>> Statements<F> {
+    fn stmt(&self, tokens: &mut Tokens<'_>) -> Result<Box<Stmt>, Stop>
         requires { Nests self.now.reader self.now.levels (F.pre self.now.stmt) (F.post self.now.stmt) }
         ensures { ReadsAs boxed_stm (spec.stmt plain self.now.reader.turns self.now.levels tokens.old) result tokens.new }
     {
-        Ok(Box::new(self.reader.alloc, self.stmt(tokens)?)?)
+        (self.stmt)(self.reader, tokens, self.levels)
     }
 
     // ---- items
 
     /// An item, after what it begins with.
-    fn named_item(&self, tokens: &mut Tokens<'_>, begun: Begun) -> Result<Stmt, Stop>
+    fn named_item(&self, tokens: &mut Tokens<'_>, begun: Begun) -> Result<Box<Stmt>, Stop>
         requires { Nests self.now.reader self.now.levels (F.pre self.now.stmt) (F.post self.now.stmt) }
-        ensures { ReadsAs stm_of (spec.named_item plain self.now.reader.turns (spec.stmt plain self.now.reader.turns self.now.levels) (begun_of begun) tokens.old) result tokens.new }
+        ensures { ReadsAs boxed_stm (spec.named_item plain self.now.reader.turns (spec.stmt plain self.now.reader.turns self.now.levels) (begun_of begun) tokens.old) result tokens.new }
     {
         match begun {
             Begun::Declares(ty) => self.reader.declared_alone(tokens, ty),
@@ -70,9 +63,9 @@ impl<F: Fn(Reader, &mut Tokens<'_>, u32) -> Result<Stmt, Stop>> Statements<F> {
 
     /// A declaration or a statement.
     #[tactic(auto, unfolding(crate::specs::Mirrors::Statements::item))]
-    fn item(&self, tokens: &mut Tokens<'_>) -> Result<Stmt, Stop>
+    fn item(&self, tokens: &mut Tokens<'_>) -> Result<Box<Stmt>, Stop>
         requires { Nests self.now.reader self.now.levels (F.pre self.now.stmt) (F.post self.now.stmt) }
-        ensures { ReadsAs stm_of (spec.item plain self.now.reader.turns (spec.stmt plain self.now.reader.turns self.now.levels) tokens.old) result tokens.new }
+        ensures { ReadsAs boxed_stm (spec.item plain self.now.reader.turns (spec.stmt plain self.now.reader.turns self.now.levels) tokens.old) result tokens.new }
     {
         match tokens.peek() {
             TokenKind::Name(name) => {
@@ -103,7 +96,11 @@ impl<F: Fn(Reader, &mut Tokens<'_>, u32) -> Result<Stmt, Stop>> Statements<F> {
             if tokens.sees(TokenKind::RightBrace) {
                 return Ok(found);
             }
-            found.push(self.item(tokens)?)?;
+            let item = self.item(tokens)?;
+            if found.is_empty() {
+                found.reserve_exact(1)?;
+            }
+            found.push(Box::into_inner(item))?;
         }
         Err(Stop::Spent)
     }
@@ -112,23 +109,23 @@ impl<F: Fn(Reader, &mut Tokens<'_>, u32) -> Result<Stmt, Stop>> Statements<F> {
 
     /// A block, after its `{`.
     #[tactic(auto, unfolding(crate::specs::Mirrors::Statements::block), using(ti_syntax::proofs::Bridges::bridges))]
-    fn block(&self, tokens: &mut Tokens<'_>) -> Result<Stmt, Stop>
+    fn block(&self, tokens: &mut Tokens<'_>) -> Result<Box<Stmt>, Stop>
         requires { Nests self.now.reader self.now.levels (F.pre self.now.stmt) (F.post self.now.stmt) }
-        ensures { ReadsAs stm_of (spec.block plain self.now.reader.turns (spec.stmt plain self.now.reader.turns self.now.levels) tokens.old) result tokens.new }
+        ensures { ReadsAs boxed_stm (spec.block plain self.now.reader.turns (spec.stmt plain self.now.reader.turns self.now.levels) tokens.old) result tokens.new }
     {
         let body = self.items(tokens)?;
         tokens.expect(TokenKind::RightBrace)?;
-        Ok(Stmt::Block(body))
+        Ok(Box::new(self.reader.alloc, Stmt::Block(body))?)
     }
 
     /// What stands behind `if`.
     #[tactic(auto, unfolding(crate::specs::Mirrors::Statements::conditional))]
-    fn conditional(&self, tokens: &mut Tokens<'_>, place: Place) -> Result<Stmt, Stop>
+    fn conditional(&self, tokens: &mut Tokens<'_>, place: Place) -> Result<Box<Stmt>, Stop>
         requires { Nests self.now.reader self.now.levels (F.pre self.now.stmt) (F.post self.now.stmt) }
-        ensures { ReadsAs stm_of (spec.conditional plain self.now.reader.turns (spec.stmt plain self.now.reader.turns self.now.levels) place tokens.old) result tokens.new }
+        ensures { ReadsAs boxed_stm (spec.conditional plain self.now.reader.turns (spec.stmt plain self.now.reader.turns self.now.levels) place tokens.old) result tokens.new }
     {
         let condition = self.reader.condition(tokens)?;
-        let then = self.boxed_stmt(tokens)?;
+        let then = self.stmt(tokens)?;
         self.conditional_behind(tokens, place, condition, then)
     }
 
@@ -139,65 +136,69 @@ impl<F: Fn(Reader, &mut Tokens<'_>, u32) -> Result<Stmt, Stop>> Statements<F> {
         place: Place,
         condition: Expr,
         then: Box<Stmt>,
-    ) -> Result<Stmt, Stop>
+    ) -> Result<Box<Stmt>, Stop>
         requires { Nests self.now.reader self.now.levels (F.pre self.now.stmt) (F.post self.now.stmt) }
-        ensures { ReadsAs stm_of (spec.conditional_behind plain self.now.reader.turns (spec.stmt plain self.now.reader.turns self.now.levels) place (exp_of condition) (boxed_stm then) tokens.old) result tokens.new }
+        ensures { ReadsAs boxed_stm (spec.conditional_behind plain self.now.reader.turns (spec.stmt plain self.now.reader.turns self.now.levels) place (exp_of condition) (boxed_stm then) tokens.old) result tokens.new }
     {
         if !tokens.sees(TokenKind::KeywordElse) {
-            return Ok(Stmt::If {
+            let alone = Stmt::If {
                 place,
                 condition,
                 then,
                 otherwise: None,
-            });
+            };
+            return Ok(Box::new(self.reader.alloc, alone)?);
         }
         tokens.take();
-        let otherwise = Some(self.boxed_stmt(tokens)?);
-        Ok(Stmt::If {
+        let otherwise = Some(self.stmt(tokens)?);
+        let choice = Stmt::If {
             place,
             condition,
             then,
             otherwise,
-        })
+        };
+        Ok(Box::new(self.reader.alloc, choice)?)
     }
 
     /// What stands behind `while`.
     #[tactic(auto, unfolding(crate::specs::Mirrors::Statements::while_loop))]
-    fn while_loop(&self, tokens: &mut Tokens<'_>, place: Place) -> Result<Stmt, Stop>
+    fn while_loop(&self, tokens: &mut Tokens<'_>, place: Place) -> Result<Box<Stmt>, Stop>
         requires { Nests self.now.reader self.now.levels (F.pre self.now.stmt) (F.post self.now.stmt) }
-        ensures { ReadsAs stm_of (spec.while_loop plain self.now.reader.turns (spec.stmt plain self.now.reader.turns self.now.levels) place tokens.old) result tokens.new }
+        ensures { ReadsAs boxed_stm (spec.while_loop plain self.now.reader.turns (spec.stmt plain self.now.reader.turns self.now.levels) place tokens.old) result tokens.new }
     {
         let condition = self.reader.condition(tokens)?;
-        let body = self.boxed_stmt(tokens)?;
-        Ok(Stmt::While {
+        let body = self.stmt(tokens)?;
+        let whole = Stmt::While {
             place,
             condition,
             body,
-        })
+        };
+        Ok(Box::new(self.reader.alloc, whole)?)
     }
 
     /// What stands behind `for`.
     #[tactic(auto, unfolding(crate::specs::Mirrors::Statements::for_loop))]
-    fn for_loop(&self, tokens: &mut Tokens<'_>, place: Place) -> Result<Stmt, Stop>
+    fn for_loop(&self, tokens: &mut Tokens<'_>, place: Place) -> Result<Box<Stmt>, Stop>
         requires { Nests self.now.reader self.now.levels (F.pre self.now.stmt) (F.post self.now.stmt) }
-        ensures { ReadsAs stm_of (spec.for_loop plain self.now.reader.turns (spec.stmt plain self.now.reader.turns self.now.levels) place tokens.old) result tokens.new }
+        ensures { ReadsAs boxed_stm (spec.for_loop plain self.now.reader.turns (spec.stmt plain self.now.reader.turns self.now.levels) place tokens.old) result tokens.new }
     {
         let head = self.reader.for_head(tokens)?;
-        let body = self.boxed_stmt(tokens)?;
-        Ok(Stmt::For {
+        let body = self.stmt(tokens)?;
+        let whole = Stmt::For {
             place,
             first: head.first,
             condition: head.condition,
             update: head.update,
             body,
-        })
+        };
+        Ok(Box::new(self.reader.alloc, whole)?)
     }
 
     /// What stands behind `foreach`.
     #[tactic(auto, unfolding(crate::specs::Mirrors::Statements::foreach_loop))]
-    fn foreach_loop(&self, tokens: &mut Tokens<'_>, place: Place) -> Result<Stmt, Stop>
+    fn foreach_loop(&self, tokens: &mut Tokens<'_>, place: Place) -> Result<Box<Stmt>, Stop>
         requires { Nests self.now.reader self.now.levels (F.pre self.now.stmt) (F.post self.now.stmt) }
-        ensures { ReadsAs stm_of (spec.foreach_loop plain self.now.reader.turns (spec.stmt plain self.now.reader.turns self.now.levels) place tokens.old) result tokens.new }
+        ensures { ReadsAs boxed_stm (spec.foreach_loop plain self.now.reader.turns (spec.stmt plain self.now.reader.turns self.now.levels) place tokens.old) result tokens.new }
     {
         tokens.expect(TokenKind::LeftParen)?;
         let name_place = tokens.place();
@@ -205,14 +206,15 @@ impl<F: Fn(Reader, &mut Tokens<'_>, u32) -> Result<Stmt, Stop>> Statements<F> {
         tokens.expect_word(b"in")?;
         let domain = self.reader.expr(tokens)?;
         let domain = followed(tokens, TokenKind::RightParen, domain)?;
-        let body = self.boxed_stmt(tokens)?;
-        Ok(Stmt::Foreach {
+        let body = self.stmt(tokens)?;
+        let whole = Stmt::Foreach {
             place,
             name_place,
             name,
             domain,
             body,
-        })
+        };
+        Ok(Box::new(self.reader.alloc, whole)?)
     }
 
     /// A compound statement, after its first token.
@@ -221,9 +223,9 @@ impl<F: Fn(Reader, &mut Tokens<'_>, u32) -> Result<Stmt, Stop>> Statements<F> {
         tokens: &mut Tokens<'_>,
         place: Place,
         kind: &TokenKind,
-    ) -> Result<Stmt, Stop>
+    ) -> Result<Box<Stmt>, Stop>
         requires { Nests self.now.reader self.now.levels (F.pre self.now.stmt) (F.post self.now.stmt) }
-        ensures { ReadsAs stm_of (spec.compound plain self.now.reader.turns (spec.stmt plain self.now.reader.turns self.now.levels) place kind.now tokens.old) result tokens.new }
+        ensures { ReadsAs boxed_stm (spec.compound plain self.now.reader.turns (spec.stmt plain self.now.reader.turns self.now.levels) place kind.now tokens.old) result tokens.new }
     {
         match kind {
             TokenKind::LeftBrace => self.block(tokens),
@@ -249,8 +251,8 @@ impl Reader {
     }
 
     /// A declaration or a change, after what it begins with.
-    fn first_of(self, tokens: &mut Tokens<'_>, begun: Begun) -> Result<Stmt, Stop>
-        ensures { ReadsAs stm_of (parts.first_of plain self.turns (begun_of begun) tokens.old) result tokens.new }
+    fn first_of(self, tokens: &mut Tokens<'_>, begun: Begun) -> Result<Box<Stmt>, Stop>
+        ensures { ReadsAs boxed_stm (parts.first_of plain self.turns (begun_of begun) tokens.old) result tokens.new }
     {
         match begun {
             Begun::Declares(ty) => self.declared(tokens, ty),
@@ -281,7 +283,7 @@ impl Reader {
                 }
             }
         };
-        Ok(Some(Box::new(self.alloc, first)?))
+        Ok(Some(first))
     }
 
     /// An expression, or none in front of a semicolon.
@@ -303,8 +305,7 @@ impl Reader {
         if tokens.sees(TokenKind::RightParen) {
             return Ok(None);
         }
-        let change = self.change(tokens)?;
-        Ok(Some(Box::new(self.alloc, change)?))
+        Ok(Some(self.change(tokens)?))
     }
 
     /// The head of a `for`.
@@ -330,13 +331,13 @@ impl Reader {
 
     /// A statement that isn't compound.
     #[tactic(auto, unfolding(crate::specs::Mirrors::Statements::small))]
-    fn small(self, tokens: &mut Tokens<'_>) -> Result<Stmt, Stop>
-        ensures { ReadsAs stm_of (spec.small plain self.turns tokens.old) result tokens.new }
+    fn small(self, tokens: &mut Tokens<'_>) -> Result<Box<Stmt>, Stop>
+        ensures { ReadsAs boxed_stm (spec.small plain self.turns tokens.old) result tokens.new }
     {
         match tokens.peek() {
             TokenKind::Semicolon => {
                 tokens.take();
-                Ok(Stmt::Empty)
+                Ok(Box::new(self.alloc, Stmt::Empty)?)
             }
             TokenKind::KeywordPrintln | TokenKind::KeywordSystem => self.print(tokens),
             TokenKind::KeywordTi => {
@@ -371,8 +372,8 @@ impl Reader {
 
 /// A statement where so many levels of compound ones may still begin.
 #[tactic(auto, unfolding(crate::specs::Mirrors::Statements::stmt))]
-pub fn stmt(reader: Reader, tokens: &mut Tokens<'_>, levels: u32) -> Result<Stmt, Stop>
-    ensures { ReadsAs stm_of (spec.stmt plain reader.turns levels tokens.old) result tokens.new }
+pub fn stmt(reader: Reader, tokens: &mut Tokens<'_>, levels: u32) -> Result<Box<Stmt>, Stop>
+    ensures { ReadsAs boxed_stm (spec.stmt plain reader.turns levels tokens.old) result tokens.new }
 {
     let kind = tokens.peek();
     if !is_compound(kind) {

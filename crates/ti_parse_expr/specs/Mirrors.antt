@@ -5,5 +5,6 @@ pub mod Types
 pub mod Exprs
 pub mod Reach
 pub mod Full
+pub mod Alone
 pub mod ByFront
 pub mod Nests

@@ -42,7 +42,7 @@ impl<F: Fn(Global, &mut Tokens<'_>, usize, u8) -> Result<Expr, Stop>> Grammar<F>
         requires { Nests self.now.turns (F.pre self.now.expr) (F.post self.now.expr) }
         ensures { ReadsAs exps_of (spec.more_args self.now.turns (spec.expr self.now.turns) self.now.turns [] tokens.old) result tokens.new }
     {
-        let mut found = Vec::new(self.alloc);
+        let mut found = Vec::with_capacity(self.alloc, 1)?;
         for _turn in 0..self.turns {
             found.push(self.expr(tokens, 1)?)?;
             if !tokens.sees(TokenKind::Comma) {
@@ -93,7 +93,7 @@ impl<F: Fn(Global, &mut Tokens<'_>, usize, u8) -> Result<Expr, Stop>> Grammar<F>
         requires { Nests self.now.turns (F.pre self.now.expr) (F.post self.now.expr) }
         ensures { ReadsAs exps_of (spec.parts_from self.now.turns (spec.expr self.now.turns) (exp_of first) tokens.old) result tokens.new }
     {
-        let mut found = Vec::new(self.alloc);
+        let mut found = Vec::with_capacity(self.alloc, 1)?;
         found.push(first)?;
         let found = self.more_parts(tokens, 2, found)?;
         tokens.expect(TokenKind::RightBracket)?;
@@ -151,7 +151,7 @@ impl<F: Fn(Global, &mut Tokens<'_>, usize, u8) -> Result<Expr, Stop>> Grammar<F>
         requires { Nests self.now.turns (F.pre self.now.expr) (F.post self.now.expr) }
         ensures { ReadsAs ranges_of (spec.ranges_from self.now.turns (spec.expr self.now.turns) (exp_of low) tokens.old) result tokens.new }
     {
-        let mut found = Vec::new(self.alloc);
+        let mut found = Vec::with_capacity(self.alloc, 1)?;
         found.push(self.range_from(tokens, low)?)?;
         let found = self.more_ranges(tokens, 2, found)?;
         tokens.expect(TokenKind::RightBracket)?;

@@ -1,16 +1,17 @@
 // Full expressions, which stand in no other one: no token of them weighs too much.
 
-ghost use Rattle.std.specs.Prelude.{ℕ, ◌≡◌, ◌+◌, ◌<◌, ◌≤◌, ◌^◌};
+ghost use Rattle.std.specs.Prelude.{ℕ, ◌≡◌, ◌+◌, ◌<◌, ◌≤◌, ◌^◌, true};
 ghost use Rattle.ti_syntax.specs.Trees.Views.{exp_of};
 ghost use Rattle.ti_syntax.specs.Spelling.{most_weight};
 ghost use Rattle.ti_syntax.specs.Spelling.Weights.{weigh as weigh_spec};
+ghost use Rattle.ti_parse_expr.specs.Mirrors.Alone.{ends_operand as ends_operand_spec, is_name_alone as name_alone_spec};
 ghost use Rattle.ti_parse_expr.specs.Mirrors.ByFront.{ByFront, is_final as is_final_spec};
 ghost use Rattle.ti_parse_expr.specs.Mirrors.Full as spec;
 ghost use Rattle.ti_parse_expr.specs.Mirrors.Input.{ReadsAs};
 ghost use Rattle.ti_parse_expr.specs.Mirrors.Seen.{operand_of};
 
 use crate::exprs;
-use crate::operand::Operand;
+use crate::operand::{Ending, Operand};
 use crate::parse::{Form, phrase};
 use crate::reach::{MOST_WEIGHT, front_of, weigh};
 use crate::stop::Stop;
@@ -18,7 +19,7 @@ use crate::tokens::Tokens;
 use std::alloc::Global;
 use ti_base::Place;
 use ti_syntax::tree::Expr;
-use ti_syntax::{Spelled, Token};
+use ti_syntax::{Spelled, Token, TokenKind};
 
 /// Whether an answer says nothing of the tokens.
 fn is_final<T>(answer: &Result<T, Stop>) -> bool
@@ -63,11 +64,62 @@ fn within<T: Drop, F: FnOnce(&mut Tokens<'_>, usize) -> Result<T, Stop>>(
     answer
 }
 
+/// Whether no operand goes on with a token of this kind.
+fn ends_operand(kind: &TokenKind) -> bool
+    ensures { result ≡ ends_operand_spec kind.now }
+{
+    match kind {
+        TokenKind::Semicolon | TokenKind::RightParen | TokenKind::RightBracket => true,
+        TokenKind::Comma | TokenKind::Assign | TokenKind::PlusAssign | TokenKind::PlusPlus => true,
+        _ => false,
+    }
+}
+
+/// Whether the next token is a name behind which an expression ends.
+fn is_name_alone(tokens: &Tokens<'_>) -> bool
+    ensures { result ≡ name_alone_spec tokens.now }
+{
+    match tokens.as_slice() {
+        [first, second, ..] => match &first.kind {
+            TokenKind::Name(_) => ends_operand(&second.kind),
+            _ => false,
+        },
+        _ => false,
+    }
+}
+
+/// An expression of a form, whatever it is.
+fn full_phrase(alloc: Global, tokens: &mut Tokens<'_>, form: Form) -> Result<Expr, Stop>
+    ensures { ReadsAs exp_of (spec.full form tokens.old) result tokens.new }
+{
+    within(tokens, 0, |front, turns| phrase(alloc, front, turns, form))
+}
+
+/// An expression that is a name alone.
+fn name_alone(alloc: Global, tokens: &mut Tokens<'_>, form: Form) -> Result<Expr, Stop>
+    requires { name_alone_spec tokens.old ≡ true }
+    ensures { ReadsAs exp_of (spec.full form tokens.old) result tokens.new }
+{
+    match tokens.peek() {
+        TokenKind::Name(name) => {
+            let place = tokens.place();
+            let name = name.copy(alloc)?;
+            tokens.take();
+            Ok(Expr::Name(place, name))
+        }
+        _ => full_phrase(alloc, tokens, form),
+    }
+}
+
 /// A full expression of a form.
 pub fn full(alloc: Global, tokens: &mut Tokens<'_>, form: Form) -> Result<Expr, Stop>
     ensures { ReadsAs exp_of (spec.full form tokens.old) result tokens.new }
 {
-    within(tokens, 0, |front, turns| phrase(alloc, front, turns, form))
+    if is_name_alone(tokens) {
+        name_alone(alloc, tokens, form)
+    } else {
+        full_phrase(alloc, tokens, form)
+    }
 }
 
 /// A full Postfix, with what it ends with.
@@ -83,6 +135,24 @@ pub fn full_operand(alloc: Global, tokens: &mut Tokens<'_>) -> Result<Operand, S
 
 /// A full Postfix, after its first name.
 pub fn full_behind_name(
+    alloc: Global,
+    tokens: &mut Tokens<'_>,
+    place: Place,
+    name: Spelled,
+) -> Result<Operand, Stop>
+    ensures { ReadsAs operand_of (spec.full_behind_name place name tokens.old) result tokens.new }
+{
+    if ends_operand(tokens.peek()) {
+        return Ok(Operand {
+            expr: Expr::Name(place, name),
+            ending: Ending::Target,
+        });
+    }
+    behind_name_phrase(alloc, tokens, place, name)
+}
+
+/// The same, whatever stands behind the name.
+fn behind_name_phrase(
     alloc: Global,
     tokens: &mut Tokens<'_>,
     place: Place,

@@ -1,5 +1,5 @@
 // The types of expressions, and what counts of the rules that are broken in them.
-ghost use Rattle.std.specs.Prelude.{◌≡◌, map};
+ghost use Rattle.std.specs.Prelude.{◌≡◌, map, IfSome};
 ghost use Rattle.std.specs.Option.{option_map};
 ghost use Rattle.ti_lang.specs.Program.Scope.{contents_of};
 ghost use Rattle.ti_lang.specs.Program.Views.{program_of, expression_of, bound_of, numbered_method_of};
@@ -86,11 +86,60 @@ impl<'a> Judge<'a> {
         }
     }
 
+    /// What is known of an expression without parts.
+    #[tactic(auto, using(ti_rules::proofs::First::firsts, ti_lang::proofs::ProgramBridges::program_bridges))]
+    fn leaf(&self, scope: &'a Scope, e: &'a Expr) -> Option<Judged<'a>>
+        ensures { IfSome result (λ j. IsJudged (program_of self.now.program.now) (contents_of scope.now) (expression_of e.now) j) }
+    {
+        match e {
+            Expr::Int(_, _) => Some(Judged::sound(Some(Seen::Int))),
+            Expr::Long(_, _) => Some(Judged::sound(Some(Seen::Long))),
+            Expr::Truth(_, _) => Some(Judged::sound(Some(Seen::Bool))),
+            Expr::Variable(_, v) => Some(Judged::sound(variable_type(scope, v))),
+            _ => None,
+        }
+    }
+
     /// What is known of an expression in a scope: its type, where no rule of types is broken in it, and the one that counts of the
     /// rules that are. There is no condition: a name that means nothing has no type.
     #[cycle(exp)]
-    #[tactic(auto, using(ti_rules::proofs::First::firsts, ti_lang::proofs::ProgramBridges::program_bridges))]
     pub fn exp(&self, scope: &'a Scope, e: &'a Expr) -> Judged<'a>
+        ensures { IsJudged (program_of self.now.program.now) (contents_of scope.now) (expression_of e.now) result }
+    {
+        if let Some(judged) = self.leaf(scope, e) {
+            return judged;
+        }
+        match self.operated(scope, e) {
+            Some(judged) => judged,
+            None => self.form(scope, e),
+        }
+    }
+
+    /// What is known of an operator between two operands.
+    #[cycle(exp)]
+    #[tactic(auto, using(ti_rules::proofs::First::firsts, ti_lang::proofs::ProgramBridges::program_bridges))]
+    fn operated(&self, scope: &'a Scope, e: &'a Expr) -> Option<Judged<'a>>
+        ensures { IfSome result (λ j. IsJudged (program_of self.now.program.now) (contents_of scope.now) (expression_of e.now) j) }
+    {
+        match e {
+            Expr::Binary {
+                place,
+                operator,
+                left,
+                right,
+            } => {
+                let first = self.exp(scope, left);
+                let second = self.exp(scope, right);
+                Some(first.binary(left.place(), second, right.place(), *place, *operator))
+            }
+            _ => None,
+        }
+    }
+
+    /// The same for an expression of any form.
+    #[cycle(exp)]
+    #[tactic(auto, using(ti_rules::proofs::First::firsts, ti_lang::proofs::ProgramBridges::program_bridges))]
+    fn form(&self, scope: &'a Scope, e: &'a Expr) -> Judged<'a>
         ensures { IsJudged (program_of self.now.program.now) (contents_of scope.now) (expression_of e.now) result }
     {
         match e {

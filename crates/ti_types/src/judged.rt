@@ -124,9 +124,8 @@ impl<'a> Judged<'a> {
         let t = self.operand();
         let u = other.operand();
         let misplaced = sooner(self.misplaced(inner), other.misplaced(other_inner));
-        let own = sooner(misplaced, binary_mistaken(place, op, t, u));
-        let first = sooner(sooner(self.first, other.first), own);
-        Judged::plain(both(op, t, u), first)
+        let own = operated(place, op, t, u).behind(misplaced);
+        own.behind(sooner(self.first, other.first))
     }
 
     /// A cast at a place, of an operand at its own.
@@ -153,33 +152,27 @@ fn unary_mistaken(place: Place, op: UnaryOperator, t: Option<Seen>) -> Option<Re
     }
 }
 
-/// Two operands that the operator doesn't take.
+/// What an operator at a place makes of two operands, apart from what is known of these: where both have types, the type that it
+/// gives, or that it doesn't take them.
 #[tactic(auto, unfolding(ti_rules::specs::Mirrors::First::first_of))]
-fn binary_mistaken<'a>(
+fn operated<'a>(
     place: Place,
     op: BinaryOperator,
     t: Option<Seen<'a>>,
     u: Option<Seen<'a>>,
-) -> Option<Refusal>
-    ensures { result ≡ first_of (both_judged (option_map seen t.entry) (option_map seen u.entry) (λ t u. mistaken_at place (is_some (binary_type op t u)) (is_some (binary_type op (one_dim t) (one_dim u))))) }
+) -> Judged<'a>
+    ensures known { typed_of result ≡ plain (both (option_map seen t.entry) (option_map seen u.entry) (binary_type op)) }
+    ensures first { result.first ≡ first_of (both_judged (option_map seen t.entry) (option_map seen u.entry) (λ t u. mistaken_at place (is_some (binary_type op t u)) (is_some (binary_type op (one_dim t) (one_dim u))))) }
 {
     match (t, u) {
-        (Some(t), Some(u)) => {
-            let taken = binary_type(op, t, u).is_some();
-            let otherwise = binary_type(op, t.one_dim(), u.one_dim()).is_some();
-            mistaken(place, taken, otherwise)
-        }
-        _ => None,
-    }
-}
-
-/// What two operands give, where both have types.
-fn both<'a>(op: BinaryOperator, t: Option<Seen<'a>>, u: Option<Seen<'a>>) -> Option<Seen<'a>>
-    ensures { option_map seen result ≡ both (option_map seen t.entry) (option_map seen u.entry) (binary_type op) }
-{
-    match (t, u) {
-        (Some(t), Some(u)) => binary_type(op, t, u),
-        _ => None,
+        (Some(t), Some(u)) => match binary_type(op, t, u) {
+            Some(ty) => Judged::plain(Some(ty), None),
+            None => {
+                let otherwise = binary_type(op, t.one_dim(), u.one_dim()).is_some();
+                Judged::plain(None, mistaken(place, false, otherwise))
+            }
+        },
+        _ => Judged::plain(None, None),
     }
 }
 

@@ -1,6 +1,6 @@
 use Rattle.std.proofs.Common.{◌≡◌, Bool, List, [], ◌++◌, map, Some, ap, sym, ◌∙◌, subst, arith}
 use Rattle.ti_lang.specs.Program.Scope.{ScopeVariable, this_of, contents_of}
-use Rattle.ti_lang.specs.Program.Statements.{NumberedStm, numbered_stms}
+use Rattle.ti_lang.specs.Program.Statements.{numbered_stms}
 use Rattle.ti_lang.specs.Program.Views.{expression_of, statement_of}
 use Rattle.ti_lang.specs.Typing.Effects.{together, kept_in_loop, doings, doings_of_all, doings_of_maybe}
 use Rattle.ti_rules.specs.Standing.{Around, scope_of, variables_inside, loop_acts, inside, inside_maybe, inside_all}
@@ -13,7 +13,7 @@ use Rattle.ti_check.specs.declared.found.Walked.{Walked}
 use Rattle.ti_check.specs.Mirrors.Found.{below}
 use Rattle.ti_check.specs.Mirrors.Sites.{program_at, around_where, around_of}
 use Rattle.ti_check.specs.Mirrors.Walked.{IsWalked}
-use Rattle.ti_check.proofs.Where.{where_first, where_next, where_last, both_walked, same_walked, moved_walked, moved_doings, nothing_walked, loop_walked, inside_does, alone_walked, alone_does, if_below, if_does, if_no_loop, for_is}
+use Rattle.ti_check.proofs.Where.{where_first, where_next, where_last, both_walked, same_walked, moved_walked, moved_doings, nothing_walked, loop_walked, inside_does, alone_walked, alone_does, if_below, if_does, for_is}
 use Rattle.ti_check.proofs.walk.+walk.Goals as goal
 
 pub statements-loop-x-init : goal.statements-loop-x-init
@@ -48,8 +48,8 @@ maybe-returns-in-None-clause-found t c =
 
 -- ---- a block
 
-pub statement-whole-requires-clause-below : goal.statement-whole-requires-clause-below
-statement-whole-requires-clause-below t c =
+pub compound-whole-requires-clause-below : goal.compound-whole-requires-clause-below
+compound-whole-requires-clause-below t c =
     let p = program_at c.args.site in
     let around = around_where c.args.site in
     same_walked p (λ jump_has. inside_all p (around jump_has) (numbered_stms (map statement_of c.listed_statements.result.now))) (λ jump_has. below p (around jump_has) (statement_of c.args.x.now)) c.in_ok-below-in-Block.below
@@ -57,8 +57,8 @@ statement-whole-requires-clause-below t c =
     ∙ sym (ap (λ z jump_has. below p (around jump_has) z) (seen_numbered_block c.args.x.now c.in-Block.body c.in-Block.is)))
     c.in_ok-below-in-Block.ensures.found
 
-pub statement-whole-requires-clause-own : goal.statement-whole-requires-clause-own
-statement-whole-requires-clause-own t c =
+pub compound-whole-requires-clause-own : goal.compound-whole-requires-clause-own
+compound-whole-requires-clause-own t c =
     let p = program_at c.args.site in
     let this = this_of (around_of c.args.site).method in
     c.in_ok-below-in-Block.ensures.doings ∙ ap (λ l. doings_of_all p this (numbered_stms (map statement_of l))) c.listed_statements.ensures
@@ -66,8 +66,8 @@ statement-whole-requires-clause-own t c =
 
 -- ---- an if
 
-pub statement-whole-requires-in-If-clause-below : goal.statement-whole-requires-in-If-clause-below
-statement-whole-requires-in-If-clause-below t c =
+pub compound-whole-requires-in-If-clause-below : goal.compound-whole-requires-in-If-clause-below
+compound-whole-requires-in-If-clause-below t c =
     let p = program_at c.args.site in
     let around = around_where c.args.site in
     let then = λ (jump_has : Bool). inside p (around jump_has) (statement_of c.boxed_statement.result.now) in
@@ -78,8 +78,8 @@ statement-whole-requires-in-If-clause-below t c =
     (both_walked p then otherwise c.in_ok-then-in-If.then c.in_ok-otherwise-in-If.otherwise c.and.result c.in_ok-then-in-If.ensures.found c.in_ok-otherwise-in-If.ensures.found c.and.ensures.types c.and.ensures.single
     c.and.ensures.jumping)
 
-pub statement-whole-requires-in-If-clause-own : goal.statement-whole-requires-in-If-clause-own
-statement-whole-requires-in-If-clause-own t c =
+pub compound-whole-requires-in-If-clause-own : goal.compound-whole-requires-in-If-clause-own
+compound-whole-requires-in-If-clause-own t c =
     let p = program_at c.args.site in
     let this = this_of (around_of c.args.site).method in
     c.and.ensures.doings
@@ -90,8 +90,8 @@ statement-whole-requires-in-If-clause-own t c =
 
 -- ---- a while
 
-pub statement-whole-requires-in-While-clause-below : goal.statement-whole-requires-in-While-clause-below
-statement-whole-requires-in-While-clause-below t c =
+pub compound-whole-requires-in-While-clause-below : goal.compound-whole-requires-in-While-clause-below
+compound-whole-requires-in-While-clause-below t c =
     let p = program_at c.args.site in
     let around = around_of c.args.site in
     let within : Bool → Around = λ jump_has. record around { jump_has = Some jump_has } in
@@ -104,8 +104,8 @@ statement-whole-requires-in-While-clause-below t c =
     (alone_walked p around.method within body c.none-in-While.result c.doing.result c.in_ok-body-in-While.body c.looped-below.result c.doing.ensures c.none-in-While.ensures found does c.looped-below.ensures.types
     c.looped-below.ensures.single c.looped-below.ensures.jumping)
 
-pub statement-whole-requires-in-While-clause-own : goal.statement-whole-requires-in-While-clause-own
-statement-whole-requires-in-While-clause-own t c =
+pub compound-whole-requires-in-While-clause-own : goal.compound-whole-requires-in-While-clause-own
+compound-whole-requires-in-While-clause-own t c =
     let p = program_at c.args.site in
     let around = around_of c.args.site in
     let within : Bool → Around = λ jump_has. record around { jump_has = Some jump_has } in
@@ -115,8 +115,8 @@ statement-whole-requires-in-While-clause-own t c =
     alone_does p around.method body c.none-in-While.result c.doing.result c.in_ok-body-in-While.body c.looped-below.result c.doing.ensures c.none-in-While.ensures does c.looped-below.ensures.doings
     ∙ sym (ap (λ z. doings p (this_of around.method) (statement_of z)) c.in-While.is)
 
-pub statement-whole-requires-in-While-clause-inside : goal.statement-whole-requires-in-While-clause-inside
-statement-whole-requires-in-While-clause-inside t c =
+pub compound-whole-requires-in-While-clause-inside : goal.compound-whole-requires-in-While-clause-inside
+compound-whole-requires-in-While-clause-inside t c =
     let p = program_at c.args.site in
     let around = around_of c.args.site in
     let within : Bool → Around = λ jump_has. record around { jump_has = Some jump_has } in
@@ -126,8 +126,8 @@ statement-whole-requires-in-While-clause-inside t c =
 
 -- ---- a for
 
-pub statement-whole-requires-in-For-clause-below : goal.statement-whole-requires-in-For-clause-below
-statement-whole-requires-in-For-clause-below t c =
+pub compound-whole-requires-in-For-clause-below : goal.compound-whole-requires-in-For-clause-below
+compound-whole-requires-in-For-clause-below t c =
     let p = program_at c.args.site in
     let around = around_of c.args.site in
     let m = around.method in
@@ -147,8 +147,8 @@ statement-whole-requires-in-For-clause-below t c =
     (both_walked p first (λ jump_has. updates jump_has ++ inside p (within (loop_acts p m update body)) body) c.in_ok-first-in-For.first c.looped.result c.and-below.result c.in_ok-first-in-For.ensures.found others
     c.and-below.ensures.types c.and-below.ensures.single c.and-below.ensures.jumping)
 
-pub statement-whole-requires-in-For-clause-own : goal.statement-whole-requires-in-For-clause-own
-statement-whole-requires-in-For-clause-own t c =
+pub compound-whole-requires-in-For-clause-own : goal.compound-whole-requires-in-For-clause-own
+compound-whole-requires-in-For-clause-own t c =
     let p = program_at c.args.site in
     let around = around_of c.args.site in
     let m = around.method in
@@ -162,8 +162,8 @@ statement-whole-requires-in-For-clause-own t c =
     (c.looped.ensures.doings ∙ ap kept_in_loop (inside_does p m (maybe_in c.in-For.update) body c.in_ok-update-in-For.update c.in_ok-body-in-For.body c.in_ok-update-in-For.ensures.doings does))
     ∙ sym (ap (doings p (this_of m)) (ap statement_of c.in-For.is ∙ for_is c.in-For.place c.in-For.first c.in-For.condition c.in-For.update c.in-For.body))
 
-pub statement-whole-requires-in-For-clause-inside : goal.statement-whole-requires-in-For-clause-inside
-statement-whole-requires-in-For-clause-inside t c =
+pub compound-whole-requires-in-For-clause-inside : goal.compound-whole-requires-in-For-clause-inside
+compound-whole-requires-in-For-clause-inside t c =
     let p = program_at c.args.site in
     let around = around_of c.args.site in
     let m = around.method in
@@ -176,8 +176,8 @@ statement-whole-requires-in-For-clause-inside t c =
 
 -- ---- a foreach
 
-pub statement-whole-requires-in-Foreach-clause-below : goal.statement-whole-requires-in-Foreach-clause-below
-statement-whole-requires-in-Foreach-clause-below t c =
+pub compound-whole-requires-in-Foreach-clause-below : goal.compound-whole-requires-in-Foreach-clause-below
+compound-whole-requires-in-Foreach-clause-below t c =
     let p = program_at c.args.site in
     let around = around_of c.args.site in
     let with_these : List ScopeVariable → Bool → Around = λ v jump_has. record { method = around.method; variables = v; jump_has = Some jump_has } in
@@ -196,8 +196,8 @@ statement-whole-requires-in-Foreach-clause-below t c =
     (alone_walked p around.method within body c.none-in-Foreach.result c.doing-in-Foreach.result c.in_ok-body-in-Foreach.body c.looped-below-in-Foreach.result c.doing-in-Foreach.ensures c.none-in-Foreach.ensures found does
     c.looped-below-in-Foreach.ensures.types c.looped-below-in-Foreach.ensures.single c.looped-below-in-Foreach.ensures.jumping)
 
-pub statement-whole-requires-in-Foreach-clause-own : goal.statement-whole-requires-in-Foreach-clause-own
-statement-whole-requires-in-Foreach-clause-own t c =
+pub compound-whole-requires-in-Foreach-clause-own : goal.compound-whole-requires-in-Foreach-clause-own
+compound-whole-requires-in-Foreach-clause-own t c =
     let p = program_at c.args.site in
     let around = around_of c.args.site in
     let with_these : Bool → Around = λ jump_has. record { method = around.method; variables = (contents_of c.in_ok-scope-in-Foreach.scope).variables; jump_has = Some jump_has } in
@@ -211,8 +211,8 @@ statement-whole-requires-in-Foreach-clause-own t c =
     c.looped-below-in-Foreach.ensures.doings
     ∙ sym (ap (λ z. doings p (this_of around.method) (statement_of z)) c.in-Foreach.is)
 
-pub statement-whole-requires-in-Foreach-clause-inside : goal.statement-whole-requires-in-Foreach-clause-inside
-statement-whole-requires-in-Foreach-clause-inside t c =
+pub compound-whole-requires-in-Foreach-clause-inside : goal.compound-whole-requires-in-Foreach-clause-inside
+compound-whole-requires-in-Foreach-clause-inside t c =
     let p = program_at c.args.site in
     let around = around_of c.args.site in
     let with_these : Bool → Around = λ jump_has. record { method = around.method; variables = (contents_of c.in_ok-scope-in-Foreach.scope).variables; jump_has = Some jump_has } in

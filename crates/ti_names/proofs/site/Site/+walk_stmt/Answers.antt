@@ -104,7 +104,7 @@ foreach-returns measure c =
       site = c.cut.ensures ∙ foreach_site s0 (site_of c.inner.new.self) c.len-len.result name body (c.len-len.ensures ∙ sym (scope_length c.args.self.now.scope)) behind_body;
     }
 
--- ---- a statement, by its form
+-- ---- the commonest statements
 
 pub stm-returns-in-Empty : goal.stm-returns-in-Empty
 stm-returns-in-Empty measure c =
@@ -116,104 +116,14 @@ stm-returns-in-Empty measure c =
       site = ap (behind s0) e;
     }
 
-pub stm-returns-in-Declare : goal.stm-returns-in-Declare
-stm-returns-in-Declare measure c =
-    let s0 = site_of c.args.self.now in
-    let e : s.Declare c.in-Declare.place (type_of c.in-Declare.ty) c.in-Declare.name (init_of c.deref.result.now) ≡ stm_of c.args.x.now = ap (λ z. s.Declare c.in-Declare.place (type_of c.in-Declare.ty) c.in-Declare.name (init_of z)) c.deref.ensures ∙ sym (ap stm_of c.in-Declare.is) in
-    record {
-      part = subst (λ z. IfOk c.declaration.result (λ r. statement_of r.part ≡ number_stm s0 z)) e c.declaration.ensures.part;
-      refusal = subst (λ z. IfOk c.declaration.result (λ r. r.refusal ≡ first_in (stm_nodes s0 z))) e c.declaration.ensures.refusal;
-      site = subst (λ z. OnOk c.declaration.result (site_of c.declaration.new.self ≡ behind s0 z)) e c.declaration.ensures.site;
-    }
-
 pub stm-returns-in-Assign : goal.stm-returns-in-Assign
 stm-returns-in-Assign measure c =
     let s0 = site_of c.args.self.now in
-    let e : s.Assign c.in-Assign.place (exp_of c.in-Assign.target) (init_of c.deref-in-Assign.result.now) ≡ stm_of c.args.x.now = ap (λ z. s.Assign c.in-Assign.place (exp_of c.in-Assign.target) (init_of z)) c.deref-in-Assign.ensures ∙ sym (ap stm_of c.in-Assign.is) in
+    let e : s.Assign c.in-Assign.place (exp_of c.in-Assign.target) (init_of c.deref.result.now) ≡ stm_of c.args.x.now = ap (λ z. s.Assign c.in-Assign.place (exp_of c.in-Assign.target) (init_of z)) c.deref.ensures ∙ sym (ap stm_of c.in-Assign.is) in
     record {
       part = subst (λ z. IfOk c.assignment.result (λ r. statement_of r.part ≡ number_stm s0 z)) e c.assignment.ensures.part;
       refusal = subst (λ z. IfOk c.assignment.result (λ r. r.refusal ≡ first_in (stm_nodes s0 z))) e c.assignment.ensures.refusal;
       site = on_ok c.assignment.result (ap (behind s0) e);
-    }
-
-pub stm-returns-in-Update : goal.stm-returns-in-Update
-stm-returns-in-Update measure c =
-    let s0 = site_of c.args.self.now in
-    let e : s.Update c.in-Update.place c.in-Update.operator (exp_of c.in-Update.target) (exp_of c.in-Update.value) ≡ stm_of c.args.x.now = sym (ap stm_of c.in-Update.is) in
-    record {
-      part = subst (λ z. IfOk c.update.result (λ r. statement_of r.part ≡ number_stm s0 z)) e c.update.ensures.part;
-      refusal = subst (λ z. IfOk c.update.result (λ r. r.refusal ≡ first_in (stm_nodes s0 z))) e c.update.ensures.refusal;
-      site = on_ok c.update.result (ap (behind s0) e);
-    }
-
-pub stm-returns-in-Step : goal.stm-returns-in-Step
-stm-returns-in-Step measure c =
-    let s0 = site_of c.args.self.now in
-    let e : s.Step c.in-Step.place c.in-Step.operator (exp_of c.in-Step.target) ≡ stm_of c.args.x.now = sym (ap stm_of c.in-Step.is) in
-    record {
-      part = subst (λ z. IfOk c.step.result (λ r. statement_of r.part ≡ number_stm s0 z)) e c.step.ensures.part;
-      refusal = subst (λ z. IfOk c.step.result (λ r. r.refusal ≡ first_in (stm_nodes s0 z))) e c.step.ensures.refusal;
-      site = on_ok c.step.result (ap (behind s0) e);
-    }
-
-pub stm-returns-in-Call : goal.stm-returns-in-Call
-stm-returns-in-Call measure c =
-    let s0 = site_of c.args.self.now in
-    let e : s.Call (exp_of c.in-Call.x) ≡ stm_of c.args.x.now = sym (ap stm_of c.in-Call.is) in
-    record {
-      part = subst (λ z. IfOk c.call_alone.result (λ r. statement_of r.part ≡ number_stm s0 z)) e c.call_alone.ensures.part;
-      refusal = subst (λ z. IfOk c.call_alone.result (λ r. r.refusal ≡ first_in (stm_nodes s0 z))) e c.call_alone.ensures.refusal;
-      site = on_ok c.call_alone.result (ap (behind s0) e);
-    }
-
-pub stm-returns-in-Print : goal.stm-returns-in-Print
-stm-returns-in-Print measure c =
-    let s0 = site_of c.args.self.now in
-    let e : s.Print c.in-Print.place (print_of c.in-Print.what) ≡ stm_of c.args.x.now = sym (ap stm_of c.in-Print.is) in
-    record {
-      part = subst (λ z. IfOk c.printing.result (λ r. statement_of r.part ≡ number_stm s0 z)) e c.printing.ensures.part;
-      refusal = subst (λ z. IfOk c.printing.result (λ r. r.refusal ≡ first_in (stm_nodes s0 z))) e c.printing.ensures.refusal;
-      site = subst (λ z. OnOk c.printing.result (site_of c.printing.new.self ≡ behind s0 z)) e c.printing.ensures.site;
-    }
-
-pub stm-returns-in-Barrier : goal.stm-returns-in-Barrier
-stm-returns-in-Barrier measure c =
-    let s0 = site_of c.args.self.now in
-    let e : s.Barrier c.in-Barrier.place ≡ stm_of c.args.x.now = sym (ap stm_of c.in-Barrier.is) in
-    record {
-      part = ap statement_of c.clean-in-Barrier.ensures.part ∙ ap (number_stm s0) e;
-      refusal = c.clean-in-Barrier.ensures.refusal ∙ sym in_none ∙ ap (λ z. first_in (stm_nodes s0 z)) e;
-      site = ap (behind s0) e;
-    }
-
-pub stm-returns-in-Break : goal.stm-returns-in-Break
-stm-returns-in-Break measure c =
-    let s0 = site_of c.args.self.now in
-    let e : s.Break c.in-Break.place ≡ stm_of c.args.x.now = sym (ap stm_of c.in-Break.is) in
-    record {
-      part = ap statement_of c.clean-in-Break.ensures.part ∙ ap (number_stm s0) e;
-      refusal = c.clean-in-Break.ensures.refusal ∙ sym in_none ∙ ap (λ z. first_in (stm_nodes s0 z)) e;
-      site = ap (behind s0) e;
-    }
-
-pub stm-returns-in-Continue : goal.stm-returns-in-Continue
-stm-returns-in-Continue measure c =
-    let s0 = site_of c.args.self.now in
-    let e : s.Continue c.in-Continue.place ≡ stm_of c.args.x.now = sym (ap stm_of c.in-Continue.is) in
-    record {
-      part = ap statement_of c.clean-in-Continue.ensures.part ∙ ap (number_stm s0) e;
-      refusal = c.clean-in-Continue.ensures.refusal ∙ sym in_none ∙ ap (λ z. first_in (stm_nodes s0 z)) e;
-      site = ap (behind s0) e;
-    }
-
-pub stm-returns-in-Return : goal.stm-returns-in-Return
-stm-returns-in-Return measure c =
-    let s0 = site_of c.args.self.now in
-    let e : s.Return c.in-Return.place (maybe_of exp_of c.in-Return.value) ≡ stm_of c.args.x.now = sym (ap stm_of c.in-Return.is) in
-    record {
-      part = subst (λ z. IfOk c.leave.result (λ r. statement_of r.part ≡ number_stm s0 z)) e c.leave.ensures.part;
-      refusal = subst (λ z. IfOk c.leave.result (λ r. r.refusal ≡ first_in (stm_nodes s0 z))) e c.leave.ensures.refusal;
-      site = on_ok c.leave.result (ap (behind s0) e);
     }
 
 pub stm-returns-in-Block : goal.stm-returns-in-Block
@@ -226,8 +136,130 @@ stm-returns-in-Block measure c =
       site = subst (λ z. OnOk c.block.result (site_of c.block.new.self ≡ behind s0 z)) e c.block.ensures.site;
     }
 
-pub stm-returns-in_ok-head-in-If : goal.stm-returns-in_ok-head-in-If
-stm-returns-in_ok-head-in-If measure c =
+-- ---- a statement, by its form
+
+pub any_stm-returns-in-Empty : goal.any_stm-returns-in-Empty
+any_stm-returns-in-Empty measure c =
+    let s0 = site_of c.args.self.now in
+    let e : s.Empty ≡ stm_of c.args.x.now = sym (ap stm_of c.in-Empty.is) in
+    record {
+      part = ap statement_of c.clean.ensures.part ∙ ap (number_stm s0) e;
+      refusal = c.clean.ensures.refusal ∙ sym in_none ∙ ap (λ z. first_in (stm_nodes s0 z)) e;
+      site = ap (behind s0) e;
+    }
+
+pub any_stm-returns-in-Declare : goal.any_stm-returns-in-Declare
+any_stm-returns-in-Declare measure c =
+    let s0 = site_of c.args.self.now in
+    let e : s.Declare c.in-Declare.place (type_of c.in-Declare.ty) c.in-Declare.name (init_of c.deref.result.now) ≡ stm_of c.args.x.now = ap (λ z. s.Declare c.in-Declare.place (type_of c.in-Declare.ty) c.in-Declare.name (init_of z)) c.deref.ensures ∙ sym (ap stm_of c.in-Declare.is) in
+    record {
+      part = subst (λ z. IfOk c.declaration.result (λ r. statement_of r.part ≡ number_stm s0 z)) e c.declaration.ensures.part;
+      refusal = subst (λ z. IfOk c.declaration.result (λ r. r.refusal ≡ first_in (stm_nodes s0 z))) e c.declaration.ensures.refusal;
+      site = subst (λ z. OnOk c.declaration.result (site_of c.declaration.new.self ≡ behind s0 z)) e c.declaration.ensures.site;
+    }
+
+pub any_stm-returns-in-Assign : goal.any_stm-returns-in-Assign
+any_stm-returns-in-Assign measure c =
+    let s0 = site_of c.args.self.now in
+    let e : s.Assign c.in-Assign.place (exp_of c.in-Assign.target) (init_of c.deref-in-Assign.result.now) ≡ stm_of c.args.x.now = ap (λ z. s.Assign c.in-Assign.place (exp_of c.in-Assign.target) (init_of z)) c.deref-in-Assign.ensures ∙ sym (ap stm_of c.in-Assign.is) in
+    record {
+      part = subst (λ z. IfOk c.assignment.result (λ r. statement_of r.part ≡ number_stm s0 z)) e c.assignment.ensures.part;
+      refusal = subst (λ z. IfOk c.assignment.result (λ r. r.refusal ≡ first_in (stm_nodes s0 z))) e c.assignment.ensures.refusal;
+      site = on_ok c.assignment.result (ap (behind s0) e);
+    }
+
+pub any_stm-returns-in-Update : goal.any_stm-returns-in-Update
+any_stm-returns-in-Update measure c =
+    let s0 = site_of c.args.self.now in
+    let e : s.Update c.in-Update.place c.in-Update.operator (exp_of c.in-Update.target) (exp_of c.in-Update.value) ≡ stm_of c.args.x.now = sym (ap stm_of c.in-Update.is) in
+    record {
+      part = subst (λ z. IfOk c.update.result (λ r. statement_of r.part ≡ number_stm s0 z)) e c.update.ensures.part;
+      refusal = subst (λ z. IfOk c.update.result (λ r. r.refusal ≡ first_in (stm_nodes s0 z))) e c.update.ensures.refusal;
+      site = on_ok c.update.result (ap (behind s0) e);
+    }
+
+pub any_stm-returns-in-Step : goal.any_stm-returns-in-Step
+any_stm-returns-in-Step measure c =
+    let s0 = site_of c.args.self.now in
+    let e : s.Step c.in-Step.place c.in-Step.operator (exp_of c.in-Step.target) ≡ stm_of c.args.x.now = sym (ap stm_of c.in-Step.is) in
+    record {
+      part = subst (λ z. IfOk c.step.result (λ r. statement_of r.part ≡ number_stm s0 z)) e c.step.ensures.part;
+      refusal = subst (λ z. IfOk c.step.result (λ r. r.refusal ≡ first_in (stm_nodes s0 z))) e c.step.ensures.refusal;
+      site = on_ok c.step.result (ap (behind s0) e);
+    }
+
+pub any_stm-returns-in-Call : goal.any_stm-returns-in-Call
+any_stm-returns-in-Call measure c =
+    let s0 = site_of c.args.self.now in
+    let e : s.Call (exp_of c.in-Call.x) ≡ stm_of c.args.x.now = sym (ap stm_of c.in-Call.is) in
+    record {
+      part = subst (λ z. IfOk c.call_alone.result (λ r. statement_of r.part ≡ number_stm s0 z)) e c.call_alone.ensures.part;
+      refusal = subst (λ z. IfOk c.call_alone.result (λ r. r.refusal ≡ first_in (stm_nodes s0 z))) e c.call_alone.ensures.refusal;
+      site = on_ok c.call_alone.result (ap (behind s0) e);
+    }
+
+pub any_stm-returns-in-Print : goal.any_stm-returns-in-Print
+any_stm-returns-in-Print measure c =
+    let s0 = site_of c.args.self.now in
+    let e : s.Print c.in-Print.place (print_of c.in-Print.what) ≡ stm_of c.args.x.now = sym (ap stm_of c.in-Print.is) in
+    record {
+      part = subst (λ z. IfOk c.printing.result (λ r. statement_of r.part ≡ number_stm s0 z)) e c.printing.ensures.part;
+      refusal = subst (λ z. IfOk c.printing.result (λ r. r.refusal ≡ first_in (stm_nodes s0 z))) e c.printing.ensures.refusal;
+      site = subst (λ z. OnOk c.printing.result (site_of c.printing.new.self ≡ behind s0 z)) e c.printing.ensures.site;
+    }
+
+pub any_stm-returns-in-Barrier : goal.any_stm-returns-in-Barrier
+any_stm-returns-in-Barrier measure c =
+    let s0 = site_of c.args.self.now in
+    let e : s.Barrier c.in-Barrier.place ≡ stm_of c.args.x.now = sym (ap stm_of c.in-Barrier.is) in
+    record {
+      part = ap statement_of c.clean-in-Barrier.ensures.part ∙ ap (number_stm s0) e;
+      refusal = c.clean-in-Barrier.ensures.refusal ∙ sym in_none ∙ ap (λ z. first_in (stm_nodes s0 z)) e;
+      site = ap (behind s0) e;
+    }
+
+pub any_stm-returns-in-Break : goal.any_stm-returns-in-Break
+any_stm-returns-in-Break measure c =
+    let s0 = site_of c.args.self.now in
+    let e : s.Break c.in-Break.place ≡ stm_of c.args.x.now = sym (ap stm_of c.in-Break.is) in
+    record {
+      part = ap statement_of c.clean-in-Break.ensures.part ∙ ap (number_stm s0) e;
+      refusal = c.clean-in-Break.ensures.refusal ∙ sym in_none ∙ ap (λ z. first_in (stm_nodes s0 z)) e;
+      site = ap (behind s0) e;
+    }
+
+pub any_stm-returns-in-Continue : goal.any_stm-returns-in-Continue
+any_stm-returns-in-Continue measure c =
+    let s0 = site_of c.args.self.now in
+    let e : s.Continue c.in-Continue.place ≡ stm_of c.args.x.now = sym (ap stm_of c.in-Continue.is) in
+    record {
+      part = ap statement_of c.clean-in-Continue.ensures.part ∙ ap (number_stm s0) e;
+      refusal = c.clean-in-Continue.ensures.refusal ∙ sym in_none ∙ ap (λ z. first_in (stm_nodes s0 z)) e;
+      site = ap (behind s0) e;
+    }
+
+pub any_stm-returns-in-Return : goal.any_stm-returns-in-Return
+any_stm-returns-in-Return measure c =
+    let s0 = site_of c.args.self.now in
+    let e : s.Return c.in-Return.place (maybe_of exp_of c.in-Return.value) ≡ stm_of c.args.x.now = sym (ap stm_of c.in-Return.is) in
+    record {
+      part = subst (λ z. IfOk c.leave.result (λ r. statement_of r.part ≡ number_stm s0 z)) e c.leave.ensures.part;
+      refusal = subst (λ z. IfOk c.leave.result (λ r. r.refusal ≡ first_in (stm_nodes s0 z))) e c.leave.ensures.refusal;
+      site = on_ok c.leave.result (ap (behind s0) e);
+    }
+
+pub any_stm-returns-in-Block : goal.any_stm-returns-in-Block
+any_stm-returns-in-Block measure c =
+    let s0 = site_of c.args.self.now in
+    let e : s.block (map stm_of c.deref-in-Block.result.now) ≡ stm_of c.args.x.now = ap (λ l. s.block (map stm_of l)) c.deref-in-Block.ensures.value ∙ sym (seen_block c.args.x.now c.in-Block.body c.in-Block.is) in
+    record {
+      part = subst (λ z. IfOk c.block.result (λ r. statement_of r.part ≡ number_stm s0 z)) e c.block.ensures.part;
+      refusal = subst (λ z. IfOk c.block.result (λ r. r.refusal ≡ first_in (stm_nodes s0 z))) e c.block.ensures.refusal;
+      site = subst (λ z. OnOk c.block.result (site_of c.block.new.self ≡ behind s0 z)) e c.block.ensures.site;
+    }
+
+pub any_stm-returns-in_ok-head-in-If : goal.any_stm-returns-in_ok-head-in-If
+any_stm-returns-in_ok-head-in-If measure c =
     let s0 = site_of c.args.self.now in
     let at = c.in-If.place in
     let condition = exp_of c.in-If.condition in
@@ -248,8 +280,8 @@ stm-returns-in_ok-head-in-If measure c =
       site = subst (λ z. OnOk c.choice.result (site_of c.choice.new.self ≡ z)) site c.choice.ensures.site;
     }
 
-pub stm-returns-in_ok-head-in-While : goal.stm-returns-in_ok-head-in-While
-stm-returns-in_ok-head-in-While measure c =
+pub any_stm-returns-in_ok-head-in-While : goal.any_stm-returns-in_ok-head-in-While
+any_stm-returns-in_ok-head-in-While measure c =
     let s0 = site_of c.args.self.now in
     let at = c.in-While.place in
     let condition = exp_of c.in-While.condition in
@@ -262,8 +294,8 @@ stm-returns-in_ok-head-in-While measure c =
       site = c.in_ok-head-in-While.ensures.site ∙ ap (λ z. past s0 (stm_of z)) c.deref-in-While.ensures ∙ ap (behind s0) e;
     }
 
-pub stm-returns-in_ok-body-in-For : goal.stm-returns-in_ok-body-in-For
-stm-returns-in_ok-body-in-For measure c =
+pub any_stm-returns-in_ok-body-in-For : goal.any_stm-returns-in_ok-body-in-For
+any_stm-returns-in_ok-body-in-For measure c =
     let s0 = site_of c.args.self.now in
     let at = c.in-For.place in
     let first = tree_maybe c.in-For.first in
@@ -294,8 +326,8 @@ stm-returns-in_ok-body-in-For measure c =
           ∙ ap (behind s0) e;
     }
 
-pub stm-returns-in-Foreach : goal.stm-returns-in-Foreach
-stm-returns-in-Foreach measure c =
+pub any_stm-returns-in-Foreach : goal.any_stm-returns-in-Foreach
+any_stm-returns-in-Foreach measure c =
     let s0 = site_of c.args.self.now in
     let e : s.Foreach c.in-Foreach.place c.in-Foreach.name_place c.in-Foreach.name (exp_of c.in-Foreach.domain) (stm_of c.deref-in-Foreach.result.now) ≡ stm_of c.args.x.now = ap (λ z. s.Foreach c.in-Foreach.place c.in-Foreach.name_place c.in-Foreach.name (exp_of c.in-Foreach.domain) (stm_of z)) c.deref-in-Foreach.ensures ∙ sym (ap stm_of c.in-Foreach.is) in
     record {

@@ -23,8 +23,8 @@ returns-in-Some c =
     let e = update_changes plain c.args.self.turns (exp_of c.args.target) l h is in
     rw e (first_of (search rules, grind (arith, common_steps)))
 
-pub returns-in-Some-step_of : goal.returns-in-Some-step_of
-returns-in-Some-step_of c =
+pub returns-in_ok-new-in-Some-step_of : goal.returns-in_ok-new-in-Some-step_of
+returns-in_ok-new-in-Some-step_of c =
     let l = c.args.tokens.now in
     let h : sees k.Assign l ≡ false = first_of (cc, search rules) in
     let other : update_of (kind l) ≡ None = first_of (cc, search rules, grind (arith, common_steps)) in

@@ -24,16 +24,16 @@ pub arguments-returns : goal.arguments-returns
 arguments-returns t c =
     arguments_end (program_of c.args.self.now.program.now) (contents_of c.args.scope.now) _ c.args.xs.now c.loop-i.i c.loop-i.found.0 c.loop-i.found.1.0 c.loop-i.found.1.1.0 (omega arith) c.loop-i.invariant
 
-pub exp-returns-in-Call : goal.exp-returns-in-Call
-exp-returns-in-Call t c =
+pub form-returns-in-Call : goal.form-returns-in-Call
+form-returns-in-Call t c =
     let p = program_of c.args.self.now.program.now in
     let s = contents_of c.args.scope.now in
     subst (λ z. IsJudged p s z c.whole.result) (sym (seen_static_call c.args.e.now c.in-Call.place c.in-Call.number c.in-Call.args c.in-Call.is))
     (call_at p s c.in-Call.place c.in-Call.number c.in-Call.args.items c.deref.result.now c.deref-in-Call.result.now _ c.arguments-found.result c.called.result c.whole.result c.deref.ensures.value c.deref-in-Call.ensures.value
     c.method-m.ensures c.arguments-found.ensures c.called.ensures.known c.called.ensures.first c.whole.ensures.known c.whole.ensures.first)
 
-pub exp-returns-in-OwnCall : goal.exp-returns-in-OwnCall
-exp-returns-in-OwnCall t c =
+pub form-returns-in-OwnCall : goal.form-returns-in-OwnCall
+form-returns-in-OwnCall t c =
     let p = program_of c.args.self.now.program.now in
     let s = contents_of c.args.scope.now in
     subst (λ z. IsJudged p s z c.whole-in-OwnCall.result) (sym (seen_own_call c.args.e.now c.in-OwnCall.place c.in-OwnCall.number c.in-OwnCall.args c.in-OwnCall.is))
@@ -41,8 +41,8 @@ exp-returns-in-OwnCall t c =
     c.deref-in-OwnCall.ensures.value c.deref-in-OwnCall-2.ensures.value c.method-m-in-OwnCall.ensures c.arguments-found-in-OwnCall.ensures c.called-in-OwnCall.ensures.known c.called-in-OwnCall.ensures.first
     c.whole-in-OwnCall.ensures.known c.whole-in-OwnCall.ensures.first)
 
-pub exp-returns-in-Point : goal.exp-returns-in-Point
-exp-returns-in-Point t c =
+pub form-returns-in-Point : goal.form-returns-in-Point
+form-returns-in-Point t c =
     let p = program_of c.args.self.now.program.now in
     let s = contents_of c.args.scope.now in
     subst (λ z. IsJudged p s z c.whole-in-Point.result) (sym (seen_numbered_point c.args.e.now c.in-Point.place c.in-Point.parts c.in-Point.is))
@@ -50,8 +50,8 @@ exp-returns-in-Point t c =
     (c.len.ensures ∙ sym c.deref-in-Point.ensures.len ∙ ap length c.deref-in-Point.ensures.value)
     c.arguments-found-in-Point.ensures c.point.ensures.known c.point.ensures.first c.whole-in-Point.ensures.known c.whole-in-Point.ensures.first)
 
-pub exp-returns-in-Rect : goal.exp-returns-in-Rect
-exp-returns-in-Rect t c =
+pub form-returns-in-Rect : goal.form-returns-in-Rect
+form-returns-in-Rect t c =
     let p = program_of c.args.self.now.program.now in
     let s = contents_of c.args.scope.now in
     subst (λ z. IsJudged p s z c.whole-in-Rect.result) (sym (seen_numbered_rect c.args.e.now c.in-Rect.place c.in-Rect.ranges c.in-Rect.is))
@@ -59,16 +59,24 @@ exp-returns-in-Rect t c =
     (c.len-in-Rect.ensures ∙ sym c.deref-in-Rect.ensures.len ∙ ap length c.deref-in-Rect.ensures.value)
     c.ranges-found.ensures c.rect.ensures.known c.rect.ensures.first c.whole-in-Rect.ensures.known c.whole-in-Rect.ensures.first)
 
-pub exp-returns-in-Binary : goal.exp-returns-in-Binary
-exp-returns-in-Binary t c =
+pub form-returns-in-Binary : goal.form-returns-in-Binary
+form-returns-in-Binary t c =
     let p = program_of c.args.self.now.program.now in
     let s = contents_of c.args.scope.now in
     subst (λ z. IsJudged p s z c.binary.result) (sym (ap expression_of c.in-Binary.is))
     (binary_form p s c.in-Binary.place c.in-Binary.operator (expression_of c.in-Binary.left.value) (expression_of c.in-Binary.right.value) c.place-in-Binary.result c.place-in-Binary-2.result c.exp-first.result c.exp-second.result c.binary.result
     (search rules) (search rules) (search rules) (search rules) c.binary.ensures.known c.binary.ensures.first)
 
-pub exp-returns-in-Member : goal.exp-returns-in-Member
-exp-returns-in-Member t c =
+pub operated-returns-in-Binary : goal.operated-returns-in-Binary
+operated-returns-in-Binary t c =
+    let p = program_of c.args.self.now.program.now in
+    let s = contents_of c.args.scope.now in
+    subst (λ z. IsJudged p s z c.binary.result) (sym (ap expression_of c.in-Binary.is))
+    (binary_form p s c.in-Binary.place c.in-Binary.operator (expression_of c.in-Binary.left.value) (expression_of c.in-Binary.right.value) c.place.result c.place-in-Binary.result c.exp-first.result c.exp-second.result c.binary.result
+    (search rules) (search rules) (search rules) (search rules) c.binary.ensures.known c.binary.ensures.first)
+
+pub form-returns-in-Member : goal.form-returns-in-Member
+form-returns-in-Member t c =
     let p = program_of c.args.self.now.program.now in
     let s = contents_of c.args.scope.now in
     subst (λ z. IsJudged p s z c.with.result) (sym (seen_numbered_member c.args.e.now c.in-Member.place c.in-Member.receiver c.in-Member.name c.in-Member.args c.in-Member.is))
@@ -76,8 +84,8 @@ exp-returns-in-Member t c =
     c.place-in-Member.result _ _ c.exp-judged-in-Member.result c.arguments-found-in-Member.result c.member-own.result c.with.result (search rules) (search rules) c.deref-in-Member-2.ensures.value c.deref-in-Member-3.ensures.value
     c.exp-judged-in-Member.ensures c.place-in-Member.ensures c.operand-t.ensures c.behind-m.ensures c.arguments-found-in-Member.ensures c.member-own.ensures.known c.member-own.ensures.first c.with.ensures.known c.with.ensures.first)
 
-pub exp-returns-in-Index : goal.exp-returns-in-Index
-exp-returns-in-Index t c =
+pub form-returns-in-Index : goal.form-returns-in-Index
+form-returns-in-Index t c =
     let p = program_of c.args.self.now.program.now in
     let s = contents_of c.args.scope.now in
     subst (λ z. IsJudged p s z c.with-in-Index.result) (sym (seen_numbered_index c.args.e.now c.in-Index.place c.in-Index.receiver c.in-Index.indices c.in-Index.is))

@@ -1,0 +1,96 @@
+// Variables in scope, in room of their own.
+ghost use Rattle.std.specs.Prelude.{◌≡◌, ◌≤◌, ◌++◌, map, take, length, true, IfOk};
+ghost use Rattle.ti_lang.specs.Program.Scope.{in_scope_of};
+
+use std::alloc::Global;
+use ti_base::Memory;
+use ti_lang::program::InScope;
+use ti_lang::typing::same_elements;
+
+/// Lists of variables that are out of use. Most of what a foreach has in scope is what an earlier one had, so it takes over its list.
+#[derive(Drop)]
+pub struct Unused {
+    alloc: Global,
+    lists: Vec<Vec<InScope>>,
+}
+
+impl Unused {
+    /// No lists.
+    pub fn none(alloc: Global) -> Unused {
+        Unused {
+            alloc,
+            lists: Vec::new(alloc),
+        }
+    }
+
+    /// The list that was kept last, or an empty one.
+    pub fn take(&mut self) -> Vec<InScope> {
+        match self.lists.pop() {
+            Some(list) => list,
+            None => Vec::new(self.alloc),
+        }
+    }
+
+    /// Keeps a list.
+    pub fn keep(&mut self, list: Vec<InScope>) -> Result<(), Memory> {
+        Ok(self.lists.push(list)?)
+    }
+}
+
+// Whether both are the same in all that is known of them.
+fn is_same(a: &InScope, b: &InScope) -> bool
+    ensures { result ≡ true → in_scope_of a.now ≡ in_scope_of b.now }
+{
+    if a.number != b.number || a.single != b.single {
+        return false;
+    }
+    same_elements(&a.ty, false, &b.ty, false)
+}
+
+// How many at the front are the same.
+fn same_front(a: &[InScope], b: &[InScope]) -> usize
+    ensures within_first { result ≤ length a.now }
+    ensures within_second { result ≤ length b.now }
+    ensures same { map in_scope_of (take result a.now) ≡ map in_scope_of (take result b.now) }
+{
+    let most = a.len().min(b.len());
+    for count in 0..most {
+        if !is_same(&a[count], &b[count]) {
+            return count;
+        }
+    }
+    most
+}
+
+// The variables, and behind them others.
+fn with_others(
+    alloc: Global,
+    variables: Vec<InScope>,
+    others: &[InScope],
+) -> Result<Vec<InScope>, Memory>
+    ensures { IfOk result (λ v. map in_scope_of v.items ≡ map in_scope_of variables.items ++ map in_scope_of others.now) }
+{
+    let mut found = variables;
+    for v in others {
+        found.push(InScope {
+            number: v.number,
+            ty: v.ty.copy(alloc)?,
+            single: v.single,
+        })?;
+    }
+    Ok(found)
+}
+
+/// The same variables, in the room of some that are out of use. Of these the ones at the front stay that are the same.
+pub fn copied(
+    alloc: Global,
+    unused: Vec<InScope>,
+    variables: &[InScope],
+) -> Result<Vec<InScope>, Memory>
+    ensures { IfOk result (λ v. map in_scope_of v.items ≡ map in_scope_of variables.now) }
+{
+    let count = same_front(&unused, variables);
+    let mut found = unused;
+    found.truncate(count);
+    with_others(alloc, found, &variables[count..])
+}
