@@ -1,3 +1,4 @@
+pub mod MirrorsConversions
 pub mod MirrorsDesks
 pub mod MirrorsDomains
 pub mod MirrorsGoingOn

@@ -8,9 +8,8 @@ ghost use Rattle.ti_code.specs.Effects.{top};
 ghost use Rattle.ti_machine.specs.MirrorsDesks.{spot_of, Makes};
 
 use crate::desk::Desk;
-use crate::values::value_of;
 use ti_base::{Action, FaultKind, Place, Zero};
-use ti_eval::{Held, Stop, fetch_element, fetch_field};
+use ti_eval::{Held, Stop};
 
 // The number of the process whose element has this point.
 fn process_of(h: &Held) -> u32
@@ -26,9 +25,13 @@ impl Desk {
         requires next { next ≡ self.old.at + 1 }
         ensures { (w : Who) → Makes w (i.GetField field at) result (spot_of self.old) (spot_of self.new) }
     {
-        let h = self.pop()?;
-        let got = value_of(fetch_field(at, &h, field, &[]));
-        self.push_got(got, next)
+        let thing = self.last_thing();
+        self.drop_top();
+        self.at = next;
+        match thing {
+            Some(obj) => Err(Stop::Asks(at, Action::GetField { obj, field })),
+            None => Err(Stop::Fails(FaultKind::NullRef, at)),
+        }
     }
 
     /// A field of an object is written.
@@ -36,13 +39,13 @@ impl Desk {
         requires next { next ≡ self.old.at + 1 }
         ensures { (w : Who) → Makes w (i.PutField field at) result (spot_of self.old) (spot_of self.new) }
     {
-        let (x, y) = self.pop_two()?;
+        let value = self.last_value();
+        self.drop_top();
+        let thing = self.last_thing();
+        self.drop_top();
         self.at = next;
-        match x.thing() {
-            Some(obj) => {
-                let value = y.value();
-                Err(Stop::Asks(at, Action::PutField { obj, field, value }))
-            }
+        match thing {
+            Some(obj) => { Err(Stop::Asks(at, Action::PutField { obj, field, value })) }
             None => Err(Stop::Fails(FaultKind::NullRef, at)),
         }
     }
@@ -52,9 +55,15 @@ impl Desk {
         requires next { next ≡ self.old.at + 1 }
         ensures { (w : Who) → Makes w (i.GetElem at) result (spot_of self.old) (spot_of self.new) }
     {
-        let (x, y) = self.pop_two()?;
-        let got = value_of(fetch_element(at, &x, y.point(), &[]));
-        self.push_got(got, next)
+        let point = self.last_point();
+        self.drop_top();
+        let thing = self.last_thing();
+        self.drop_top();
+        self.at = next;
+        match thing {
+            Some(grid) => Err(Stop::Asks(at, Action::GetElem { grid, at: point })),
+            None => Err(Stop::Fails(FaultKind::NullRef, at)),
+        }
     }
 
     /// An element of a grid is written.
@@ -62,13 +71,15 @@ impl Desk {
         requires next { next ≡ self.old.at + 1 }
         ensures { (w : Who) → Makes w (i.PutElem at) result (spot_of self.old) (spot_of self.new) }
     {
-        let (p, y) = self.pop_two()?;
-        let x = self.pop()?;
+        let value = self.last_value();
+        self.drop_top();
+        let point = self.last_point();
+        self.drop_top();
+        let thing = self.last_thing();
+        self.drop_top();
         self.at = next;
-        match x.thing() {
+        match thing {
             Some(grid) => {
-                let value = y.value();
-                let point = p.point();
                 Err(Stop::Asks(
                     at,
                     Action::PutElem {

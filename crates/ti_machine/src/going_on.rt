@@ -81,7 +81,7 @@ impl Machine {
         let _rule = code.methods();
         let mut count: u64 = 0;
         'steps: loop {
-            let more = self.hurry(code);
+            let more = self.hurry(alloc, code);
             count = count.saturating_add(more);
             match self.step(alloc, code)? {
                 Turn::Went => count = count.saturating_add(1),
@@ -102,7 +102,7 @@ impl Machine {
     {
         let mut count: u64 = 0;
         for _ in 0..turns {
-            let more = self.hurry(code);
+            let more = self.hurry(alloc, code);
             count = count.saturating_add(more);
             if count >= u64::from(turns) {
                 return Ok(None);

@@ -26,5 +26,5 @@ pub use ints::{IntPiece, Number, TruthPiece};
 pub use laws::{following_code_goes_on, has_one_next, process_is_sent};
 pub use machine::{Frame, Machine, Turn};
 pub use operand::Operand;
-pub use pieces::Piece;
+pub use pieces::{Conversion, Piece};
 pub use proc::Proc;

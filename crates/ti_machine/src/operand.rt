@@ -1,18 +1,23 @@
 // Operands.
 
-ghost use Rattle.std.specs.Prelude.{◌≡◌, IfOk, IfSome};
+ghost use Rattle.std.specs.Prelude.{◌≡◌, List, IfOk, IfSome};
 ghost use Rattle.ti_base.specs.Points.{IsPoint};
-ghost use Rattle.ti_lang.specs.Meaning.Held.{nothing};
+ghost use Rattle.ti_base.specs.declared.entry.Answer.{Answer};
+ghost use Rattle.ti_base.specs.declared.value.Value.TheVariants.{Int};
+ghost use Rattle.ti_lang.specs.Meaning.Held.{nothing, plain_of, point_of, thing_of, Plain};
+ghost use Rattle.ti_lang.specs.Meaning.Asking.{Gives};
+ghost use Rattle.ti_lang.specs.Meaning.Parts.{coordinate};
 ghost use Rattle.ti_eval.specs.Frames.{points_above};
 ghost use Rattle.ti_eval.specs.Scalars.{held_of_scalar};
 ghost use Rattle.ti_code.specs.Effects.{one_step as one_step_of, ones as ones_of};
 ghost use Rattle.ti_machine.specs.MirrorsOperands.{Took};
 ghost use Rattle.ti_machine.specs.Points.{from_point};
 
-use crate::pieces::scalar_in;
+use crate::ints::{Number, int_in};
+use crate::pieces::{coordinate_in, scalar_in};
 use std::alloc::Global;
 use std::marker::Model;
-use ti_base::{Memory, Point, Value};
+use ti_base::{Id, Memory, Place, Point, Value};
 use ti_eval::{Held, Scalar, next_above};
 
 /// An operand: a value or a domain as it is, or the points of a domain that are above one of them.
@@ -95,6 +100,62 @@ impl Operand {
     {
         match &self.kept {
             Kept::Whole(h) => scalar_in(h),
+            Kept::Above(_, _) => None,
+        }
+    }
+
+    /// The int that it is, if it is one.
+    #[inline(always)]
+    pub(crate) fn int(&self) -> Option<Number>
+        ensures { IfSome result (λ n. Plain (Int n.n) ≡ self.now) }
+    {
+        match &self.kept {
+            Kept::Whole(h) => int_in(h),
+            Kept::Above(_, _) => None,
+        }
+    }
+
+    /// The object or the grid that it names, if it names one.
+    pub(crate) fn thing(&self) -> Option<Id>
+        ensures { result ≡ thing_of self.now }
+    {
+        match &self.kept {
+            Kept::Whole(h) => h.thing(),
+            Kept::Above(_, _) => None,
+        }
+    }
+
+    /// The value that goes into a cell or an action.
+    pub(crate) fn value(&self) -> Value
+        ensures { result ≡ plain_of self.now }
+    {
+        match &self.kept {
+            Kept::Whole(h) => h.value(),
+            Kept::Above(_, _) => Value::Bool(false),
+        }
+    }
+
+    /// The point that it is.
+    pub(crate) fn point(&self) -> Point
+        ensures { result ≡ point_of self.now }
+    {
+        match &self.kept {
+            Kept::Whole(h) => h.point(),
+            Kept::Above(_, _) => Point {
+                dim: 1,
+                x1: 0,
+                x2: 0,
+                x3: 0,
+            },
+        }
+    }
+
+    /// A coordinate of the point that it is, if it is one and has it.
+    pub(crate) fn coordinate(&self, at: Place, k: Number) -> Option<Scalar>
+        ensures { IfSome result (λ x. (rest : List Answer) → coordinate at (point_of self.now) k.n rest ≡ Gives (held_of_scalar x) rest) }
+    {
+        match &self.kept {
+            Kept::Whole(h) => coordinate_in(h, at, k),
             Kept::Above(_, _) => None,
         }
     }

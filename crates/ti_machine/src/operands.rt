@@ -1,14 +1,14 @@
 // Operands and slots of a frame.
 
 ghost use Rattle.std.specs.Prelude.{◌≡◌, ◌+◌, ◌<◌, ◌^◌, [], ◌∷◌, reverse, length, IfOk, vec_len, vec_capacity};
-ghost use Rattle.ti_lang.specs.Meaning.Held.{Held as Seen};
+ghost use Rattle.ti_lang.specs.Meaning.Held.{Held as Seen, plain_of, point_of, thing_of};
 ghost use Rattle.ti_code.specs.Effects.{top, below, taken, under, slot, put, trimmed};
 ghost use Rattle.ti_machine.specs.MirrorsDesks.{spot_of};
 
 use crate::desk::Desk;
 use crate::operand::Operand;
 use std::alloc::Global;
-use ti_base::Memory;
+use ti_base::{Id, Memory, Point, Value};
 use ti_eval::Held;
 
 impl Desk {
@@ -40,6 +40,52 @@ impl Desk {
             Some(o) => o.into_held(),
             None => Ok(Held::truth(false)),
         }
+    }
+
+    /// The object or the grid that the last operand names, if it names one.
+    #[tactic(auto, using(crate::proofs::Reversed::lasts))]
+    pub(crate) fn last_thing(&self) -> Option<Id>
+        ensures { result ≡ thing_of (top (spot_of self.now).stack) }
+    {
+        match self.stack.last() {
+            Some(o) => o.thing(),
+            None => None,
+        }
+    }
+
+    /// The value that the last operand is.
+    #[tactic(auto, using(crate::proofs::Reversed::lasts))]
+    pub(crate) fn last_value(&self) -> Value
+        ensures { result ≡ plain_of (top (spot_of self.now).stack) }
+    {
+        match self.stack.last() {
+            Some(o) => o.value(),
+            None => Value::Bool(false),
+        }
+    }
+
+    /// The point that the last operand is.
+    #[tactic(auto, using(crate::proofs::Reversed::lasts))]
+    pub(crate) fn last_point(&self) -> Point
+        ensures { result ≡ point_of (top (spot_of self.now).stack) }
+    {
+        match self.stack.last() {
+            Some(o) => o.point(),
+            None => Point {
+                dim: 1,
+                x1: 0,
+                x2: 0,
+                x3: 0,
+            },
+        }
+    }
+
+    /// The last operand is dropped.
+    #[tactic(auto, using(crate::proofs::Reversed::reversed))]
+    pub(crate) fn drop_top(&mut self)
+        ensures { spot_of self.new ≡ record (spot_of self.old) { stack = below (spot_of self.old).stack } }
+    {
+        let _dropped = self.stack.pop();
     }
 
     /// The last two operands pushed are taken.
