@@ -91,7 +91,7 @@ impl Machine {
         }
     }
 
-    /// The same, where it needn't have anything next, and for so many instructions at most: none where it has come to no end by then.
+    /// The same, where it needn't have anything next: none where so many instructions or more have come to no end.
     pub(crate) fn go_on_within(
         &mut self,
         alloc: Global,

@@ -3,7 +3,7 @@
 ghost use Rattle.std.specs.Prelude.{◌≡◌, List, IfOk, IfSome};
 ghost use Rattle.ti_base.specs.Points.{IsPoint};
 ghost use Rattle.ti_base.specs.declared.entry.Answer.{Answer};
-ghost use Rattle.ti_base.specs.declared.value.Value.TheVariants.{Int};
+ghost use Rattle.ti_base.specs.declared.value.Value.TheVariants.{Int, Pt};
 ghost use Rattle.ti_lang.specs.Meaning.Held.{nothing, plain_of, point_of, thing_of, Plain};
 ghost use Rattle.ti_lang.specs.Meaning.Asking.{Gives};
 ghost use Rattle.ti_lang.specs.Meaning.Parts.{coordinate};
@@ -147,6 +147,21 @@ impl Operand {
                 x2: 0,
                 x3: 0,
             },
+        }
+    }
+
+    /// The point that it is, if it is one.
+    #[tactic(auto, using(crate::proofs::Striding::points))]
+    pub(crate) fn as_point(&self) -> Option<Point>
+        ensures value { IfSome result (λ p. Plain (Pt p) ≡ self.now) }
+        ensures form { IfSome result IsPoint }
+    {
+        match &self.kept {
+            Kept::Whole(h) => match h.value() {
+                Value::Pt(_) => Some(h.point()),
+                _ => None,
+            },
+            Kept::Above(_, _) => None,
         }
     }
 

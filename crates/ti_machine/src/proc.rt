@@ -114,8 +114,8 @@ impl Proc {
         Ok(way.next)
     }
 
-    /// The same where nothing is known of what it has next: none where it has come to nothing within so many instructions, and then it
-    /// isn't used further.
+    /// The same where nothing is known of what it has next: none where so many instructions or more have come to nothing, and then it isn't
+    /// used further.
     pub fn advance_within(
         &mut self,
         alloc: Global,
