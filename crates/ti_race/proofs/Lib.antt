@@ -1,0 +1,15 @@
+pub mod Answers
+pub mod Courses
+pub mod Deletes
+pub mod Determined
+pub mod Free
+pub mod Gone
+pub mod Lists
+pub mod Noting
+pub mod Own
+pub mod Ran
+pub mod Seen
+pub mod Splits
+pub mod Things
+pub mod Told
+pub mod Writes

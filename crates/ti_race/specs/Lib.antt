@@ -1,0 +1,2 @@
+pub mod MirrorsLying
+pub mod MirrorsTable

@@ -1,0 +1,9 @@
+//! Races of runs, and what follows where there is none.
+#![tactic(auto)]
+
+mod laws;
+mod lying;
+mod spots;
+mod table;
+
+pub use laws::{determinate, no_race_decides, races_are_told};
