@@ -2,6 +2,7 @@ pub mod Answers
 pub mod Courses
 pub mod Deletes
 pub mod Determined
+pub mod RangeForms
 pub mod Free
 pub mod Gone
 pub mod Lists

@@ -1,6 +1,7 @@
 //! Races of runs, and what follows where there is none.
 #![tactic(auto)]
 
+mod forms;
 mod laws;
 mod lying;
 mod spots;
