@@ -2,6 +2,7 @@ pub mod Answers
 pub mod Courses
 pub mod Deletes
 pub mod Determined
+pub mod BlockDomains
 pub mod RangeForms
 pub mod Free
 pub mod Gone
@@ -12,5 +13,5 @@ pub mod Ran
 pub mod Seen
 pub mod Splits
 pub mod Things
-pub mod Told
+pub mod ToldRaces
 pub mod Writes

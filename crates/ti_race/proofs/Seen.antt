@@ -16,10 +16,10 @@ use Rattle.ti_lang.specs.Meaning.Spots.{Block, no_fault, viewed_told}
 use Rattle.ti_race.specs.declared.lying.Lying.{Lying}
 use Rattle.ti_race.specs.MirrorsLying.{Keeps, KeepsView, SeenIf}
 
-true_false : true ≡ false → ⊥
+pub true_false : true ≡ false → ⊥
 true_false e = cc
 
-not_true : (b : Bool) → (b ≡ true → ⊥) → b ≡ false
+pub not_true : (b : Bool) → (b ≡ true → ⊥) → b ≡ false
 not_true true h = absurd (h refl)
 not_true false h = refl
 
@@ -52,10 +52,10 @@ pub by_result : (how : ViewHow) (old : Layout) (res : Result Layout FaultKind) (
 by_result how old (Ok new) o z e t s f = subst (SeenIf how old) (sym z) (ap₂ (λ a b. a && b) t (sym (ap no_fault e)), s, f)
 by_result how old (Err kind) o z e t s f = subst (SeenIf how old) (sym z) (ap₂ (λ a b. a && b) t (sym (ap no_fault e)))
 
-if_true : {A : Type 0} → (b : Bool) (x y : A) → b ≡ true → (if b then x else y) ≡ x
+pub if_true : {A : Type 0} → (b : Bool) (x y : A) → b ≡ true → (if b then x else y) ≡ x
 if_true b x y e = rw e refl
 
-if_false : {A : Type 0} → (b : Bool) (x y : A) → b ≡ false → (if b then x else y) ≡ y
+pub if_false : {A : Type 0} → (b : Bool) (x y : A) → b ≡ false → (if b then x else y) ≡ y
 if_false b x y e = rw e refl
 
 -- of a view of a grid that was told

@@ -6,5 +6,6 @@ mod laws;
 mod lying;
 mod spots;
 mod table;
+mod told;
 
 pub use laws::{determinate, no_race_decides, races_are_told};
