@@ -14,4 +14,5 @@ pub mod Seen
 pub mod Splits
 pub mod Things
 pub mod ToldRaces
+pub mod ToldThings
 pub mod Writes

@@ -4,13 +4,20 @@ use Rattle.std.specs.Prelude.{◌≡◌, ℕ, ◌==◌, Bool, true, if◌then◌
 use Rattle.std.specs.HashMap.{HashMap, get}
 use Rattle.ti_base.specs.declared.action.Action.{Action}
 use Rattle.ti_base.specs.declared.action.Action.TheVariants as act
+use Rattle.ti_base.specs.declared.action.ViewHow.{ViewHow}
+use Rattle.ti_base.specs.declared.entry.Answer.{Answer}
+use Rattle.ti_base.specs.declared.entry.Answer.TheVariants.{Val}
 use Rattle.ti_base.specs.declared.point.Point.{Point}
 use Rattle.ti_base.specs.declared.point.Rect.{Rect}
 use Rattle.ti_base.specs.declared.value.Id.{Id}
+use Rattle.ti_base.specs.declared.value.Value.TheVariants as v
+use Rattle.ti_base.specs.declared.value.Zero.{Zero}
+use Rattle.ti_base.specs.Cells.{whole_grid}
+use Rattle.ti_base.specs.Forms.{is_view}
 use Rattle.ti_base.specs.Rects.{points_of}
 use Rattle.ti_lang.specs.Meaning.Histories.{History, departures}
 use Rattle.ti_lang.specs.Meaning.Spots as told
-use Rattle.ti_lang.specs.Meaning.Spots.{Block, object_told, grid_told}
+use Rattle.ti_lang.specs.Meaning.Spots.{Block, is_block, viewed_told, object_told, grid_told}
 use Rattle.ti_grid.specs.Views.{place_in}
 use Rattle.ti_race.specs.declared.lying.Lying.{Lying}
 use Rattle.ti_race.specs.declared.spots.Name.{Name}
@@ -49,6 +56,26 @@ Lies h None None = Unit {0}
 Lies h (Some l) (Some b) = (whole : Rect) × (whole_at b.number h ≡ Some whole) × Keeps whole l b
 Lies h l b = ⊥
 
+-- the grid of a block that an entry makes
+abbrev pub block_told : Id → ℕ → Zero → Rect → Option Block
+block_told id number zero domain = if is_block domain then Some (record { number = number; grid = whole_grid id zero domain }) else None
+
+-- and of a view of one that was told
+abbrev pub view_told : ViewHow → Option Block → Option Block
+view_told how b = if is_view how then viewed_told how b else None
+
+-- ---- answers
+
+-- the object that an answer names
+abbrev pub object_in : Answer → Option Id
+object_in (Val (v.Obj made)) = made
+object_in r = None
+
+-- the grid that an answer names
+abbrev pub grid_in : Answer → Option Id
+grid_in (Val (v.Grid made)) = made
+grid_in r = None
+
 -- ---- what is kept
 
 -- the table of grids has how a grid lies that was told
@@ -61,12 +88,24 @@ abbrev pub phase_in : Option ℕ → ℕ
 phase_in None = 0
 phase_in (Some n) = n
 
+-- how many collectives each process has left
+abbrev pub TellsPhases : Told → History → Type 0
+TellsPhases t h = (i : ℕ) → phase_in (get ◌==◌ t.phases i) ≡ departures i h
+
+-- which entry made the object of each name last
+abbrev pub TellsObjects : Told → History → Type 0
+TellsObjects t h = (id : Id) → get (name_eq.ghosts).eq t.objects (name_key id) ≡ object_told id h
+
+-- how the grid lies that was made last of each name
+abbrev pub TellsGrids : Told → History → Type 0
+TellsGrids t h = (id : Id) → Lies h (lying_in (get (name_eq.ghosts).eq t.grids (name_key id))) (grid_told id h)
+
 -- this is kept of a history
 pub record Tells (t : Told) (h : History) : Type 0 where
   pub count : t.count ≡ length h
-  pub phases : (i : ℕ) → phase_in (get ◌==◌ t.phases i) ≡ departures i h
-  pub objects : (id : Id) → get (name_eq.ghosts).eq t.objects (name_key id) ≡ object_told id h
-  pub grids : (id : Id) → Lies h (lying_in (get (name_eq.ghosts).eq t.grids (name_key id))) (grid_told id h)
+  pub phases : TellsPhases t h
+  pub objects : TellsObjects t h
+  pub grids : TellsGrids t h
 
 -- ---- uses
 
