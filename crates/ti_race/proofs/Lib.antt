@@ -15,4 +15,5 @@ pub mod Splits
 pub mod Things
 pub mod ToldRaces
 pub mod ToldThings
+pub mod ToldUses
 pub mod Writes

@@ -43,7 +43,7 @@ below n (e ∷ h) w there = by (n == length h) refl there (λ x. below n h w x)
     by true same x earlier = let k = eqb-true n (length h) same in omega (arith, k)
     by false other x earlier = let k = earlier x in omega (arith, k)
 
-whole_on : (e : Entry) (n : ℕ) (h : History) (w : Rect) → whole_at n h ≡ Some w → whole_at n (e ∷ h) ≡ Some w
+pub whole_on : (e : Entry) (n : ℕ) (h : History) (w : Rect) → whole_at n h ≡ Some w → whole_at n (e ∷ h) ≡ Some w
 whole_on e n h w there =
     let k = below n h w there in
     if_false (n == length h) (block_made e.act) (whole_at n h) (not_true (n == length h) (λ same. let z = eqb-true n (length h) same in absurd (omega arith))) ∙ there

@@ -7,5 +7,6 @@ mod lying;
 mod spots;
 mod table;
 mod told;
+mod uses;
 
 pub use laws::{determinate, no_race_decides, races_are_told};

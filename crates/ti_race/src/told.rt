@@ -200,7 +200,7 @@ impl Told {
 
     // How many collectives a process has left.
     fn phase(&self, proc: u32) -> u32
-        ensures { (h : History) → Tells self.now h → result ≡ departures proc h }
+        ensures { (h : History) → TellsPhases self.now h → result ≡ departures proc h }
     {
         match self.phases.get(&proc).copied() {
             Some(phase) => phase,
@@ -210,7 +210,7 @@ impl Told {
 
     // How a view lies of the grid of this name.
     fn view_made(&self, grid: Id, how: ViewHow) -> Option<Lying>
-        ensures { (h : History) → Tells self.now h → Lies h result (view_told how (spec.grid_told grid h)) }
+        ensures { (h : History) → TellsGrids self.now h → Lies h result (view_told how (spec.grid_told grid h)) }
     {
         forms_are_told();
         if !is_view(how) {
@@ -225,7 +225,7 @@ impl Told {
 
     // How the grid lies that an action makes under this name.
     fn grid_made(&self, action: Action, id: Id) -> Option<Lying>
-        ensures { (e : Listed) (h : History) → Tells self.now h → e.act ≡ action → Lies (e ∷ h) result (spec.grid_from id (length h) action (λ v. spec.grid_told v h)) }
+        ensures { (e : Listed) (h : History) → self.now.count ≡ length h → TellsGrids self.now h → e.act ≡ action → Lies (e ∷ h) result (spec.grid_from id (length h) action (λ v. spec.grid_told v h)) }
     {
         match action {
             Action::NewGrid { dom, .. } => block_of(self.count, id, &dom),
@@ -236,7 +236,7 @@ impl Told {
 
     // Notes the object that an entry makes.
     fn note_object(&mut self, e: &Entry) -> Result<(), Memory>
-        ensures objects { OnOk result ((h : History) → Tells self.old h → TellsObjects self.new (e.now ∷ h)) }
+        ensures objects { OnOk result ((h : History) → self.old.count ≡ length h → TellsObjects self.old h → TellsObjects self.new (e.now ∷ h)) }
         ensures rest { self.new ≡ record self.old { objects = self.new.objects } }
     {
         if makes_object(e.act) {
@@ -249,7 +249,7 @@ impl Told {
 
     // Notes the grid that an entry makes.
     fn note_grid(&mut self, e: &Entry) -> Result<(), Memory>
-        ensures grids { OnOk result ((h : History) → Tells self.old h → TellsGrids self.new (e.now ∷ h)) }
+        ensures grids { OnOk result ((h : History) → self.old.count ≡ length h → TellsGrids self.old h → TellsGrids self.new (e.now ∷ h)) }
         ensures rest { self.new ≡ record self.old { grids = self.new.grids } }
     {
         if makes_grid(e.act) {
@@ -263,7 +263,7 @@ impl Told {
 
     // Notes the collective that an entry leaves.
     fn note_departure(&mut self, e: &Entry) -> Result<(), Memory>
-        ensures phases { OnOk result ((h : History) → Tells self.old h → TellsPhases self.new (e.now ∷ h)) }
+        ensures phases { OnOk result ((h : History) → TellsPhases self.old h → TellsPhases self.new (e.now ∷ h)) }
         ensures rest { self.new ≡ record self.old { phases = self.new.phases } }
     {
         if departs(e.act) {
@@ -272,6 +272,20 @@ impl Told {
             };
             self.phases.insert(e.proc, phase)?;
         }
+        Ok(())
+    }
+
+    /// Notes an entry behind the history.
+    pub fn note(&mut self, e: &Entry) -> Result<(), Memory>
+        ensures { OnOk result ((h : History) → Tells self.old h → Tells self.new (e.now ∷ h)) }
+    {
+        let Some(count) = self.count.checked_add(1) else {
+            return Err(Memory);
+        };
+        self.note_object(e)?;
+        self.note_grid(e)?;
+        self.note_departure(e)?;
+        self.count = count;
         Ok(())
     }
 }
