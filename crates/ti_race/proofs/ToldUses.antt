@@ -1,6 +1,7 @@
 -- The uses of one entry more.
-use Rattle.std.proofs.Common.{◌≡◌, ◌∙◌, refl, ap, sym, subst, ℕ, ◌<◌, List, [], ◌∷◌, ◌++◌, take, reverse, length, Option, Some, None}
-use Rattle.std.proofs.lemmas.List.{take_more}
+use Rattle.std.proofs.Common.{◌≡◌, ◌∙◌, refl, ap, sym, subst, ℕ, ◌+◌, ◌<◌, List, [], ◌∷◌, ◌++◌, take, reverse, length, Option, Some, None}
+use Rattle.std.proofs.Math.ListN.{get_or}
+use Rattle.std.proofs.lemmas.List.{take_more, reverse-append}
 use Rattle.ti_base.specs.declared.entry.Entry.{Entry}
 use Rattle.ti_base.specs.declared.point.Rect.{Rect}
 use Rattle.ti_lang.specs.Meaning.Histories.{History, history_of}
@@ -10,7 +11,7 @@ use Rattle.ti_lang.specs.Meaning.Spots.{uses, use_of}
 use Rattle.ti_race.specs.declared.spots.Spot.{Spot}
 use Rattle.ti_race.specs.declared.spots.Spot.TheVariants.{FieldOf, CellOf, PointOf}
 use Rattle.ti_race.specs.declared.spots.Use.{Use}
-use Rattle.ti_race.specs.MirrorsTold.{whole_at, IsSpot, IsUse, IsUseIf, AreUses}
+use Rattle.ti_race.specs.MirrorsTold.{whole_at, IsSpot, IsUse, IsUseIf, AreUses, HasUses}
 use Rattle.ti_race.proofs.ToldThings.{whole_on}
 
 spot_on : (e : Entry) (h : History) (s : Spot) (t : told.Spot) → IsSpot h s t → IsSpot (e ∷ h) s t
@@ -38,3 +39,11 @@ uses_more e h us all None None are is = uses_on e h us all are
 uses_more e h us all (Some u) (Some a) are is = (use_on e h u a is, uses_on e h us all are)
 uses_more e h us all None (Some a) are is = absurd is
 uses_more e h us all (Some u) None are is = absurd is
+
+-- the history of one entry more
+pub one_more : (es : List Entry) (i : ℕ) (d : Entry) → i < length es → history_of (take (i + 1) es) ≡ get_or es i d ∷ history_of (take i es)
+one_more es i d below = ap reverse (take_more es i d below) ∙ reverse-append (take i es) (get_or es i d ∷ [])
+
+-- the uses with that of one entry more
+pub has_more : (e : Entry) (h : History) (was is : List Use) (u : Option Use) → HasUses h was → IsUseIf h u (use_of e h) → reverse is ≡ added u (reverse was) → HasUses (e ∷ h) is
+has_more e h was is u has one grew = subst (λ (us : List Use). AreUses (e ∷ h) us (uses (e ∷ h))) (sym grew) (uses_more e h (reverse was) (uses h) u (use_of e h) has one)

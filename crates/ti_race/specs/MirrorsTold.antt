@@ -1,6 +1,6 @@
 -- Nobody has to believe what stands here: it mirrors the code, and only contracts of private functions speak of it.
 -- What is kept of a history, and how it stands for the things and uses that the history tells.
-use Rattle.std.specs.Prelude.{◌≡◌, ℕ, ◌==◌, Bool, true, if◌then◌else◌, List, [], ◌∷◌, length, Option, None, Some}
+use Rattle.std.specs.Prelude.{◌≡◌, ℕ, ◌==◌, Bool, true, if◌then◌else◌, List, [], ◌∷◌, reverse, length, Option, None, Some}
 use Rattle.std.specs.HashMap.{HashMap, get}
 use Rattle.ti_base.specs.declared.action.Action.{Action}
 use Rattle.ti_base.specs.declared.action.Action.TheVariants as act
@@ -147,3 +147,7 @@ abbrev pub AreUses : History → List Use → List told.Use → Type 0
 AreUses h [] [] = Unit {0}
 AreUses h (u ∷ us) (a ∷ rest) = IsUse h u a × AreUses h us rest
 AreUses h us rest = ⊥
+
+-- these are the uses of a history in the order of its entries
+abbrev pub HasUses : History → List Use → Type 0
+HasUses h us = AreUses h (reverse us) (told.uses h)
