@@ -10,6 +10,7 @@ pub mod Lists
 pub mod Noting
 pub mod Own
 pub mod Ran
+pub mod SameSpots
 pub mod Seen
 pub mod Splits
 pub mod Things

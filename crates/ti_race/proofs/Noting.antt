@@ -30,7 +30,7 @@ both_right : (a b : Bool) → (a && b) ≡ true → b ≡ true
 both_right true b k = k
 both_right false b k = cc
 
-int_eq-true : (x y : ℤ) → int_eq x y ≡ true → x ≡ y
+pub int_eq-true : (x y : ℤ) → int_eq x y ≡ true → x ≡ y
 int_eq-true x y k = (signed_Decides x y).0 k
 
 abbrev pub same_name : Name → Name → Bool

@@ -98,8 +98,7 @@ pub block_lies : (e : Entry) (h : History) (number : ℕ) (id : Id) (zero : Zero
     → view.dom ≡ domain → IsWhole view → Lies (e ∷ h) (Some (record { number = number; view = view })) (block_told id number zero domain)
 block_lies e h number id zero domain view counted made small same whole =
     subst (Lies (e ∷ h) (Some (record { number = number; view = view })))
-    (sym (if_true (is_block domain) (Some (record { number = number; grid = whole_grid id zero domain })) None small))
-    (
+    (sym (if_true (is_block domain) (Some (record { number = number; grid = whole_grid id zero domain })) None small)) (
       domain,
       if_true (number == length h) (block_made e.act) (whole_at number h) (eq-eqb number (length h) counted) ∙ made,
       record { number = refl; domain = same; cells = λ p inside. subst (λ (r : Rect). Rattle.ti_grid.specs.Views.cell_number view p ≡ Rattle.ti_grid.specs.Views.place_in (Rattle.ti_base.specs.Rects.points_of r) p) same (whole p) },

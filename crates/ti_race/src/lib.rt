@@ -1,6 +1,7 @@
 //! Races of runs, and what follows where there is none.
 #![tactic(auto)]
 
+mod finding;
 mod forms;
 mod laws;
 mod lying;
@@ -9,4 +10,5 @@ mod table;
 mod told;
 mod uses;
 
+pub use finding::{races, told_races};
 pub use laws::{determinate, no_race_decides, races_are_told};

@@ -16,7 +16,9 @@ use crate::lying::{Lying, viewed};
 use crate::spots::{Name, Spot, Thing, Use, at_of, name_of};
 use std::alloc::Global;
 use std::collections::HashMap;
-use ti_base::{Action, Answer, Entry, Id, Memory, Point, Rect, Value, ViewHow, forms_are_told, rect_counts};
+use ti_base::{
+    Action, Answer, Entry, Id, Memory, Point, Rect, Value, ViewHow, forms_are_told, rect_counts,
+};
 use ti_grid::{View, index_of, view_of};
 use ti_rect::rect_size;
 
