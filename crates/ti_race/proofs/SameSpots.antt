@@ -18,7 +18,6 @@ use Rattle.ti_lang.specs.Meaning.Histories.{History, history_of}
 use Rattle.ti_lang.specs.Meaning.Spots as told
 use Rattle.ti_lang.specs.Meaning.Spots.{uses, clashes_among, races_told}
 use Rattle.ti_grid.specs.Views.{place_in}
-use Rattle.ti_race.specs.declared.spots.Name.{Name}
 use Rattle.ti_race.specs.declared.spots.Spot.{Spot}
 use Rattle.ti_race.specs.declared.spots.Spot.TheVariants.{FieldOf, CellOf, PointOf}
 use Rattle.ti_race.specs.declared.spots.Thing.{Thing}

@@ -1,9 +1,8 @@
 -- The uses of one entry more.
-use Rattle.std.proofs.Common.{◌≡◌, ◌∙◌, refl, ap, sym, subst, ℕ, ◌+◌, ◌<◌, List, [], ◌∷◌, ◌++◌, take, reverse, length, Option, Some, None}
+use Rattle.std.proofs.Common.{◌≡◌, ◌∙◌, ap, sym, subst, ℕ, ◌+◌, ◌<◌, List, [], ◌∷◌, take, reverse, length, Option, Some, None}
 use Rattle.std.proofs.Math.ListN.{get_or}
 use Rattle.std.proofs.lemmas.List.{take_more, reverse-append}
 use Rattle.ti_base.specs.declared.entry.Entry.{Entry}
-use Rattle.ti_base.specs.declared.point.Rect.{Rect}
 use Rattle.ti_lang.specs.Meaning.Histories.{History, history_of}
 use Rattle.ti_lang.specs.Meaning.Races.{added}
 use Rattle.ti_lang.specs.Meaning.Spots as told
@@ -11,7 +10,7 @@ use Rattle.ti_lang.specs.Meaning.Spots.{uses, use_of}
 use Rattle.ti_race.specs.declared.spots.Spot.{Spot}
 use Rattle.ti_race.specs.declared.spots.Spot.TheVariants.{FieldOf, CellOf, PointOf}
 use Rattle.ti_race.specs.declared.spots.Use.{Use}
-use Rattle.ti_race.specs.MirrorsTold.{whole_at, IsSpot, IsUse, IsUseIf, AreUses, HasUses}
+use Rattle.ti_race.specs.MirrorsTold.{IsSpot, IsUse, IsUseIf, AreUses, HasUses}
 use Rattle.ti_race.proofs.ToldThings.{whole_on}
 
 spot_on : (e : Entry) (h : History) (s : Spot) (t : told.Spot) → IsSpot h s t → IsSpot (e ∷ h) s t

@@ -1,7 +1,7 @@
 -- Nobody has to believe what stands here: it mirrors the code, and only contracts of private functions speak of it.
 -- What is kept of a history, and how it stands for the things and uses that the history tells.
-use Rattle.std.specs.Prelude.{◌≡◌, ℕ, ◌==◌, Bool, true, if◌then◌else◌, List, [], ◌∷◌, reverse, length, Option, None, Some}
-use Rattle.std.specs.HashMap.{HashMap, get}
+use Rattle.std.specs.Prelude.{◌≡◌, ℕ, ◌==◌, if◌then◌else◌, List, [], ◌∷◌, reverse, length, Option, None, Some}
+use Rattle.std.specs.HashMap.{get}
 use Rattle.ti_base.specs.declared.action.Action.{Action}
 use Rattle.ti_base.specs.declared.action.Action.TheVariants as act
 use Rattle.ti_base.specs.declared.action.ViewHow.{ViewHow}

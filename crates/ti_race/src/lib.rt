@@ -9,6 +9,8 @@ mod spots;
 mod table;
 mod told;
 mod uses;
+mod watch;
 
 pub use finding::{races, told_races};
 pub use laws::{determinate, no_race_decides, races_are_told};
+pub use watch::RaceWatch;

@@ -1,4 +1,4 @@
-use Rattle.std.proofs.Common.{rules, ◌≡◌, ◌∙◌, sym, ap, subst, ◌%◌, ◌<◌, ℕ, pos, ◌+ℤ◌, w32, w64, to_z, of_z, eq-eqb, eqb-true, arith}
+use Rattle.std.proofs.Common.{rules, ◌≡◌, ◌∙◌, sym, ap, ◌%◌, ℕ, pos, ◌+ℤ◌, w32, w64, eq-eqb, eqb-true}
 use Rattle.std.proofs.lemmas.Int.{to_z-of_z}
 use Rattle.ti_rect.specs.Axes.{range}
 use Rattle.ti_race.proofs.RangeForms.{range_from, range_divides}

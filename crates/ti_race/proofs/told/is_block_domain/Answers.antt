@@ -3,7 +3,7 @@ use Rattle.std.proofs.lemmas.Int.{to_z-of_z}
 use Rattle.std.proofs.Common.{length}
 use Rattle.std.specs.Prelude.{int_le}
 use Rattle.ti_base.specs.Rects.{points_of, size_of}
-use Rattle.ti_race.proofs.Seen.{true_false, not_true}
+use Rattle.ti_race.proofs.Seen.{true_false}
 use Rattle.ti_race.proofs.BlockDomains.{no_block, block_sized, too_many}
 use Rattle.ti_race.proofs.told.is_block_domain.Goals as goal
 

@@ -1,4 +1,4 @@
-use Rattle.std.proofs.Common.{◌≡◌, ◌∷◌, take, sym, subst, ap, ◌∙◌, refl}
+use Rattle.std.proofs.Common.{take, sym, subst}
 use Rattle.ti_lang.specs.Meaning.Histories.{History, history_of}
 use Rattle.ti_race.specs.MirrorsTold.{Tells, HasUses}
 use Rattle.ti_race.proofs.ToldUses.{one_more, has_more}

@@ -1,4 +1,4 @@
-use Rattle.std.proofs.Common.{rules, ◌∙◌, ap, sym, ◌+◌}
+use Rattle.std.proofs.Common.{rules, ◌∙◌, sym}
 use Rattle.ti_race.proofs.ToldThings.{phases_more}
 use Rattle.ti_race.proofs.told.Told.note_departure.Goals as goal
 

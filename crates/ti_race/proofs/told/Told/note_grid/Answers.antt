@@ -1,4 +1,4 @@
-use Rattle.std.proofs.Common.{rules, refl, ◌∙◌, sym, subst, Some}
+use Rattle.std.proofs.Common.{refl, ◌∙◌, sym, subst, Some}
 use Rattle.std.specs.HashMap.{Updates}
 use Rattle.ti_race.specs.declared.spots.Name.{Name}
 use Rattle.ti_race.specs.contracts.spots.NamePartialEq.TheImpl as name_eq
