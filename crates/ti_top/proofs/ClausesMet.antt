@@ -5,6 +5,7 @@ use Rattle.ti_base.specs.declared.entry.Entry.{Entry}
 use Rattle.ti_io.specs.Source.{IsMissing, SameFiles}
 use Rattle.ti_io.specs.Sink.{SinkState, GrewBy, GrewByFront}
 use Rattle.ti_lang.specs.Program.Classes.{NumberedProgram}
+use Rattle.ti_lang.specs.Meaning.Determinacy.{Determines}
 use Rattle.ti_lang.specs.Meaning.Processes.{Setting}
 use Rattle.ti_lang.specs.Meaning.Runs.{AllEnded, IsRun, IsSolo, IsComplete as IsCompleteRun, none}
 use Rattle.ti_align.specs.Alignment.{IsAligned}
@@ -31,7 +32,7 @@ use Rattle.ti_top.specs.Mirrors.Ended.{Ended}
 use Rattle.ti_top.specs.Run.{HasFile, Runs, HasCode, run_of, fault_entry, EndsWithFault}
 use Rattle.ti_top.specs.Mirrors.Work.{kept_in, RanNothing, Ran, WasRefused, WasChecked, WasCoded, RunTextSays, CodeTextSays, TextSays, FileSays, FileDone, SeedDone, WorkSays, work_of, DidNothing}
 use Rattle.ti_top.specs.Call.{most_read, Call, IsCommand, IsNoCommand, file_in, file_of, SourceRose, SinkRose, ErrRose, Yields, WantsReport}
-use Rattle.ti_top.specs.Clauses.{IsAccepted, IsReadWhole, IsWholeIn, HasText, ReadsText, MakesText, GetsText, RefusesExactly, KeepsRun, RunsCode, CountsInstructions, WhereAccepted, WhereRun, WritesAll, WritesOutput, IsAlignedRun, EndsRun, NothingFailed, IsComplete, MeetsBesideErr, Says, before_err, Meets}
+use Rattle.ti_top.specs.Clauses.{IsAccepted, IsReadWhole, IsWholeIn, HasText, ReadsText, MakesText, GetsText, RefusesExactly, KeepsRun, RunsCode, CountsInstructions, WhereAccepted, WhereRun, WritesAll, WritesOutput, IsAlignedRun, IsDeterminate, EndsRun, NothingFailed, IsComplete, MeetsBesideErr, Says, before_err, Meets}
 use Rattle.ti_top.proofs.StatusFrom.{StatusFrom, status_from, not_five, is_done, is_faulted, is_no_memory}
 use Rattle.ti_top.proofs.WordsAnswered.{known, not_both, no_command_answers, command_answers}
 use Rattle.ti_top.proofs.TextRead.{EndsAs, read_whole, reads_text}
@@ -129,6 +130,10 @@ no_count job c gone unowed unfaulted = record {
   unrun = λ _. gone;
 }
 
+-- where nothing was run, no process has its end
+nothing_determined : (job : Job) (c : Call) → 1 ≤ job.procs → c.history ≡ [] → IsDeterminate job c
+nothing_determined job c some no_entry = λ _ program _ ended _. absurd (unbegun (run_of program job) some (inr (subst (λ h. AllEnded (run_of program job) h) no_entry ended)))
+
 -- where nothing was run, no fault is last
 no_fault_of_nothing : (c : Call) (fault : Fault) → c.history ≡ [] → EndsWithFault c.history fault → ⊥
 no_fault_of_nothing c fault no_entry e = short e.before (fault_entry fault) (sym no_entry ∙ e.last)
@@ -151,6 +156,7 @@ beside_no_command c no_job x from = record {
     done = λ is. absurd (never NoCommand c 0 from (λ e. omega arith) (λ e. omega arith) is);
     faulted = λ is. absurd (never NoCommand c 2 from (λ e. omega arith) (λ e. omega arith) is);
   };
+  determinacy = λ job some. absurd (not_both c job some no_job);
   end = λ job some. absurd (not_both c job some no_job);
 }
 
@@ -169,6 +175,7 @@ pub record Clauses (job : Job) (c : Call) : Type 0 where
   pub count : CountsInstructions job c
   pub output : WritesOutput c
   pub alignment : IsAlignedRun c
+  pub determinacy : IsDeterminate job c
   pub end : EndsRun job c
   pub completeness : NothingFailed job c → IsComplete job c
 
@@ -201,6 +208,7 @@ clauses_refused refusal job c from whole refused = let x = refused.nothing in re
     done = λ _ program has. absurd (refused.no_program program has);
     faulted = λ _ program has. absurd (refused.no_program program has);
   };
+  determinacy = λ _ program has. absurd (refused.no_program program has);
   end = record {
     ended = λ _ _ program has. absurd (refused.no_program program has);
     fault_only_where = λ is. absurd (never (Refused refusal) c 2 from (λ e. omega arith) (λ e. omega arith) is);
@@ -223,8 +231,8 @@ was_read Code job c named whole = whole
 was_read Gen job c named whole = absurd named
 
 -- the file can't be read
-clauses_cant_read : (job : Job) (c : Call) → HasFile job.mode → StatusFrom CantRead c → IsMissing c.source job.file ⊎ SourceRose c → RanNothing c.out c.out_after (kept_in c) → Clauses job c
-clauses_cant_read job c named from cause x = record {
+clauses_cant_read : (job : Job) (c : Call) → 1 ≤ job.procs → HasFile job.mode → StatusFrom CantRead c → IsMissing c.source job.file ⊎ SourceRose c → RanNothing c.out c.out_after (kept_in c) → Clauses job c
+clauses_cant_read job c some named from cause x = record {
   refusal = record {
     only_where = λ is. absurd (never CantRead c 1 from (λ e. omega arith) (λ e. omega arith) is);
     everywhere = λ refusal refused. yields CantRead c from
@@ -245,6 +253,7 @@ clauses_cant_read job c named from cause x = record {
     done = λ is. absurd (never CantRead c 0 from (λ e. omega arith) (λ e. omega arith) is);
     faulted = λ is. absurd (never CantRead c 2 from (λ e. omega arith) (λ e. omega arith) is);
   };
+  determinacy = nothing_determined job c some x.no_entry;
   end = record {
     ended = λ is. absurd (never CantRead c 0 from (λ e. omega arith) (λ e. omega arith) is);
     fault_only_where = λ is. absurd (never CantRead c 2 from (λ e. omega arith) (λ e. omega arith) is);
@@ -275,6 +284,7 @@ clauses_no_memory job c command some from x = record {
     done = λ is. absurd (never NoMemory c 0 from (λ e. omega arith) (λ e. omega arith) is);
     faulted = λ is. absurd (never NoMemory c 2 from (λ e. omega arith) (λ e. omega arith) is);
   };
+  determinacy = nothing_determined job c (some job command) x.no_entry;
   end = record {
     ended = λ is. absurd (never NoMemory c 0 from (λ e. omega arith) (λ e. omega arith) is);
     fault_only_where = λ is. absurd (never NoMemory c 2 from (λ e. omega arith) (λ e. omega arith) is);
@@ -375,6 +385,7 @@ clauses_ran before job c mode command from whole x =
         done = λ _ p has. subst IsAligned (sym (only p has)) x.compiled.aligned;
         faulted = λ _ p has. subst IsAligned (sym (only p has)) x.compiled.aligned;
       };
+      determinacy = λ _ p has. subst (λ (q : NumberedProgram). Determines (run_of q job) c.history) (sym (only p has)) says.determines;
       end = record {
         ended = λ is _ p has. subst (λ q. AllEnded (run_of q job) c.history) (sym (only p has)) (says.ended (done_at before c from is));
         fault_only_where = λ is. let f = faulted_at before c from is in (mode, (f.0, says.faulted f.0 f.1));
@@ -475,6 +486,7 @@ clauses_checked job c command mode from whole x =
           (λ is. absurd (never Done c 2 from (λ e. omega arith) (λ e. omega arith) is))
           (λ is. absurd (never Done c 6 from (λ e. omega arith) (λ e. omega arith) is)) x.nothing;
       alignment = record { done = λ _. aligned; faulted = λ _. aligned };
+      determinacy = λ run. absurd (run_or_check job.mode run mode);
       end = record {
         ended = λ _ run. absurd (run_or_check job.mode run mode);
         fault_only_where = λ is. absurd (never Done c 2 from (λ e. omega arith) (λ e. omega arith) is);
@@ -533,6 +545,7 @@ clauses_coded before job c command mode either from whole x =
         no_memory = λ is. absurd (other 6 (λ e. omega arith) (λ e. omega arith) is);
       };
       alignment = record { done = λ _. aligned; faulted = λ _. aligned };
+      determinacy = λ run. absurd (run_or_code job.mode run mode);
       end = record {
         ended = λ _ run. absurd (run_or_code job.mode run mode);
         fault_only_where = λ is. absurd (other 2 (λ e. omega arith) (λ e. omega arith) is);
@@ -682,7 +695,7 @@ told_file before Read.Whole job c named command some read says from =
 told_file before Read.CantRead job c named command some read says from =
     let cause = read.cause refl in
     let from' = subst (λ b. StatusFrom b c) says.0 from in
-    subst (λ b. ToldOf b job c) (sym says.0) (record { clauses = clauses_cant_read job c named from' cause says.1; says = (job, command, cause) })
+    subst (λ b. ToldOf b job c) (sym says.0) (record { clauses = clauses_cant_read job c some named from' cause says.1; says = (job, command, cause) })
 told_file before Read.NoMemory job c named command some read says from =
     subst (λ b. ToldOf b job c) (sym says.0) (told_unrun job c command some says.1 (subst (λ b. StatusFrom b c) says.0 from))
 
@@ -747,6 +760,7 @@ beside_command before job c x from =
       count = λ other some. subst (λ j. CountsInstructions j c) (job_same c job other x.command some) k.count;
       output = k.output;
       alignment = k.alignment;
+      determinacy = λ other some. subst (λ j. IsDeterminate j c) (job_same c job other x.command some) k.determinacy;
       end = λ other some. subst (λ j. EndsRun j c) (job_same c job other x.command some) k.end;
     }
 
@@ -811,6 +825,7 @@ beside_unread c some x from = record {
     done = λ is. absurd (never NoMemory c 0 from (λ e. omega arith) (λ e. omega arith) is);
     faulted = λ is. absurd (never NoMemory c 2 from (λ e. omega arith) (λ e. omega arith) is);
   };
+  determinacy = λ job command. (clauses_no_memory job c command some from x.nothing).determinacy;
   end = λ job command. (clauses_no_memory job c command some from x.nothing).end;
 }
 

@@ -66,7 +66,7 @@ fuel_within procs values n e =
 
 abbrev job_with : Values → Mode → Word → ℕ → ℕ → ℕ → ℕ → Job
 job_with values mode file seed procs workers fuel =
-    record { mode = mode; procs = procs; workers = workers; fuel = fuel; seed = seed; trace = values.trace; stats = values.stats; file = file }
+    record { mode = mode; procs = procs; workers = workers; fuel = fuel; seed = seed; trace = values.trace; stats = values.stats; races = values.races; file = file }
 
 -- the last steps, of which each takes one more value
 abbrev fueled : Values → Mode → Word → ℕ → ℕ → ℕ → Option Job

@@ -1,5 +1,5 @@
 -- The instructions that the processes of a run have finished are counted in one way alone.
-use Rattle.std.proofs.Common.{◌≡◌, ◌∙◌, refl, ap, sym, subst, ℕ, ◌+◌, ◌<◌, List, ◌∷◌, length}
+use Rattle.std.proofs.Common.{◌≡◌, ◌∙◌, refl, ap, sym, subst, ℕ, ◌+◌, ◌<◌, List, length}
 use Rattle.std.proofs.Math.ListN.{get_or}
 use Rattle.std.proofs.lemmas.List.{ext_get_or}
 use Rattle.std.proofs.lemmas.Option.{slice_get-get_or}
@@ -8,9 +8,9 @@ use Rattle.ti_base.specs.declared.entry.Entry.{Entry}
 use Rattle.ti_lang.specs.Meaning.Asking.{Got, Gives}
 use Rattle.ti_lang.specs.Meaning.Processes.{Setting}
 use Rattle.ti_code.specs.Programs.{Code}
-use Rattle.ti_code.specs.Machine.{Machine, Turn, On, turn}
+use Rattle.ti_code.specs.Machine.{Machine, Turn, On}
 use Rattle.ti_code.specs.Follows.{Finishes, all, one}
-use Rattle.ti_machine.specs.Standing.{Standing, begun_of, counted, HasFinished}
+use Rattle.ti_machine.specs.Standing.{Standing, counted, HasFinished}
 use Rattle.ti_runtime.specs.Ran.{standing_of, IsDone}
 
 on_same : (a b : Machine) (xs ys : List Answer) → ◌≡◌ {A = Got Turn} (Gives (On a) xs) (Gives (On b) ys) → a ≡ b

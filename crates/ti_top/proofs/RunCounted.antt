@@ -1,5 +1,5 @@
 -- The instructions of a run that ended, or ended with a fault, are counted.
-use Rattle.std.proofs.Common.{◌≡◌, Some, refl, sym, ◌∙◌, ap, subst}
+use Rattle.std.proofs.Common.{◌≡◌, Some, sym, ◌∙◌, ap, subst}
 use Rattle.ti_code.specs.Follows.{Follows}
 use Rattle.ti_code.specs.Programs.{Code}
 use Rattle.ti_lang.specs.Program.Classes.{NumberedProgram}

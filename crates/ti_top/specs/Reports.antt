@@ -20,13 +20,13 @@ pub record Watcher : Type 0 where
   pub kind : ℕ
   pub told : List Entry
 
--- kind 0 is wanted by `--trace`, kind 1 by `--stats`, and no other kind is
-abbrev pub is_kind_wanted : Bool → Bool → ℕ → Bool
-is_kind_wanted trace stats kind = if kind == 0 then trace else if kind == 1 then stats else false
+-- kind 0 is wanted by `--trace`, kind 1 by `--stats`, kind 2 by `--races`, and no other kind is
+abbrev pub is_kind_wanted : Bool → Bool → Bool → ℕ → Bool
+is_kind_wanted trace stats races kind = if kind == 0 then trace else if kind == 1 then stats else if kind == 2 then races else false
 
 -- whether a job wants a watcher
 abbrev pub is_wanted : Job → Watcher → Bool
-is_wanted job watcher = is_kind_wanted job.trace job.stats watcher.kind
+is_wanted job watcher = is_kind_wanted job.trace job.stats job.races watcher.kind
 
 -- the watchers that a job wants, in their order
 abbrev pub wanted : Job → List Watcher → List Watcher

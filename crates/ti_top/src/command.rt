@@ -57,7 +57,7 @@ impl Outcome {
 /// file is named: it makes the text from a seed, and in place of the lines writes one that sums up the run.
 ///
 /// The words are `--mode run`, `--mode check`, `--mode code` or `--mode gen`, `--procs`, `--workers`, `--fuel`, each with a
-/// number, and `--trace` and `--stats`, each at most once, and a file's name, or in mode gen `--seed` with a
+/// number, and `--trace`, `--stats` and `--races`, each at most once, and a file's name, or in mode gen `--seed` with a
 /// number; `docs/LANGUAGE.md` says their ranges. What the call promises is `Meets`, one record of
 /// `specs/Clauses.antt` for each clause.
 pub fn titan_top<R: AllocGlobal, S: Source, K: Sink>(

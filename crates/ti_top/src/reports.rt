@@ -23,12 +23,13 @@ pub enum ReportEnd {
 }
 
 // Whether a watcher's flag is given.
-fn is_asked_for(watcher: &Box<dyn Watch>, trace: bool, stats: bool) -> bool
-    ensures { result ≡ is_kind_wanted trace stats (kind_of watcher.now) }
+fn is_asked_for(watcher: &Box<dyn Watch>, trace: bool, stats: bool, races: bool) -> bool
+    ensures { result ≡ is_kind_wanted trace stats races (kind_of watcher.now) }
 {
     match watcher.kind() {
         0 => trace,
         1 => stats,
+        2 => races,
         _ => false,
     }
 }
@@ -39,10 +40,11 @@ pub fn keep_wanted(watchers: &mut Vec<Box<dyn Watch>>, job: &Job)
 {
     let trace = job.trace;
     let stats = job.stats;
+    let races = job.races;
     watchers.retain(
         |w: &Box<dyn Watch>| -> bool
-            ensures { result ≡ is_kind_wanted trace stats (kind_of w.now) }
-        { is_asked_for(w, trace, stats) },
+            ensures { result ≡ is_kind_wanted trace stats races (kind_of w.now) }
+        { is_asked_for(w, trace, stats, races) },
     );
 }
 

@@ -1,6 +1,8 @@
 // What is done before the line on err.
 ghost use Rattle.std.specs.Prelude.{◌≡◌, ℕ, List, [], None, Some, IfOk, map};
+ghost use Rattle.ti_align.specs.Alignment.{IsAligned};
 ghost use Rattle.ti_code.specs.Follows.{Follows};
+ghost use Rattle.ti_lang.specs.Meaning.Determinacy.{Determines};
 ghost use Rattle.ti_lang.specs.Meaning.Processes.{Setting};
 ghost use Rattle.ti_lang.specs.Program.Views.{program_of};
 ghost use Rattle.ti_lower.specs.Programs.{program_code};
@@ -11,7 +13,7 @@ ghost use Rattle.ti_top.specs.Mirrors.Line.{HasRoom};
 ghost use Rattle.ti_top.specs.Mirrors.RunEnds.{RunEnds};
 ghost use Rattle.ti_top.specs.Mirrors.Work.{kept_of, ending_after as after_spec, ReportsAfter, RunSays, RunTextSays, CodeTextSays, TextSays, SeedSays, FileDone, WorkSays};
 ghost use Rattle.ti_top.specs.Reports.{Watcher, wanted};
-ghost use Rattle.ti_top.specs.Run.{Runs};
+ghost use Rattle.ti_top.specs.Run.{Runs, run_of};
 
 use crate::coding::write_code;
 use crate::compiling::{CompileErr, compile};
@@ -28,6 +30,7 @@ use ti_code::Code;
 use ti_gen::gen_source;
 use ti_io::{Sink, Source};
 use ti_lower::lower;
+use ti_race::determinate;
 use ti_rules::Checked;
 use ti_runtime::{How, RunEnd, run};
 use ti_watch::Watch;
@@ -110,6 +113,19 @@ fn report_after<K: Sink>(
     }
 }
 
+// Runs a program by its code. Where nothing in the run stands in a race, it decides every other run.
+fn run_by_code(alloc: Global, job: &Job, checked: &Checked, code: &Code) -> RunEnd
+    requires within { IsWithin job.now.procs job.now.fuel }
+    requires aligned { IsAligned (program_of checked.now.program.parts) }
+    requires follows { Follows code.now (program_of checked.now.program.parts) }
+    ensures ran { Ran code.now (run_of (program_of checked.now.program.parts) job.now) result }
+    ensures determines { Determines (run_of (program_of checked.now.program.parts) job.now) result.history.items }
+{
+    let end = run(alloc, checked, code, job.procs, job.fuel);
+    determinate(&checked.program, job.procs, job.fuel, &end.history);
+    end
+}
+
 // Runs a program by its code, and writes its lines, for which there is room, or its summary, and the reports on it. Where the run runs out
 // of memory, the lines of the entries so far are written.
 fn run_program<K: Sink>(
@@ -122,13 +138,14 @@ fn run_program<K: Sink>(
 ) -> Written
     requires within { IsWithin job.now.procs job.now.fuel }
     requires mode { Runs job.now.mode }
+    requires aligned { IsAligned (program_of checked.now.program.parts) }
     requires room { HasRoom checked.now.program.parts.literals.items ready.line }
     requires code { ready.code ≡ program_code (program_of checked.now.program.parts) }
     requires follows { Follows ready.code (program_of checked.now.program.parts) }
     ensures { RunSays (program_of checked.now.program.parts) job.now (map {B = Watcher} (λ w. record { kind = kind_of w; told = told w }) watchers.items) (K.state out.old) (K.state out.new) (kept_of result.kept) result.ending }
 {
     let Ready { code, mut line } = ready;
-    let end = run(alloc, checked, &code, job.procs, job.fuel);
+    let end = run_by_code(alloc, job, checked, &code);
     let ended = ending_of(&end, &code);
     match write_head(
         out,
@@ -181,6 +198,7 @@ fn run_compiled<K: Sink>(
 ) -> Written
     requires within { IsWithin job.now.procs job.now.fuel }
     requires mode { Runs job.now.mode }
+    requires aligned { IsAligned (program_of checked.now.program.parts) }
     ensures { (text : List ℕ) → IsCompiled text (program_of checked.now.program.parts) → RunTextSays result.ending job.now (map {B = Watcher} (λ w. record { kind = kind_of w; told = told w }) watchers.items) text (K.state out.old) (K.state out.new) (kept_of result.kept) }
 {
     match ready_for(alloc, checked) {

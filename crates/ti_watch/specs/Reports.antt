@@ -1,6 +1,7 @@
 -- What watchers report of a run.
 use Rattle.std.specs.Prelude.{ℕ, ◌+◌, ◌==◌, if◌then◌else◌, List, [], ◌∷◌, ◌++◌, length, flat_map, count_by, bytes_eq, codes, decimal}
 use Rattle.ti_base.specs.declared.entry.Entry.{Entry}
+use Rattle.ti_lang.specs.Meaning.Spots.{races_text}
 use Rattle.ti_watch.specs.Texts.{place_text}
 use Rattle.ti_watch.specs.Acts.{word_of, act_text, answer_text}
 
@@ -43,6 +44,6 @@ stats_text es = codes "stats entries" ++ number_text (length es) ++ flat_map (co
 
 -- ---- reports
 
--- the report of a kind: 0 is a trace, 1 statistics; other kinds report nothing
+-- the report of a kind: 0 is a trace, 1 statistics, 2 races; other kinds report nothing
 abbrev pub watch_text : ℕ → List Entry → List ℕ
-watch_text kind es = if kind == 0 then trace_text es else if kind == 1 then stats_text es else []
+watch_text kind es = if kind == 0 then trace_text es else if kind == 1 then stats_text es else if kind == 2 then races_text es else []

@@ -7,7 +7,7 @@ use ti_base::{Entry, Memory};
 
 /// Is told the entries of a run one by one, and reports on them.
 ///
-/// Contracts see its kind, which is 0 for a trace and 1 for statistics, and the entries told so far.
+/// Contracts see its kind, which is 0 for a trace, 1 for statistics and 2 for races, and the entries told so far.
 pub trait Watch: Drop {
     ghost kind_of: { Self → ℕ };
 

@@ -42,15 +42,16 @@ report_stands name word piece = go (bytes_eq word (dashed name))
     go false = refl
 
 -- the same tests, taken together from the left
-from_left : (a b c d e f g : Bool) → (a || (b || (c || (d || (e || (f || (g || false))))))) ≡ ((((((a || b) || c) || d) || e) || f) || g)
-from_left true b c d e f g = refl
-from_left false true c d e f g = refl
-from_left false false true d e f g = refl
-from_left false false false true e f g = refl
-from_left false false false false true f g = refl
-from_left false false false false false true g = refl
-from_left false false false false false false true = refl
-from_left false false false false false false false = refl
+from_left : (a b c d e f g h : Bool) → (a || (b || (c || (d || (e || (f || (g || (h || false)))))))) ≡ (((((((a || b) || c) || d) || e) || f) || g) || h)
+from_left true b c d e f g h = refl
+from_left false true c d e f g h = refl
+from_left false false true d e f g h = refl
+from_left false false false true e f g h = refl
+from_left false false false false true f g h = refl
+from_left false false false false false true g h = refl
+from_left false false false false false false true h = refl
+from_left false false false false false false false true = refl
+from_left false false false false false false false false = refl
 
 -- the tests of a word, each with those before it
 abbrev setting_of : Word → Word → Bool
@@ -71,8 +72,11 @@ all_settings word = first_four word || setting_of (codes "seed") word
 abbrev pub and_trace : Word → Bool
 and_trace word = all_settings word || bytes_eq word (codes "--trace")
 
+abbrev pub and_stats : Word → Bool
+and_stats word = and_trace word || bytes_eq word (codes "--stats")
+
 -- whether a word can stand that begins with `-`
-pub argument_stands : (word : Word) → can_stand (dashed_piece word) ≡ (and_trace word || bytes_eq word (codes "--stats"))
+pub argument_stands : (word : Word) → can_stand (dashed_piece word) ≡ (and_stats word || bytes_eq word (codes "--races"))
 argument_stands word =
     setting_stands (codes "mode") word _
     ∙ (ap (λ b. setting_of (codes "mode") word || b) (setting_stands (codes "procs") word _
@@ -80,9 +84,10 @@ argument_stands word =
     ∙ ap (λ b. setting_of (codes "workers") word || b) (setting_stands (codes "fuel") word _
     ∙ ap (λ b. setting_of (codes "fuel") word || b) (setting_stands (codes "seed") word _
     ∙ ap (λ b. setting_of (codes "seed") word || b) (report_stands (codes "trace") word _
-    ∙ ap (λ b. bytes_eq word (codes "--trace") || b) (report_stands (codes "stats") word wrong))))))
+    ∙ ap (λ b. bytes_eq word (codes "--trace") || b) (report_stands (codes "stats") word _
+    ∙ ap (λ b. bytes_eq word (codes "--stats") || b) (report_stands (codes "races") word wrong)))))))
     ∙ from_left (setting_of (codes "mode") word) (setting_of (codes "procs") word) (setting_of (codes "workers") word)
-    (setting_of (codes "fuel") word) (setting_of (codes "seed") word) (bytes_eq word (codes "--trace")) (bytes_eq word (codes "--stats")))
+    (setting_of (codes "fuel") word) (setting_of (codes "seed") word) (bytes_eq word (codes "--trace")) (bytes_eq word (codes "--stats")) (bytes_eq word (codes "--races")))
 
 -- the first test holds and is the answer, or the second is
 pub or_first : (a b v : Bool) → a ≡ true → v ≡ a → v ≡ (a || b)

@@ -18,7 +18,7 @@ use Rattle.ti_words.specs.Job.{values_in, values_of, values_once}
 use Rattle.ti_words.specs.Mirrors.Command.{all_stand, can_stand, is_from_words, titan}
 use Rattle.ti_words.specs.Mirrors.Seen.{values_seen}
 use Rattle.ti_words.specs.declared.arguments.Given.{Given}
-use Rattle.ti_words.proofs.Views.{stats, trace}
+use Rattle.ti_words.proofs.Views.{races, stats, trace}
 use Rattle.ti_words.proofs.Turns.{guard, no, rest_fault, row_of_use, rules}
 use Rattle.ti_words.proofs.Matched.{after, faults, matched}
 use Rattle.ti_words.proofs.Cuts.{cuts}
@@ -83,6 +83,7 @@ pub record Reads (f : Found) (g : Given) : Type 0 where
   pub seed : option_map (λ s. s.now) g.seed ≡ first_value f (codes "seed")
   pub trace : g.trace ≡ is_from_words (option_and_then (λ a. a.source) (matched_of f (codes "trace")))
   pub stats : g.stats ≡ is_from_words (option_and_then (λ a. a.source) (matched_of f (codes "stats")))
+  pub races : g.races ≡ is_from_words (option_and_then (λ a. a.source) (matched_of f (codes "races")))
   pub file : option_map (λ s. s.now) g.file ≡ first_value f (codes "FILE")
 
 source_rows : (f : Found) (id : Word) → option_and_then (λ a. a.source) (matched_of f id) ≡ source_in id (rows_of f)
@@ -94,18 +95,19 @@ source_rows f id = go (find (λ e. bytes_eq e.0.now id) f.entries.items) ∙ ap 
 
 seen : (f : Found) (g : Given) (us : List Use) → rows_of f ≡ fold with_default (map row_of_use us) rules → Reads f g → values_of us ≡ values_seen g
 seen f g us rows reads = λ i. record {
-  mode = sym (reads.mode ∙ value (codes "mode") refl refl) i;
-  procs = sym (reads.procs ∙ value (codes "procs") refl refl) i;
-  workers = sym (reads.workers ∙ value (codes "workers") refl refl) i;
-  fuel = sym (reads.fuel ∙ value (codes "fuel") refl refl) i;
-  seed = sym (reads.seed ∙ value (codes "seed") refl refl) i;
+  mode = sym (reads.mode ∙ value (codes "mode") refl refl refl) i;
+  procs = sym (reads.procs ∙ value (codes "procs") refl refl refl) i;
+  workers = sym (reads.workers ∙ value (codes "workers") refl refl refl) i;
+  fuel = sym (reads.fuel ∙ value (codes "fuel") refl refl refl) i;
+  seed = sym (reads.seed ∙ value (codes "seed") refl refl refl) i;
   trace = sym (reads.trace ∙ (ap is_from_words (source_rows f (codes "trace") ∙ ap (source_in (codes "trace")) rows) ∙ report_found trace us)) i;
   stats = sym (reads.stats ∙ (ap is_from_words (source_rows f (codes "stats") ∙ ap (source_in (codes "stats")) rows) ∙ report_found stats us)) i;
-  file = sym (reads.file ∙ value (codes "FILE") refl refl) i;
+  races = sym (reads.races ∙ (ap is_from_words (source_rows f (codes "races") ∙ ap (source_in (codes "races")) rows) ∙ report_found races us)) i;
+  file = sym (reads.file ∙ value (codes "FILE") refl refl refl) i;
 }
   where
-    value : (id : Word) → bytes_eq (codes "trace") id ≡ false → bytes_eq (codes "stats") id ≡ false → first_value f id ≡ value_of id us
-    value id no_trace no_stats = first_value-rows f id ∙ (ap (first_of id) rows ∙ value_found id us no_trace no_stats)
+    value : (id : Word) → bytes_eq (codes "trace") id ≡ false → bytes_eq (codes "stats") id ≡ false → bytes_eq (codes "races") id ≡ false → first_value f id ≡ value_of id us
+    value id no_trace no_stats no_races = first_value-rows f id ∙ (ap (first_of id) rows ∙ value_found id us no_trace no_stats no_races)
 
 -- where `clap` answers matches, they are what is given
 pub given : (words : List Word) (f : Found) (g : Given) → all_stand words ≡ true → fault_of titan words ≡ [] → rows_of f ≡ matches_of titan words → Reads f g

@@ -1,5 +1,5 @@
 -- What is found in the matches, with the defaults of the reports.
-use Rattle.std.proofs.Common.{◌≡◌, ◌∙◌, ◌||◌, Bool, cond, true, false, true≢false, refl, sym, ap, ap₂, List, [], ◌∷◌, map, Option, Some, None, option_map, codes}
+use Rattle.std.proofs.Common.{◌≡◌, ◌∙◌, ◌||◌, Bool, cond, true, false, true≢false, refl, sym, ap, List, [], ◌∷◌, map, Option, Some, None, option_map, codes}
 use Rattle.std.specs.Prelude.{option_and_then, slice_get}
 use Rattle.std.specs.List.{find, fold, list_any}
 use Rattle.std.specs.Option.{option_or}
@@ -13,7 +13,7 @@ use Rattle.clap.specs.declared.parser.matches.ValueSource.{ValueSource}
 use Rattle.clap.specs.declared.parser.matches.ValueSource.TheVariants.{DefaultValue}
 use Rattle.ti_words.specs.Uses.{Use, Word, is_used, value_of}
 use Rattle.ti_words.specs.Mirrors.Command.{file_rule, is_from_words, report_rule, setting_rule}
-use Rattle.ti_words.proofs.Views.{IsReport, stats, trace}
+use Rattle.ti_words.proofs.Views.{IsReport, races, stats, trace}
 use Rattle.ti_words.proofs.Turns.{at_row_none, row_of_use, rules}
 
 -- the first row of this id
@@ -55,9 +55,12 @@ none_defaulted (a ∷ rs) e rows = go a.defaults refl e (none_defaulted rs)
     go [] none f next = ap (λ (others : List Row). fold with_default others rs) (no_default rows a none) ∙ next f rows
     go (v ∷ values) none f next = absurd (true≢false f)
 
--- the rows with the defaults of the two reports
+-- the rows with the defaults of the first two reports, and of all
+abbrev with_two : List Row → List Row
+with_two rows = with_default (with_default rows (report_at (codes "trace"))) (report_at (codes "stats"))
+
 abbrev with_reports : List Row → List Row
-with_reports rows = with_default (with_default rows (report_at (codes "trace"))) (report_at (codes "stats"))
+with_reports rows = with_default (with_two rows) (report_at (codes "races"))
 
 -- the defaults are those of the reports
 finished_rows : (rows : List Row) → fold with_default rows rules ≡ with_reports rows
@@ -80,14 +83,22 @@ or_none : (o : Option Row) → option_or o None ≡ o
 or_none None = refl
 or_none (Some r) = refl
 
+-- what is found, and the default of this report where it is meant and nothing is found
+abbrev or_default : Word → Word → Option Row → Option Row
+or_default name id o = option_or o (cond (bytes_eq name id) (Some (default_row name)) None)
+
+other_report : (name id : Word) (o : Option Row) → bytes_eq name id ≡ false → or_default name id o ≡ o
+other_report name id o other = ap (λ t. option_or o (cond t (Some (default_row name)) None)) other ∙ or_none o
+
 -- a default is found where nothing else is
 lookup_default : {name : Word} → IsReport name → (id : Word) (rows : List Row)
-    → lookup id (with_default rows (report_at name)) ≡ option_or (lookup id rows) (cond (bytes_eq name id) (Some (default_row name)) None)
+    → lookup id (with_default rows (report_at name)) ≡ or_default name id (lookup id rows)
 lookup_default {name} is id rows = ap (lookup id) (defaulted is) ∙ go (has_row name rows) refl (bytes_eq name id) refl
   where
     defaulted : {n : Word} → IsReport n → with_default rows (report_at n) ≡ cond (has_row n rows) rows (default_rows n AsWritten (codes "false" ∷ []) rows)
     defaulted trace = refl
     defaulted stats = refl
+    defaulted races = refl
 
     go : (b : Bool) → has_row name rows ≡ b → (c : Bool) → bytes_eq name id ≡ c
         → lookup id (cond b rows (default_rows name AsWritten (codes "false" ∷ []) rows)) ≡ option_or (lookup id rows) (cond c (Some (default_row name)) None)
@@ -99,12 +110,13 @@ lookup_default {name} is id rows = ap (lookup id) (defaulted is) ∙ go (has_row
         let same : name ≡ id = (bytes_eq-Decides name id).0 f in
         sym (found id rows (ap (λ (n : Word). has_row n rows) (sym same) ∙ e) (Some (default_row name)))
 
-lookup_finished : (id : Word) (rows : List Row) → lookup id (fold with_default rows rules)
-    ≡ option_or (option_or (lookup id rows) (cond (bytes_eq (codes "trace") id) (Some (default_row (codes "trace"))) None)) (cond (bytes_eq (codes "stats") id) (Some (default_row (codes "stats"))) None)
+lookup_finished : (id : Word) (rows : List Row)
+    → lookup id (fold with_default rows rules) ≡ or_default (codes "races") id (or_default (codes "stats") id (or_default (codes "trace") id (lookup id rows)))
 lookup_finished id rows =
     ap (lookup id) (finished_rows rows)
-    ∙ (lookup_default stats id (with_default rows (report_at (codes "trace")))
-    ∙ ap (λ o. option_or o (cond (bytes_eq (codes "stats") id) (Some (default_row (codes "stats"))) None)) (lookup_default trace id rows))
+    ∙ (lookup_default races id (with_two rows)
+    ∙ ap (or_default (codes "races") id) (lookup_default stats id (with_default rows (report_at (codes "trace")))
+    ∙ ap (or_default (codes "stats") id) (lookup_default trace id rows)))
 
 -- the row of the first use of this name
 lookup_use : (id : Word) (us : List Use) → lookup id (map row_of_use us) ≡ option_map row_of_use (find (λ u. bytes_eq u.name id) us)
@@ -117,13 +129,14 @@ lookup_use id (u ∷ us) = go (bytes_eq u.name id) (lookup_use id us)
     go false e = e
 
 -- an argument without a default has the value of its use
-pub value_found : (id : Word) (us : List Use) → bytes_eq (codes "trace") id ≡ false → bytes_eq (codes "stats") id ≡ false
+pub value_found : (id : Word) (us : List Use) → bytes_eq (codes "trace") id ≡ false → bytes_eq (codes "stats") id ≡ false → bytes_eq (codes "races") id ≡ false
     → first_of id (fold with_default (map row_of_use us) rules) ≡ value_of id us
-value_found id us no_trace no_stats =
+value_found id us no_trace no_stats no_races =
     ap (option_and_then (λ (r : Row). slice_get r.values 0))
     (lookup_finished id (map row_of_use us)
-    ∙ (ap₂ (λ a b. option_or (option_or (lookup id (map row_of_use us)) (cond a (Some (default_row (codes "trace"))) None)) (cond b (Some (default_row (codes "stats"))) None)) no_trace no_stats
-    ∙ (or_none (option_or (lookup id (map row_of_use us)) None) ∙ (or_none (lookup id (map row_of_use us)) ∙ lookup_use id us))))
+    ∙ (other_report (codes "races") id _ no_races
+    ∙ (other_report (codes "stats") id _ no_stats
+    ∙ (other_report (codes "trace") id _ no_trace ∙ lookup_use id us))))
     ∙ go (find (λ u. bytes_eq u.name id) us)
   where
     go : (o : Option Use) → option_and_then (λ (r : Row). slice_get r.values 0) (option_map row_of_use o) ≡ option_map (λ u. u.value) o
@@ -147,8 +160,14 @@ some_found id (u ∷ us) default e = go (bytes_eq u.name id) (some_found id us d
 -- a report is asked for by the words or not at all
 pub report_found : {name : Word} → IsReport name → (us : List Use) → is_from_words (source_in name (fold with_default (map row_of_use us) rules)) ≡ is_used name us
 report_found trace us =
-    ap (λ o. is_from_words (option_and_then (λ (r : Row). r.source) o)) (lookup_finished (codes "trace") (map row_of_use us) ∙ or_none (option_or (lookup (codes "trace") (map row_of_use us)) (Some (default_row (codes "trace")))))
+    ap (λ o. is_from_words (option_and_then (λ (r : Row). r.source) o)) (lookup_finished (codes "trace") (map row_of_use us)
+    ∙ (other_report (codes "races") (codes "trace") _ refl ∙ other_report (codes "stats") (codes "trace") _ refl))
     ∙ some_found (codes "trace") us (default_row (codes "trace")) refl
 report_found stats us =
-    ap (λ o. is_from_words (option_and_then (λ (r : Row). r.source) o)) (lookup_finished (codes "stats") (map row_of_use us) ∙ ap (λ o. option_or o (Some (default_row (codes "stats")))) (or_none (lookup (codes "stats") (map row_of_use us))))
+    ap (λ o. is_from_words (option_and_then (λ (r : Row). r.source) o)) (lookup_finished (codes "stats") (map row_of_use us)
+    ∙ (other_report (codes "races") (codes "stats") _ refl ∙ ap (or_default (codes "stats") (codes "stats")) (other_report (codes "trace") (codes "stats") _ refl)))
     ∙ some_found (codes "stats") us (default_row (codes "stats")) refl
+report_found races us =
+    ap (λ o. is_from_words (option_and_then (λ (r : Row). r.source) o)) (lookup_finished (codes "races") (map row_of_use us)
+    ∙ ap (or_default (codes "races") (codes "races")) (other_report (codes "stats") (codes "races") _ refl ∙ other_report (codes "trace") (codes "races") _ refl))
+    ∙ some_found (codes "races") us (default_row (codes "races")) refl

@@ -10,7 +10,7 @@ use Rattle.clap.specs.Walk.{Held, Row, Walk, has_row, idle, nothing_held, option
 use Rattle.clap.proofs.FaultLemmas.{leaf_fault}
 use Rattle.ti_words.specs.Uses.{Piece, Use, Word, awaits, dashed, dashed_piece, gives, is_used, piece_of, plain}
 use Rattle.ti_words.specs.Mirrors.Command.{all_stand, can_stand, titan}
-use Rattle.ti_words.proofs.Views.{IsReport, IsSetting, View, alone, front, fuel, joined, mode, none, other, procs, report, seed, stats, trace, view, workers}
+use Rattle.ti_words.proofs.Views.{IsReport, IsSetting, View, alone, front, fuel, joined, mode, none, other, procs, races, report, seed, stats, trace, view, workers}
 use Rattle.ti_words.proofs.Turns.{alone_turn, alone_walk, at, file_settled, file_settles, file_turn, file_walk, guard, held_for, held_with, joined_turn, joined_walk, new_row, no, outcome, outcome-end, outcome-more, report_turn, report_walk, rest_fault, row_of_use, rules, settles, shape, stray_turn, used_rows, value_settled, value_settles, value_turn, value_walk, waits_in_vain, whole}
 
 -- the use of FILE
@@ -93,6 +93,7 @@ joined_piece seed x xs = refl
 report_piece : {name : Word} → IsReport name → piece_of (dashed name) ≡ gives (record { name = name; value = codes "true" })
 report_piece trace = refl
 report_piece stats = refl
+report_piece races = refl
 
 plain_piece : (x : ℕ) (xs : Word) → (x == 45) ≡ false → piece_of (x ∷ xs) ≡ plain (x ∷ xs)
 plain_piece x xs e = ap (λ b. cond b (dashed_piece (x ∷ xs)) (plain (x ∷ xs))) e
@@ -107,6 +108,7 @@ setting_no_file seed = refl
 report_no_file : {name : Word} → IsReport name → bytes_eq name (codes "FILE") ≡ false
 report_no_file trace = refl
 report_no_file stats = refl
+report_no_file races = refl
 
 -- ---- the walk over the words, from between two words, and from where a setting waits for its value
 

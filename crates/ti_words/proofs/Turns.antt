@@ -14,7 +14,7 @@ use Rattle.clap.specs.declared.error.kind.ErrorKind.TheVariants as kind
 use Rattle.clap.specs.declared.parser.matches.ValueSource.TheVariants.{CommandLine}
 use Rattle.ti_words.specs.Uses.{Use, Word, dashed}
 use Rattle.ti_words.specs.Mirrors.Command.{file_rule, titan}
-use Rattle.ti_words.proofs.Views.{IsReport, IsSetting, front, fuel, mode, procs, seed, stats, trace, workers}
+use Rattle.ti_words.proofs.Views.{IsReport, IsSetting, front, fuel, mode, procs, races, seed, stats, trace, workers}
 
 -- the command as it is built
 abbrev pub shape : Shape
@@ -196,12 +196,15 @@ report_turn trace None h p = no_set (settle_fault rules false h) (has_row (codes
 report_turn trace (Some setting) h p = no_set (settle_fault rules false h) (has_row (codes "trace") (settled rules h).rows)
 report_turn stats None h p = no_set (settle_fault rules false h) (has_row (codes "stats") (settled rules h).rows)
 report_turn stats (Some setting) h p = no_set (settle_fault rules false h) (has_row (codes "stats") (settled rules h).rows)
+report_turn races None h p = no_set (settle_fault rules false h) (has_row (codes "races") (settled rules h).rows)
+report_turn races (Some setting) h p = no_set (settle_fault rules false h) (has_row (codes "races") (settled rules h).rows)
 
 pub report_walk : {name : Word} → IsReport name → (h : Held) (p : ℕ)
     → walked rules [] (at idle h p) (dashed name) ≡ at idle (whole name (codes "true") h) p
 unfolding walked
 report_walk trace h p = refl
 report_walk stats h p = refl
+report_walk races h p = refl
 
 -- ---- a word that doesn't begin with `-`
 

@@ -18,6 +18,7 @@ pub data IsSetting : Word → Type 0 where
 pub data IsReport : Word → Type 0 where
   trace : IsReport (codes "trace")
   stats : IsReport (codes "stats")
+  races : IsReport (codes "races")
 
 -- what stands before the value of a setting in one word
 abbrev pub front : Word → Word
@@ -67,7 +68,8 @@ report_view {name} is word piece rest = go (bytes_eq word (dashed name)) refl
 dashed_view : (word : Word) → can_stand (piece_of word) ≡ can_stand (dashed_piece word) → View word
 dashed_view word start =
     setting_view mode word _ (λ p. setting_view procs word _ (λ q. setting_view workers word _ (λ r. setting_view fuel word _ (λ s.
-    setting_view seed word _ (λ t. report_view trace word _ (λ u. report_view stats word wrong (λ v. none word (start ∙ (p ∙ (q ∙ (r ∙ (s ∙ (t ∙ (u ∙ v))))))))))))))
+    setting_view seed word _ (λ t. report_view trace word _ (λ u. report_view stats word _ (λ v.
+    report_view races word wrong (λ w. none word (start ∙ (p ∙ (q ∙ (r ∙ (s ∙ (t ∙ (u ∙ (v ∙ w))))))))))))))))
 
 -- the form of a word
 pub view : (word : Word) → View word

@@ -19,6 +19,7 @@ pub record Values : Type 0 where
   pub seed : Option Word
   pub trace : Bool
   pub stats : Bool
+  pub races : Bool
   pub file : Option Word
 
 -- what the uses give each argument
@@ -31,6 +32,7 @@ values_of uses = record {
   seed = value_of (codes "seed") uses;
   trace = is_used (codes "trace") uses;
   stats = is_used (codes "stats") uses;
+  races = is_used (codes "races") uses;
   file = value_of (codes "FILE") uses;
 }
 
@@ -125,6 +127,7 @@ job_by values =
       seed = seed;
       trace = values.trace;
       stats = values.stats;
+      races = values.races;
       file = file;
     }) (fuel_of procs values)) (workers_of procs values)) (procs_of values)) (seed_of mode values.seed)) (file_of mode values.file)) (mode_of values.mode)
 

@@ -23,6 +23,7 @@ pub struct Given<'a> {
     pub seed: Option<&'a str>,
     pub trace: bool,
     pub stats: bool,
+    pub races: bool,
     pub file: Option<&'a str>,
 }
 
@@ -78,7 +79,7 @@ fn command<'a>(alloc: Global) -> Result<Command<'a>, AllocError>
 {
     let settings = ["mode", "procs", "workers", "fuel", "seed"];
     let command = with_flags(alloc, bare(alloc), true, &settings)?;
-    with_flags(alloc, command, false, &["trace", "stats"])?.arg(file(alloc))
+    with_flags(alloc, command, false, &["trace", "stats", "races"])?.arg(file(alloc))
 }
 
 // Whether the words ask for a report.
@@ -101,6 +102,7 @@ fn given_in<'a>(matches: &ArgMatches<'a>) -> Given<'a>
     ensures seed { option_map (λ s. s.now) result.seed ≡ first_value (found_of matches.now) (codes "seed") }
     ensures trace { result.trace ≡ is_from_words (option_and_then (λ a. a.source) (matched_of (found_of matches.now) (codes "trace"))) }
     ensures stats { result.stats ≡ is_from_words (option_and_then (λ a. a.source) (matched_of (found_of matches.now) (codes "stats"))) }
+    ensures races { result.races ≡ is_from_words (option_and_then (λ a. a.source) (matched_of (found_of matches.now) (codes "races"))) }
     ensures file { option_map (λ s. s.now) result.file ≡ first_value (found_of matches.now) (codes "FILE") }
 {
     Given {
@@ -111,6 +113,7 @@ fn given_in<'a>(matches: &ArgMatches<'a>) -> Given<'a>
         seed: matches.get_str("seed"),
         trace: is_from_words(matches, "trace"),
         stats: is_from_words(matches, "stats"),
+        races: is_from_words(matches, "races"),
         file: matches.get_str("FILE"),
     }
 }

@@ -65,6 +65,8 @@ pub struct Job {
     pub trace: bool,
     /// Whether the counts of the run are to be reported.
     pub stats: bool,
+    /// Whether the races of the run are to be reported.
+    pub races: bool,
     /// The file that is named, and in mode `Gen` the empty name.
     pub file: FileName,
 }

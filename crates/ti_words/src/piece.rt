@@ -34,6 +34,7 @@ fn is_argument(word: &str) -> bool
         || is_setting(word, "--seed", "--seed=")
         || word == "--trace"
         || word == "--stats"
+        || word == "--races"
 }
 
 // Whether a word can stand in a command.

@@ -32,6 +32,7 @@ pub struct Asked<'a> {
     seed: u32,
     trace: bool,
     stats: bool,
+    races: bool,
     file: &'a str,
 }
 
@@ -92,6 +93,7 @@ fn job_by<'a>(given: Given<'a>) -> Option<Asked<'a>>
         seed,
         trace: given.trace,
         stats: given.stats,
+        races: given.races,
         file,
     })
 }
@@ -114,6 +116,7 @@ pub fn read_words(alloc: Global, words: &[String]) -> Result<Job, WordsErr>
         seed: asked.seed,
         trace: asked.trace,
         stats: asked.stats,
+        races: asked.races,
         file,
     })
 }

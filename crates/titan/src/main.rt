@@ -5,6 +5,7 @@ use std::env;
 use std::io::{self, ErrorKind};
 use std::process::ExitCode;
 use ti_io::{FileSource, StdSink};
+use ti_race::RaceWatch;
 use ti_top::titan_top;
 use ti_watch::{StatsWatch, TraceWatch, Watch};
 
@@ -22,13 +23,14 @@ fn words_of(rt: &HostRuntime) -> io::Result<Vec<String>> {
     Ok(words)
 }
 
-// The status of the command, with a trace and statistics as watchers. Where memory is wanting for the words or for these, nothing is written.
+// The status of the command, with a trace, statistics and races as watchers. Where memory is wanting for the words or for these, nothing is written.
 fn run(rt: &HostRuntime) -> io::Result<u8> {
     let alloc = rt.alloc();
     let words = words_of(rt)?;
     let mut watchers: Vec<Box<dyn Watch>> = Vec::new(alloc);
     watchers.push(Box::new(alloc, TraceWatch::new(alloc))?)?;
     watchers.push(Box::new(alloc, StatsWatch::new(alloc))?)?;
+    watchers.push(Box::new(alloc, RaceWatch::new(alloc))?)?;
     let mut source = FileSource::new(rt);
     let mut out = StdSink::out(rt);
     let mut err = StdSink::err(rt);

@@ -8,6 +8,7 @@ use Rattle.ti_io.specs.Source.{SourceState}
 use Rattle.ti_io.specs.Sink.{SinkState, GrewBy, GrewByFront}
 use Rattle.ti_lang.specs.Program.Classes.{NumberedProgram}
 use Rattle.ti_lang.specs.Meaning.Histories.{has_fault}
+use Rattle.ti_lang.specs.Meaning.Determinacy.{Determines}
 use Rattle.ti_lang.specs.Meaning.Lines.{lines_of}
 use Rattle.ti_lang.specs.Meaning.Runs.{AllEnded, IsComplete, IsRun, IsSolo}
 use Rattle.ti_top.specs.declared.fault.Fault.{Fault}
@@ -114,6 +115,7 @@ pub record RanNothing (out out_after : SinkState) (kept : Kept) : Type 0 where
 pub record RunSays (program : NumberedProgram) (job : Job) (watchers : List Watcher) (out out_after : SinkState) (kept : Kept) (ending : Ending) : Type 0 where
   pub run : IsRun (run_of program job) kept.history
   pub solo : IsSolo (run_of program job) kept.history
+  pub determines : Determines (run_of program job) kept.history
   pub ended : ending ≡ Done → AllEnded (run_of program job) kept.history
   pub no_fault : ending ≡ Done → has_fault kept.history ≡ false
   pub faulted : (fault : Fault) → ending ≡ Faulted fault → EndsWithFault kept.history fault

@@ -65,4 +65,4 @@ with_flags has_value = fold (λ app name. with_rule app (flag_rule has_value nam
 abbrev pub titan : App
 titan =
     let settings = with_flags true bare (codes "mode" ∷ codes "procs" ∷ codes "workers" ∷ codes "fuel" ∷ codes "seed" ∷ []) in
-    with_rule (with_flags false settings (codes "trace" ∷ codes "stats" ∷ [])) file_rule
+    with_rule (with_flags false settings (codes "trace" ∷ codes "stats" ∷ codes "races" ∷ [])) file_rule

@@ -15,6 +15,7 @@ values_seen g = record {
   seed = option_map (λ s. s.now) g.seed;
   trace = g.trace;
   stats = g.stats;
+  races = g.races;
   file = option_map (λ s. s.now) g.file;
 }
 
@@ -28,5 +29,6 @@ job_asked a = record {
   seed = a.seed;
   trace = a.trace;
   stats = a.stats;
+  races = a.races;
   file = a.file.now;
 }

@@ -2,7 +2,7 @@ use Rattle.ti_top.proofs.TextsDone.{run_or_gen, run_in_mode}
 use Rattle.ti_top.proofs.work.do_text.Goals as goal
 
 pub run_compiled-requires : goal.run_compiled-requires
-run_compiled-requires g c = record { within = c.requires; mode = run_or_gen _ c.in-Run.is }
+run_compiled-requires g c = record { within = c.requires; mode = run_or_gen _ c.in-Run.is; aligned = c.in-Ok.ensures.aligned }
 
 pub returns-in-Ok : goal.returns-in-Ok
 returns-in-Ok g c = run_in_mode _ _ _ _ _ _ _ _ (run_or_gen _ c.in-Run.is) (c.run_compiled.ensures c.args.text.now c.in-Ok.ensures)

@@ -32,6 +32,7 @@ returns-in-Ok-clause-given c =
       seed = c.given_in.ensures.seed;
       trace = c.given_in.ensures.trace;
       stats = c.given_in.ensures.stats;
+      races = c.given_in.ensures.races;
       file = c.given_in.ensures.file;
     })
 

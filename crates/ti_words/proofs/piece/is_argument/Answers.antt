@@ -1,10 +1,10 @@
 use Rattle.std.proofs.Common.{◌≡◌, ◌∙◌, sym}
-use Rattle.ti_words.proofs.Behind.{all_settings, and_trace, argument_stands, first_four, first_three, first_two, or_first, or_second}
-use Rattle.ti_words.proofs.piece.is_argument.Goals.{then-is_setting, else-is_setting, then-is_setting-2, else-is_setting-2, then-is_setting-3, else-is_setting-3, then-is_setting-4, else-is_setting-4, then-is_setting-5, else-is_setting-5}
+use Rattle.ti_words.proofs.Behind.{all_settings, and_stats, and_trace, argument_stands, first_four, first_three, first_two, or_first, or_second}
+use Rattle.ti_words.proofs.piece.is_argument.Goals.{then-is_setting, else-is_setting, then-is_setting-2, else-is_setting-2, then-is_setting-3, else-is_setting-3, then-is_setting-4, else-is_setting-4, then-is_setting-5, else-is_setting-5, then-eq, else-eq}
 use Rattle.ti_words.proofs.piece.is_argument.Goals as goal
 
-pub returns-then-eq : goal.returns-then-eq
-returns-then-eq c =
+pub returns-then-eq-2 : goal.returns-then-eq-2
+returns-then-eq-2 c =
     let word = c.args.word.now in
     let two : c.if-is_setting.value ≡ first_two word = elim c.if-is_setting.branch [
       | then-is_setting w ↦ or_first _ _ _ (sym c.is_setting.ensures ∙ w.if-is_setting.true) (w.value-is ∙ c.is_setting.ensures)
@@ -26,10 +26,14 @@ returns-then-eq c =
       | then-is_setting-5 w ↦ or_first _ _ _ (sym five ∙ w.if-is_setting-5.true) (w.value-is ∙ five)
       | else-is_setting-5 w ↦ or_second _ _ _ (sym five ∙ w.if-is_setting-5.false) (w.value-is ∙ w.eq.ensures)
     ] in
-    or_first _ _ _ (sym six ∙ c.if-eq.true) six ∙ sym (argument_stands word)
+    let seven : c.if-eq.value ≡ and_stats word = elim c.if-eq.branch [
+      | then-eq w ↦ or_first _ _ _ (sym six ∙ w.if-eq.true) (w.value-is ∙ six)
+      | else-eq w ↦ or_second _ _ _ (sym six ∙ w.if-eq.false) (w.value-is ∙ w.eq-else-eq.ensures)
+    ] in
+    or_first _ _ _ (sym seven ∙ c.if-eq-2.true) seven ∙ sym (argument_stands word)
 
-pub returns-else-eq : goal.returns-else-eq
-returns-else-eq c =
+pub returns-else-eq-2 : goal.returns-else-eq-2
+returns-else-eq-2 c =
     let word = c.args.word.now in
     let two : c.if-is_setting.value ≡ first_two word = elim c.if-is_setting.branch [
       | then-is_setting w ↦ or_first _ _ _ (sym c.is_setting.ensures ∙ w.if-is_setting.true) (w.value-is ∙ c.is_setting.ensures)
@@ -51,4 +55,8 @@ returns-else-eq c =
       | then-is_setting-5 w ↦ or_first _ _ _ (sym five ∙ w.if-is_setting-5.true) (w.value-is ∙ five)
       | else-is_setting-5 w ↦ or_second _ _ _ (sym five ∙ w.if-is_setting-5.false) (w.value-is ∙ w.eq.ensures)
     ] in
-    or_second _ _ _ (sym six ∙ c.if-eq.false) c.eq-else-eq.ensures ∙ sym (argument_stands word)
+    let seven : c.if-eq.value ≡ and_stats word = elim c.if-eq.branch [
+      | then-eq w ↦ or_first _ _ _ (sym six ∙ w.if-eq.true) (w.value-is ∙ six)
+      | else-eq w ↦ or_second _ _ _ (sym six ∙ w.if-eq.false) (w.value-is ∙ w.eq-else-eq.ensures)
+    ] in
+    or_second _ _ _ (sym seven ∙ c.if-eq-2.false) c.eq-else-eq-2.ensures ∙ sym (argument_stands word)

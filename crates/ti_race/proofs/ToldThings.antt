@@ -1,0 +1,204 @@
+-- What one entry more makes of what is told of grids and of phases.
+use Rattle.std.proofs.Common.{◌≡◌, ◌↔◌, ◌∙◌, refl, ap, ap₂, sym, subst, ℕ, suc, ◌+◌, ◌<◌, ◌==◌, Bool, true, false, ◌&&◌, if◌then◌else◌, IsTrue, [], ◌∷◌, length, Option, Some, None, arith, add-one, eq-eqb, eqb-true}
+use Rattle.std.specs.HashMap.{HashMap, get, Updates}
+use Rattle.ti_base.specs.declared.action.Action.{Action}
+use Rattle.ti_base.specs.declared.action.Action.TheVariants as act
+use Rattle.ti_base.specs.declared.action.ViewHow.{ViewHow}
+use Rattle.ti_base.specs.declared.action.ViewHow.TheVariants.{Restrict, Translate, Slice}
+use Rattle.ti_base.specs.declared.entry.Answer.{Answer}
+use Rattle.ti_base.specs.declared.entry.Answer.TheVariants.{Val, Done}
+use Rattle.ti_base.specs.declared.entry.Entry.{Entry}
+use Rattle.ti_base.specs.declared.point.Point.{Point}
+use Rattle.ti_base.specs.declared.point.Rect.{Rect}
+use Rattle.ti_base.specs.declared.value.Id.{Id}
+use Rattle.ti_base.specs.declared.value.Value.TheVariants as v
+use Rattle.ti_base.specs.declared.value.Zero.{Zero}
+use Rattle.ti_base.specs.Points.{IsPoint}
+use Rattle.ti_base.specs.Rects.{IsRect}
+use Rattle.ti_base.specs.Forms.{is_point, is_rect, is_view}
+use Rattle.ti_base.specs.Cells.{same_id, suits, view, view_fault, whole_grid}
+use Rattle.ti_lang.specs.Meaning.Histories.{History, is_departure, departures}
+use Rattle.ti_lang.specs.Meaning.HeapOf.{is_grid}
+use Rattle.ti_lang.specs.Meaning.Spots.{Block, no_fault, viewed_told, is_block, makes_grid, grid_from, grid_told}
+use Rattle.ti_lang.proofs.MeaningLaws.NewThings.{same_name}
+use Rattle.ti_rect.specs.Views.{IsView}
+use Rattle.ti_grid.specs.declared.layout.Layout.{Layout}
+use Rattle.ti_grid.specs.Views.{IsWhole}
+use Rattle.ti_race.specs.declared.lying.Lying.{Lying}
+use Rattle.ti_race.specs.declared.spots.Name.{Name}
+use Rattle.ti_race.specs.contracts.spots.NamePartialEq.TheImpl as name_eq
+use Rattle.ti_race.specs.MirrorsLying.{Keeps, KeepsView}
+use Rattle.ti_race.specs.MirrorsTold.{name_key, block_made, whole_at, Lies, lying_in, phase_in, block_told, view_told, grid_in}
+use Rattle.ti_race.proofs.Seen.{true_false, not_true, if_true, if_false}
+use Rattle.ti_race.proofs.Courses.{left_own, left_other}
+use Rattle.ti_race.proofs.Noting as keys
+
+-- ---- blocks stay
+
+below : (n : ℕ) (h : History) (w : Rect) → whole_at n h ≡ Some w → n < length h
+below n [] w there = absurd (let x = there in cc)
+below n (e ∷ h) w there = by (n == length h) refl there (λ x. below n h w x)
+  where
+    by : (b : Bool) → (n == length h) ≡ b → (if b then block_made e.act else whole_at n h) ≡ Some w → (whole_at n h ≡ Some w → n < length h) → n < suc (length h)
+    by true same x earlier = let k = eqb-true n (length h) same in omega (arith, k)
+    by false other x earlier = let k = earlier x in omega (arith, k)
+
+pub whole_on : (e : Entry) (n : ℕ) (h : History) (w : Rect) → whole_at n h ≡ Some w → whole_at n (e ∷ h) ≡ Some w
+whole_on e n h w there =
+    let k = below n h w there in
+    if_false (n == length h) (block_made e.act) (whole_at n h) (not_true (n == length h) (λ same. let z = eqb-true n (length h) same in absurd (omega arith))) ∙ there
+
+pub lies_on : (e : Entry) (h : History) (l : Option Lying) (b : Option Block) → Lies h l b → Lies (e ∷ h) l b
+lies_on e h None None lies = lies
+lies_on e h (Some l) (Some b) lies = (lies.0, whole_on e b.number h lies.0 lies.1, lies.2)
+lies_on e h None (Some b) lies = absurd lies
+lies_on e h (Some l) None lies = absurd lies
+
+-- ---- views
+
+pub view_tested : (how : ViewHow) → ((p : Point) → IsTrue (is_point p) ↔ IsPoint p) → ((r : Rect) → IsTrue (is_rect r) ↔ IsRect r) → IsTrue (is_view how) ↔ IsView how
+view_tested (Restrict r) points rects = rects r
+view_tested (Translate p) points rects = points p
+view_tested (Slice k j) points rects = (λ x. tt, λ x. refl)
+
+pub formless_view : (h : History) (how : ViewHow) (b : Option Block) → (IsTrue (is_view how) ↔ IsView how) → (IsView how → ⊥) → Lies h None (view_told how b)
+formless_view h how b told formless = subst (Lies h None) (sym (if_false (is_view how) (viewed_told how b) None (not_true (is_view how) (λ e. formless (told.0 e))))) tt
+
+pub untold_view : (h : History) (how : ViewHow) (b : Option Block) → Lies h None b → Lies h None (view_told how b)
+untold_view h how None lies = subst (Lies h None) (sym (none (is_view how))) tt
+  where
+    none : (x : Bool) → (if x then viewed_told how None else None) ≡ None
+    none true = refl
+    none false = refl
+untold_view h how (Some b) lies = absurd lies
+
+-- of a view of a grid that was told
+pub told_view : (h : History) (how : ViewHow) (l : Lying) (b : Option Block) (made : Option Lying) → (IsTrue (is_view how) ↔ IsView how) → IsView how → Lies h (Some l) b
+    → ((whole : Rect) (b : Block) → Keeps whole l b → KeepsView whole made (viewed_told how (Some b))) → Lies h made (view_told how b)
+told_view h how l None made told form lies f = absurd lies
+told_view h how l (Some b) made told form lies f =
+    subst (Lies h made) (sym (if_true (is_view how) (viewed_told how (Some b)) None (told.1 form)))
+    (by (suits how b.grid.domain && no_fault (view_fault how b.grid.domain)) made (f lies.0 b lies.2))
+  where
+    by : (x : Bool) (made : Option Lying) → KeepsView lies.0 made (if x then Some (record { number = b.number; grid = view how b.grid }) else None)
+        → Lies h made (if x then Some (record { number = b.number; grid = view how b.grid }) else None)
+    by true (Some n) k = (lies.0, lies.1, k)
+    by true None k = absurd k
+    by false None k = tt
+    by false (Some n) k = absurd k
+
+-- a view that is made under any name
+pub view_from : (h : History) (e : Entry) (l : Option Lying) (id grid : Id) (how : ViewHow) (a : Action) → a ≡ act.MakeView grid how → Lies h l (view_told how (grid_told grid h))
+    → Lies (e ∷ h) l (grid_from id (length h) a (λ w. grid_told w h))
+view_from h e l id grid how a is lies = subst (λ (x : Action). Lies (e ∷ h) l (grid_from id (length h) x (λ w. grid_told w h))) (sym is) (lies_on e h l (view_told how (grid_told grid h)) lies)
+
+-- ---- new blocks
+
+pub block_lies : (e : Entry) (h : History) (number : ℕ) (id : Id) (zero : Zero) (domain : Rect) (view : Layout) → number ≡ length h → block_made e.act ≡ Some domain → is_block domain ≡ true
+    → view.dom ≡ domain → IsWhole view → Lies (e ∷ h) (Some (record { number = number; view = view })) (block_told id number zero domain)
+block_lies e h number id zero domain view counted made small same whole =
+    subst (Lies (e ∷ h) (Some (record { number = number; view = view })))
+    (sym (if_true (is_block domain) (Some (record { number = number; grid = whole_grid id zero domain })) None small)) (
+      domain,
+      if_true (number == length h) (block_made e.act) (whole_at number h) (eq-eqb number (length h) counted) ∙ made,
+      record { number = refl; domain = same; cells = λ p inside. subst (λ (r : Rect). Rattle.ti_grid.specs.Views.cell_number view p ≡ Rattle.ti_grid.specs.Views.place_in (Rattle.ti_base.specs.Rects.points_of r) p) same (whole p) },
+    )
+
+pub no_block_lies : (h : History) (id : Id) (number : ℕ) (zero : Zero) (domain : Rect) → is_block domain ≡ false → Lies h None (block_told id number zero domain)
+no_block_lies h id number zero domain large = subst (Lies h None) (sym (if_false (is_block domain) (Some (record { number = number; grid = whole_grid id zero domain })) None large)) tt
+
+-- ---- the table of grids
+
+same_self : (a : Id) → same_id a a ≡ true
+same_self a = ap₂ (λ x y. x && y) (ap₂ (λ x y. x && y) (ap₂ (λ x y. x && y) (eq-eqb a.maker a.maker refl) (eq-eqb a.serial a.serial refl)) (eq-eqb a.owner a.owner refl)) (eq-eqb a.region a.region refl)
+
+key_back : (a b : Id) → name_key a ≡ name_key b → a ≡ b
+key_back a b e = λ i. record { maker = (e i).maker; serial = (e i).serial; owner = (e i).owner; region = (e i).region }
+
+named : (id made : Id) (r : Answer) → grid_in r ≡ Some made → is_grid id r ≡ same_id id made
+named id made (Val (v.Grid (Some m))) e = ap (same_id id) (some_same m made e)
+  where
+    some_same : (a b : Id) → Some a ≡ Some b → a ≡ b
+    some_same a b e = cc
+named id made (Val (v.Grid None)) e = cc
+named id made (Val (v.Int n)) e = cc
+named id made (Val (v.Long n)) e = cc
+named id made (Val (v.Bool b)) e = cc
+named id made (Val (v.Pt p)) e = cc
+named id made (Val (v.Rc r)) e = cc
+named id made (Val (v.Obj o)) e = cc
+named id made (Val (v.Region n)) e = cc
+named id made Done e = cc
+
+unnamed : (id : Id) (r : Answer) → grid_in r ≡ None → is_grid id r ≡ false
+unnamed id (Val (v.Grid (Some m))) e = cc
+unnamed id (Val (v.Grid None)) e = refl
+unnamed id (Val (v.Int n)) e = refl
+unnamed id (Val (v.Long n)) e = refl
+unnamed id (Val (v.Bool b)) e = refl
+unnamed id (Val (v.Pt p)) e = refl
+unnamed id (Val (v.Rc r)) e = refl
+unnamed id (Val (v.Obj o)) e = refl
+unnamed id (Val (v.Region n)) e = refl
+unnamed id Done e = refl
+
+pub no_some : (o : Option Id) → ((made : Id) → o ≡ Some made → ⊥) → o ≡ None
+no_some None f = refl
+no_some (Some made) f = absurd (f made refl)
+
+-- an entry that makes no grid
+pub grids_stay : (e : Entry) (h : History) (id : Id) (l : Option Lying) → (makes_grid e.act && is_grid id e.answer) ≡ false → Lies h l (grid_told id h) → Lies (e ∷ h) l (grid_told id (e ∷ h))
+grids_stay e h id l none lies =
+    subst (Lies (e ∷ h) l) (sym (if_false (makes_grid e.act && is_grid id e.answer) (grid_from id (length h) e.act (λ w. grid_told w h)) (grid_told id h) none)) (lies_on e h l (grid_told id h) lies)
+
+pub no_making : (e : Entry) (id : Id) → makes_grid e.act ≡ false → (makes_grid e.act && is_grid id e.answer) ≡ false
+no_making e id z = ap (λ b. b && is_grid id e.answer) z
+
+pub no_name : (e : Entry) (id : Id) → grid_in e.answer ≡ None → (makes_grid e.act && is_grid id e.answer) ≡ false
+no_name e id z = ap (λ b. makes_grid e.act && b) (unnamed id e.answer z) ∙ short (makes_grid e.act)
+  where
+    short : (b : Bool) → (b && false) ≡ false
+    short true = refl
+    short false = refl
+
+-- an entry that makes one under this name
+pub grids_more : {S : Type 0} (m n : HashMap Name (Option Lying) S) (e : Entry) (h : History) (made : Id) (lying : Option Lying)
+    → makes_grid e.act ≡ true → grid_in e.answer ≡ Some made → Updates (name_eq.ghosts).eq m n (name_key made) (Some lying)
+    → Lies (e ∷ h) lying (grid_from made (length h) e.act (λ w. grid_told w h))
+    → ((id : Id) → Lies h (lying_in (get (name_eq.ghosts).eq m (name_key id))) (grid_told id h))
+    → (id : Id) → Lies (e ∷ h) (lying_in (get (name_eq.ghosts).eq n (name_key id))) (grid_told id (e ∷ h))
+grids_more m n e h made lying makes names u lies told id = by ((name_eq.ghosts).eq (name_key made) (name_key id)) refl
+  where
+    by : (b : Bool) → (name_eq.ghosts).eq (name_key made) (name_key id) ≡ b → Lies (e ∷ h) (lying_in (get (name_eq.ghosts).eq n (name_key id))) (grid_told id (e ∷ h))
+    by true z =
+        let key : name_key made ≡ name_key id = keys.name_same (name_key made) (name_key id) z in
+        let same : made ≡ id = key_back made id key in
+        let test : (makes_grid e.act && is_grid id e.answer) ≡ true = ap₂ (λ a b. a && b) makes (named id made e.answer names ∙ ap (same_id id) same ∙ same_self id) in
+        subst (λ (l : Option (Option Lying)). Lies (e ∷ h) (lying_in l) (grid_told id (e ∷ h))) (sym (ap (get (name_eq.ghosts).eq n) (sym key) ∙ u.1))
+        (subst (Lies (e ∷ h) lying) (sym (if_true (makes_grid e.act && is_grid id e.answer) (grid_from id (length h) e.act (λ w. grid_told w h)) (grid_told id h) test))
+        (subst (λ (k : Id). Lies (e ∷ h) lying (grid_from k (length h) e.act (λ w. grid_told w h))) same lies))
+    by false z =
+        let other : (makes_grid e.act && is_grid id e.answer) ≡ false = ap₂ (λ a b. a && b) makes (named id made e.answer names ∙ not_true (same_id id made) (λ k. true_false (sym (ap (λ (x : Id). (name_eq.ghosts).eq (name_key made) (name_key x)) (same_name id made k) ∙ keys.name_self (name_key made)) ∙ z))) in
+        subst (λ (l : Option (Option Lying)). Lies (e ∷ h) (lying_in l) (grid_told id (e ∷ h))) (sym (u.2 (name_key id) z)) (grids_stay e h id _ other (told id))
+
+-- ---- phases
+
+pub phases_more : {S : Type 0} (m n : HashMap ℕ ℕ S) (e : Entry) (h : History) (phase : ℕ) → is_departure e.act ≡ true → phase ≡ departures e.proc h + 1 → Updates ◌==◌ m n e.proc (Some phase)
+    → ((i : ℕ) → phase_in (get ◌==◌ m i) ≡ departures i h) → (i : ℕ) → phase_in (get ◌==◌ n i) ≡ departures i (e ∷ h)
+phases_more m n e h phase departs counted u told i = by (e.proc == i) refl
+  where
+    by : (b : Bool) → (e.proc == i) ≡ b → phase_in (get ◌==◌ n i) ≡ departures i (e ∷ h)
+    by true z =
+        let same = eqb-true e.proc i z in
+        ap phase_in (ap (get ◌==◌ n) (sym same) ∙ u.1) ∙ counted ∙ ap (λ k. departures k h + 1) same ∙ add-one (departures i h)
+        ∙ sym (left_own i e h (ap₂ (λ (a b : Bool). a && b) z departs))
+    by false z =
+        ap phase_in (u.2 i z) ∙ told i ∙ sym (left_other i e h (ap (λ (a : Bool). a && is_departure e.act) z))
+
+-- an entry that leaves no collective
+pub phases_stay : (e : Entry) (h : History) (i : ℕ) → is_departure e.act ≡ false → departures i (e ∷ h) ≡ departures i h
+phases_stay e h i stays = left_other i e h (ap (λ (b : Bool). (e.proc == i) && b) stays ∙ short (e.proc == i))
+  where
+    short : (b : Bool) → (b && false) ≡ false
+    short true = refl
+    short false = refl

@@ -1,0 +1,3 @@
+pub mod MirrorsLying
+pub mod MirrorsTable
+pub mod MirrorsTold

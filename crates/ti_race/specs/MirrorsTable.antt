@@ -1,0 +1,65 @@
+-- Nobody has to believe what stands here: it mirrors the code, and only contracts of private functions speak of it.
+-- Uses of spots as they are kept in a table, and which of them stand in a race.
+use Rattle.std.specs.Prelude.{◌≡◌, ℕ, ◌==◌, Bool, true, false, not, ◌&&◌, ◌||◌, if◌then◌else◌, List, map, filter, Option, Some, None}
+use Rattle.std.specs.List.{list_any}
+use Rattle.std.specs.HashMap.{HashMap, get}
+use Rattle.ti_race.specs.declared.spots.Use.{Use}
+use Rattle.ti_race.specs.declared.spots.Spot.{Spot}
+use Rattle.ti_race.specs.contracts.spots.SpotPartialEq.TheImpl as spot_eq
+use Rattle.ti_race.specs.declared.table.Procs.{Procs}
+use Rattle.ti_race.specs.declared.table.Procs.TheVariants.{One, Several}
+use Rattle.ti_race.specs.declared.table.Seen.{Seen}
+
+-- two spots are the same
+abbrev pub same_spot : Spot → Spot → Bool
+same_spot = (spot_eq.ghosts).eq
+
+-- two uses of one spot in one phase by two processes, at least one of them a write
+abbrev pub clash : Use → Use → Bool
+clash a b = not (a.proc == b.proc) && a.phase == b.phase && same_spot a.spot b.spot && (a.writes || b.writes)
+
+-- the numbers of those that stand in a race
+abbrev pub races_of : List Use → List ℕ
+races_of uses = map (λ (u : Use). u.number) (filter (λ u. list_any (clash u) uses) uses)
+
+-- ---- what is kept of the uses of a spot in a phase
+
+-- some process other than this one is among these
+abbrev pub others : Option Procs → ℕ → Bool
+others None i = false
+others (Some (One j)) i = not (j == i)
+others (Some Several) i = true
+
+-- a spot in a phase
+abbrev pub Key : Type 0
+Key = Spot × ℕ
+
+abbrev pub same_key : Key → Key → Bool
+same_key a b = same_spot a.0 b.0 && a.1 == b.1
+
+abbrev pub key_of : Use → Key
+key_of u = (u.spot, u.phase)
+
+abbrev pub users_in : Option Seen → Option Procs
+users_in None = None
+users_in (Some s) = s.users
+
+abbrev pub writers_in : Option Seen → Option Procs
+writers_in None = None
+writers_in (Some s) = s.writers
+
+-- some use at the key is of another process
+abbrev pub used_by_others : List Use → Key → ℕ → Bool
+used_by_others uses key i = list_any (λ (u : Use). same_key (key_of u) key && not (u.proc == i)) uses
+
+-- some write at the key is of another process
+abbrev pub written_by_others : List Use → Key → ℕ → Bool
+written_by_others uses key i = list_any (λ (u : Use). same_key (key_of u) key && (u.writes && not (u.proc == i))) uses
+
+-- the table tells of these uses
+abbrev pub Tells : {S : Type 0} → HashMap Key Seen S → List Use → Type 0
+Tells table uses = (key : Key) (i : ℕ) → (others (users_in (get same_key table key)) i ≡ used_by_others uses key i) × (others (writers_in (get same_key table key)) i ≡ written_by_others uses key i)
+
+-- what the table says of a use
+abbrev pub racing_by : {S : Type 0} → HashMap Key Seen S → Use → Bool
+racing_by table u = if u.writes then others (users_in (get same_key table (key_of u))) u.proc else others (writers_in (get same_key table (key_of u))) u.proc

@@ -1,0 +1,153 @@
+-- Nobody has to believe what stands here: it mirrors the code, and only contracts of private functions speak of it.
+-- What is kept of a history, and how it stands for the things and uses that the history tells.
+use Rattle.std.specs.Prelude.{◌≡◌, ℕ, ◌==◌, if◌then◌else◌, List, [], ◌∷◌, reverse, length, Option, None, Some}
+use Rattle.std.specs.HashMap.{get}
+use Rattle.ti_base.specs.declared.action.Action.{Action}
+use Rattle.ti_base.specs.declared.action.Action.TheVariants as act
+use Rattle.ti_base.specs.declared.action.ViewHow.{ViewHow}
+use Rattle.ti_base.specs.declared.entry.Answer.{Answer}
+use Rattle.ti_base.specs.declared.entry.Answer.TheVariants.{Val}
+use Rattle.ti_base.specs.declared.point.Point.{Point}
+use Rattle.ti_base.specs.declared.point.Rect.{Rect}
+use Rattle.ti_base.specs.declared.value.Id.{Id}
+use Rattle.ti_base.specs.declared.value.Value.TheVariants as v
+use Rattle.ti_base.specs.declared.value.Zero.{Zero}
+use Rattle.ti_base.specs.Cells.{whole_grid}
+use Rattle.ti_base.specs.Forms.{is_view}
+use Rattle.ti_base.specs.Rects.{points_of}
+use Rattle.ti_lang.specs.Meaning.Histories.{History, departures}
+use Rattle.ti_lang.specs.Meaning.Spots as told
+use Rattle.ti_lang.specs.Meaning.Spots.{Block, is_block, viewed_told, object_told, grid_told}
+use Rattle.ti_grid.specs.Views.{place_in}
+use Rattle.ti_race.specs.declared.lying.Lying.{Lying}
+use Rattle.ti_race.specs.declared.spots.Name.{Name}
+use Rattle.ti_race.specs.declared.spots.At.{At}
+use Rattle.ti_race.specs.declared.spots.Thing.{Thing}
+use Rattle.ti_race.specs.declared.spots.Thing.TheVariants as thing
+use Rattle.ti_race.specs.declared.spots.Spot.{Spot}
+use Rattle.ti_race.specs.declared.spots.Spot.TheVariants as spot
+use Rattle.ti_race.specs.declared.spots.Use.{Use}
+use Rattle.ti_race.specs.declared.told.Told.{Told}
+use Rattle.ti_race.specs.contracts.spots.NamePartialEq.TheImpl as name_eq
+use Rattle.ti_race.specs.MirrorsLying.{Keeps}
+
+-- names and points as parts of keys
+abbrev pub name_key : Id → Name
+name_key id = record { maker = id.maker; serial = id.serial; owner = id.owner; region = id.region }
+
+abbrev pub point_key : Point → At
+point_key p = record { dim = p.dim; x1 = p.x1; x2 = p.x2; x3 = p.x3 }
+
+-- ---- blocks
+
+-- the domain of the block that an action makes
+abbrev pub block_made : Action → Option Rect
+block_made (act.NewGrid zero domain region) = Some domain
+block_made a = None
+
+-- the domain of the block that the entry of this number made
+abbrev pub whole_at : ℕ → History → Option Rect
+whole_at n [] = None
+whole_at n (e ∷ earlier) = if n == length earlier then block_made e.act else whole_at n earlier
+
+-- this is how the grid lies that was told; none of one that wasn't
+abbrev pub Lies : History → Option Lying → Option Block → Type 0
+Lies h None None = Unit {0}
+Lies h (Some l) (Some b) = (whole : Rect) × (whole_at b.number h ≡ Some whole) × Keeps whole l b
+Lies h l b = ⊥
+
+-- the grid of a block that an entry makes
+abbrev pub block_told : Id → ℕ → Zero → Rect → Option Block
+block_told id number zero domain = if is_block domain then Some (record { number = number; grid = whole_grid id zero domain }) else None
+
+-- and of a view of one that was told
+abbrev pub view_told : ViewHow → Option Block → Option Block
+view_told how b = if is_view how then viewed_told how b else None
+
+-- ---- answers
+
+-- the object that an answer names
+abbrev pub object_in : Answer → Option Id
+object_in (Val (v.Obj made)) = made
+object_in r = None
+
+-- the grid that an answer names
+abbrev pub grid_in : Answer → Option Id
+grid_in (Val (v.Grid made)) = made
+grid_in r = None
+
+-- ---- what is kept
+
+-- the table of grids has how a grid lies that was told
+abbrev pub lying_in : Option (Option Lying) → Option Lying
+lying_in None = None
+lying_in (Some l) = l
+
+-- a process that isn't in the table has left no collective
+abbrev pub phase_in : Option ℕ → ℕ
+phase_in None = 0
+phase_in (Some n) = n
+
+-- how many collectives each process has left
+abbrev pub TellsPhases : Told → History → Type 0
+TellsPhases t h = (i : ℕ) → phase_in (get ◌==◌ t.phases i) ≡ departures i h
+
+-- which entry made the object of each name last
+abbrev pub TellsObjects : Told → History → Type 0
+TellsObjects t h = (id : Id) → get (name_eq.ghosts).eq t.objects (name_key id) ≡ object_told id h
+
+-- how the grid lies that was made last of each name
+abbrev pub TellsGrids : Told → History → Type 0
+TellsGrids t h = (id : Id) → Lies h (lying_in (get (name_eq.ghosts).eq t.grids (name_key id))) (grid_told id h)
+
+-- this is kept of a history
+pub record Tells (t : Told) (h : History) : Type 0 where
+  pub count : t.count ≡ length h
+  pub phases : TellsPhases t h
+  pub objects : TellsObjects t h
+  pub grids : TellsGrids t h
+
+-- ---- uses
+
+-- the same thing
+abbrev pub IsThing : Thing → told.Thing → Type 0
+IsThing (thing.Made n) (told.Made m) = n ≡ m
+IsThing (thing.Untold name) (told.Untold id) = name ≡ name_key id
+IsThing t u = ⊥
+
+-- the same spot of things that the history tells: an element of a block is known by the number of its cell
+abbrev pub IsSpot : History → Spot → told.Spot → Type 0
+IsSpot h (spot.FieldOf t f) (told.FieldOf u g) = IsThing t u × (f ≡ g)
+IsSpot h (spot.CellOf n i) (told.ElementOf (told.Made m) p) = (n ≡ m) × ((whole : Rect) × (whole_at m h ≡ Some whole) × (place_in (points_of whole) p ≡ Some i))
+IsSpot h (spot.PointOf name at) (told.ElementOf (told.Untold id) p) = (name ≡ name_key id) × (at ≡ point_key p)
+IsSpot h s t = ⊥
+
+-- the same, where there is one
+abbrev pub IsSpotIf : History → Option Spot → Option told.Spot → Type 0
+IsSpotIf h None None = Unit {0}
+IsSpotIf h (Some s) (Some t) = IsSpot h s t
+IsSpotIf h s t = ⊥
+
+-- the same use
+pub record IsUse (h : History) (u : Use) (a : told.Use) : Type 0 where
+  pub number : u.number ≡ a.number
+  pub proc : u.proc ≡ a.proc
+  pub phase : u.phase ≡ a.phase
+  pub spot : IsSpot h u.spot a.spot
+  pub writes : u.writes ≡ a.writes
+
+-- the same, where there is one
+abbrev pub IsUseIf : History → Option Use → Option told.Use → Type 0
+IsUseIf h None None = Unit {0}
+IsUseIf h (Some u) (Some a) = IsUse h u a
+IsUseIf h u a = ⊥
+
+-- the same uses in the same order
+abbrev pub AreUses : History → List Use → List told.Use → Type 0
+AreUses h [] [] = Unit {0}
+AreUses h (u ∷ us) (a ∷ rest) = IsUse h u a × AreUses h us rest
+AreUses h us rest = ⊥
+
+-- these are the uses of a history in the order of its entries
+abbrev pub HasUses : History → List Use → Type 0
+HasUses h us = AreUses h (reverse us) (told.uses h)

@@ -1,0 +1,43 @@
+// Which entries of a list stand in a race.
+ghost use Rattle.std.specs.Prelude.{◌≡◌, List, IfOk};
+ghost use Rattle.ti_base.specs.declared.entry.Entry.{Entry as Listed};
+ghost use Rattle.ti_lang.specs.Program.Views.{program_of};
+ghost use Rattle.ti_lang.specs.Meaning.Races.{races as race_numbers};
+ghost use Rattle.ti_lang.specs.Meaning.Runs.{IsRun};
+ghost use Rattle.ti_lang.specs.Meaning.Spots.{races_told};
+ghost use Rattle.ti_align.specs.Formed.{ActionsFormed};
+
+use crate::laws::races_are_told;
+use crate::table::races_of;
+use crate::uses::uses_of;
+use std::alloc::Global;
+use ti_base::{Entry, Memory};
+use ti_lang::program::Program;
+
+/// The numbers of the entries of any list that stand in a race, from 0 and rising. What an access goes to is told by the entries before it
+/// alone. The one error is want of memory.
+pub fn told_races(alloc: Global, entries: &[Entry]) -> Result<Vec<u32>, Memory>
+    ensures { IfOk result (λ numbers. numbers.items ≡ races_told entries.now) }
+{
+    let found = uses_of(alloc, entries)?;
+    let numbers = races_of(alloc, &found)?;
+    Ok(numbers)
+}
+
+/// The numbers of the entries of a run that stand in a race, from 0 and rising: two processes read or write one cell with no collective
+/// between them, and one of them writes. The one error is want of memory.
+pub fn races(
+    alloc: Global,
+    p: &Program,
+    procs: u32,
+    fuel: u32,
+    entries: &[Entry],
+) -> Result<Vec<u32>, Memory>
+    requires is_run { IsRun (record { program = program_of p.now.parts; procs = procs; fuel = fuel }) entries.now }
+    requires formed { (es : List Listed) → IsRun (record { program = program_of p.now.parts; procs = procs; fuel = fuel }) es → ActionsFormed (record { program = program_of p.now.parts; procs = procs; fuel = fuel }) es }
+    ensures { IfOk result (λ numbers. numbers.items ≡ race_numbers entries.now) }
+{
+    races_are_told();
+    let numbers = told_races(alloc, entries)?;
+    Ok(numbers)
+}

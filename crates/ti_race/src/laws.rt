@@ -1,0 +1,39 @@
+// Laws of runs without a race: functions whose contracts are the laws; they do nothing.
+ghost use Rattle.std.specs.Prelude.{◌≡◌, ◌≤◌, List};
+ghost use Rattle.ti_base.specs.declared.entry.Entry.{Entry as Listed};
+ghost use Rattle.ti_lang.specs.Program.Views.{program_of};
+ghost use Rattle.ti_lang.specs.Meaning.Processes.{Setting};
+ghost use Rattle.ti_lang.specs.Meaning.Runs.{IsRun};
+ghost use Rattle.ti_align.specs.Alignment.{ArrivalsAgree, IsAligned, most_procs, most_fuel};
+ghost use Rattle.ti_align.specs.Formed.{ActionsFormed};
+ghost use Rattle.ti_lang.specs.Meaning.Races.{races};
+ghost use Rattle.ti_lang.specs.Meaning.Spots.{races_told};
+ghost use Rattle.ti_lang.specs.Meaning.Determinacy.{Determines};
+
+use ti_base::Entry;
+use ti_lang::program::Program;
+
+/// Where all processes have their end in a run of an aligned program, and nothing in it stands in a race, each process
+/// makes in every run of that program with as many processes and as much fuel the entries that it makes in this
+/// one, as far as that run goes.
+pub fn determinate(p: &Program, procs: u32, fuel: u32, entries: &[Entry])
+    requires some_procs { 1 ≤ procs }
+    requires few_procs { procs ≤ most_procs }
+    requires some_fuel { 1 ≤ fuel }
+    requires little_fuel { fuel ≤ most_fuel }
+    requires is_aligned { IsAligned (program_of p.now.parts) }
+    requires is_run { IsRun (record { program = program_of p.now.parts; procs = procs; fuel = fuel }) entries.now }
+    ensures { Determines (record { program = program_of p.now.parts; procs = procs; fuel = fuel }) entries.now }
+{}
+
+/// The same of every setting and every list of entries: of alignment it takes that arrivals agree in this one run.
+pub fn no_race_decides()
+    ensures { (s : Setting) (kept : List Listed) → IsRun s kept → ArrivalsAgree s kept → Determines s kept }
+{}
+
+/// In a run the entries that stand in a race are told by the entries alone, without the program: two accesses meet
+/// in a cell exactly where the entries that made what they use and the place in it are the same. What the
+/// processes hand in is to be in its one form, as in every run of a checked program.
+pub fn races_are_told()
+    ensures { (s : Setting) (es : List Listed) → IsRun s es → ((ds : List Listed) → IsRun s ds → ActionsFormed s ds) → races es ≡ races_told es }
+{}

@@ -1,0 +1,16 @@
+//! Races of runs, and what follows where there is none.
+#![tactic(auto)]
+
+mod finding;
+mod forms;
+mod laws;
+mod lying;
+mod spots;
+mod table;
+mod told;
+mod uses;
+mod watch;
+
+pub use finding::{races, told_races};
+pub use laws::{determinate, no_race_decides, races_are_told};
+pub use watch::RaceWatch;

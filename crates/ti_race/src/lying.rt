@@ -1,0 +1,63 @@
+// How grids lie in their blocks.
+ghost use Rattle.ti_base.specs.declared.point.Rect.{Rect as Domain};
+ghost use Rattle.ti_rect.specs.Views.{IsView};
+ghost use Rattle.ti_lang.specs.Meaning.Spots.{Block, viewed_told};
+ghost use Rattle.ti_race.specs.MirrorsLying.{Keeps, KeepsView, SeenIf};
+ghost use Rattle.std.specs.Prelude.{Some};
+
+use ti_base::ViewHow;
+use ti_grid::{View, view_restrict, view_slice, view_translate};
+use ti_rect::{tests, views_inside};
+
+/// A grid: the number of the entry that made its block, and how it lies in it.
+#[derive(Drop)]
+pub struct Lying {
+    pub number: u32,
+    pub view: View,
+}
+
+fn view_by(view: &View, how: ViewHow) -> Option<View>
+    requires form { IsView how }
+    ensures { SeenIf how view.now result }
+{
+    let dim = view.domain().dim;
+    match how {
+        ViewHow::Restrict(r) => {
+            if r.dim == dim {
+                Some(view_restrict(view, &r))
+            } else {
+                None
+            }
+        }
+        ViewHow::Translate(by) => {
+            if by.dim == dim {
+                view_translate(view, &by).ok()
+            } else {
+                None
+            }
+        }
+        ViewHow::Slice(k, j) => {
+            if 2 <= dim {
+                view_slice(view, k, j).ok()
+            } else {
+                None
+            }
+        }
+    }
+}
+
+/// The view of a grid, where there is one: where it suits the grid and has no fault.
+pub fn viewed(grid: &Lying, how: ViewHow) -> Option<Lying>
+    requires form { IsView how }
+    ensures { (whole : Domain) (b : Block) → Keeps whole grid.now b → KeepsView whole result (viewed_told how (Some b)) }
+{
+    views_inside();
+    tests();
+    match view_by(&grid.view, how) {
+        Some(view) => Some(Lying {
+            number: grid.number,
+            view,
+        }),
+        None => None,
+    }
+}

@@ -1,0 +1,293 @@
+// What the entries of a history tell of things, and of the collectives that processes have left.
+ghost use Rattle.std.specs.Prelude.{◌≡◌, ◌∷◌, [], true, false, ◌≤◌, Some, None, length, IsTrue, OnOk};
+ghost use Rattle.ti_base.specs.declared.entry.Entry.{Entry as Listed};
+ghost use Rattle.ti_lang.specs.Meaning.Histories.{History, is_departure, departures};
+ghost use Rattle.ti_lang.specs.Meaning.Races.{is_put};
+ghost use Rattle.ti_lang.specs.Meaning.Spots.{Block, is_block, spot_used, use_of as use_told};
+ghost use Rattle.ti_base.specs.Rects.{IsRect, points_of};
+ghost use Rattle.ti_grid.specs.Views.{cell_number};
+ghost use Rattle.ti_race.specs.MirrorsTold.{name_key, object_in, grid_in, block_made, block_told, view_told, Lies, TellsObjects, TellsGrids, TellsPhases, Tells, IsSpot, IsSpotIf, IsUseIf};
+ghost use Rattle.ti_base.specs.declared.value.Zero.{Zero as First};
+ghost use Rattle.ti_base.specs.declared.value.Id.{Id as Named};
+ghost use Rattle.ti_lang.specs.Meaning.Spots as spec;
+
+use crate::forms::{is_rect, is_view};
+use crate::lying::{Lying, viewed};
+use crate::spots::{Name, Spot, Thing, Use, at_of, name_of};
+use std::alloc::Global;
+use std::collections::HashMap;
+use ti_base::{
+    Action, Answer, Entry, Id, Memory, Point, Rect, Value, ViewHow, forms_are_told, rect_counts,
+};
+use ti_grid::{View, index_of, view_of};
+use ti_rect::rect_size;
+
+/// What a history tells: of each name of an object the number of the entry that made it last, of each name of a grid how the one lies that
+/// was made last, of each process how many collectives it has left, and how many entries there are.
+#[derive(Drop)]
+pub struct Told {
+    pub objects: HashMap<Name, u32>,
+    pub grids: HashMap<Name, Option<Lying>>,
+    pub phases: HashMap<u32, u32>,
+    pub count: u32,
+}
+
+// The most cells of a block.
+const MOST_CELLS: i32 = 1_048_576;
+
+// Whether a block may have this domain.
+fn is_block_domain(domain: &Rect) -> bool
+    ensures value { result ≡ is_block domain.now }
+    ensures form { IsTrue result → IsRect domain.now }
+    ensures few { IsTrue result → length (points_of domain.now) ≤ 1048576 }
+{
+    forms_are_told();
+    rect_counts();
+    if !is_rect(domain) {
+        return false;
+    }
+    match rect_size(domain) {
+        Ok(size) => size <= MOST_CELLS,
+        Err(_) => false,
+    }
+}
+
+// The number of a point's cell, where the view has the point.
+fn cell_in(view: &View, at: Point) -> Option<u64>
+    ensures { result ≡ cell_number view.now at }
+{
+    if at.dim == view.domain().dim {
+        index_of(view, &at)
+    } else {
+        None
+    }
+}
+
+// An element of a grid that lies so.
+fn element_in(lying: &Lying, name: Name, at: Point) -> Spot
+    ensures { (h : History) (id : Named) (b : Block) → name ≡ name_key id → Lies h (Some lying.now) (Some b) → IsSpot h result (spec.element_spot id at (Some b)) }
+{
+    match cell_in(&lying.view, at) {
+        Some(cell) => Spot::CellOf(lying.number, cell),
+        None => Spot::PointOf(name, at_of(at)),
+    }
+}
+
+// The object that an answer names.
+fn object_of(answer: Answer) -> Option<Id>
+    ensures { result ≡ object_in answer }
+{
+    match answer {
+        Answer::Val(Value::Obj(made)) => made,
+        _ => None,
+    }
+}
+
+// The grid that an answer names.
+fn grid_of(answer: Answer) -> Option<Id>
+    ensures { result ≡ grid_in answer }
+{
+    match answer {
+        Answer::Val(Value::Grid(made)) => made,
+        _ => None,
+    }
+}
+
+// Whether an action makes an object.
+fn makes_object(action: Action) -> bool
+    ensures { result ≡ spec.makes_object action }
+{
+    matches!(action, Action::NewObj { .. })
+}
+
+// Whether an action makes a grid or a view.
+fn makes_grid(action: Action) -> bool
+    ensures { result ≡ spec.makes_grid action }
+{
+    matches!(action, Action::NewGrid { .. } | Action::MakeView { .. })
+}
+
+// Whether an action leaves a collective.
+fn departs(action: Action) -> bool
+    ensures { result ≡ is_departure action }
+{
+    matches!(action, Action::Depart)
+}
+
+// Whether an action writes.
+fn writes(action: Action) -> bool
+    ensures { result ≡ is_put action }
+{
+    matches!(action, Action::PutField { .. } | Action::PutElem { .. })
+}
+
+// How the grid lies of which the block is made by the entry of this number, where it may have this domain.
+fn block_of(number: u32, id: Id, domain: &Rect) -> Option<Lying>
+    ensures { (e : Listed) (h : History) (zero : First) → number ≡ length h → block_made e.act ≡ Some domain.now
+        → Lies (e ∷ h) result (block_told id number zero domain.now) }
+{
+    if !is_block_domain(domain) {
+        return None;
+    }
+    Some(Lying {
+        number,
+        view: view_of(id, domain),
+    })
+}
+
+impl Told {
+    /// Of no entry.
+    pub fn new(alloc: Global) -> Told
+        ensures { Tells result [] }
+    {
+        Told {
+            objects: HashMap::new(alloc),
+            grids: HashMap::new(alloc),
+            phases: HashMap::new(alloc),
+            count: 0,
+        }
+    }
+
+    // The object of this name.
+    fn thing(&self, id: Id) -> Thing
+        ensures { (h : History) → Tells self.now h → IsSpot h (Spot.FieldOf result 0) (spec.FieldOf (spec.object_thing id (spec.object_told id h)) 0) }
+    {
+        let name = name_of(id);
+        match self.objects.get(&name).copied() {
+            Some(number) => Thing::Made(number),
+            None => Thing::Untold(name),
+        }
+    }
+
+    // An element of the grid of this name.
+    fn element(&self, grid: Id, at: Point) -> Spot
+        ensures { (h : History) → Tells self.now h → IsSpot h result (spec.element_spot grid at (spec.grid_told grid h)) }
+    {
+        let name = name_of(grid);
+        match self.grids.get(&name) {
+            Some(Some(lying)) => element_in(lying, name, at),
+            Some(None) => Spot::PointOf(name, at_of(at)),
+            None => Spot::PointOf(name, at_of(at)),
+        }
+    }
+
+    // Where an action reads or writes.
+    fn spot(&self, action: Action) -> Option<Spot>
+        ensures { (h : History) → Tells self.now h → IsSpotIf h result (spot_used action h) }
+    {
+        match action {
+            Action::GetField { obj, field } => Some(Spot::FieldOf(self.thing(obj), field)),
+            Action::PutField { obj, field, .. } => Some(Spot::FieldOf(self.thing(obj), field)),
+            Action::GetElem { grid, at } => Some(self.element(grid, at)),
+            Action::PutElem { grid, at, .. } => Some(self.element(grid, at)),
+            _ => None,
+        }
+    }
+
+    /// The use of an entry behind the history.
+    pub fn use_of(&self, e: &Entry) -> Option<Use>
+        ensures { (h : History) → Tells self.now h → IsUseIf h result (use_told e.now h) }
+    {
+        match self.spot(e.act) {
+            Some(spot) => Some(Use {
+                number: self.count,
+                proc: e.proc,
+                phase: self.phase(e.proc),
+                spot,
+                writes: writes(e.act),
+            }),
+            None => None,
+        }
+    }
+
+    // How many collectives a process has left.
+    fn phase(&self, proc: u32) -> u32
+        ensures { (h : History) → TellsPhases self.now h → result ≡ departures proc h }
+    {
+        match self.phases.get(&proc).copied() {
+            Some(phase) => phase,
+            None => 0,
+        }
+    }
+
+    // How a view lies of the grid of this name.
+    fn view_made(&self, grid: Id, how: ViewHow) -> Option<Lying>
+        ensures { (h : History) → TellsGrids self.now h → Lies h result (view_told how (spec.grid_told grid h)) }
+    {
+        forms_are_told();
+        if !is_view(how) {
+            return None;
+        }
+        match self.grids.get(&name_of(grid)) {
+            Some(Some(lying)) => viewed(lying, how),
+            Some(None) => None,
+            None => None,
+        }
+    }
+
+    // How the grid lies that an action makes under this name.
+    fn grid_made(&self, action: Action, id: Id) -> Option<Lying>
+        ensures { (e : Listed) (h : History) → self.now.count ≡ length h → TellsGrids self.now h → e.act ≡ action → Lies (e ∷ h) result (spec.grid_from id (length h) action (λ v. spec.grid_told v h)) }
+    {
+        match action {
+            Action::NewGrid { dom, .. } => block_of(self.count, id, &dom),
+            Action::MakeView { grid, how } => self.view_made(grid, how),
+            _ => None,
+        }
+    }
+
+    // Notes the object that an entry makes.
+    fn note_object(&mut self, e: &Entry) -> Result<(), Memory>
+        ensures objects { OnOk result ((h : History) → self.old.count ≡ length h → TellsObjects self.old h → TellsObjects self.new (e.now ∷ h)) }
+        ensures rest { self.new ≡ record self.old { objects = self.new.objects } }
+    {
+        if makes_object(e.act) {
+            if let Some(made) = object_of(e.answer) {
+                self.objects.insert(name_of(made), self.count)?;
+            }
+        }
+        Ok(())
+    }
+
+    // Notes the grid that an entry makes.
+    fn note_grid(&mut self, e: &Entry) -> Result<(), Memory>
+        ensures grids { OnOk result ((h : History) → self.old.count ≡ length h → TellsGrids self.old h → TellsGrids self.new (e.now ∷ h)) }
+        ensures rest { self.new ≡ record self.old { grids = self.new.grids } }
+    {
+        if makes_grid(e.act) {
+            if let Some(made) = grid_of(e.answer) {
+                let lying = self.grid_made(e.act, made);
+                self.grids.insert(name_of(made), lying)?;
+            }
+        }
+        Ok(())
+    }
+
+    // Notes the collective that an entry leaves.
+    fn note_departure(&mut self, e: &Entry) -> Result<(), Memory>
+        ensures phases { OnOk result ((h : History) → TellsPhases self.old h → TellsPhases self.new (e.now ∷ h)) }
+        ensures rest { self.new ≡ record self.old { phases = self.new.phases } }
+    {
+        if departs(e.act) {
+            let Some(phase) = self.phase(e.proc).checked_add(1) else {
+                return Err(Memory);
+            };
+            self.phases.insert(e.proc, phase)?;
+        }
+        Ok(())
+    }
+
+    /// Notes an entry behind the history.
+    pub fn note(&mut self, e: &Entry) -> Result<(), Memory>
+        ensures { OnOk result ((h : History) → Tells self.old h → Tells self.new (e.now ∷ h)) }
+    {
+        let Some(count) = self.count.checked_add(1) else {
+            return Err(Memory);
+        };
+        self.note_object(e)?;
+        self.note_grid(e)?;
+        self.note_departure(e)?;
+        self.count = count;
+        Ok(())
+    }
+}
