@@ -6,6 +6,7 @@ use crate::watchers::{Handed, short_of, told_trace};
 use std::alloc::{AllocError, Global};
 use ti_base::{Entry, Memory};
 use ti_io::{MemSink, MemSource};
+use ti_race::RaceWatch;
 use ti_top::{Outcome, titan_top};
 use ti_watch::{StatsWatch, TraceWatch, Watch};
 
@@ -121,7 +122,7 @@ fn called(rt: &HostRuntime, call: Call, watchers: Vec<Box<dyn Watch>>) -> Left {
 }
 
 /// The command with watchers, which are made here, since no function may make them and hand them out.
-fn left_by(rt: &HostRuntime, call: Call, all: [Option<Handed>; 2]) -> Result<Left, Memory> {
+fn left_by(rt: &HostRuntime, call: Call, all: [Option<Handed>; 3]) -> Result<Left, Memory> {
     let alloc = rt.alloc();
     let mut watchers: Vec<Box<dyn Watch>> = Vec::new(alloc);
     for handed in all {
@@ -129,6 +130,7 @@ fn left_by(rt: &HostRuntime, call: Call, all: [Option<Handed>; 2]) -> Result<Lef
             Some(Handed::Trace) => watchers.push(Box::new(alloc, TraceWatch::new(alloc))?)?,
             Some(Handed::ToldTrace) => watchers.push(Box::new(alloc, told_trace(alloc)?)?)?,
             Some(Handed::Stats) => watchers.push(Box::new(alloc, StatsWatch::new(alloc))?)?,
+            Some(Handed::Races) => watchers.push(Box::new(alloc, RaceWatch::new(alloc))?)?,
             Some(Handed::Deaf) => watchers.push(Box::new(alloc, short_of(alloc, 1))?)?,
             Some(Handed::Mute) => watchers.push(Box::new(alloc, short_of(alloc, 100))?)?,
             None => {}
@@ -207,7 +209,7 @@ fn done(
     text: Vec<u8>,
 ) -> Result<Vec<u8>, Stopped> {
     let call = call_of(rt.alloc(), line, stage, text)?;
-    let left = left_by(rt, call, [stage.first, stage.second])?;
+    let left = left_by(rt, call, stage.watchers)?;
     Ok(part_of(rt.alloc(), asked, &left)?)
 }
 

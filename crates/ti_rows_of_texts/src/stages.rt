@@ -8,8 +8,7 @@ pub(crate) struct Stage {
     pub(crate) source: Option<u32>,
     pub(crate) out: Option<u32>,
     pub(crate) err: Option<u32>,
-    pub(crate) first: Option<Handed>,
-    pub(crate) second: Option<Handed>,
+    pub(crate) watchers: [Option<Handed>; 3],
 }
 
 /// No call fails, and the watchers are those that `main` hands in.
@@ -17,8 +16,11 @@ const PLAIN: Stage = Stage {
     source: None,
     out: None,
     err: None,
-    first: Some(Handed::Trace),
-    second: Some(Handed::Stats),
+    watchers: [
+        Some(Handed::Trace),
+        Some(Handed::Stats),
+        Some(Handed::Races),
+    ],
 };
 
 fn handed_of(word: &str) -> Option<Handed> {
@@ -26,24 +28,33 @@ fn handed_of(word: &str) -> Option<Handed> {
         "trace" => Some(Handed::Trace),
         "told-trace" => Some(Handed::ToldTrace),
         "stats" => Some(Handed::Stats),
+        "races" => Some(Handed::Races),
         "deaf" => Some(Handed::Deaf),
         "mute" => Some(Handed::Mute),
         _ => None,
     }
 }
 
-/// A stage with the watchers that a word such as `stats,trace`, `trace` or `none` names.
-fn with_watchers(stage: Stage, word: &str) -> Option<Stage> {
-    let (first, second) = match word.split_once(',') {
-        Some((first, second)) => (Some(handed_of(first)?), Some(handed_of(second)?)),
-        None if word == "none" => (None, None),
-        None => (Some(handed_of(word)?), None),
+/// The watchers that a word such as `trace` or `stats,trace` names.
+fn named(word: &str) -> Option<[Option<Handed>; 3]> {
+    let Some((first, rest)) = word.split_once(',') else {
+        return Some([Some(handed_of(word)?), None, None]);
     };
-    Some(Stage {
-        first,
-        second,
-        ..stage
-    })
+    let first = Some(handed_of(first)?);
+    match rest.split_once(',') {
+        Some((second, third)) => Some([first, Some(handed_of(second)?), Some(handed_of(third)?)]),
+        None => Some([first, Some(handed_of(rest)?), None]),
+    }
+}
+
+/// A stage with the watchers that a word names, or with none.
+fn with_watchers(stage: Stage, word: &str) -> Option<Stage> {
+    let watchers = if word == "none" {
+        [None, None, None]
+    } else {
+        named(word)?
+    };
+    Some(Stage { watchers, ..stage })
 }
 
 /// A stage with what a word such as `out:4` says.

@@ -151,8 +151,9 @@ fn words_of(alloc: Global, row: &str) -> Result<Vec<String>, Stopped> {
 fn shown_job(alloc: Global, job: &Job) -> Result<String, AllocError> {
     let trace = if job.trace { " trace" } else { "" };
     let stats = if job.stats { " stats" } else { "" };
+    let races = if job.races { " races" } else { "" };
     format!(in alloc;
-        "{:?} procs {} workers {} fuel {} seed {}{trace}{stats} file \"{}\"",
+        "{:?} procs {} workers {} fuel {} seed {}{trace}{stats}{races} file \"{}\"",
         job.mode,
         job.procs,
         job.workers,

@@ -11,6 +11,7 @@ pub(crate) enum Handed {
     /// A trace that was told `TOLD`.
     ToldTrace,
     Stats,
+    Races,
     /// One of kind 0 that wants memory when it is told its second entry.
     Deaf,
     /// One of kind 0 that wants memory for its report.

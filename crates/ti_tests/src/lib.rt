@@ -4,6 +4,8 @@
 #[cfg(test)]
 mod heaps;
 #[cfg(test)]
+mod races;
+#[cfg(test)]
 mod regions_and_rounds;
 #[cfg(test)]
 mod reports;

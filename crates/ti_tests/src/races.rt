@@ -1,0 +1,461 @@
+// Races of lists of entries, of which most are no runs: what an access goes to is told by the entries before it alone.
+
+use std::alloc::Global;
+use std::test::Fail;
+use ti_base::{
+    Action, Answer, CollKind, Deposit, Entry, Id, Memory, Place, Point, Rect, Value, ViewHow, Zero,
+};
+use ti_race::{RaceWatch, told_races};
+use ti_watch::Watch;
+
+/// How a view is made of a grid of one dimension.
+#[derive(Clone, Copy)]
+enum Seen {
+    /// Its points are moved by so much.
+    Moved(i32),
+    /// They are moved as in a grid of two dimensions, so that there is no such view.
+    MovedInPlane,
+    /// The points from one number to another.
+    Cut(i32, i32),
+}
+
+/// What a process does.
+#[derive(Clone, Copy)]
+enum Does {
+    /// It makes `GRID` over the points from one number to another with this step.
+    MakesGrid(i32, i32, u32),
+    /// It makes a view of the first name of a grid of the second.
+    MakesView(Id, Id, Seen),
+    MakesObject(Id),
+    Puts(Id, i32),
+    Gets(Id, i32),
+    PutsField(Id, u32),
+    GetsField(Id, u32),
+    Arrives,
+    Departs,
+}
+
+/// A process, and what it does.
+struct Step(u32, Does);
+
+/// A list of entries, of which that of number n stands at 1:n, and the report on it.
+struct Case {
+    about: &'static str,
+    told: &'static [Step],
+    report: &'static str,
+}
+
+const GRID: Id = Id {
+    maker: 0,
+    serial: 0,
+    owner: 0,
+    region: 0,
+};
+
+const VIEW: Id = Id {
+    maker: 0,
+    serial: 1,
+    owner: 0,
+    region: 0,
+};
+
+const OTHER: Id = Id {
+    maker: 1,
+    serial: 0,
+    owner: 0,
+    region: 0,
+};
+
+const THING: Id = Id {
+    maker: 0,
+    serial: 2,
+    owner: 0,
+    region: 0,
+};
+
+const CASES: &[Case] = &[
+    Case {
+        about: "two writes",
+        told: &[
+            Step(0, Does::MakesGrid(0, 9, 1)),
+            Step(0, Does::Puts(GRID, 3)),
+            Step(1, Does::Puts(GRID, 3)),
+        ],
+        report: "races 2\n1 p0 1:1\n2 p1 1:2\n",
+    },
+    Case {
+        about: "two elements",
+        told: &[
+            Step(0, Does::MakesGrid(0, 9, 1)),
+            Step(0, Does::Puts(GRID, 3)),
+            Step(1, Does::Puts(GRID, 4)),
+        ],
+        report: "races 0\n",
+    },
+    Case {
+        about: "two reads",
+        told: &[
+            Step(0, Does::MakesGrid(0, 9, 1)),
+            Step(0, Does::Gets(GRID, 3)),
+            Step(1, Does::Gets(GRID, 3)),
+        ],
+        report: "races 0\n",
+    },
+    Case {
+        about: "uses of one process",
+        told: &[
+            Step(0, Does::MakesGrid(0, 9, 1)),
+            Step(0, Does::Puts(GRID, 3)),
+            Step(0, Does::Gets(GRID, 3)),
+            Step(0, Does::Puts(GRID, 3)),
+        ],
+        report: "races 0\n",
+    },
+    Case {
+        about: "a write and two reads",
+        told: &[
+            Step(0, Does::MakesGrid(0, 9, 1)),
+            Step(1, Does::Puts(GRID, 3)),
+            Step(0, Does::Gets(GRID, 3)),
+            Step(2, Does::Gets(GRID, 3)),
+        ],
+        report: "races 3\n1 p1 1:1\n2 p0 1:2\n3 p2 1:3\n",
+    },
+    Case {
+        about: "phases don't count arrivals",
+        told: &[
+            Step(0, Does::MakesGrid(0, 9, 1)),
+            Step(0, Does::Puts(GRID, 3)),
+            Step(1, Does::Arrives),
+            Step(1, Does::Puts(GRID, 3)),
+        ],
+        report: "races 2\n1 p0 1:1\n3 p1 1:3\n",
+    },
+    Case {
+        about: "phases count departures",
+        told: &[
+            Step(0, Does::MakesGrid(0, 9, 1)),
+            Step(0, Does::Puts(GRID, 3)),
+            Step(0, Does::Departs),
+            Step(1, Does::Departs),
+            Step(1, Does::Puts(GRID, 3)),
+            Step(0, Does::Gets(GRID, 3)),
+        ],
+        report: "races 2\n4 p1 1:4\n5 p0 1:5\n",
+    },
+    Case {
+        about: "two views of one block",
+        told: &[
+            Step(0, Does::MakesGrid(0, 9, 1)),
+            Step(0, Does::MakesView(VIEW, GRID, Seen::Moved(1))),
+            Step(1, Does::Puts(VIEW, 4)),
+            Step(0, Does::Gets(GRID, 3)),
+        ],
+        report: "races 2\n2 p1 1:2\n3 p0 1:3\n",
+    },
+    Case {
+        about: "a view of a view",
+        told: &[
+            Step(0, Does::MakesGrid(0, 9, 1)),
+            Step(0, Does::MakesView(VIEW, GRID, Seen::Moved(1))),
+            Step(1, Does::MakesView(OTHER, VIEW, Seen::Moved(-2))),
+            Step(0, Does::Puts(GRID, 3)),
+            Step(1, Does::Puts(OTHER, 2)),
+        ],
+        report: "races 2\n3 p0 1:3\n4 p1 1:4\n",
+    },
+    Case {
+        about: "a part",
+        told: &[
+            Step(0, Does::MakesGrid(0, 9, 1)),
+            Step(0, Does::MakesView(VIEW, GRID, Seen::Cut(2, 4))),
+            Step(0, Does::Puts(VIEW, 2)),
+            Step(1, Does::Gets(GRID, 2)),
+        ],
+        report: "races 2\n2 p0 1:2\n3 p1 1:3\n",
+    },
+    Case {
+        about: "outside of a part",
+        told: &[
+            Step(0, Does::MakesGrid(0, 9, 1)),
+            Step(0, Does::MakesView(VIEW, GRID, Seen::Cut(2, 4))),
+            Step(0, Does::Puts(VIEW, 5)),
+            Step(1, Does::Puts(GRID, 5)),
+        ],
+        report: "races 0\n",
+    },
+    Case {
+        about: "outside of a domain",
+        told: &[
+            Step(0, Does::MakesGrid(0, 9, 1)),
+            Step(0, Does::Puts(GRID, 10)),
+            Step(1, Does::Puts(GRID, 10)),
+        ],
+        report: "races 2\n1 p0 1:1\n2 p1 1:2\n",
+    },
+    Case {
+        about: "a grid that wasn't told",
+        told: &[
+            Step(0, Does::Puts(GRID, 3)),
+            Step(1, Does::Puts(GRID, 3)),
+            Step(1, Does::Puts(GRID, 4)),
+        ],
+        report: "races 2\n0 p0 1:0\n1 p1 1:1\n",
+    },
+    Case {
+        about: "a view of one",
+        told: &[
+            Step(0, Does::MakesView(VIEW, GRID, Seen::Moved(1))),
+            Step(0, Does::Puts(VIEW, 4)),
+            Step(1, Does::Puts(GRID, 3)),
+            Step(1, Does::Puts(VIEW, 4)),
+        ],
+        report: "races 2\n1 p0 1:1\n3 p1 1:3\n",
+    },
+    Case {
+        about: "a view that doesn't suit",
+        told: &[
+            Step(0, Does::MakesGrid(0, 9, 1)),
+            Step(0, Does::MakesView(VIEW, GRID, Seen::MovedInPlane)),
+            Step(0, Does::Puts(VIEW, 4)),
+            Step(1, Does::Puts(GRID, 4)),
+        ],
+        report: "races 0\n",
+    },
+    Case {
+        about: "a view past the greatest number",
+        told: &[
+            Step(0, Does::MakesGrid(0, 9, 1)),
+            Step(0, Does::MakesView(VIEW, GRID, Seen::Moved(i32::MAX))),
+            Step(0, Does::Puts(VIEW, i32::MAX)),
+            Step(1, Does::Puts(GRID, 0)),
+        ],
+        report: "races 0\n",
+    },
+    Case {
+        about: "a domain that isn't in its one form",
+        told: &[
+            Step(0, Does::MakesGrid(0, 9, 2)),
+            Step(0, Does::MakesView(VIEW, GRID, Seen::Moved(1))),
+            Step(0, Does::Puts(VIEW, 1)),
+            Step(1, Does::Puts(GRID, 0)),
+        ],
+        report: "races 0\n",
+    },
+    Case {
+        about: "a domain with too many points",
+        told: &[
+            Step(0, Does::MakesGrid(0, 1_048_576, 1)),
+            Step(0, Does::MakesView(VIEW, GRID, Seen::Moved(1))),
+            Step(0, Does::Puts(VIEW, 1)),
+            Step(1, Does::Puts(GRID, 0)),
+        ],
+        report: "races 0\n",
+    },
+    Case {
+        about: "a domain with as many as there may be",
+        told: &[
+            Step(0, Does::MakesGrid(1, 1_048_576, 1)),
+            Step(0, Does::MakesView(VIEW, GRID, Seen::Moved(1))),
+            Step(0, Does::Puts(VIEW, 2)),
+            Step(1, Does::Puts(GRID, 1)),
+        ],
+        report: "races 2\n2 p0 1:2\n3 p1 1:3\n",
+    },
+    Case {
+        about: "the last making",
+        told: &[
+            Step(0, Does::MakesGrid(0, 9, 1)),
+            Step(0, Does::Puts(GRID, 3)),
+            Step(0, Does::MakesGrid(0, 9, 1)),
+            Step(1, Does::Puts(GRID, 3)),
+        ],
+        report: "races 0\n",
+    },
+    Case {
+        about: "the last making before the view",
+        told: &[
+            Step(0, Does::MakesGrid(0, 9, 1)),
+            Step(0, Does::MakesView(VIEW, GRID, Seen::Moved(1))),
+            Step(0, Does::MakesGrid(0, 9, 1)),
+            Step(0, Does::Puts(VIEW, 4)),
+            Step(1, Does::Puts(GRID, 3)),
+        ],
+        report: "races 0\n",
+    },
+    Case {
+        about: "a field",
+        told: &[
+            Step(0, Does::MakesObject(THING)),
+            Step(0, Does::PutsField(THING, 0)),
+            Step(1, Does::GetsField(THING, 0)),
+            Step(1, Does::GetsField(THING, 1)),
+        ],
+        report: "races 2\n1 p0 1:1\n2 p1 1:2\n",
+    },
+    Case {
+        about: "a grid of the object's name",
+        told: &[
+            Step(0, Does::MakesObject(GRID)),
+            Step(0, Does::PutsField(GRID, 0)),
+            Step(0, Does::MakesGrid(0, 9, 1)),
+            Step(1, Does::PutsField(GRID, 0)),
+            Step(1, Does::Puts(GRID, 0)),
+        ],
+        report: "races 2\n1 p0 1:1\n3 p1 1:3\n",
+    },
+    Case {
+        about: "the object's last making",
+        told: &[
+            Step(0, Does::MakesObject(THING)),
+            Step(0, Does::PutsField(THING, 0)),
+            Step(0, Does::MakesObject(THING)),
+            Step(1, Does::PutsField(THING, 0)),
+        ],
+        report: "races 0\n",
+    },
+    Case {
+        about: "an object that wasn't told",
+        told: &[
+            Step(1, Does::PutsField(THING, 0)),
+            Step(0, Does::GetsField(THING, 0)),
+        ],
+        report: "races 2\n0 p1 1:0\n1 p0 1:1\n",
+    },
+    Case {
+        about: "no entry",
+        told: &[],
+        report: "races 0\n",
+    },
+];
+
+/// The point with one coordinate.
+fn at(x1: i32) -> Point {
+    Point {
+        dim: 1,
+        x1,
+        x2: 0,
+        x3: 0,
+    }
+}
+
+/// The points from one number to another, which may not be in their one form.
+fn line(low: i32, high: i32, step: u32) -> Rect {
+    Rect {
+        dim: 1,
+        lo: at(low),
+        hi: at(high),
+        step: [step, 1, 1],
+    }
+}
+
+fn how_of(seen: Seen) -> ViewHow {
+    match seen {
+        Seen::Moved(by) => ViewHow::Translate(at(by)),
+        Seen::MovedInPlane => ViewHow::Translate(Point { dim: 2, ..at(0) }),
+        Seen::Cut(low, high) => ViewHow::Restrict(line(low, high, 1)),
+    }
+}
+
+fn act_of(does: Does) -> Action {
+    match does {
+        Does::MakesGrid(low, high, step) => Action::NewGrid {
+            zero: Zero::Int,
+            dom: line(low, high, step),
+            region: 0,
+        },
+        Does::MakesView(_, grid, seen) => Action::MakeView {
+            grid,
+            how: how_of(seen),
+        },
+        Does::MakesObject(_) => Action::NewObj {
+            class: 0,
+            region: 0,
+        },
+        Does::Puts(grid, x1) => Action::PutElem {
+            grid,
+            at: at(x1),
+            value: Value::Int(1),
+        },
+        Does::Gets(grid, x1) => Action::GetElem { grid, at: at(x1) },
+        Does::PutsField(obj, field) => Action::PutField {
+            obj,
+            field,
+            value: Value::Int(1),
+        },
+        Does::GetsField(obj, field) => Action::GetField { obj, field },
+        Does::Arrives => Action::Arrive {
+            kind: CollKind::Barrier,
+            arg: None,
+            deposit: Deposit::Nothing,
+        },
+        Does::Departs => Action::Depart,
+    }
+}
+
+fn answer_of(does: Does) -> Answer {
+    match does {
+        Does::MakesGrid(..) => Answer::Val(Value::Grid(Some(GRID))),
+        Does::MakesView(view, ..) => Answer::Val(Value::Grid(Some(view))),
+        Does::MakesObject(obj) => Answer::Val(Value::Obj(Some(obj))),
+        Does::Gets(..) | Does::GetsField(..) => Answer::Val(Value::Int(1)),
+        _ => Answer::Done,
+    }
+}
+
+fn entries_of(alloc: Global, told: &[Step]) -> Result<Vec<Entry>, Memory> {
+    let mut entries = Vec::new(alloc);
+    let mut col = 0;
+    for Step(proc, does) in told {
+        entries.push(Entry {
+            proc: *proc,
+            place: Place { line: 1, col },
+            act: act_of(*does),
+            answer: answer_of(*does),
+        })?;
+        col = col.saturating_add(1);
+    }
+    Ok(entries)
+}
+
+/// The report on a list of entries.
+fn report_on(alloc: Global, entries: &[Entry]) -> Result<Vec<u8>, Memory> {
+    let mut watch = RaceWatch::new(alloc);
+    for entry in entries {
+        watch.see(entry)?;
+    }
+    let mut out = Vec::new(alloc);
+    watch.report(&mut out)?;
+    Ok(out)
+}
+
+fn reported(alloc: Global, case: &Case) -> Result<Vec<u8>, Memory> {
+    let entries = entries_of(alloc, case.told)?;
+    report_on(alloc, &entries)
+}
+
+#[test]
+fn races_are_told(rt: HostRuntime) -> Result<(), Fail> {
+    for case in CASES {
+        let report = reported(rt.alloc(), case)?;
+        assert!(rt;
+            report.as_slice() == case.report.as_bytes(),
+            "{}",
+            case.about
+        );
+    }
+    Ok(())
+}
+
+#[test]
+fn races_have_numbers(rt: HostRuntime) -> Result<(), Fail> {
+    let entries = entries_of(rt.alloc(), CASES[0].told)?;
+    let numbers = told_races(rt.alloc(), &entries)?;
+    assert!(rt; numbers.as_slice() == [1, 2].as_slice());
+    Ok(())
+}
+
+#[test]
+fn watcher_has_its_kind(rt: HostRuntime) {
+    assert_eq!(rt; RaceWatch::new(rt.alloc()).kind(), 2);
+}
