@@ -6,6 +6,8 @@ use Rattle.ti_io.specs.Source.{IsMissing, SameFiles}
 use Rattle.ti_io.specs.Sink.{SinkState, GrewBy, GrewByFront}
 use Rattle.ti_lang.specs.Program.Classes.{NumberedProgram}
 use Rattle.ti_lang.specs.Meaning.Determinacy.{Determines}
+use Rattle.ti_lang.specs.Meaning.Races.{races}
+use Rattle.ti_lang.specs.Meaning.Spots.{races_told}
 use Rattle.ti_lang.specs.Meaning.Processes.{Setting}
 use Rattle.ti_lang.specs.Meaning.Runs.{AllEnded, IsRun, IsSolo, IsComplete as IsCompleteRun, none}
 use Rattle.ti_align.specs.Alignment.{IsAligned}
@@ -130,9 +132,16 @@ no_count job c gone unowed unfaulted = record {
   unrun = λ _. gone;
 }
 
--- where nothing was run, no process has its end
+-- where nothing was run, nothing stands in a race
+no_races : (c : Call) → c.history ≡ [] → races_told c.history ≡ races c.history
+no_races c no_entry = subst (λ (h : List Entry). races_told h ≡ races h) (sym no_entry) refl
+
+-- and no process has its end
 nothing_determined : (job : Job) (c : Call) → 1 ≤ job.procs → c.history ≡ [] → IsDeterminate job c
-nothing_determined job c some no_entry = λ _ program _ ended _. absurd (unbegun (run_of program job) some (inr (subst (λ h. AllEnded (run_of program job) h) no_entry ended)))
+nothing_determined job c some no_entry = record {
+  followed = λ _ program _ ended _. absurd (unbegun (run_of program job) some (inr (subst (λ h. AllEnded (run_of program job) h) no_entry ended)));
+  told = no_races c no_entry;
+}
 
 -- where nothing was run, no fault is last
 no_fault_of_nothing : (c : Call) (fault : Fault) → c.history ≡ [] → EndsWithFault c.history fault → ⊥
@@ -208,7 +217,7 @@ clauses_refused refusal job c from whole refused = let x = refused.nothing in re
     done = λ _ program has. absurd (refused.no_program program has);
     faulted = λ _ program has. absurd (refused.no_program program has);
   };
-  determinacy = λ _ program has. absurd (refused.no_program program has);
+  determinacy = record { followed = λ _ program has. absurd (refused.no_program program has); told = no_races c x.no_entry };
   end = record {
     ended = λ _ _ program has. absurd (refused.no_program program has);
     fault_only_where = λ is. absurd (never (Refused refusal) c 2 from (λ e. omega arith) (λ e. omega arith) is);
@@ -385,7 +394,10 @@ clauses_ran before job c mode command from whole x =
         done = λ _ p has. subst IsAligned (sym (only p has)) x.compiled.aligned;
         faulted = λ _ p has. subst IsAligned (sym (only p has)) x.compiled.aligned;
       };
-      determinacy = λ _ p has. subst (λ (q : NumberedProgram). Determines (run_of q job) c.history) (sym (only p has)) says.determines;
+      determinacy = record {
+        followed = λ _ p has. subst (λ (q : NumberedProgram). Determines (run_of q job) c.history) (sym (only p has)) says.determines;
+        told = says.told;
+      };
       end = record {
         ended = λ is _ p has. subst (λ q. AllEnded (run_of q job) c.history) (sym (only p has)) (says.ended (done_at before c from is));
         fault_only_where = λ is. let f = faulted_at before c from is in (mode, (f.0, says.faulted f.0 f.1));
@@ -486,7 +498,7 @@ clauses_checked job c command mode from whole x =
           (λ is. absurd (never Done c 2 from (λ e. omega arith) (λ e. omega arith) is))
           (λ is. absurd (never Done c 6 from (λ e. omega arith) (λ e. omega arith) is)) x.nothing;
       alignment = record { done = λ _. aligned; faulted = λ _. aligned };
-      determinacy = λ run. absurd (run_or_check job.mode run mode);
+      determinacy = record { followed = λ run. absurd (run_or_check job.mode run mode); told = no_races c x.nothing.no_entry };
       end = record {
         ended = λ _ run. absurd (run_or_check job.mode run mode);
         fault_only_where = λ is. absurd (never Done c 2 from (λ e. omega arith) (λ e. omega arith) is);
@@ -545,7 +557,7 @@ clauses_coded before job c command mode either from whole x =
         no_memory = λ is. absurd (other 6 (λ e. omega arith) (λ e. omega arith) is);
       };
       alignment = record { done = λ _. aligned; faulted = λ _. aligned };
-      determinacy = λ run. absurd (run_or_code job.mode run mode);
+      determinacy = record { followed = λ run. absurd (run_or_code job.mode run mode); told = no_races c x.no_entry };
       end = record {
         ended = λ _ run. absurd (run_or_code job.mode run mode);
         fault_only_where = λ is. absurd (other 2 (λ e. omega arith) (λ e. omega arith) is);

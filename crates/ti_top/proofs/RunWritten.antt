@@ -9,6 +9,8 @@ use Rattle.ti_lang.specs.Program.Classes.{NumberedProgram}
 use Rattle.ti_lang.specs.Meaning.Processes.{Setting}
 use Rattle.ti_lang.specs.Meaning.Histories.{has_fault}
 use Rattle.ti_lang.specs.Meaning.Determinacy.{Determines}
+use Rattle.ti_lang.specs.Meaning.Races.{races}
+use Rattle.ti_lang.specs.Meaning.Spots.{races_told}
 use Rattle.ti_lang.specs.Meaning.Runs.{IsComplete, IsRun, IsSolo, AllEnded}
 use Rattle.ti_lower.specs.Programs.{program_code}
 use Rattle.ti_runtime.specs.Ran.{IsDone}
@@ -164,11 +166,12 @@ pub record IsByCode (p : NumberedProgram) (job : Job) (ended : Ending) (k : Kept
   pub counted_at_fault : (fault : Fault) → ended ≡ Faulted fault → IsDone (program_code p) (run_of p job) k.history k.done
 
 -- the run of a program, and what was written of it
-pub run_says : (ended : Ending) (p : NumberedProgram) (job : Job) (ws : List Watcher) (s0 s1 : SinkState) (kept : Kept) (ending : Ending) → Runs job.mode → IsRun (run_of p job) kept.history → IsSolo (run_of p job) kept.history → Determines (run_of p job) kept.history → RunEnds (run_of p job) kept.history ended → IsByCode p job ended kept → WroteRun ended (head_after job.mode ended p kept.history) ws kept.history s0 s1 ending → RunSays p job ws s0 s1 kept ending
-run_says ended p job ws s0 s1 kept ending runs run solo determines ends by wrote = record {
+pub run_says : (ended : Ending) (p : NumberedProgram) (job : Job) (ws : List Watcher) (s0 s1 : SinkState) (kept : Kept) (ending : Ending) → Runs job.mode → IsRun (run_of p job) kept.history → IsSolo (run_of p job) kept.history → Determines (run_of p job) kept.history → races_told kept.history ≡ races kept.history → RunEnds (run_of p job) kept.history ended → IsByCode p job ended kept → WroteRun ended (head_after job.mode ended p kept.history) ws kept.history s0 s1 ending → RunSays p job ws s0 s1 kept ending
+run_says ended p job ws s0 s1 kept ending runs run solo determines told ends by wrote = record {
   run = run;
   solo = solo;
   determines = determines;
+  told = told;
   ended = λ is. (done is).0;
   no_fault = λ is. (done is).1;
   faulted = λ fault is. subst (RunEnds s h) (ending_is ended ending (Faulted fault) wrote.known is (λ e. let x = e in cc) (λ e. let x = e in cc)) ends;

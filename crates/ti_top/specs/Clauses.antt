@@ -5,6 +5,8 @@ use Rattle.ti_io.specs.Source.{SameFiles, IsMissing, Holds}
 use Rattle.ti_io.specs.Sink.{IsFront, GrewBy, GrewByFront}
 use Rattle.ti_lang.specs.Program.Classes.{NumberedProgram}
 use Rattle.ti_lang.specs.Meaning.Determinacy.{Determines}
+use Rattle.ti_lang.specs.Meaning.Races.{races}
+use Rattle.ti_lang.specs.Meaning.Spots.{races_told}
 use Rattle.ti_lang.specs.Meaning.Runs.{AllEnded, IsRun, IsSolo, IsComplete as IsCompleteRun}
 use Rattle.ti_align.specs.Alignment.{IsAligned}
 use Rattle.ti_code.specs.Follows.{Follows}
@@ -170,9 +172,11 @@ pub record IsAlignedRun (c : Call) : Type 0 where
   pub faulted : c.status ≡ 2 → (program : NumberedProgram) → HasProgram c.text program → IsAligned program
 
 -- Determinacy: where the program is run, all processes have their end and nothing in the history stands in a race, what each process does in
--- every run of the program, by as many processes with as many ticks each, is a front of what it does in the history.
-abbrev pub IsDeterminate : Job → Call → Type 0
-IsDeterminate job c = Runs job.mode → (program : NumberedProgram) → HasProgram c.text program → Determines (run_of program job) c.history
+-- every run of the program, by as many processes with as many ticks each, is a front of what it does in the history. What stands in a race is
+-- what the report on the history alone lists.
+pub record IsDeterminate (job : Job) (c : Call) : Type 0 where
+  pub followed : Runs job.mode → (program : NumberedProgram) → HasProgram c.text program → Determines (run_of program job) c.history
+  pub told : races_told c.history ≡ races c.history
 
 -- The end: where the text is run, all processes have their end with status 0, and status 2 says that the last entry is a fault,
 -- which the line on err names with its process and place; status 6 never comes with a complete history, unless a watcher is wanted.

@@ -4,6 +4,8 @@ ghost use Rattle.ti_align.specs.Alignment.{IsAligned};
 ghost use Rattle.ti_code.specs.Follows.{Follows};
 ghost use Rattle.ti_lang.specs.Meaning.Determinacy.{Determines};
 ghost use Rattle.ti_lang.specs.Meaning.Processes.{Setting};
+ghost use Rattle.ti_lang.specs.Meaning.Races.{races};
+ghost use Rattle.ti_lang.specs.Meaning.Spots.{races_told};
 ghost use Rattle.ti_lang.specs.Program.Views.{program_of};
 ghost use Rattle.ti_lower.specs.Programs.{program_code};
 ghost use Rattle.ti_runtime.specs.Ran.{Ran};
@@ -25,12 +27,13 @@ use crate::reading::{ReadEnd, read_whole};
 use crate::reports::{ReportEnd, keep_wanted, write_reports};
 use crate::run_line::RunLine;
 use std::alloc::Global;
+use ti_align::actions_formed;
 use ti_base::{Entry, Memory};
 use ti_code::Code;
 use ti_gen::gen_source;
 use ti_io::{Sink, Source};
 use ti_lower::lower;
-use ti_race::determinate;
+use ti_race::{determinate, races_are_told};
 use ti_rules::Checked;
 use ti_runtime::{How, RunEnd, run};
 use ti_watch::Watch;
@@ -113,14 +116,17 @@ fn report_after<K: Sink>(
     }
 }
 
-// Runs a program by its code. Where nothing in the run stands in a race, it decides every other run.
+// Runs a program by its code. Where nothing in the run stands in a race, it decides every other run; what does is told by the entries alone.
 fn run_by_code(alloc: Global, job: &Job, checked: &Checked, code: &Code) -> RunEnd
     requires within { IsWithin job.now.procs job.now.fuel }
     requires aligned { IsAligned (program_of checked.now.program.parts) }
     requires follows { Follows code.now (program_of checked.now.program.parts) }
     ensures ran { Ran code.now (run_of (program_of checked.now.program.parts) job.now) result }
     ensures determines { Determines (run_of (program_of checked.now.program.parts) job.now) result.history.items }
+    ensures told { races_told result.history.items ≡ races result.history.items }
 {
+    actions_formed(checked);
+    races_are_told();
     let end = run(alloc, checked, code, job.procs, job.fuel);
     determinate(&checked.program, job.procs, job.fuel, &end.history);
     end

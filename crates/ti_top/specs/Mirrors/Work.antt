@@ -10,6 +10,8 @@ use Rattle.ti_lang.specs.Program.Classes.{NumberedProgram}
 use Rattle.ti_lang.specs.Meaning.Histories.{has_fault}
 use Rattle.ti_lang.specs.Meaning.Determinacy.{Determines}
 use Rattle.ti_lang.specs.Meaning.Lines.{lines_of}
+use Rattle.ti_lang.specs.Meaning.Races.{races}
+use Rattle.ti_lang.specs.Meaning.Spots.{races_told}
 use Rattle.ti_lang.specs.Meaning.Runs.{AllEnded, IsComplete, IsRun, IsSolo}
 use Rattle.ti_top.specs.declared.fault.Fault.{Fault}
 use Rattle.ti_top.specs.declared.kept.Kept.{Kept as KeptHere}
@@ -116,6 +118,7 @@ pub record RunSays (program : NumberedProgram) (job : Job) (watchers : List Watc
   pub run : IsRun (run_of program job) kept.history
   pub solo : IsSolo (run_of program job) kept.history
   pub determines : Determines (run_of program job) kept.history
+  pub told : races_told kept.history ≡ races kept.history
   pub ended : ending ≡ Done → AllEnded (run_of program job) kept.history
   pub no_fault : ending ≡ Done → has_fault kept.history ≡ false
   pub faulted : (fault : Fault) → ending ≡ Faulted fault → EndsWithFault kept.history fault

@@ -17,7 +17,7 @@ returns-in-Ok g c =
     let ends = c.ending_of-ended.ensures (run_of program job) ran in
     let kept : Kept = record { code = Some c.args.ready.code; history = c.run_by_code-end.result.history.items; done = c.run_by_code-end.result.done.items } in
     said_of program job _ _ _ kept _ _ c.kept_of_run.ensures
-    (run_says c.ending_of-ended.result program job _ _ _ kept c.report_after.result c.requires.mode ran.run ran.solo c.run_by_code-end.ensures.determines ends
+    (run_says c.ending_of-ended.result program job _ _ _ kept c.report_after.result c.requires.mode ran.run ran.solo c.run_by_code-end.ensures.determines c.run_by_code-end.ensures.told ends
     (by_code program job c.ending_of-ended.result c.args.ready.code c.run_by_code-end.result kept c.requires.code c.requires.follows ran ends refl)
     (wrote_all _ _ _ _ _ _ _ _ _ (rw c.deref.ensures.value at c.in-Ok.ensures) (rw c.deref-in-Ok.ensures.value at c.report_after.ensures)))
 
@@ -29,6 +29,6 @@ returns-in-Err g c =
     let ends = c.ending_of-ended.ensures (run_of program job) ran in
     let kept : Kept = record { code = Some c.args.ready.code; history = c.run_by_code-end.result.history.items; done = c.run_by_code-end.result.done.items } in
     said_of program job _ _ _ kept _ _ c.kept_of_run-in-Err.ensures
-    (run_says c.ending_of-ended.result program job _ _ _ kept _ c.requires.mode ran.run ran.solo c.run_by_code-end.ensures.determines ends
+    (run_says c.ending_of-ended.result program job _ _ _ kept _ c.requires.mode ran.run ran.solo c.run_by_code-end.ensures.determines c.run_by_code-end.ensures.told ends
     (by_code program job c.ending_of-ended.result c.args.ready.code c.run_by_code-end.result kept c.requires.code c.requires.follows ran ends refl)
     (wrote_cut _ _ _ _ _ _ _ (rw c.deref.ensures.value at c.in-Err.ensures)))
