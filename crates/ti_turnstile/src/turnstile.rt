@@ -1,0 +1,270 @@
+// The turnstile, its passes, and a pass that is inside.
+
+ghost use Rattle.std.specs.Prelude.{◌≡◌, ℕ, ◌<◌, ◌+◌, [], ◌∷◌, length, drop, IsTrue, false, Some, IfOk};
+ghost use Rattle.ti_turnstile.specs.Passes.{GrownBy, IsLegal};
+ghost use Rattle.ti_turnstile.specs.Parts.{number_in, seen_in};
+ghost use Rattle.ti_turnstile.specs.MirrorsViews.{IsPass, IsInside, Entered, HasValue, carried_log, inside, outside, view, fresh};
+
+use crate::kept::Kept;
+use crate::law::{Both, Cut, Enter, Law, Leave, See};
+use crate::view::View;
+use atomic_table::{Seat, Table};
+use crossbeam_utils::Backoff;
+use std::alloc::Global;
+use std::sync::Wait;
+use ti_base::Memory;
+
+/// Keeps one value, with which one pass at a time is inside.
+///
+/// Contracts see which turnstile it is (`identity_of`) and how many passes it has (`passes_of`).
+#[derive(Drop)]
+pub struct Turnstile<V: Kept> {
+    table: Table<Option<V>, View<V::Item>, u32, Law<V>, Global>,
+    ghost shape: { (table.shared.table_id.words ≡ 2) × (table.shared.table_id.slots ≡ 1) × (0 < table.shared.key) },
+}
+
+/// The right to go in, under a number.
+///
+/// Contracts see its turnstile, its number, and how much of the value's log it has seen (`turnstile_of`,
+/// `number_of`, `seen_by`).
+#[derive(Drop)]
+pub struct Pass<V: Kept> {
+    seat: Seat<Option<V>, View<V::Item>>,
+    ghost is_pass: { IsPass seat.me },
+}
+
+// A seat that is inside, and has emptied the slot.
+pub struct Place<V: Kept> {
+    seat: Seat<Option<V>, View<V::Item>>,
+    ghost is_inside: { IsInside seat.me },
+}
+
+/// A pass that is inside, with the value.
+///
+/// Contracts see its turnstile, its number, the value, and the log that the value had on entering
+/// (`turnstile_around`, `number_inside`, `value_inside`, `found_inside`).
+pub struct Inside<V: Kept> {
+    place: Place<V>,
+    value: V,
+}
+
+impl<V: Kept> Inside<V> {
+    ghost use Rattle.std.specs.Borrow.{sem, follows};
+    ghost use Rattle.ti_turnstile.specs.contracts.turnstile.Inside.{the_row};
+    ghost use Rattle.ti_turnstile.specs.Turnstiles.{value_inside, with_value};
+
+    /// The value, to read and to change.
+    pub fn value(&mut self) -> &mut V
+        ensures* writes_back { sem 𝓛 (follows (the_row V.row V.Item.row V.Kept) V.row self.entry.ghost_name result.ghost_name (with_value self.old)) }
+        ensures value { result.now ≡ value_inside self.old }
+    {
+        &mut self.value
+    }
+}
+
+impl<V: Kept> Turnstile<V> {
+    ghost use Rattle.ti_turnstile.specs.Turnstiles.{identity_of, passes_of, turnstile_of, number_of, seen_by, turnstile_around, number_inside, value_inside, found_inside, AreNew, AreOf, AreLegal, OneHasSeen, AreAll, AreDistinct, part_of};
+
+    /// A turnstile for so many passes, which have the numbers from 0 on and have seen nothing.
+    pub fn new(alloc: Global, n: u32, value: V) -> Result<(Turnstile<V>, Vec<Pass<V>>), Memory>
+    where
+        V: Drop,
+        requires some_pass { 0 < n }
+        requires empty { V.log value ≡ [] }
+        ensures passes { IfOk result (λ r. passes_of r.0 ≡ n) }
+        ensures all { IfOk result (λ r. length r.1.items ≡ n) }
+        ensures new { IfOk result (λ r. AreNew (identity_of r.0) r.1.items) }
+    {
+        let mut slots = Vec::with_capacity(alloc, 1)?;
+        slots.push(Some(value))?;
+        let Ok((table, mut dealer)) = Table::new(alloc, &[0, 0], slots, &n) else {
+            return Err(Memory);
+        };
+        let turnstile = Turnstile { table };
+        let passes = turnstile.cut_passes(alloc, &mut dealer, n)?;
+        Ok((turnstile, passes))
+    }
+
+    // The next of the passes that the dealer has.
+    fn cut(&self, dealer: &mut Seat<Option<V>, View<V::Item>>) -> Pass<V>
+        requires table { dealer.old.table_id ≡ identity_of self.now }
+        requires dealer { (i : ℕ) × (m : ℕ) × (dealer.old.me.0 ≡ view false (fresh i (m + 1))) × (dealer.old.me.1 ≡ []) }
+        ensures table { (dealer.new.table_id ≡ dealer.old.table_id) × (result.seat.table_id ≡ dealer.old.table_id) }
+        ensures left { dealer.new.me ≡ (view false (drop 1 dealer.old.me.0.parts), []) }
+        ensures right { result.seat.me ≡ (outside (number_in dealer.old.me) [], []) }
+    {
+        let seat = self.table.shared.split_seat::<Cut>(dealer);
+        Pass { seat }
+    }
+
+    // All passes that the dealer has.
+    fn cut_passes(
+        &self,
+        alloc: Global,
+        dealer: &mut Seat<Option<V>, View<V::Item>>,
+        n: u32,
+    ) -> Result<Vec<Pass<V>>, Memory>
+        requires table { dealer.old.table_id ≡ identity_of self.now }
+        requires dealer { dealer.old.me ≡ (view false (fresh 0 n), []) }
+        ensures { IfOk result (λ ps. (length ps.items ≡ n) × AreNew (identity_of self.now) ps.items) }
+    {
+        let mut passes = Vec::with_capacity(alloc, n as usize)?;
+        for _i in 0..n {
+            passes.push(self.cut(dealer))?;
+        }
+        Ok(passes)
+    }
+
+    // Whether the seat is inside now: it is where nobody else was.
+    fn try_in(&self, seat: &mut Seat<Option<V>, View<V::Item>>) -> bool
+        requires table { seat.old.table_id ≡ identity_of self.now }
+        requires pass { IsPass seat.old.me }
+        ensures table { seat.new.table_id ≡ seat.old.table_id }
+        ensures entered { IsTrue result → Entered V.log seat.old.me seat.new.me }
+        ensures same { result ≡ false → seat.new.me ≡ seat.old.me }
+    {
+        let found = self
+            .table
+            .shared
+            .compare_exchange::<Enter<V>>(seat, 0, 0, 1);
+        found == 0
+    }
+
+    /// Goes in, once nobody else is inside. So it may wait.
+    ///
+    /// The value's log begins with all that the pass had seen, and what it holds of the pass's number are the
+    /// items that this pass added.
+    pub fn enter<R: Wait>(&self, rt: &R, pass: Pass<V>) -> Inside<V>
+        requires turnstile { turnstile_of pass ≡ identity_of self.now }
+        ensures turnstile { turnstile_around result ≡ turnstile_of pass }
+        ensures number { number_inside result ≡ number_of pass }
+        ensures found { found_inside result ≡ V.log (value_inside result) }
+        ensures legal { IsLegal (V.log (value_inside result)) (number_of pass) (seen_by pass) }
+    {
+        let Pass { mut seat } = pass;
+        let backoff = Backoff::new();
+        for _ in rt.forever() {
+            if self.try_in(&mut seat) {
+                break;
+            }
+            backoff.snooze();
+        }
+        self.take_value(seat)
+    }
+
+    // Takes the value out of its slot.
+    fn take_value(&self, mut seat: Seat<Option<V>, View<V::Item>>) -> Inside<V>
+        requires table { seat.table_id ≡ identity_of self.now }
+        requires value { HasValue V.log seat.me }
+        ensures table { turnstile_around result ≡ seat.table_id }
+        ensures view { result.place.seat.me.0 ≡ seat.me.0 }
+        ensures log { found_inside result ≡ V.log (value_inside result) }
+    {
+        let Some(value) = self.table.shared.exchange(&mut seat, 0, None) else {
+            unreachable!()
+        };
+        Inside {
+            place: Place { seat },
+            value,
+        }
+    }
+
+    // Puts the value back into its slot.
+    fn put_value(&self, inside: Inside<V>) -> Seat<Option<V>, View<V::Item>>
+        requires { turnstile_around inside ≡ identity_of self.now }
+        ensures table { result.table_id ≡ turnstile_around inside }
+        ensures view { result.me.0 ≡ inside.place.seat.me.0 }
+        ensures slot { result.me.1 ≡ (0, Some (value_inside inside)) ∷ [] }
+    {
+        let Inside { place, value } = inside;
+        let Place { mut seat } = place;
+        match self.table.shared.exchange(&mut seat, 0, Some(value)) {
+            None => seat,
+            Some(_) => unreachable!(),
+        }
+    }
+
+    // The seat takes in the log of the value that stands in its slot.
+    fn see(&self, seat: &mut Seat<Option<V>, View<V::Item>>, hint: u64)
+        requires table { seat.old.table_id ≡ identity_of self.now }
+        requires value { (x : _) × (seat.old.me.0 ≡ inside (number_in seat.old.me) (seen_in seat.old.me)) × (seat.old.me.1 ≡ (0, Some x) ∷ []) × GrownBy (number_in seat.old.me) (seen_in seat.old.me) (V.log x) }
+        ensures table { seat.new.table_id ≡ seat.old.table_id }
+        ensures view { seat.new.me.0 ≡ inside (number_in seat.old.me) (carried_log V.log seat.old.me.1) }
+        ensures slot { seat.new.me.1 ≡ seat.old.me.1 }
+    {
+        self.table.shared.store::<See<V>>(seat, 1, hint);
+    }
+
+    // Frees the word, so that another seat may go in.
+    fn go_out(&self, seat: &mut Seat<Option<V>, View<V::Item>>)
+        requires table { seat.old.table_id ≡ identity_of self.now }
+        requires value { (x : _) × (seat.old.me.0 ≡ inside (number_in seat.old.me) (V.log x)) × (seat.old.me.1 ≡ (0, Some x) ∷ []) }
+        ensures table { seat.new.table_id ≡ seat.old.table_id }
+        ensures view { seat.new.me.0 ≡ outside (number_in seat.old.me) (seen_in seat.old.me) }
+        ensures slot { seat.new.me.1 ≡ [] }
+    {
+        self.table.shared.store::<Leave<V>>(seat, 0, 0);
+    }
+
+    /// Goes out. The value's log has grown by items of the pass's number alone, and the pass has seen it whole.
+    pub fn leave(&self, inside: Inside<V>) -> Pass<V>
+        requires turnstile { turnstile_around inside ≡ identity_of self.now }
+        requires grown { GrownBy (number_inside inside) (found_inside inside) (V.log (value_inside inside)) }
+        ensures turnstile { turnstile_of result ≡ turnstile_around inside }
+        ensures number { number_of result ≡ number_inside inside }
+        ensures seen { seen_by result ≡ V.log (value_inside inside) }
+    {
+        let hint = inside.value.len() as u64;
+        let mut seat = self.put_value(inside);
+        self.see(&mut seat, hint);
+        self.go_out(&mut seat);
+        Pass { seat }
+    }
+
+    /// The value, once all passes are back. Its log is legal with each of them.
+    pub fn close(self, mut passes: Vec<Pass<V>>) -> V
+        requires all { length passes.items ≡ passes_of self }
+        requires turnstile { AreOf (identity_of self) passes.items }
+        ensures legal { AreLegal (V.log result) passes.items }
+        ensures whole { OneHasSeen (V.log result) passes.items }
+        ensures all { AreAll (passes_of self) passes.items }
+        ensures distinct { AreDistinct passes.items }
+    {
+        let Some(last) = passes.pop() else {
+            unreachable!()
+        };
+        let Pass { mut seat } = last;
+        while let Some(pass) = passes.pop() {
+            seat = self.joined(pass, seat);
+        }
+        let Turnstile { table } = self;
+        let mut closed = table.close_with(seat);
+        let value = closed.take(0);
+        closed.free();
+        match value {
+            Some(value) => value,
+            None => unreachable!(),
+        }
+    }
+
+    // A seat for the pass and for all that the other one stands for.
+    fn joined(
+        &self,
+        pass: Pass<V>,
+        other: Seat<Option<V>, View<V::Item>>,
+    ) -> Seat<Option<V>, View<V::Item>>
+        requires table { (turnstile_of pass ≡ identity_of self.now) × (other.table_id ≡ identity_of self.now) }
+        requires other { other.me ≡ (view false other.me.0.parts, []) }
+        ensures table { result.table_id ≡ identity_of self.now }
+        ensures both { result.me ≡ (view false (part_of pass ∷ other.me.0.parts), []) }
+    {
+        let Pass { mut seat } = pass;
+        self.table.shared.join_seat::<Both>(&mut seat, other);
+        seat
+    }
+
+    /// A number that changes where the log has grown. It decides nothing.
+    pub fn hint(&self) -> u64 {
+        self.table.shared.peek(1)
+    }
+}
