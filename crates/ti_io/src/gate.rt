@@ -1,0 +1,100 @@
+// What processes pass before they act.
+
+use std::sync::atomic::{AtomicBool, AtomicU32, Ordering};
+use std::thread;
+
+/// What a process passes before each of its actions, outside of all locks. It may hold a process up for a while.
+pub trait Gate {
+    /// The process `p` passes.
+    fn pass(&self, p: u32);
+}
+
+/// A gate that is always open.
+#[derive(Clone, Copy, Debug)]
+pub struct OpenGate;
+
+impl Gate for OpenGate {
+    fn pass(&self, _p: u32) {}
+}
+
+// A process that is held at its second pass.
+#[derive(Drop)]
+struct Held {
+    process: u32,
+    passes: AtomicU32,
+    has_begun: AtomicBool,
+}
+
+impl Held {
+    fn new(process: u32) -> Self {
+        Held {
+            process,
+            passes: AtomicU32::new(0),
+            has_begun: AtomicBool::new(false),
+        }
+    }
+
+    // Counts a pass, and tells whether it is the second.
+    fn is_second(&self) -> bool {
+        self.passes.fetch_add(1, Ordering::SeqCst) == 1
+    }
+
+    // Looks at most so many times whether the second pass has begun.
+    fn begins_within(&self, looks: u64) -> bool {
+        for _ in 0..looks {
+            if self.has_begun.load(Ordering::SeqCst) {
+                return true;
+            }
+            thread::yield_now();
+        }
+        false
+    }
+}
+
+/// Holds the second pass of each of two processes until that of the other has begun, or until it has looked
+/// for it so many times.
+///
+/// So a test tells whether two processes run side by side: where they run in turn, one of them gives up.
+#[derive(Drop)]
+pub struct HoldGate {
+    one: Held,
+    other: Held,
+    limit: u64,
+    has_given_up: AtomicBool,
+}
+
+impl HoldGate {
+    /// Holds these two processes, each for at most `limit` looks at the other.
+    pub fn new(one: u32, other: u32, limit: u64) -> Self {
+        HoldGate {
+            one: Held::new(one),
+            other: Held::new(other),
+            limit,
+            has_given_up: AtomicBool::new(false),
+        }
+    }
+
+    /// Whether one of the two has looked as often as it may.
+    pub fn gave_up(&self) -> bool {
+        self.has_given_up.load(Ordering::SeqCst)
+    }
+
+    fn hold(&self, mine: &Held, theirs: &Held) {
+        if mine.is_second() {
+            mine.has_begun.store(true, Ordering::SeqCst);
+            if !theirs.begins_within(self.limit) {
+                self.has_given_up.store(true, Ordering::SeqCst);
+            }
+        }
+    }
+}
+
+impl Gate for HoldGate {
+    fn pass(&self, p: u32) {
+        if p == self.one.process {
+            self.hold(&self.one, &self.other);
+        } else if p == self.other.process {
+            self.hold(&self.other, &self.one);
+        }
+    }
+}
