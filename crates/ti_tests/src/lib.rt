@@ -2,6 +2,8 @@
 #![tactic(auto)]
 
 #[cfg(test)]
+mod gates;
+#[cfg(test)]
 mod heaps;
 #[cfg(test)]
 mod regions_and_rounds;
@@ -11,5 +13,7 @@ mod reports;
 mod sinks_and_sources;
 #[cfg(test)]
 mod spellings;
+#[cfg(test)]
+mod turnstiles;
 #[cfg(test)]
 mod values;
