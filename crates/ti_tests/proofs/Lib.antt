@@ -1,1 +1,3 @@
+pub mod Dealing
 pub mod HeapCalls
+pub mod Numbers

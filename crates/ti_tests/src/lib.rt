@@ -2,6 +2,8 @@
 #![tactic(auto)]
 
 #[cfg(test)]
+mod gates;
+#[cfg(test)]
 mod heaps;
 #[cfg(test)]
 mod races;
@@ -13,5 +15,7 @@ mod reports;
 mod sinks_and_sources;
 #[cfg(test)]
 mod spellings;
+#[cfg(test)]
+mod turnstiles;
 #[cfg(test)]
 mod values;
