@@ -2,6 +2,7 @@
 
 ghost use Rattle.std.specs.Prelude.{◌≡◌, IsTrue};
 ghost use Rattle.ti_code.specs.JumpRule.{keep_jump_rule};
+ghost use Rattle.ti_code.specs.Forms.{AreFormed};
 
 use crate::instr::Instr;
 use std::marker::Model;
@@ -46,8 +47,8 @@ pub struct MethodCode {
 }
 
 /// The code of a program, which keeps the rule on jumps: from the target of a jump or a Next that doesn't lead forward, up to the next
-/// instruction that takes a tick, no instruction is a jump or a Next. So a process can't go on for ever without a tick. Contracts see
-/// its methods as a list, with the number of the one in which a run begins.
+/// instruction that takes a tick, no instruction is a jump or a Next. So a process can't go on for ever without a tick. Each of its
+/// instructions is in its form. Contracts see its methods as a list, with the number of the one in which a run begins.
 #[derive(Drop)]
 pub struct Code {
     methods: Vec<MethodCode>,
@@ -58,18 +59,20 @@ impl Model for Code {
     ghost use Rattle.std.specs.Prelude.{IsTrue};
     ghost use Rattle.ti_code.specs.Programs.{Code as Methods};
     ghost use Rattle.ti_code.specs.JumpRule.{keep_jump_rule};
+    ghost use Rattle.ti_code.specs.Forms.{AreFormed};
 
     ghost Value = { Methods };
 
     ghost view = { λ code. record { methods = code.methods.items; main = code.main } };
 
-    ghost invariant = { λ code. IsTrue (keep_jump_rule code.methods.items) };
+    ghost invariant = { λ code. IsTrue (keep_jump_rule code.methods.items) × AreFormed code.methods.items };
 }
 
 impl Code {
     /// The code of these methods, of which a run begins in the one of this number; without taking memory.
     pub fn new(methods: Vec<MethodCode>, main: u32) -> Self
-        requires { IsTrue (keep_jump_rule methods.items) }
+        requires rule { IsTrue (keep_jump_rule methods.items) }
+        requires formed { AreFormed methods.items }
         ensures { result ≡ record { methods = methods.items; main = main } }
     {
         Code { methods, main }
@@ -79,6 +82,7 @@ impl Code {
     pub fn methods(&self) -> &[MethodCode]
         ensures methods { result.now ≡ self.now.methods }
         ensures rule { IsTrue (keep_jump_rule result.now) }
+        ensures formed { AreFormed result.now }
     {
         &self.methods
     }

@@ -31,3 +31,4 @@ mod Elementwise
 mod Laid
 pub mod Drafts
 mod Jumping
+mod Constants

@@ -9,3 +9,4 @@ pub mod Naming
 pub mod Growing
 pub mod Walked
 pub mod Jumping
+pub mod Constants

@@ -1,12 +1,15 @@
 pub mod Falling
 pub mod Fieldless
+pub mod Going
 pub mod Numbers
 pub mod Paths
 pub mod PointsAbove
 pub mod Reversed
 pub mod SameRects
 pub mod Sending
+pub mod Striding
 pub mod Teams
 pub mod Tellings
 pub mod Weights
 pub mod Withins
+pub mod Formed

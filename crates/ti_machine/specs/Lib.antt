@@ -6,6 +6,7 @@ pub mod MirrorsMachines
 pub mod MirrorsOperands
 pub mod MirrorsProc
 pub mod MirrorsStanding
+pub mod MirrorsStrides
 pub mod Points
 pub mod Standing
 pub mod Telling

@@ -7,7 +7,6 @@ ghost use Rattle.ti_code.specs.Programs.{Code as Methods};
 ghost use Rattle.ti_code.specs.Machine.{first};
 ghost use Rattle.ti_machine.specs.MirrorsMachines.{machine_of};
 ghost use Rattle.ti_machine.specs.MirrorsGoingOn.{IsWay};
-ghost use Rattle.ti_machine.specs.Standing.{IsFormed};
 
 use crate::desk::{Desk, Hears};
 use crate::machine::{Frame, Machine, Turn};
@@ -46,6 +45,7 @@ impl Machine {
             spent: 0,
             top: Frame { method, desk },
             below: Vec::new(alloc),
+            spare: Vec::new(alloc),
         }
     }
 
@@ -69,18 +69,20 @@ impl Machine {
             spent: 0,
             top: Frame { method, desk },
             below: Vec::new(alloc),
+            spare: Vec::new(alloc),
         })
     }
 
     /// Silent instructions, up to what it has next.
     pub(crate) fn go_on(&mut self, alloc: Global, code: &Code) -> Result<Way, Memory>
-        requires formed { IsFormed code.now }
         requires goes { (n : Shown) × HasNext code.now (machine_of code.now self.old) [] n }
         ensures { IfOk result (λ w. IsWay code.now (machine_of code.now self.old) w (machine_of code.now self.new)) }
     {
         let _rule = code.methods();
         let mut count: u64 = 0;
         'steps: loop {
+            let more = self.hurry(code);
+            count = count.saturating_add(more);
             match self.step(alloc, code)? {
                 Turn::Went => count = count.saturating_add(1),
                 Turn::Stands(next, hears) => return Ok(Way { next, hears, count }),
@@ -96,16 +98,18 @@ impl Machine {
         code: &Code,
         turns: u32,
     ) -> Result<Option<Way>, Memory>
-        requires { IsFormed code.now }
         ensures { IfOk result (λ o. IfSome o (λ w. IsWay code.now (machine_of code.now self.old) w (machine_of code.now self.new))) }
     {
-        for n in 0..turns {
+        let mut count: u64 = 0;
+        for _ in 0..turns {
+            let more = self.hurry(code);
+            count = count.saturating_add(more);
+            if count >= u64::from(turns) {
+                return Ok(None);
+            }
             match self.step(alloc, code)? {
-                Turn::Went => {}
-                Turn::Stands(next, hears) => {
-                    let count = u64::from(n);
-                    return Ok(Some(Way { next, hears, count }));
-                }
+                Turn::Went => count = count.saturating_add(1),
+                Turn::Stands(next, hears) => return Ok(Some(Way { next, hears, count })),
                 Turn::Stuck => return Ok(None),
             }
         }

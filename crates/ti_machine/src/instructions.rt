@@ -2,8 +2,8 @@
 
 ghost use Rattle.std.specs.Prelude.{◌≡◌, ◌+◌, ℕ, List, Option};
 ghost use Rattle.ti_base.specs.Points.{IsDim};
-ghost use Rattle.ti_eval.specs.Forms.{IsFormedValue};
 ghost use Rattle.ti_code.specs.Effects.{Who};
+ghost use Rattle.ti_code.specs.Forms.{IsFormedValue};
 ghost use Rattle.ti_code.specs.declared.instr.Instr.TheVariants as i;
 ghost use Rattle.ti_machine.specs.MirrorsDesks.{spot_of, who, Makes};
 

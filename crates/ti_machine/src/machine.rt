@@ -8,13 +8,14 @@ ghost use Rattle.ti_code.specs.Programs.{Code as Methods};
 ghost use Rattle.ti_code.specs.declared.code.MethodCode.{MethodCode as Method};
 ghost use Rattle.ti_code.specs.declared.instr.Instr.TheVariants as i;
 ghost use Rattle.ti_code.specs.Effects.{Spot};
+ghost use Rattle.ti_code.specs.Forms.{IsFormedInstr};
 ghost use Rattle.ti_code.specs.Machine as seen;
-ghost use Rattle.ti_machine.specs.MirrorsDesks.{spot_of, heard, Made, hears_of, IsFormedInstr};
+ghost use Rattle.ti_machine.specs.MirrorsDesks.{spot_of, heard, Made, hears_of};
 ghost use Rattle.ti_machine.specs.MirrorsInstrs.{stays, instrs_at};
 ghost use Rattle.ti_machine.specs.MirrorsMachines.{machine_of, answered, AsksAt, IsTurn, IsDone, IsWithin, IsEntered};
-ghost use Rattle.ti_machine.specs.Standing.{IsFormed};
 
 use crate::desk::{Desk, Hears};
+use crate::operand::Operand;
 use std::alloc::Global;
 use std::mem;
 use ti_base::{Action, Answer, FaultKind, Memory, Next, Place, Value};
@@ -28,7 +29,8 @@ pub struct Frame {
     pub desk: Desk,
 }
 
-/// A process: which one, the ticks that it may spend and those that it has spent, its innermost call, and those below, the outermost first.
+/// A process: which one, the ticks that it may spend and those that it has spent, its innermost call, and those below, the outermost
+/// first. Beside them it keeps the desks of calls that have returned, whose room the next calls take.
 #[derive(Drop)]
 pub struct Machine {
     pub team: Team,
@@ -36,6 +38,7 @@ pub struct Machine {
     pub spent: u32,
     pub top: Frame,
     pub below: Vec<Frame>,
+    pub spare: Vec<Desk>,
 }
 
 /// What an instruction has made of a process.
@@ -82,6 +85,22 @@ fn hears(instr: &Instr) -> Hears
         Instr::Arrive(_, _) => Hears::Keeps,
         Instr::Depart(_) => Hears::Takes,
         _ => Hears::Pushes,
+    }
+}
+
+// An empty desk, in the room of one that isn't used any more, if there is one.
+fn emptied(alloc: Global, spare: Option<Desk>) -> Desk
+    ensures slots { result.slots.items ≡ [] }
+    ensures stack { result.stack.items ≡ [] }
+    ensures at { result.at ≡ 0 }
+{
+    match spare {
+        Some(desk) => desk.cleared(),
+        None => Desk {
+            at: 0,
+            slots: Vec::new(alloc),
+            stack: Vec::new(alloc),
+        },
     }
 }
 
@@ -143,7 +162,8 @@ impl Machine {
     {
         match self.below.pop() {
             Some(f) => {
-                self.top = f;
+                let done = mem::replace(&mut self.top, f);
+                let _ = self.spare.push(done.desk.cleared());
                 Turn::Went
             }
             None => Turn::Stuck,
@@ -157,7 +177,8 @@ impl Machine {
         let h = self.top.desk.pop()?;
         match self.below.pop() {
             Some(f) => {
-                self.top = f;
+                let done = mem::replace(&mut self.top, f);
+                let _ = self.spare.push(done.desk.cleared());
                 self.top.desk.push(h)?;
                 Ok(Turn::Went)
             }
@@ -165,15 +186,16 @@ impl Machine {
         }
     }
 
-    // A call is entered with these slots.
+    // A call is entered with these slots, and in this room for operands.
     fn enter(
         &mut self,
-        alloc: Global,
         method: usize,
         slots: Vec<Held>,
+        stack: Vec<Operand>,
         at: Place,
         next: usize,
     ) -> Result<Turn, Memory>
+        requires { stack.items ≡ [] }
         ensures { IfOk result (λ t. (c : Methods) (callee : Method) (s : Spot) (own args stack : List Seen)
             → callee.instrs ≡ instrs_at c method → reverse slots.items ≡ reverse args ++ own
             → spot_of self.old.top.desk ≡ record s { stack = stack } → next ≡ s.at + 1
@@ -190,7 +212,7 @@ impl Machine {
         let desk = Desk {
             at: 0,
             slots,
-            stack: Vec::new(alloc),
+            stack,
         };
         let caller = mem::replace(&mut self.top, Frame { method, desk });
         self.below.push(caller)?;
@@ -216,16 +238,21 @@ impl Machine {
             return Ok(Turn::Stuck);
         }
         let callee = &methods[method];
-        let mut slots = self.top.desk.take_args(alloc, u64::from(callee.params))?;
+        let room = emptied(alloc, self.spare.pop());
+        let stack = room.stack;
+        let mut slots = self
+            .top
+            .desk
+            .take_args_into(u64::from(callee.params), room.slots)?;
         if callee.instance {
             let receiver = self.top.desk.pop()?;
             let Some(this) = receiver.thing() else {
                 return Ok(Turn::Stands(Next::Fault(FaultKind::NullRef, at), Hears::Keeps));
             };
             slots.insert(0, Held::plain(Value::Obj(Some(this))))?;
-            return self.enter(alloc, method, slots, at, next);
+            return self.enter(method, slots, stack, at, next);
         }
-        self.enter(alloc, method, slots, at, next)
+        self.enter(method, slots, stack, at, next)
     }
 
     // An instruction.
@@ -255,7 +282,6 @@ impl Machine {
 
     /// Its next instruction.
     pub(crate) fn step(&mut self, alloc: Global, code: &Code) -> Result<Turn, Memory>
-        requires { IsFormed code.now }
         ensures { IfOk result (λ t. IsTurn code.now (seen.turn code.now (machine_of code.now self.old)) t (machine_of code.now self.new)) }
     {
         let methods = code.methods();

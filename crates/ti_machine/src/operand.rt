@@ -4,14 +4,16 @@ ghost use Rattle.std.specs.Prelude.{◌≡◌, IfOk, IfSome};
 ghost use Rattle.ti_base.specs.Points.{IsPoint};
 ghost use Rattle.ti_lang.specs.Meaning.Held.{nothing};
 ghost use Rattle.ti_eval.specs.Frames.{points_above};
+ghost use Rattle.ti_eval.specs.Scalars.{held_of_scalar};
 ghost use Rattle.ti_code.specs.Effects.{one_step as one_step_of, ones as ones_of};
 ghost use Rattle.ti_machine.specs.MirrorsOperands.{Took};
 ghost use Rattle.ti_machine.specs.Points.{from_point};
 
+use crate::pieces::scalar_in;
 use std::alloc::Global;
 use std::marker::Model;
 use ti_base::{Memory, Point, Value};
-use ti_eval::{Held, next_above};
+use ti_eval::{Held, Scalar, next_above};
 
 /// An operand: a value or a domain as it is, or the points of a domain that are above one of them.
 #[derive(Drop)]
@@ -84,6 +86,16 @@ impl Operand {
         match self.kept {
             Kept::Whole(h) => Ok(h),
             Kept::Above(_, _) => Err(Memory),
+        }
+    }
+
+    /// The number or the boolean that it is, as far as that is seen at once.
+    pub(crate) fn scalar(&self) -> Option<Scalar>
+        ensures { IfSome result (λ s. held_of_scalar s ≡ self.now) }
+    {
+        match &self.kept {
+            Kept::Whole(h) => scalar_in(h),
+            Kept::Above(_, _) => None,
         }
     }
 

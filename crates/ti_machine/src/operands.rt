@@ -58,7 +58,16 @@ impl Desk {
         ensures args { IfOk result (λ v. v.items ≡ taken n (spot_of self.old).stack []) }
         ensures rest { IfOk result (λ _. spot_of self.new ≡ record (spot_of self.old) { stack = under n (spot_of self.old).stack }) }
     {
-        let mut args = Vec::new(alloc);
+        self.take_args_into(n, Vec::new(alloc))
+    }
+
+    /// The same, into this room.
+    pub(crate) fn take_args_into(&mut self, n: u64, room: Vec<Held>) -> Result<Vec<Held>, Memory>
+        requires { room.items ≡ [] }
+        ensures args { IfOk result (λ v. v.items ≡ taken n (spot_of self.old).stack []) }
+        ensures rest { IfOk result (λ _. spot_of self.new ≡ record (spot_of self.old) { stack = under n (spot_of self.old).stack }) }
+    {
+        let mut args = room;
         for k in 0..n {
             let h = self.pop()?;
             args.push(h)?;

@@ -1,7 +1,8 @@
 // All instructions that stay in their frame.
 
 ghost use Rattle.std.specs.Prelude.{◌≡◌, ◌+◌, ℕ, List, Option, true};
-ghost use Rattle.ti_machine.specs.MirrorsDesks.{spot_of, who, Makes, IsFormedInstr};
+ghost use Rattle.ti_code.specs.Forms.{IsFormedInstr};
+ghost use Rattle.ti_machine.specs.MirrorsDesks.{spot_of, who, Makes};
 ghost use Rattle.ti_machine.specs.MirrorsInstrs.{stays};
 
 use crate::desk::Desk;

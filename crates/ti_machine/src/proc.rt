@@ -3,7 +3,7 @@
 ghost use Rattle.std.specs.Prelude.{◌≡◌, ◌<◌, ◌^◌, [], ◌∷◌, ◌++◌, true, false, IfOk, IfErr, IsOk, IfSome};
 ghost use Rattle.std.specs.Option.{option_map_or};
 ghost use Rattle.ti_eval.specs.Forms.{IsFormedAnswer};
-ghost use Rattle.ti_machine.specs.Standing.{is_act, HasNext, GoesOn, HasFinished, IsFormed};
+ghost use Rattle.ti_machine.specs.Standing.{is_act, HasNext, GoesOn, HasFinished};
 
 use crate::desk::Hears;
 use crate::machine::Machine;
@@ -96,7 +96,6 @@ impl Proc {
     /// After want of memory it isn't used further: each later call wants memory too.
     pub fn advance(&mut self, alloc: Global, code: &Code) -> Result<Next, Memory>
         requires code { code.now ≡ self.old.code }
-        requires formed { IsFormed code.now }
         requires goes { GoesOn self.old }
         ensures next { IfOk result (λ n. HasNext self.old n) }
         ensures standing { IfOk result (λ n. self.new ≡ record self.old { asks = is_act n }) }
@@ -124,7 +123,6 @@ impl Proc {
         turns: u32,
     ) -> Result<Option<Next>, Memory>
         requires code { code.now ≡ self.old.code }
-        requires formed { IsFormed code.now }
         ensures next { IfOk result (λ o. IfSome o (λ n. HasNext self.old n)) }
         ensures standing { IfOk result (λ o. self.new ≡ record self.old { asks = option_map_or is_act o false }) }
         ensures memory { IfErr result (λ _. self.new ≡ record self.old { asks = false }) }

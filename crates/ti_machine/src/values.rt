@@ -24,8 +24,8 @@ use ti_lang::program::Ty;
 use ti_lang::typing::BuiltIn;
 use ti_syntax::tree::{BinaryOperator, UnaryOperator};
 
-// The operator of the language that a name means.
-fn operator(o: Operation) -> BinaryOperator
+/// The operator of the language that a name means.
+pub(crate) fn operator(o: Operation) -> BinaryOperator
     ensures { result ≡ operator_of o }
 {
     match o {

@@ -1,38 +1,31 @@
-// Where a process stands behind a history, by the trees of its program.
+// A process over the trees of its program, led along a history.
 
-ghost use Rattle.std.specs.Prelude.{◌≡◌, ◌<◌, ◌^◌, IfOk, IfSome};
+ghost use Rattle.std.specs.Prelude.{◌≡◌, ◌<◌, ◌^◌, IfOk};
 ghost use Rattle.ti_lang.specs.Program.Views.{program_of};
-ghost use Rattle.ti_eval.specs.Forms.{IsFormedAnswer};
 
-use crate::forms::formed;
+use crate::course::{Course, Limits, Stray, fits, told};
 use std::alloc::Global;
-use ti_base::{Action, Answer, Entry, Memory, Next};
+use ti_base::{Entry, Next};
 use ti_exec::TreeProc;
 use ti_rules::Checked;
 
-/// How many processes a program has, and how many ticks each of them.
-#[derive(Clone, Copy)]
-pub(crate) struct Limits {
-    pub procs: u32,
-    pub fuel: u32,
-}
-
-/// What the process of an entry is told: nothing of an end or a fault.
-pub(crate) fn told(entry: &Entry) -> Option<Answer>
-    ensures { IfSome result IsFormedAnswer }
-{
-    match entry.act {
-        Action::End | Action::Fault { .. } => None,
-        _ => formed(entry.answer),
-    }
-}
-
-/// The process goes on over an entry of its own.
-fn go_on(alloc: Global, c: &Checked, process: &mut TreeProc, entry: &Entry) -> Result<(), Memory>
+/// The process takes an entry of its own; else the error is what it has next in place of that.
+fn take(
+    alloc: Global,
+    c: &Checked,
+    process: &mut TreeProc,
+    entry: &Entry,
+) -> Result<(), Option<Next>>
     requires { program_of c.now.program.parts ≡ program_of process.old.program }
     ensures { IfOk result (λ _. program_of c.now.program.parts ≡ program_of process.new.program) }
 {
-    if let Next::Act(_, _) = process.advance(alloc, c)? {
+    let Ok(next) = process.advance(alloc, c) else {
+        return Err(None);
+    };
+    if !fits(next, entry) {
+        return Err(Some(next));
+    }
+    if let Next::Act(_, _) = next {
         if let Some(answer) = told(entry) {
             process.answer(answer);
         }
@@ -40,22 +33,32 @@ fn go_on(alloc: Global, c: &Checked, process: &mut TreeProc, entry: &Entry) -> R
     Ok(())
 }
 
-/// What a process has next behind its entries in a history.
-pub(crate) fn next_by_trees(
+/// A process over trees takes its entries of a history.
+pub(crate) fn follow(
     alloc: Global,
     c: &Checked,
     limits: Limits,
     number: u32,
     history: &[Entry],
-) -> Result<Next, Memory>
+) -> Result<Course, Stray>
     requires number { number < 2 ^ 31 }
     requires procs { limits.procs < 2 ^ 31 }
 {
-    let mut process = TreeProc::start(alloc, c, number, limits.procs, limits.fuel)?;
-    for entry in history {
+    let Ok(mut process) = TreeProc::start(alloc, c, number, limits.procs, limits.fuel) else {
+        return Err(Stray {
+            entry: 0,
+            next: None,
+        });
+    };
+    let mut entries = 0usize;
+    for (n, entry) in history.iter().enumerate() {
         if entry.proc == number {
-            go_on(alloc, c, &mut process, entry)?;
+            match take(alloc, c, &mut process, entry) {
+                Ok(()) => entries = entries.wrapping_add(1),
+                Err(next) => return Err(Stray { entry: n, next }),
+            }
         }
     }
-    process.advance(alloc, c)
+    let next = process.advance(alloc, c).ok();
+    Ok(Course { entries, next })
 }

@@ -1,22 +1,21 @@
-// The run of a program by trees against its code.
+// The run of a program by its code against its trees.
 
 ghost use Rattle.std.specs.Prelude.{◌≤◌, ◌<◌};
 ghost use Rattle.ti_store.specs.Conditions.{IsWithin};
-ghost use Rattle.ti_machine.specs.Standing.{IsFormed};
 
-use crate::by_code::{Course, Stray, follow, is_same, next_in};
-use crate::by_trees::{Limits, next_by_trees};
+use crate::by_code::next_by_code;
+use crate::by_trees::follow;
+use crate::course::{Course, Limits, Stray, is_same, next_in};
 use crate::phases::checked_of;
 use std::alloc::Global;
 use ti_base::{Entry, Next};
 use ti_code::Code;
 use ti_lower::lower;
-use ti_machine::is_formed;
 use ti_rules::Checked;
 use ti_runtime::{How, RunEnd, run};
 
-/// Where a process of code does something else than that of trees: at the entry of this number in the history, or behind the last; what
-/// each of the two has next there.
+/// Where a process over trees does something else than that of code: at the entry of this number in the history, or behind the last; what
+/// the code has next there, and what is found in the trees.
 #[derive(Clone, Copy)]
 pub(crate) struct Parting {
     pub number: u32,
@@ -28,7 +27,7 @@ pub(crate) struct Parting {
 /// What comes of a program.
 #[derive(Clone, Copy)]
 pub(crate) enum Outcome {
-    /// All processes of code agree with their entries, of which there are so many.
+    /// All processes over trees agree with their entries, of which there are so many.
     Agrees(usize),
     /// One of them doesn't.
     Parts(Parting),
@@ -36,13 +35,11 @@ pub(crate) enum Outcome {
     Refused,
     /// Memory is wanting for the run.
     Memory,
-    /// An instruction of the code isn't in its form.
-    Formless,
     /// An entry is of no process.
     Stranger,
 }
 
-/// A program, its code and its run by trees.
+/// A program, its code and its run by it.
 #[derive(Drop)]
 struct Ran {
     checked: Checked,
@@ -55,7 +52,7 @@ fn ran_of(alloc: Global, text: &[u8], limits: Limits) -> Option<Ran>
 {
     let checked = checked_of(alloc, text)?;
     let code = lower(alloc, &checked).ok()?;
-    let end = run(alloc, &checked, limits.procs, limits.fuel);
+    let end = run(alloc, &checked, &code, limits.procs, limits.fuel);
     Some(Ran { checked, code, end })
 }
 
@@ -67,7 +64,7 @@ fn may_stand(how: How, next: Next) -> bool {
     }
 }
 
-/// Whether code has the same next behind a history as trees have.
+/// Whether trees have the same next behind a history as code has.
 fn is_agreed(how: How, expected: Option<Next>, found: Option<Next>) -> bool {
     match (expected, found) {
         (Some(expected), Some(found)) => is_same(expected, found) && may_stand(how, found),
@@ -83,14 +80,13 @@ fn expected_at(history: &[Entry], n: usize) -> Option<Next> {
     }
 }
 
-/// How many entries a process has, where its code agrees with them and with its trees behind them.
+/// How many entries a process has, where its trees agree with them and with its code behind them.
 fn compared(alloc: Global, ran: &Ran, limits: Limits, number: u32) -> Result<usize, Parting>
-    requires formed { IsFormed ran.now.code }
     requires few { limits.procs ≤ 32 }
     requires number { number < limits.procs }
 {
     let history = ran.end.history.as_slice();
-    match follow(alloc, &ran.code, limits, number, history) {
+    match follow(alloc, &ran.checked, limits, number, history) {
         Err(Stray { entry, next }) => Err(Parting {
             number,
             entry,
@@ -98,7 +94,7 @@ fn compared(alloc: Global, ran: &Ran, limits: Limits, number: u32) -> Result<usi
             found: next,
         }),
         Ok(Course { entries, next }) => {
-            let expected = next_by_trees(alloc, &ran.checked, limits, number, history).ok();
+            let expected = next_by_code(alloc, &ran.code, limits, number, history);
             if is_agreed(ran.end.how, expected, next) {
                 Ok(entries)
             } else {
@@ -113,10 +109,9 @@ fn compared(alloc: Global, ran: &Ran, limits: Limits, number: u32) -> Result<usi
     }
 }
 
-/// How many entries all processes have, where their code agrees.
+/// How many entries all processes have, where their trees agree.
 fn all_compared(alloc: Global, ran: &Ran, limits: Limits) -> Result<usize, Parting>
-    requires formed { IsFormed ran.now.code }
-    requires few { limits.procs ≤ 32 }
+    requires { limits.procs ≤ 32 }
 {
     let mut entries = 0usize;
     for number in 0..limits.procs {
@@ -128,9 +123,6 @@ fn all_compared(alloc: Global, ran: &Ran, limits: Limits) -> Result<usize, Parti
 fn judged_run(alloc: Global, ran: &Ran, limits: Limits) -> Outcome
     requires { limits.procs ≤ 32 }
 {
-    if !is_formed(&ran.code) {
-        return Outcome::Formless;
-    }
     if matches!(ran.end.how, How::Memory) {
         return Outcome::Memory;
     }

@@ -1,15 +1,15 @@
 // Code that is made by hand: its text, and how many instructions a process of it has finished in front of each thing that it has next.
 
-ghost use Rattle.std.specs.Prelude.{◌≡◌, IsTrue, IfOk, false};
+ghost use Rattle.std.specs.Prelude.{◌≡◌, All, IsTrue, IfOk, false};
 ghost use Rattle.ti_code.specs.JumpRule.{jumps_fit};
-ghost use Rattle.ti_machine.specs.Standing.{IsFormed};
+ghost use Rattle.ti_code.specs.Forms.{IsFormedInstr};
 
 use crate::telling::tell;
 use std::alloc::{AllocError, Global};
 use std::io;
 use ti_base::{Answer, Next, Place, Value};
 use ti_code::{Code, Instr, Instrs, MethodCode, code_text};
-use ti_machine::{Proc, is_formed};
+use ti_machine::Proc;
 
 fn at(line: u32, col: u32) -> Place {
     Place { line, col }
@@ -17,7 +17,8 @@ fn at(line: u32, col: u32) -> Place {
 
 /// The code of one method without a `this` and without parameters.
 fn alone(alloc: Global, instrs: Vec<Instr>) -> Result<Code, AllocError>
-    requires { IsTrue (jumps_fit (record { instance = false; params = 0; instrs = instrs.items })) }
+    requires rule { IsTrue (jumps_fit (record { instance = false; params = 0; instrs = instrs.items })) }
+    requires formed { All IsFormedInstr instrs.items }
 {
     let methods = vec![in alloc;
         MethodCode {
@@ -55,7 +56,6 @@ fn turning(alloc: Global) -> Result<Code, AllocError> {
 /// Tells how many instructions a process has finished, and what it has next; then it is told that this was done.
 fn tell_next(rt: &HostRuntime, code: &Code, process: &mut Proc) -> io::Result<bool>
     requires code { code.now ≡ process.old.code }
-    requires formed { IsFormed code.now }
     ensures { IfOk result (λ _. code.now ≡ process.new.code) }
 {
     let Ok(next) = process.advance_within(rt.alloc(), code, 100) else {
@@ -72,9 +72,7 @@ fn tell_next(rt: &HostRuntime, code: &Code, process: &mut Proc) -> io::Result<bo
 }
 
 /// Tells that of a process alone with 4 ticks, up to its end.
-fn tell_course(rt: &HostRuntime, code: &Code) -> io::Result<()>
-    requires { IsFormed code.now }
-{
+fn tell_course(rt: &HostRuntime, code: &Code) -> io::Result<()> {
     let Some(mut process) = Proc::start_there(rt.alloc(), code, 0, 1, 4) else {
         return Ok(());
     };
@@ -99,11 +97,7 @@ fn tell_text(rt: &HostRuntime, code: &Code) -> io::Result<()> {
 /// Tells the text of code, and the course of a process.
 fn tell_code(rt: &HostRuntime, code: &Code) -> io::Result<()> {
     tell_text(rt, code)?;
-    if is_formed(code) {
-        tell_course(rt, code)
-    } else {
-        println!(rt; "an instruction isn't in its form")
-    }
+    tell_course(rt, code)
 }
 
 /// Tells what comes of code that is made by hand.

@@ -1,4 +1,4 @@
-//! Programs whose code must do what their trees do, from the files that the arguments name. A program whose code does something else is
+//! Programs whose code must do what their trees do, from the files that the arguments name. A program whose trees do something else is
 //! printed with the first entry where it does, and at the end how many programs agree and how many entries they have; then comes the text
 //! of code that is made by hand, and how many instructions a process of it finishes. Nothing of the programs is proved.
 #![tactic(auto)]
@@ -6,6 +6,7 @@
 mod by_code;
 mod by_trees;
 mod comparison;
+mod course;
 mod forms;
 mod made_by_hand;
 mod phases;

@@ -3,8 +3,8 @@
 ghost use Rattle.std.specs.Prelude.{IfSome};
 ghost use Rattle.ti_store.specs.Conditions.{IsWithin};
 
-use crate::by_trees::Limits;
 use crate::comparison::{Outcome, judged};
+use crate::course::Limits;
 use crate::telling::tell_parting;
 use std::{fs, io};
 
@@ -57,7 +57,6 @@ fn judge(
         Outcome::Parts(parting) => tell_parting(rt, name, parting)?,
         Outcome::Refused => println!(rt; "{name}: no program")?,
         Outcome::Memory => println!(rt; "{name}: the run wants memory")?,
-        Outcome::Formless => println!(rt; "{name}: an instruction isn't in its form")?,
         Outcome::Stranger => println!(rt; "{name}: an entry is of no process")?,
     }
     Ok(count)

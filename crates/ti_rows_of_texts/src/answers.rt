@@ -32,6 +32,8 @@ pub(crate) enum Asked {
     History,
     /// How many entries there are, and the last of them.
     End,
+    /// How many instructions each process has finished.
+    Finished,
 }
 
 /// Why a text has no answer.
@@ -87,6 +89,7 @@ fn answer_behind(
         Asked::Command => command(rt, Shown::Ending, given, text),
         Asked::History => command(rt, Shown::History, given, text),
         Asked::End => command(rt, Shown::LastEntry, given, text),
+        Asked::Finished => command(rt, Shown::Finished, given, text),
         _ => Err(Stopped::Row),
     }
 }

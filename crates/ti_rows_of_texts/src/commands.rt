@@ -18,6 +18,8 @@ pub(crate) enum Shown {
     History,
     /// How many entries there are, and the last of them.
     LastEntry,
+    /// How many instructions each process has finished.
+    Finished,
 }
 
 #[derive(Drop)]
@@ -176,11 +178,24 @@ fn last_of(alloc: Global, history: &[Entry]) -> Result<Vec<u8>, Memory> {
     Ok(text)
 }
 
+/// Numbers, parted by blanks.
+fn spaced(alloc: Global, numbers: &[u64]) -> Result<Vec<u8>, Memory> {
+    let mut text = Vec::new(alloc);
+    for number in numbers {
+        if !text.is_empty() {
+            text.push(b' ')?;
+        }
+        text.extend_from_slice(format!(in alloc; "{number}")?.as_bytes())?;
+    }
+    Ok(text)
+}
+
 fn part_of(alloc: Global, asked: Shown, left: &Left) -> Result<Vec<u8>, Memory> {
     match asked {
         Shown::Ending => shown_ending(alloc, left.outcome.status, &left.sinks),
         Shown::History => traced(alloc, &left.outcome.history),
         Shown::LastEntry => last_of(alloc, &left.outcome.history),
+        Shown::Finished => spaced(alloc, &left.outcome.done),
     }
 }
 

@@ -97,6 +97,7 @@ fn asked_of(word: &str) -> Option<Asked> {
         "collectives" => Some(Asked::Collectives),
         "command" => Some(Asked::Command),
         "history" => Some(Asked::History),
+        "finished" => Some(Asked::Finished),
         "end" => Some(Asked::End),
         _ => match table_of(word) {
             Some(table) => Some(Asked::Table(table)),

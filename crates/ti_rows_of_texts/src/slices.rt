@@ -9,6 +9,7 @@ use crate::walks::collective;
 use std::alloc::{AllocError, Global};
 use ti_align::SliceStep;
 use ti_base::{Action, Answer, CollKind, Entry, Memory, Place, fault_name};
+use ti_lower::lower;
 use ti_rules::Checked;
 use ti_runtime::run;
 use ti_slice::slice_next;
@@ -151,7 +152,8 @@ fn departures_in(alloc: Global, c: &Checked, procs: u32) -> Result<Option<usize>
     requires some { 1 ≤ procs }
     requires few { procs ≤ 32 }
 {
-    let ended = run(alloc, c, procs, FUEL);
+    let code = lower(alloc, c)?;
+    let ended = run(alloc, c, &code, procs, FUEL);
     departures(alloc, c, procs, &ended.history)
 }
 

@@ -1,21 +1,31 @@
 -- How a run begins and ends.
-use Rattle.std.proofs.Common.{◌≡◌, ℕ, ◌<◌, ◌≤◌, nat_lt, Bool, true, false, List, [], ◌∷◌, ◌++◌, length, get_or, refl, sym, ◌∙◌, subst, arith, ltb-true, length-append}
-use Rattle.std.proofs.lemmas.Bool.{ltb-false}
-use Rattle.std.proofs.lemmas.List.{get_or_append_left, get_or_push}
+use Rattle.std.proofs.Common.{◌≡◌, ℕ, ◌+◌, ◌<◌, ◌≤◌, nat_lt, ◌==◌, Bool, true, false, List, [], ◌∷◌, ◌++◌, length, get_or, slice_set, Some, refl, sym, ap, ◌∙◌, subst, arith, eqb-true, ltb-true, length-append, get_or-set_same, get_or-set_other}
+use Rattle.std.specs.Prelude.{slice_get}
+use Rattle.std.proofs.lemmas.Bool.{eqb-false, ltb-false}
+use Rattle.std.proofs.lemmas.List.{get_or_append_left, get_or_default, get_or_push}
+use Rattle.std.proofs.lemmas.Option.{get_or_from_slice_get, slice_get_within}
 use Rattle.ti_base.specs.declared.entry.Entry.{Entry}
 use Rattle.ti_lang.specs.Meaning.Processes.{Setting}
-use Rattle.ti_lang.specs.Meaning.Runs.{none, AllEnded}
+use Rattle.ti_lang.specs.Meaning.Histories.{has_end, has_fault}
+use Rattle.ti_lang.specs.Meaning.Runs.{IsRun, IsSolo, AllEnded}
+use Rattle.ti_lang.specs.Meaning.Runs as run
 use Rattle.ti_lang.proofs.MeaningLaws.Running.{solo_run}
-use Rattle.ti_align.specs.Alignment.{NoneStuck}
+use Rattle.ti_align.specs.Alignment.{NoneStuck, IsAligned, OfEveryRun}
+use Rattle.ti_align.specs.Answering.{AnswersFit}
+use Rattle.ti_align.specs.Stopping.{RoundsBalance}
+use Rattle.ti_store.specs.Conditions.{IsWithin}
+use Rattle.ti_store.specs.Stores.{StoreState, setting_of}
+use Rattle.ti_code.specs.Programs.{Code}
+use Rattle.ti_code.specs.Follows.{Follows}
+use Rattle.ti_machine.specs.Standing.{HasFinished}
 use Rattle.ti_runtime.specs.declared.cursor.Cursor.{Cursor}
 use Rattle.ti_runtime.specs.declared.seat.Seat.{Seat}
 use Rattle.ti_runtime.specs.declared.seat.Stop.TheVariants as stop
-use Rattle.ti_runtime.specs.declared.runner.How.{How}
 use Rattle.ti_runtime.specs.declared.runner.How.TheVariants as how
 use Rattle.ti_runtime.specs.declared.runner.RunEnd.{RunEnd}
-use Rattle.ti_runtime.specs.Ran.{Ran}
+use Rattle.ti_runtime.specs.Ran.{standing_of, IsDone, Ran}
 use Rattle.ti_runtime.specs.MirrorsWaiting.{Waits, Rests}
-use Rattle.ti_runtime.specs.MirrorsTeam.{Seated, Stands, Stopped, CameTo}
+use Rattle.ti_runtime.specs.MirrorsTeam.{Seated, AllSeated, IsOpen, Stands, Stopped, CameTo}
 use Rattle.ti_runtime.proofs.Waiting.{rest_takes_none}
 
 true_false : true ≡ false → ⊥
@@ -24,17 +34,16 @@ true_false e = cc
 -- ---- the beginning
 
 -- one seat more
-pub seated_more : (s : Setting) (xs : List Seat) (x : Seat) → Seated s [] (length xs) x → ((d : Seat) (i : ℕ) → i < length xs → Seated s [] i (get_or xs i d))
-    → (d : Seat) (i : ℕ) → i < length (xs ++ x ∷ []) → Seated s [] i (get_or (xs ++ x ∷ []) i d)
-seated_more s xs x y seated d i l = by (nat_lt i (length xs)) refl
+pub seated_more : (code : Code) (s : Setting) (xs : List Seat) (x : Seat) → Seated code s [] (length xs) x → AllSeated code s [] xs → AllSeated code s [] (xs ++ x ∷ [])
+seated_more code s xs x y seated d i l = by (nat_lt i (length xs)) refl
   where
-    by : (b : Bool) → nat_lt i (length xs) ≡ b → Seated s [] i (get_or (xs ++ x ∷ []) i d)
+    by : (b : Bool) → nat_lt i (length xs) ≡ b → Seated code s [] i (get_or (xs ++ x ∷ []) i d)
     by true h =
         let before = ltb-true i (length xs) h in
-        subst (Seated s [] i) (sym (get_or_append_left xs (x ∷ []) d i before)) (seated d i before)
+        subst (Seated code s [] i) (sym (get_or_append_left xs (x ∷ []) d i before)) (seated d i before)
     by false h =
         let last : length xs ≡ i = omega (arith, ltb-false i (length xs) h, length-append xs (x ∷ [])) in
-        subst (Seated s [] i) (sym (get_or_push xs x d i last)) (subst (λ k. Seated s [] k x) last y)
+        subst (Seated code s [] i) (sym (get_or_push xs x d i last)) (subst (λ k. Seated code s [] k x) last y)
 
 pub none_below : (P : ℕ → Type 0) (i : ℕ) → i < 0 → P i
 none_below P i l = absurd (omega arith)
@@ -43,10 +52,9 @@ no_more : (n : ℕ) → 0 ≤ n
 no_more n = omega arith
 
 -- before the first entry, process 0 is tried
-pub begins : (s : Setting) (seats : List Seat) → length seats ≡ s.procs → ((d : Seat) (i : ℕ) → i < length seats → Seated s [] i (get_or seats i d))
-    → Stands s [] seats (record { at = 0; waiting = 0 })
-begins s seats count seated = record {
-  solo = none;
+pub begins : (code : Code) (s : Setting) (seats : List Seat) → length seats ≡ s.procs → AllSeated code s [] seats → Stands code s [] seats (record { at = 0; waiting = 0 })
+begins code s seats count seated = record {
+  solo = run.none;
   goes_on = refl;
   count = count;
   seated = seated;
@@ -58,52 +66,109 @@ begins s seats count seated = record {
   };
 }
 
+-- a store before the first entry
+pub opens : (code : Code) (s : Setting) (st : StoreState) → setting_of st ≡ s → st.entries ≡ [] → st.halted ≡ false → IsWithin s.procs s.fuel → Follows code s.program
+    → IsAligned s.program → OfEveryRun RoundsBalance s.program → OfEveryRun AnswersFit s.program → IsOpen code st
+opens code s st is none unhalted within follows aligned balance fit = record {
+  unhalted = unhalted;
+  goes_on = ap has_fault none;
+  within = subst (λ (x : Setting). IsWithin x.procs x.fuel) (sym is) within;
+  follows = subst (λ (x : Setting). Follows code x.program) (sym is) follows;
+  aligned = subst (λ (x : Setting). IsAligned x.program) (sym is) aligned;
+  balance = subst (λ (x : Setting). OfEveryRun RoundsBalance x.program) (sym is) balance;
+  fit = subst (λ (x : Setting). OfEveryRun AnswersFit x.program) (sym is) fit;
+}
+
+pub stands_first : (code : Code) (s : Setting) (st : StoreState) (seats : List Seat) (c : Cursor) → setting_of st ≡ s → st.entries ≡ [] → Stands code s [] seats c → Stands code (setting_of st) st.entries seats c
+stands_first code s st seats c is none x = subst (λ t. Stands code t st.entries seats c) (sym is) (subst (λ es. Stands code s es seats c) (sym none) x)
+
 -- ---- the end
 
-pub faults : (s : Setting) (es : List Entry) → Stopped s es stop.Faulted → CameTo s es how.Faulted
-faults s es x = record {
+pub faults : (code : Code) (s : Setting) (es : List Entry) (seats : List Seat) → Stopped code s es seats stop.Faulted → CameTo code s es seats how.Faulted
+faults code s es seats x = record {
   solo = x.solo;
   ended = (λ e. cc, λ ended. absurd (x.unended ended));
   faulted = (λ e. x.fault.0 refl, λ h. refl);
+  count = x.count;
+  seated = λ e. x.seated (λ z. cc);
 }
 
-pub wants : (s : Setting) (es : List Entry) → Stopped s es stop.Memory → CameTo s es how.Memory
-wants s es x = record {
+pub wants : (code : Code) (s : Setting) (es : List Entry) (seats : List Seat) → Stopped code s es seats stop.Memory → CameTo code s es seats how.Memory
+wants code s es seats x = record {
   solo = x.solo;
   ended = (λ e. cc, λ ended. absurd (x.unended ended));
   faulted = (λ e. cc, λ h. let none : stop.Memory ≡ stop.Faulted = x.fault.1 h in cc);
+  count = x.count;
+  seated = λ e. absurd (e refl);
 }
 
 -- nobody is left to be tried, so nobody can go on, and all have their end
-pub ends : (s : Setting) (es : List Entry) (seats : List Seat) (c : Cursor) → Stands s es seats c → length seats ≤ c.at → NoneStuck s es → CameTo s es how.Ended
-ends s es seats c x past unstuck =
+pub ends : (code : Code) (s : Setting) (es : List Entry) (seats : List Seat) (c : Cursor) → Stands code s es seats c → length seats ≤ c.at → NoneStuck s es → CameTo code s es seats how.Ended
+ends code s es seats c x past unstuck =
     let all : AllEnded s es = unstuck x.goes_on (λ i e t. rest_takes_none s es i e (x.points.before i (tried i s.procs (length seats) c.at t.within x.count past)) t) in
     record {
       solo = x.solo;
       ended = (λ e. all, λ ended. refl);
       faulted = (λ e. cc, λ h. absurd (true_false (sym h ∙ x.goes_on)));
+      count = x.count;
+      seated = λ e. x.seated;
     }
   where
     tried : (i p n m : ℕ) → i < p → n ≡ p → n ≤ m → i < m
     tried i p n m h e k = omega arith
 
+-- ---- what came of a run
+
 -- want of memory before the first entry
-pub unbegun : (s : Setting) → 1 ≤ s.procs → CameTo s [] how.Memory
-unbegun s l = record {
-  solo = none;
-  ended = (λ e. cc, λ ended. absurd (true_false (sym (ended 0 (some s.procs l)))));
-  faulted = (λ e. cc, λ h. absurd (true_false (sym h)));
+pub unbegun : (code : Code) (s : Setting) (end : RunEnd) → 1 ≤ s.procs → end.how ≡ how.Memory → end.history.items ≡ [] → Ran code s end
+unbegun code s end l m e = record {
+  run = subst (IsRun s) (sym e) run.none;
+  solo = subst (IsSolo s) (sym e) run.none;
+  ended = (λ z. cc, λ ended. absurd (true_false (sym (subst (λ es. has_end 0 es ≡ true) e (ended 0 (some s.procs l))))));
+  faulted = (λ z. cc, λ h. absurd (true_false (sym (subst (λ es. has_fault es ≡ true) e h))));
+  done = λ z. absurd (z m);
 }
   where
     some : (n : ℕ) → 1 ≤ n → 0 < n
     some n l = omega arith
 
--- what came of a run
-pub ran : (s : Setting) (end : RunEnd) (es : List Entry) → end.history.items ≡ es → CameTo s es end.how → Ran s end
-ran s end es is x =
-    let y = subst (λ xs. CameTo s xs end.how) (sym is) x in
-    record { run = solo_run s end.history.items y.solo; solo = y.solo; ended = y.ended; faulted = y.faulted }
+-- one number more
+pub finished_on : (seats : List Seat) (done : List ℕ) (n k : ℕ) (seat : Seat) → n < length seats → length done ≡ length seats → seat ≡ get_or seats n seat → HasFinished seat.process k
+    → ((d : Seat) (i : ℕ) → i < n → HasFinished (get_or seats i d).process (get_or done i 0)) → (d : Seat) (i : ℕ) → i < n + 1 → HasFinished (get_or seats i d).process (get_or (slice_set done n k) i 0)
+finished_on seats done n k seat inside even is one before d i l = by (n == i) refl
+  where
+    by : (b : Bool) → (n == i) ≡ b → HasFinished (get_or seats i d).process (get_or (slice_set done n k) i 0)
+    by true h =
+        let here : get_or seats n d ≡ seat = get_or_default seats n d seat inside ∙ sym is in
+        let there = subst (λ j. HasFinished seat.process j) (sym (get_or-set_same done n k 0 (omega arith))) one in
+        subst (λ j. HasFinished (get_or seats j d).process (get_or (slice_set done n k) j 0)) (eqb-true n i h) (subst (λ (x : Seat). HasFinished x.process (get_or (slice_set done n k) n 0)) (sym here) there)
+    by false h =
+        let apart = eqb-false n i h in
+        subst (λ j. HasFinished (get_or seats i d).process j) (sym (get_or-set_other done n i k 0 (λ e. apart (sym e)))) (before d i (omega (arith, apart)))
 
--- the same under other names
-pub came_so : (s t : Setting) (es ds : List Entry) (h k : How) → t ≡ s → ds ≡ es → k ≡ h → CameTo t es h → CameTo s ds k
-came_so s t es ds h k e f g x = subst (λ u. CameTo u ds k) e (subst (λ xs. CameTo t xs k) (sym f) (subst (CameTo t es) (sym g) x))
+some_seat : (seats : List Seat) (i : ℕ) → i < length seats → Seat
+some_seat [] i l = absurd (omega arith)
+some_seat (x ∷ xs) i l = x
+
+-- the numbers that the seats tell are those of the answers of the run
+done_is : (code : Code) (s : Setting) (es : List Entry) (seats : List Seat) (done : List ℕ) → length seats ≡ s.procs → AllSeated code s es seats → length done ≡ length seats
+    → ((d : Seat) (i : ℕ) → i < length seats → HasFinished (get_or seats i d).process (get_or done i 0)) → IsDone code s es done
+done_is code s es seats done count seated even each = record { count = even ∙ count; each = one }
+  where
+    one : (i n : ℕ) → slice_get done i ≡ Some n → HasFinished (standing_of code s es i) n
+    one i n z =
+        let inside : i < length seats = omega (arith, slice_get_within done i n z, even) in
+        let d = some_seat seats i inside in
+        subst (λ t. HasFinished t n) (seated d i inside).process (subst (λ k. HasFinished (get_or seats i d).process k) (get_or_from_slice_get done i n 0 z) (each d i inside))
+
+pub ran : (code : Code) (s : Setting) (end : RunEnd) (es : List Entry) (seats : List Seat) → end.history.items ≡ es → CameTo code s es seats end.how → length end.done.items ≡ length seats
+    → ((d : Seat) (i : ℕ) → i < length seats → HasFinished (get_or seats i d).process (get_or end.done.items i 0)) → Ran code s end
+ran code s end es seats is x even each =
+    let y = subst (λ xs. CameTo code s xs seats end.how) (sym is) x in
+    record {
+      run = solo_run s end.history.items y.solo;
+      solo = y.solo;
+      ended = y.ended;
+      faulted = y.faulted;
+      done = λ z. done_is code s end.history.items seats end.done.items y.count (y.seated z) even each;
+    }

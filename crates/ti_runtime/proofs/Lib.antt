@@ -1,5 +1,6 @@
 mod Entries
 mod Waiting
+mod Following
 mod Seats
 mod Turns
 mod Endings

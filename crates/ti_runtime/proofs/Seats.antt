@@ -8,30 +8,34 @@ use Rattle.ti_base.specs.declared.entry.Answer.{Answer}
 use Rattle.ti_base.specs.declared.entry.Entry.{Entry}
 use Rattle.ti_base.specs.declared.entry.Next.{Next}
 use Rattle.ti_base.specs.declared.entry.Next.TheVariants as next
-use Rattle.ti_lang.specs.declared.program.classes.Parts.{Parts}
-use Rattle.ti_lang.specs.Program.Views.{program_of}
 use Rattle.ti_lang.specs.Meaning.Asking.{Request}
 use Rattle.ti_lang.specs.Meaning.Processes.{Setting, Process, begin}
 use Rattle.ti_lang.specs.Meaning.Steps.{Step, To, At, Ends, Faults, step}
 use Rattle.ti_lang.specs.Meaning.NextStep.{shown, IsNext, After}
-use Rattle.ti_lang.specs.Meaning.Histories.{is_end, is_fault, is_arrival, is_answered, answers_of, has_end, has_fault}
-use Rattle.ti_lang.specs.Meaning.Runs.{IsReady, CanTake}
+use Rattle.ti_lang.specs.Meaning.Histories.{is_end, is_fault, is_arrival, is_answered, entries_of, answers_of, has_end, has_fault}
+use Rattle.ti_lang.specs.Meaning.Runs.{World, IsReady, CanTake, IsSolo, more}
 use Rattle.ti_lang.proofs.MeaningLaws.Limits.{within}
 use Rattle.ti_lang.proofs.MeaningLaws.Requests.{no_end_asked}
-use Rattle.ti_exec.specs.Standing.{Standing, HasNext, is_act}
-use Rattle.ti_exec.specs.Standing as exec
+use Rattle.ti_lang.proofs.MeaningLaws.Running.{solo_run}
+use Rattle.ti_align.specs.Answering.{AnswersFit}
 use Rattle.ti_align.proofs.Paying.{after_pays}
 use Rattle.ti_align.proofs.Vars.{or_right}
+use Rattle.ti_store.specs.Conditions as store
 use Rattle.ti_store.specs.Stores.{StoreState, setting_of, next_of, Becomes, fault_entry, IsDone, IsRefused}
 use Rattle.ti_store.specs.declared.act_err.ActErr.TheVariants as err
 use Rattle.ti_store.proofs.Running.{next_acts}
+use Rattle.ti_code.specs.Programs.{Code}
+use Rattle.ti_machine.specs.Standing.{Standing, HasNext, is_act}
+use Rattle.ti_machine.specs.Standing as machine
 use Rattle.ti_runtime.specs.declared.cursor.Turn.{Turn}
 use Rattle.ti_runtime.specs.declared.cursor.Turn.TheVariants as turn
 use Rattle.ti_runtime.specs.declared.seat.Seat.{Seat}
 use Rattle.ti_runtime.specs.declared.seat.Stop.TheVariants as stop
+use Rattle.ti_runtime.specs.Ran.{standing_of}
 use Rattle.ti_runtime.specs.MirrorsWaiting.{Waits}
-use Rattle.ti_runtime.specs.MirrorsTeam.{doing_of, Seated, Hears, Moves, steps_left, GoesOn, StopsAt, TurnLeaves}
+use Rattle.ti_runtime.specs.MirrorsTeam.{doing_of, place_of, action_of, told_more, StandsAt, Seated, Hears, Moves, IsOpen, steps_left, GoesOn, StopsAt, TurnLeaves}
 use Rattle.ti_runtime.proofs.Entries.{end_more, answers_more, answers_still}
+use Rattle.ti_runtime.proofs.Following.{OneNext, world_more, code_goes_on, seated}
 
 true_false : true ≡ false → ⊥
 true_false e = cc
@@ -52,28 +56,22 @@ acts (Ends place) q at a e h = cc
 acts (Faults kind place) q at a e h = cc
 
 -- what the store takes comes back as what is next
-pub next_back : (p : Process) (n : Next) → IsNext p n → next_of (doing_of n).0 (doing_of n).1 ≡ n
+next_back : (p : Process) (n : Next) → IsNext p n → next_of (doing_of n).0 (doing_of n).1 ≡ n
 next_back p (next.Act at a) x = let none = acts (step x.0) x.0 at a refl x.1.stands in next_acts at a none.0 none.1
 next_back p (next.End at) x = refl
 next_back p (next.Fault kind at) x = refl
 
--- what is next hangs on what the process is and was told alone
-next_same : (t u : Standing) (n : Next) → exec.setting_of t ≡ exec.setting_of u → t.number ≡ u.number → t.told ≡ u.told → HasNext t n → HasNext u n
-next_same t u n s i r h = (
-  h.0,
-  subst (λ k. After (begin k u.number) u.told h.0) s
-      (subst (λ k. After (begin (exec.setting_of t) k) u.told h.0) i (subst (λ k. After (begin (exec.setting_of t) t.number) k h.0) r h.1)),
-  h.2,
-)
+-- an action is answered
+answered_act : (p : Process) (n : Next) → IsNext p n → is_act n ≡ true → (is_end (doing_of n).1 ≡ false) × (is_fault (doing_of n).1 ≡ false)
+answered_act p (next.Act at a) x e = acts (step x.0) x.0 at a refl x.1.stands
+answered_act p (next.End at) x e = absurd (true_false (sym e))
+answered_act p (next.Fault kind at) x e = absurd (true_false (sym e))
 
--- a process that advanced stands at what it has next
-pub advanced : (t u : Standing) (n : Next) → HasNext t n → u ≡ record t { asks = is_act n }
-    → HasNext u (next_of (doing_of n).0 (doing_of n).1) × (u.asks ≡ is_act (next_of (doing_of n).0 (doing_of n).1))
-advanced t u n h e =
-    let back = next_back h.0 n h.2 in (
-      subst (HasNext u) (sym back) (next_same t u n (sym (ap exec.setting_of e)) (sym (ap (λ (x : Standing). x.number) e)) (sym (ap (λ (x : Standing). x.told) e)) h),
-      ap (λ (x : Standing). x.asks) e ∙ ap is_act (sym back),
-    )
+-- what is neither an action nor a fault is the end
+end_left : (n : Next) → is_act n ≡ false → is_fault (doing_of n).1 ≡ false → is_end (doing_of n).1 ≡ true
+end_left (next.Act at a) e f = absurd (true_false e)
+end_left (next.End at) e f = refl
+end_left (next.Fault kind at) e f = absurd (true_false f)
 
 -- ---- what a seat tells
 
@@ -84,37 +82,48 @@ within_ticks n s f h k = omega arith
 answers_few : (s : Setting) (i : ℕ) (rs : List Answer) (p : Process) → After (begin s i) rs p → length rs ≤ s.fuel
 answers_few s i rs p x = within_ticks (length rs) p.spent s.fuel (after_pays (begin s i) p rs x) (within s i rs p x).0
 
-module _ (s : Setting) (es : List Entry) (i : ℕ) (seat : Seat) (y : Seated s es i seat) where
-  -- the process of the seat in the world of the entries
-  world : After (begin s i) (answers_of i es) y.next.0
-  world =
-      subst (λ k. After (begin s i) k y.next.0) y.told
-      (subst (λ k. After (begin s k) seat.process.told y.next.0) y.number (subst (λ k. After (begin k seat.process.number) seat.process.told y.next.0) y.setting y.next.1))
+-- the seat tells the same where the process got no answer since
+pub seated_with : (code : Code) (s : Setting) (es all : List Entry) (i : ℕ) (seat : Seat) (ended : Bool) → answers_of i all ≡ answers_of i es → has_end i all ≡ ended → Seated code s es i seat
+    → Seated code s all i (record seat { ended = ended })
+seated_with code s es all i seat ended same e y = record {
+  process = y.process ∙ ap (λ rs. record (standing_of code s es i) { told = rs; asks = is_act seat.next }) (sym same);
+  there = y.there;
+  world = subst (λ rs. After (begin s i) rs y.there) (sym same) y.world;
+  is_next = y.is_next;
+  ended = e;
+}
 
+module _ (code : Code) (s : Setting) (es : List Entry) (i : ℕ) (seat : Seat) (y : Seated code s es i seat) where
   few : length seat.process.told ≤ s.fuel
-  few = subst (λ xs. length xs ≤ s.fuel) (sym y.told) (answers_few s i (answers_of i es) y.next.0 world)
+  few = subst (λ xs. length xs ≤ s.fuel) (sym (ap (λ (x : Standing). x.told) y.process)) (answers_few s i (answers_of i es) y.there y.world)
+
+  next_taken : IsNext y.there (next_of (place_of seat) (action_of seat))
+  next_taken = subst (IsNext y.there) (sym (next_back y.there seat.next y.is_next)) y.is_next
+
+-- the store takes what the process has next
+pub acting : (code : Code) (st : StoreState) (i : ℕ) (seat : Seat) → Seated code (setting_of st) st.entries i seat → seat.ended ≡ false
+    → store.HasNext (setting_of st) i (entries_of i st.entries) (next_of (place_of seat) (action_of seat))
+acting code st i seat y u = record { unended = y.ended ∙ u; process = y.there; world = y.world; is_next = next_taken code (setting_of st) st.entries i seat y }
 
 -- ---- an entry
 
-taken : (st : StoreState) (i : ℕ) (seat : Seat) (e : Entry) → i < st.procs → has_fault st.entries ≡ false → seat.ended ≡ false → Seated (setting_of st) st.entries i seat
-    → Becomes st i seat.place seat.action e → CanTake (setting_of st) st.entries i e
-taken st i seat e l f u y b =
-    let unended : has_end i st.entries ≡ false = y.ended ∙ u in
-    record {
-      within = l;
-      goes_on = f;
-      unended = unended;
-      process = y.next.0;
-      world = world (setting_of st) st.entries i seat y;
-      next = next_of seat.place seat.action;
-      is_next = y.next.2;
-      ready = b.ready;
-      entry = b.entry;
-    }
+taken : (code : Code) (st : StoreState) (i : ℕ) (seat : Seat) (e : Entry) → i < st.procs → has_fault st.entries ≡ false → seat.ended ≡ false → Seated code (setting_of st) st.entries i seat
+    → Becomes st i (place_of seat) (action_of seat) e → CanTake (setting_of st) st.entries i e
+taken code st i seat e l f u y b = record {
+  within = l;
+  goes_on = f;
+  unended = y.ended ∙ u;
+  process = y.there;
+  world = y.world;
+  next = next_of (place_of seat) (action_of seat);
+  is_next = next_taken code (setting_of st) st.entries i seat y;
+  ready = b.ready;
+  entry = b.entry;
+}
 
 -- the entry of what a process does, with its answer
 abbrev entry_with : ℕ → Seat → Answer → Entry
-entry_with i seat answer = record { proc = i; place = seat.place; act = seat.action; answer = answer }
+entry_with i seat answer = record { proc = i; place = place_of seat; act = action_of seat; answer = answer }
 
 or_none : (a b : Bool) → b ≡ false → (a || b) ≡ a
 or_none true b h = refl
@@ -122,139 +131,135 @@ or_none false b h = h
 
 -- ---- the seat behind an answer
 
-module _ (s : Setting) (es : List Entry) (i : ℕ) (old : Seat) (answer : Answer) (y : Seated s es i old) where
-  abbrev here : Entry
-  here = entry_with i old answer
+module _ (code : Code) (st : StoreState) (o : IsOpen code st) (solo : IsSolo (setting_of st) st.entries) (i : ℕ) (l : i < st.procs) (old : Seat) (y : Seated code (setting_of st) st.entries i old) (u : old.ended ≡ false) where
+  abbrev s : Setting
+  s = setting_of st
 
-  -- behind its end a process stands where it stood
-  seated_end : is_end old.action ≡ true → Seated s (es ++ here ∷ []) i (record old { ended = true })
-  seated_end e = record {
-    setting = y.setting;
-    number = y.number;
-    told = y.told ∙ sym (answers_still i es here refl (ap (λ b. not (b || is_fault old.action)) e));
-    asks = y.asks;
-    next = y.next;
-    ended = end_more i es here refl ∙ or_right (has_end i es) (is_end old.action) e;
-  }
+  abbrev es : List Entry
+  es = st.entries
 
-  seated_heard : (new : Seat) → is_end old.action ≡ false → is_fault old.action ≡ false → Hears old answer new → Seated s (es ++ here ∷ []) i new
-  seated_heard new e f h = record {
-    setting = ap exec.setting_of h.process ∙ y.setting;
-    number = ap (λ (x : Standing). x.number) h.process ∙ y.number;
-    told = ap (λ (x : Standing). x.told) h.process ∙ ap (λ xs. xs ++ answer ∷ []) y.told ∙ sym (answers_more i es here refl answered);
-    asks = ap (λ (x : Standing). x.asks) h.process;
-    next = h.next;
-    ended = end_more i es here refl ∙ or_none (has_end i es) (is_end old.action) e ∙ y.ended ∙ sym h.ended;
-  }
+  module _ (answer : Answer) (new : StoreState) (d : IsDone st i (place_of old) (action_of old) answer new) where
+    abbrev here : Entry
+    here = entry_with i old answer
+
+    abbrev all : List Entry
+    all = es ++ here ∷ []
+
+    after : new.entries ≡ all
+    after = ap (λ (x : StoreState). x.entries) d.after
+
+    can : CanTake s es i here
+    can = taken code st i old here l o.goes_on u y d.becomes
+
+    fit : AnswersFit s all
+    fit = o.fit st.procs st.fuel all o.within.some o.within.few o.within.fueled o.within.limited (more (solo_run s es solo) can refl)
+
+    -- behind its end a process stands where it stood
+    seated_end : is_act old.next ≡ false → Seated code s all i (record old { ended = true })
+    seated_end e =
+        let end = end_left old.next e d.no_fault in
+        let still : answers_of i all ≡ answers_of i es = answers_still i es here refl (ap (λ b. not (b || is_fault (action_of old))) end) in
+        seated_with code s es all i old true still (end_more i es here refl ∙ or_right (has_end i es) (is_end (action_of old)) end) y
+
+    answered : is_act old.next ≡ true → is_answered here ≡ true
+    answered e = rw ((answered_act y.there old.next y.is_next e).0, d.no_fault) refl
+
+    world_on : is_act old.next ≡ true → (q : Process) × World s all i q
+    world_on e = by old.next refl
+      where
+        by : (n : Next) → old.next ≡ n → (q : Process) × World s all i q
+        by (next.Act at a) z = world_more s es here y.there at a y.world (subst (IsNext y.there) z y.is_next) (answered e)
+        by (next.End at) z = absurd (true_false (sym e ∙ ap is_act z))
+        by (next.Fault kind at) z = absurd (true_false (sym e ∙ ap is_act z))
+
+    told : is_act old.next ≡ true → told_more old.process answer ≡ standing_of code s all i
+    told e =
+        ap (λ t. told_more t answer) y.process ∙ ap (λ rs. record (standing_of code s es i) { told = rs }) (sym (answers_more i es here refl (answered e)))
+
+    pub goes : is_act old.next ≡ true → machine.GoesOn (told_more old.process answer)
+    goes e =
+        let q = world_on e in
+        subst machine.GoesOn (sym (told e)) (code_goes_on code s o.follows o.within all fit i l q.0 q.1)
+
+    seated_heard : OneNext → (seat : Seat) → is_act old.next ≡ true → Hears old answer seat → Seated code s all i seat
+    seated_heard one seat e h =
+        let q = world_on e in
+        let unended : has_end i all ≡ has_end i es = end_more i es here refl ∙ or_none (has_end i es) (is_end (action_of old)) (answered_act y.there old.next y.is_next e).0 in
+        seated code s o.follows o.within all fit i l q.0 q.1 one seat (subst (λ t. StandsAt t seat) (told e) h.stands) (unended ∙ y.ended ∙ sym h.ended)
+
+    -- fewer steps are left
+    lighter_end : steps_left s (record old { ended = true }) < steps_left s old
+    lighter_end = rw u (omega arith)
+
+    lighter_heard : OneNext → (seat : Seat) → is_act old.next ≡ true → Hears old answer seat → steps_left s seat < steps_left s old
+    lighter_heard one seat e h =
+        let limit : length seat.process.told ≤ s.fuel = few code s all i seat (seated_heard one seat e h) in
+        let more : length seat.process.told ≡ length old.process.told + 1 = ap (λ (x : Standing). length x.told) h.stands.process ∙ length-append old.process.told (answer ∷ []) in
+        rw (h.ended, u) (one_fewer s.fuel (length old.process.told) (length seat.process.told) more limit)
+      where
+        one_fewer : (fuel m n : ℕ) → n ≡ m + 1 → n ≤ fuel → (fuel - n) + 1 < (fuel - m) + 1
+        one_fewer fuel m n k l = omega arith
+
+    -- the process went on, and was answered
+    went_with : OneNext → (seat : Seat) (t : Turn) → Moves old answer seat t → (b : Bool) → is_arrival (action_of old) ≡ b → GoesOn code s es i old new.entries seat b
+    went_with one seat t m b a = record {
+      takes = record { entry = here; can = can; after = after };
+      arrives_is = a;
+      no_fault = d.no_fault;
+      seated = subst (λ xs. Seated code s xs i seat) (sym after) (seated_on (is_act old.next) refl);
+      lighter = lighter (is_act old.next) refl;
+    }
+      where
+        seated_on : (b : Bool) → is_act old.next ≡ b → Seated code s all i seat
+        seated_on false e = subst (Seated code s all i) (sym (m.ends e)) (seated_end e)
+        seated_on true e = seated_heard one seat e (m.hears e)
+
+        lighter : (b : Bool) → is_act old.next ≡ b → steps_left s seat < steps_left s old
+        lighter false e = subst (λ x. steps_left s x < steps_left s old) (sym (m.ends e)) lighter_end
+        lighter true e = lighter_heard one seat e (m.hears e)
+
+    pub went : OneNext → (seat : Seat) (t : Turn) → Moves old answer seat t → TurnLeaves code s es i old new.entries seat (Ok t)
+    went one seat t m = by (is_arrival (action_of old)) refl m.turn
+      where
+        by : (b : Bool) → is_arrival (action_of old) ≡ b → t ≡ (if b then turn.Arrived else turn.Went) → TurnLeaves code s es i old new.entries seat (Ok t)
+        by true a e = subst (λ x. TurnLeaves code s es i old new.entries seat (Ok x)) (sym e) (went_with one seat t m true a)
+        by false a e = subst (λ x. TurnLeaves code s es i old new.entries seat (Ok x)) (sym e) (went_with one seat t m false a)
+
+    -- memory was wanting behind the answer
+    pub wants_behind : (seat : Seat) → is_act old.next ≡ true → StopsAt code s es i new.entries seat stop.Memory
+    wants_behind seat e = inr (record { entry = here; can = can; after = after }, d.no_fault, (answered_act y.there old.next y.is_next e).0)
+
+  -- ---- other turns
+
+  waits_here : (IsReady s es i (next_of (place_of old) (action_of old)) → ⊥) → Waits s es i
+  waits_here h =
+      let departs : action_of old ≡ act.Depart = is_departing (place_of old) (action_of old) h in
+      record {
+        unended = y.ended ∙ u;
+        process = y.there;
+        world = y.world;
+        place = place_of old;
+        is_next = subst (λ a. IsNext y.there (next_of (place_of old) a)) departs (next_taken code s es i old y);
+        early = subst (λ a. IsReady s es i (next_of (place_of old) a) → ⊥) departs h;
+      }
     where
-      answered : is_answered here ≡ true
-      answered = rw (e, f) refl
+      -- what has to wait is a departure
+      is_departing : (at : Place) (a : Action) → (IsReady s es i (next_of at a) → ⊥) → a ≡ act.Depart
+      is_departing at act.Depart h = refl
+      is_departing at act.End h = absurd (h tt)
+      is_departing at (act.Fault kind) h = absurd (h tt)
+      is_departing at _ h = absurd (h tt)
 
-  -- fewer steps are left
-  lighter_end : old.ended ≡ false → steps_left s (record old { ended = true }) < steps_left s old
-  lighter_end u = rw u (omega arith)
+  pub waited : (new : StoreState) → IsRefused st i (place_of old) (action_of old) err.NotYet new → TurnLeaves code s es i old new.entries old (Ok turn.Waits)
+  waited new r = (ap (λ (x : StoreState). x.entries) r.2, refl, waits_here r.1)
 
-  lighter_heard : (new : Seat) → old.ended ≡ false → is_end old.action ≡ false → is_fault old.action ≡ false → Hears old answer new → steps_left s new < steps_left s old
-  lighter_heard new u e f h =
-      let limit : length new.process.told ≤ s.fuel = few s (es ++ here ∷ []) i new (seated_heard new e f h) in
-      let more : length new.process.told ≡ length old.process.told + 1 = ap (λ (x : Standing). length x.told) h.process ∙ length-append old.process.told (answer ∷ []) in
-      rw (h.ended, u) (one_fewer s.fuel (length old.process.told) (length new.process.told) more limit)
-    where
-      one_fewer : (fuel m n : ℕ) → n ≡ m + 1 → n ≤ fuel → (fuel - n) + 1 < (fuel - m) + 1
-      one_fewer fuel m n k l = omega arith
-
--- ---- turns
-
--- the process went on, and was answered
-went_with : (st new : StoreState) (i : ℕ) (old seat : Seat) (answer : Answer) (t : Turn) → i < st.procs → has_fault st.entries ≡ false → old.ended ≡ false → Seated (setting_of st) st.entries i old
-    → IsDone st i old.place old.action answer new → Moves old answer seat t → (b : Bool) → is_arrival old.action ≡ b → GoesOn (setting_of st) st.entries i old new.entries seat b
-went_with st new i old seat answer t l f u y d m b a = record {
-  takes = record { entry = entry_with i old answer; can = taken st i old (entry_with i old answer) l f u y d.becomes; after = ap (λ (x : StoreState). x.entries) d.after };
-  arrives_is = a;
-  no_fault = d.no_fault;
-  seated = subst (λ xs. Seated (setting_of st) xs i seat) (sym (ap (λ (x : StoreState). x.entries) d.after)) (seated (is_end old.action) refl);
-  lighter = lighter (is_end old.action) refl;
-}
-  where
-    seated : (b : Bool) → is_end old.action ≡ b → Seated (setting_of st) (st.entries ++ entry_with i old answer ∷ []) i seat
-    seated true e = subst (Seated (setting_of st) (st.entries ++ entry_with i old answer ∷ []) i) (sym (m.ends e)) (seated_end (setting_of st) st.entries i old answer y e)
-    seated false e = seated_heard (setting_of st) st.entries i old answer y seat e d.no_fault (m.hears e)
-
-    lighter : (b : Bool) → is_end old.action ≡ b → steps_left (setting_of st) seat < steps_left (setting_of st) old
-    lighter true e = subst (λ x. steps_left (setting_of st) x < steps_left (setting_of st) old) (sym (m.ends e)) (lighter_end (setting_of st) st.entries i old answer y u)
-    lighter false e = lighter_heard (setting_of st) st.entries i old answer y seat u e d.no_fault (m.hears e)
-
-pub went : (st new : StoreState) (i : ℕ) (old seat : Seat) (answer : Answer) (t : Turn) → i < st.procs → has_fault st.entries ≡ false → old.ended ≡ false → Seated (setting_of st) st.entries i old
-    → IsDone st i old.place old.action answer new → Moves old answer seat t → TurnLeaves (setting_of st) st.entries i old new.entries seat (Ok t)
-went st new i old seat answer t l f u y d m = by (is_arrival old.action) refl m.turn
-  where
-    by : (b : Bool) → is_arrival old.action ≡ b → t ≡ (if b then turn.Arrived else turn.Went) → TurnLeaves (setting_of st) st.entries i old new.entries seat (Ok t)
-    by true a e = subst (λ x. TurnLeaves (setting_of st) st.entries i old new.entries seat (Ok x)) (sym e) (went_with st new i old seat answer t l f u y d m true a)
-    by false a e = subst (λ x. TurnLeaves (setting_of st) st.entries i old new.entries seat (Ok x)) (sym e) (went_with st new i old seat answer t l f u y d m false a)
-
--- memory was wanting behind the answer
-pub wants_behind : (st new : StoreState) (i : ℕ) (old : Seat) (answer : Answer) → i < st.procs → has_fault st.entries ≡ false → old.ended ≡ false → Seated (setting_of st) st.entries i old
-    → IsDone st i old.place old.action answer new → is_end old.action ≡ false → StopsAt (setting_of st) st.entries i new.entries stop.Memory
-wants_behind st new i old answer l f u y d e =
-    inr (record { entry = entry_with i old answer; can = taken st i old (entry_with i old answer) l f u y d.becomes; after = ap (λ (x : StoreState). x.entries) d.after }, d.no_fault, e)
-
--- what has to wait is a departure
-is_departing : (s : Setting) (es : List Entry) (i : ℕ) (at : Place) (a : Action) → (IsReady s es i (next_of at a) → ⊥) → a ≡ act.Depart
-is_departing s es i at act.Depart h = refl
-is_departing s es i at act.End h = absurd (h tt)
-is_departing s es i at (act.Fault kind) h = absurd (h tt)
-is_departing s es i at _ h = absurd (h tt)
-
-waits_at : (s : Setting) (es : List Entry) (i : ℕ) (seat : Seat) → Seated s es i seat → seat.ended ≡ false → (IsReady s es i (next_of seat.place seat.action) → ⊥) → Waits s es i
-waits_at s es i seat y u h =
-    let departs : seat.action ≡ act.Depart = is_departing s es i seat.place seat.action h in
-    record {
-      unended = y.ended ∙ u;
-      process = y.next.0;
-      world = world s es i seat y;
-      place = seat.place;
-      is_next = subst (λ a. IsNext y.next.0 (next_of seat.place a)) departs y.next.2;
-      early = subst (λ a. IsReady s es i (next_of seat.place a) → ⊥) departs h;
-    }
-
-pub waited : (st new : StoreState) (i : ℕ) (old : Seat) → old.ended ≡ false → Seated (setting_of st) st.entries i old → IsRefused st i old.place old.action err.NotYet new
-    → TurnLeaves (setting_of st) st.entries i old new.entries old (Ok turn.Waits)
-waited st new i old u y r = (ap (λ (x : StoreState). x.entries) r.2, refl, waits_at (setting_of st) st.entries i old y u r.1)
-
-pub faulted : (st new : StoreState) (i : ℕ) (old : Seat) (kind : FaultKind) → i < st.procs → has_fault st.entries ≡ false → old.ended ≡ false → Seated (setting_of st) st.entries i old
-    → IsRefused st i old.place old.action (err.Faulted kind) new → StopsAt (setting_of st) st.entries i new.entries stop.Faulted
-faulted st new i old kind l f u y r =
-    (record { entry = fault_entry i old.place kind; can = taken st i old (fault_entry i old.place kind) l f u y r.0; after = ap (λ (x : StoreState). x.entries) r.1 }, refl)
-
--- ---- seats that are taken, and that hear an answer
-
-pub seated_first : (p : Parts) (procs fuel i : ℕ) (t u : Standing) (n : Next) (d : Place × Action)
-    → t ≡ record { program = p; procs = procs; fuel = fuel; number = i; told = []; asks = false } → HasNext t n → u ≡ record t { asks = is_act n } → d ≡ doing_of n
-    → Seated (record { program = program_of p; procs = procs; fuel = fuel }) [] i (record { process = u; place = d.0; action = d.1; ended = false })
-seated_first p procs fuel i t u n d e h k z =
-    let x = advanced t u n h k in
-    record {
-      setting = ap exec.setting_of k ∙ ap exec.setting_of e;
-      number = ap (λ (x : Standing). x.number) k ∙ ap (λ (x : Standing). x.number) e;
-      told = ap (λ (x : Standing). x.told) k ∙ ap (λ (x : Standing). x.told) e;
-      asks = subst (λ (d : Place × Action). u.asks ≡ is_act (next_of d.0 d.1)) (sym z) x.1;
-      next = subst (λ (d : Place × Action). HasNext u (next_of d.0 d.1)) (sym z) x.0;
-      ended = refl;
-    }
-
-heard : (old : Seat) (answer : Answer) (t u : Standing) (n : Next) (d : Place × Action)
-    → t ≡ record old.process { told = old.process.told ++ answer ∷ []; asks = false } → HasNext t n → u ≡ record t { asks = is_act n } → d ≡ doing_of n
-    → Hears old answer (record { process = u; place = d.0; action = d.1; ended = old.ended })
-heard old answer t u n d e h k z =
-    let x = advanced t u n h k in
-    let asks : is_act n ≡ is_act (next_of d.0 d.1) = ap is_act (sym (next_back h.0 n h.2)) ∙ ap (λ (x : Place × Action). is_act (next_of x.0 x.1)) (sym z) in
-    record {
-      process = k ∙ ap (λ (x : Standing). record x { asks = is_act n }) e ∙ ap (λ b. record old.process { told = old.process.told ++ answer ∷ []; asks = b }) asks;
-      next = subst (λ (d : Place × Action). HasNext u (next_of d.0 d.1)) (sym z) x.0;
-      ended = refl;
-    }
-
-pub moved : (old : Seat) (answer : Answer) (t u : Standing) (n : Next) (d : Place × Action) (taken : Turn) → taken ≡ (if is_arrival old.action then turn.Arrived else turn.Went) → false ≡ is_end old.action
-    → t ≡ record old.process { told = old.process.told ++ answer ∷ []; asks = false } → HasNext t n → u ≡ record t { asks = is_act n } → d ≡ doing_of n
-    → Moves old answer (record { process = u; place = d.0; action = d.1; ended = old.ended }) taken
-moved old answer t u n d taken w x e h k z = record { turn = w; ends = λ y. absurd (true_false (sym y ∙ sym x)); hears = λ y. heard old answer t u n d e h k z }
+  -- behind a fault it stands where it stood
+  pub faulted : (new : StoreState) (kind : FaultKind) → IsRefused st i (place_of old) (action_of old) (err.Faulted kind) new → StopsAt code s es i new.entries old stop.Faulted
+  faulted new kind r =
+      let e = fault_entry i (place_of old) kind in
+      let after : new.entries ≡ es ++ e ∷ [] = ap (λ (x : StoreState). x.entries) r.1 in
+      let unended : has_end i (es ++ e ∷ []) ≡ old.ended = end_more i es e refl ∙ or_none (has_end i es) false refl ∙ y.ended in (
+        record { entry = e; can = taken code st i old e l o.goes_on u y r.0; after = after },
+        refl,
+        subst (λ xs. Seated code s xs i old) (sym after) (seated_with code s es (es ++ e ∷ []) i old old.ended (answers_still i es e refl refl) unended y),
+      )

@@ -14,7 +14,9 @@ use Rattle.ti_align.specs.Alignment.{OfEveryRun}
 use Rattle.ti_align.specs.Stopping.{RoundsBalance}
 use Rattle.ti_align.proofs.Vars.{or_right}
 use Rattle.ti_store.specs.Conditions.{IsWithin}
+use Rattle.ti_store.specs.Stores.{StoreState}
 use Rattle.ti_store.proofs.OneMore.{fault_more}
+use Rattle.ti_code.specs.Programs.{Code}
 use Rattle.ti_runtime.specs.declared.cursor.Cursor.{Cursor}
 use Rattle.ti_runtime.specs.declared.cursor.Turn.{Turn}
 use Rattle.ti_runtime.specs.declared.cursor.Turn.TheVariants as turn
@@ -22,8 +24,9 @@ use Rattle.ti_runtime.specs.declared.seat.Seat.{Seat}
 use Rattle.ti_runtime.specs.declared.seat.Stop.{Stop}
 use Rattle.ti_runtime.specs.declared.seat.Stop.TheVariants as stop
 use Rattle.ti_runtime.specs.MirrorsWaiting.{Waits, Rests}
-use Rattle.ti_runtime.specs.MirrorsTeam.{Seated, Takes, steps_left, all_steps_left, GoesOn, StopsAt, TurnLeaves, cursor_after, Points, Stands, StandsOn, Stopped}
+use Rattle.ti_runtime.specs.MirrorsTeam.{IsOpen, Seated, AllSeated, Takes, steps_left, all_steps_left, GoesOn, StopsAt, TurnLeaves, cursor_after, Points, Stands, StandsOn, Stopped}
 use Rattle.ti_runtime.proofs.Entries.{end_more, other_more}
+use Rattle.ti_runtime.proofs.Seats.{seated_with}
 use Rattle.ti_runtime.proofs.Waiting.{rest_takes_none, rests_still, wait_together}
 use Rattle.ti_runtime.proofs.Endings.{none_below}
 
@@ -33,6 +36,18 @@ true_false e = cc
 -- what holds of every run of a program holds of a solo run
 pub law_of : (fact : Setting → List Entry → Type 0) (s : Setting) (es : List Entry) → OfEveryRun fact s.program → IsWithin s.procs s.fuel → IsSolo s es → fact s es
 law_of fact s es all w solo = all s.procs s.fuel es w.some w.few w.fueled w.limited (solo_run s es solo)
+
+-- a store goes on being open as it grows
+pub open_on : (code : Code) (old new : StoreState) → new ≡ record old { entries = new.entries } → has_fault new.entries ≡ false → IsOpen code old → IsOpen code new
+open_on code old new is f o = subst (IsOpen code) (sym is) (record {
+  unhalted = o.unhalted;
+  goes_on = f;
+  within = o.within;
+  follows = o.follows;
+  aligned = o.aligned;
+  balance = o.balance;
+  fit = o.fit;
+})
 
 -- ---- a run with one entry more
 
@@ -65,36 +80,31 @@ module _ (s : Setting) (es all : List Entry) (i : ℕ) (t : Takes s es i all) wh
 -- ---- seats
 
 -- the seat of a process tells where it stands still, where the run went on elsewhere
-seated_still : (s : Setting) (es all : List Entry) (i : ℕ) (seat : Seat) → entries_of i all ≡ entries_of i es → Seated s es i seat → Seated s all i seat
-seated_still s es all i seat same y = record {
-  setting = y.setting;
-  number = y.number;
-  told = y.told ∙ sym (ap (λ own. map (λ (e : Entry). e.answer) (filter is_answered own)) same);
-  asks = y.asks;
-  next = y.next;
-  ended = ap (list_any (λ (e : Entry). is_end e.act)) same ∙ y.ended;
-}
+seated_still : (code : Code) (s : Setting) (es all : List Entry) (i : ℕ) (seat : Seat) → entries_of i all ≡ entries_of i es → Seated code s es i seat → Seated code s all i seat
+seated_still code s es all i seat same y =
+    seated_with code s es all i seat seat.ended (ap (λ own. map (λ (e : Entry). e.answer) (filter is_answered own)) same) (ap (list_any (λ (e : Entry). is_end e.act)) same ∙ y.ended) y
 
-module _ (s : Setting) (es all : List Entry) (seats : List Seat) (i : ℕ) (old new : Seat) (arrives : Bool) (g : GoesOn s es i old all new arrives) (inside : i < length seats) (is : old ≡ get_or seats i old) where
-  pub seated_on : ((d : Seat) (j : ℕ) → j < length seats → Seated s es j (get_or seats j d)) → (d : Seat) (j : ℕ) → j < length (slice_set seats i new) → Seated s all j (get_or (slice_set seats i new) j d)
+module _ (code : Code) (s : Setting) (es all : List Entry) (seats : List Seat) (i : ℕ) (new : Seat) (t : Takes s es i all) (y : Seated code s all i new) (inside : i < length seats) where
+  pub seated_on : AllSeated code s es seats → AllSeated code s all (slice_set seats i new)
   seated_on seated d j l = by (i == j) refl
     where
-      by : (b : Bool) → (i == j) ≡ b → Seated s all j (get_or (slice_set seats i new) j d)
+      by : (b : Bool) → (i == j) ≡ b → Seated code s all j (get_or (slice_set seats i new) j d)
       by true h =
           let same : i ≡ j = eqb-true i j h in
-          subst (λ k. Seated s all k (get_or (slice_set seats i new) k d)) same (subst (Seated s all i) (sym (get_or-set_same seats i new d inside)) g.seated)
+          subst (λ k. Seated code s all k (get_or (slice_set seats i new) k d)) same (subst (Seated code s all i) (sym (get_or-set_same seats i new d inside)) y)
       by false h =
-          subst (Seated s all j) (sym (get_or-set_other seats i j new d (λ e. eqb-false i j h (sym e))))
-          (seated_still s es all j (get_or seats j d) (other_on s es all i g.takes j h) (seated d j (subst (λ n. j < n) (length-set seats i new) l)))
+          subst (Seated code s all j) (sym (get_or-set_other seats i j new d (λ e. eqb-false i j h (sym e))))
+          (seated_still code s es all j (get_or seats j d) (other_on s es all i t j h) (seated d j (subst (λ n. j < n) (length-set seats i new) l)))
 
-  pub lighter_on : all_steps_left s (slice_set seats i new) < all_steps_left s seats
-  lighter_on =
-      let sums = sum_by-set (steps_left s) seats i new old inside in
-      let same : steps_left s (get_or seats i old) ≡ steps_left s old = ap (steps_left s) (sym is) in
-      fewer (all_steps_left s (slice_set seats i new)) (steps_left s (get_or seats i old)) (all_steps_left s seats) (steps_left s new) (steps_left s old) sums same g.lighter
-    where
-      fewer : (a b c d e : ℕ) → a + b ≡ c + d → b ≡ e → d < e → a < c
-      fewer a b c d e h k l = omega arith
+pub lighter_on : (s : Setting) (seats : List Seat) (i : ℕ) (old new : Seat) → i < length seats → old ≡ get_or seats i old → steps_left s new < steps_left s old
+    → all_steps_left s (slice_set seats i new) < all_steps_left s seats
+lighter_on s seats i old new inside is lighter =
+    let sums = sum_by-set (steps_left s) seats i new old inside in
+    let same : steps_left s (get_or seats i old) ≡ steps_left s old = ap (steps_left s) (sym is) in
+    fewer (all_steps_left s (slice_set seats i new)) (steps_left s (get_or seats i old)) (all_steps_left s seats) (steps_left s new) (steps_left s old) sums same lighter
+  where
+    fewer : (a b c d e : ℕ) → a + b ≡ c + d → b ≡ e → d < e → a < c
+    fewer a b c d e h k l = omega arith
 
 -- ---- the cursor
 
@@ -210,59 +220,65 @@ set_same [] k d = refl
 set_same (y ∷ ys) zero d = refl
 set_same (y ∷ ys) (suc k) d = ap (λ zs. y ∷ zs) (set_same ys k d)
 
-module _ (s : Setting) (es : List Entry) (seats : List Seat) (c : Cursor) (x : Stands s es seats c) (inside : c.at < s.procs) (old : Seat) (is : old ≡ get_or seats c.at old) where
+module _ (code : Code) (s : Setting) (es : List Entry) (seats : List Seat) (c : Cursor) (x : Stands code s es seats c) (inside : c.at < s.procs) (old : Seat) (is : old ≡ get_or seats c.at old) where
   within : c.at < length seats
   within = subst (λ n. c.at < n) (sym x.count) inside
 
   -- by an entry
-  onward : (all : List Entry) (new : Seat) (arrives : Bool) (d : Cursor) → GoesOn s es c.at old all new arrives → Points s all d → StandsOn s seats c all (slice_set seats c.at new) d
+  onward : (all : List Entry) (new : Seat) (arrives : Bool) (d : Cursor) → GoesOn code s es c.at old all new arrives → Points s all d → StandsOn code s seats c all (slice_set seats c.at new) d
   onward all new arrives d g p = record {
     stands = record {
       solo = solo_on s es all c.at g.takes x.solo x.points.before;
       goes_on = no_fault_on s es all c.at g.takes g.no_fault;
       count = length-set seats c.at new ∙ x.count;
-      seated = seated_on s es all seats c.at old new arrives g within is x.seated;
+      seated = seated_on code s es all seats c.at new g.takes g.seated within x.seated;
       points = p;
     };
-    lighter = falls (all_steps_left s (slice_set seats c.at new)) (all_steps_left s seats) s.procs d.at c.at (lighter_on s es all seats c.at old new arrives g within is);
+    lighter = falls (all_steps_left s (slice_set seats c.at new)) (all_steps_left s seats) s.procs d.at c.at (lighter_on s seats c.at old new within is g.lighter);
   }
 
   -- by none
-  still : (d : Cursor) → Points s es d → c.at < d.at → StandsOn s seats c es seats d
+  still : (d : Cursor) → Points s es d → c.at < d.at → StandsOn code s seats c es seats d
   still d p l = record {
     stands = record { solo = x.solo; goes_on = x.goes_on; count = x.count; seated = x.seated; points = p };
     lighter = falls_same (all_steps_left s seats * (s.procs + 1)) s.procs d.at c.at l inside;
   }
 
-  rested : (all : List Entry) (new : Seat) (d : Cursor) → all ≡ es → new ≡ old → Points s es d → c.at < d.at → StandsOn s seats c all (slice_set seats c.at new) d
+  rested : (all : List Entry) (new : Seat) (d : Cursor) → all ≡ es → new ≡ old → Points s es d → c.at < d.at → StandsOn code s seats c all (slice_set seats c.at new) d
   rested all new d e same p l =
-      subst (λ xs. StandsOn s seats c xs (slice_set seats c.at new) d) (sym e)
-      (subst (λ xs. StandsOn s seats c es xs d) (sym (ap (slice_set seats c.at) (same ∙ is) ∙ set_same seats c.at old)) (still d p l))
+      subst (λ xs. StandsOn code s seats c xs (slice_set seats c.at new) d) (sym e)
+      (subst (λ xs. StandsOn code s seats c es xs d) (sym (ap (slice_set seats c.at) (same ∙ is) ∙ set_same seats c.at old)) (still d p l))
 
-  pub turned : RoundsBalance s es → (all : List Entry) (new : Seat) (t : Turn) → TurnLeaves s es c.at old all new (Ok t) → StandsOn s seats c all (slice_set seats c.at new) (cursor_after c t)
+  pub turned : RoundsBalance s es → (all : List Entry) (new : Seat) (t : Turn) → TurnLeaves code s es c.at old all new (Ok t) → StandsOn code s seats c all (slice_set seats c.at new) (cursor_after c t)
   turned balance all new turn.Arrived g = onward all new true (cursor_after c turn.Arrived) g (points_arrived s es c x.points inside x.solo balance all g.takes g.arrives_is)
   turned balance all new turn.Went g = onward all new false (cursor_after c turn.Went) g (points_went s es c x.points inside all g.takes g.arrives_is)
   turned balance all new turn.Ended g = rested all new (cursor_after c turn.Ended) g.0 g.1 (points_ended s es c x.points inside g.2) (one_further c.at)
   turned balance all new turn.Waits g = rested all new (cursor_after c turn.Waits) g.0 g.1 (points_waits s es c x.points inside g.2) (further c.at c.waiting)
 
   -- a run that stops at this turn
-  pub stopped : (all : List Entry) (why : Stop) → StopsAt s es c.at all why → Stopped s all why
-  stopped all stop.Faulted t = record {
+  pub stopped : (all : List Entry) (new : Seat) (why : Stop) → StopsAt code s es c.at all new why → Stopped code s all (slice_set seats c.at new) why
+  stopped all new stop.Faulted t = record {
     solo = solo_on s es all c.at t.0 x.solo x.points.before;
     fault = (λ e. fault_on s es all c.at t.0 t.1, λ h. refl);
     unended = λ ended. true_false (sym (ended c.at inside) ∙ unended_on s es all c.at t.0 (fault_no_end t.0.entry.act t.1));
+    count = length-set seats c.at new ∙ x.count;
+    seated = λ e. seated_on code s es all seats c.at new t.0 t.2 within x.seated;
   }
     where
       fault_no_end : (a : Action) → is_fault a ≡ true → is_end a ≡ false
       fault_no_end (act.Fault kind) f = refl
       fault_no_end _ f = absurd (true_false (sym f))
-  stopped all stop.Memory (inl t) = record {
+  stopped all new stop.Memory (inl t) = record {
     solo = subst (IsSolo s) (sym t.0) x.solo;
     fault = (λ e. cc, λ h. absurd (true_false (sym h ∙ ap has_fault t.0 ∙ x.goes_on)));
     unended = λ ended. true_false (sym (ended c.at inside) ∙ ap (has_end c.at) t.0 ∙ t.1);
+    count = length-set seats c.at new ∙ x.count;
+    seated = λ e. absurd (e refl);
   }
-  stopped all stop.Memory (inr t) = record {
+  stopped all new stop.Memory (inr t) = record {
     solo = solo_on s es all c.at t.0 x.solo x.points.before;
     fault = (λ e. cc, λ h. absurd (true_false (sym h ∙ no_fault_on s es all c.at t.0 t.1)));
     unended = λ ended. true_false (sym (ended c.at inside) ∙ unended_on s es all c.at t.0 t.2);
+    count = length-set seats c.at new ∙ x.count;
+    seated = λ e. absurd (e refl);
   }

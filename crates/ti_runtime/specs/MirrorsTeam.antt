@@ -1,6 +1,6 @@
 -- Nobody has to believe what stands here: it mirrors the code, and only contracts of private functions speak of it.
 -- Where the processes of a run stand after its entries, and what the turn of one makes of them.
-use Rattle.std.specs.Prelude.{◌≡◌, ◌↔◌, ◌⊎◌, ℕ, ◌+◌, ◌-◌, ◌*◌, ◌<◌, ◌≤◌, max, Bool, true, false, if◌then◌else◌, List, [], ◌∷◌, ◌++◌, length, sum_by, slice_index_or, Result, Ok, Err}
+use Rattle.std.specs.Prelude.{◌≡◌, ◌≢◌, ◌↔◌, ◌⊎◌, ℕ, ◌+◌, ◌-◌, ◌*◌, ◌<◌, ◌≤◌, max, Bool, true, false, if◌then◌else◌, List, [], ◌∷◌, ◌++◌, length, sum_by, slice_index_or, Result, Ok, Err}
 use Rattle.ti_base.specs.declared.place.Place.{Place}
 use Rattle.ti_base.specs.declared.action.Action.{Action}
 use Rattle.ti_base.specs.declared.action.Action.TheVariants as act
@@ -8,14 +8,19 @@ use Rattle.ti_base.specs.declared.entry.Answer.{Answer}
 use Rattle.ti_base.specs.declared.entry.Entry.{Entry}
 use Rattle.ti_base.specs.declared.entry.Next.{Next}
 use Rattle.ti_base.specs.declared.entry.Next.TheVariants as next
-use Rattle.ti_lang.specs.Program.Classes.{NumberedProgram}
 use Rattle.ti_lang.specs.Program.Views.{program_of}
-use Rattle.ti_lang.specs.Meaning.Processes.{Setting}
-use Rattle.ti_lang.specs.Meaning.Histories.{is_end, is_fault, is_arrival, answers_of, has_end, has_fault}
-use Rattle.ti_lang.specs.Meaning.Runs.{CanTake, IsSolo, AllEnded}
-use Rattle.ti_exec.specs.Standing.{HasNext, is_act}
-use Rattle.ti_exec.specs.Standing as exec
-use Rattle.ti_store.specs.Stores.{StoreState, next_of}
+use Rattle.ti_lang.specs.Meaning.Processes.{Setting, Process}
+use Rattle.ti_lang.specs.Meaning.NextStep.{IsNext}
+use Rattle.ti_lang.specs.Meaning.Histories.{is_end, is_fault, is_arrival, has_end, has_fault}
+use Rattle.ti_lang.specs.Meaning.Runs.{World, CanTake, IsSolo, AllEnded}
+use Rattle.ti_align.specs.Alignment.{IsAlignedRun, OfEveryRun}
+use Rattle.ti_align.specs.Answering.{AnswersFit}
+use Rattle.ti_align.specs.Stopping.{RoundsBalance}
+use Rattle.ti_store.specs.Conditions.{IsWithin}
+use Rattle.ti_store.specs.Stores.{StoreState}
+use Rattle.ti_code.specs.Programs.{Code}
+use Rattle.ti_code.specs.Follows.{Follows}
+use Rattle.ti_machine.specs.Standing.{Standing, HasNext, is_act}
 use Rattle.ti_runtime.specs.declared.cursor.Cursor.{Cursor}
 use Rattle.ti_runtime.specs.declared.cursor.Turn.{Turn}
 use Rattle.ti_runtime.specs.declared.cursor.Turn.TheVariants as turn
@@ -26,6 +31,7 @@ use Rattle.ti_runtime.specs.declared.team.Team.{Team}
 use Rattle.ti_runtime.specs.declared.runner.How.{How}
 use Rattle.ti_runtime.specs.declared.runner.How.TheVariants as how
 use Rattle.ti_runtime.specs.MirrorsWaiting.{Waits, Rests}
+use Rattle.ti_runtime.specs.Ran.{standing_of}
 
 -- ---- seats
 
@@ -35,26 +41,40 @@ doing_of (next.Act at a) = (at, a)
 doing_of (next.End at) = (at, act.End)
 doing_of (next.Fault kind at) = (at, act.Fault kind)
 
--- the seat tells where process i stands after these entries
-pub record Seated (s : Setting) (es : List Entry) (i : ℕ) (seat : Seat) : Type 0 where
-  pub setting : exec.setting_of seat.process ≡ s
-  pub number : seat.process.number ≡ i
-  pub told : seat.process.told ≡ answers_of i es
-  pub asks : seat.process.asks ≡ is_act (next_of seat.place seat.action)
-  pub next : HasNext seat.process (next_of seat.place seat.action)
+-- where and what a process does next
+abbrev pub place_of : Seat → Place
+place_of seat = (doing_of seat.next).0
+
+abbrev pub action_of : Seat → Action
+action_of seat = (doing_of seat.next).1
+
+-- the process of the seat stands there, at what it has next
+pub record StandsAt (t : Standing) (seat : Seat) : Type 0 where
+  pub process : seat.process ≡ record t { asks = is_act seat.next }
+  pub next : HasNext t seat.next
+
+-- the seat tells where process i stands after these entries: what the program has next, with the code there
+pub record Seated (code : Code) (s : Setting) (es : List Entry) (i : ℕ) (seat : Seat) : Type 0 where
+  pub process : seat.process ≡ record (standing_of code s es i) { asks = is_act seat.next }
+  pub there : Process
+  pub world : World s es i there
+  pub is_next : IsNext there seat.next
   pub ended : has_end i es ≡ seat.ended
+
+-- with one answer more
+abbrev pub told_more : Standing → Answer → Standing
+told_more t answer = record t { told = t.told ++ answer ∷ []; asks = false }
 
 -- the process heard an answer, and stands at what it has next then
 pub record Hears (old : Seat) (answer : Answer) (new : Seat) : Type 0 where
-  pub process : new.process ≡ record old.process { told = old.process.told ++ answer ∷ []; asks = is_act (next_of new.place new.action) }
-  pub next : HasNext new.process (next_of new.place new.action)
+  pub stands : StandsAt (told_more old.process answer) new
   pub ended : new.ended ≡ old.ended
 
 -- what an answer makes of a seat: after its end a process hears nothing
 pub record Moves (old : Seat) (answer : Answer) (new : Seat) (t : Turn) : Type 0 where
-  pub turn : t ≡ (if is_arrival old.action then turn.Arrived else turn.Went)
-  pub ends : is_end old.action ≡ true → new ≡ record old { ended = true }
-  pub hears : is_end old.action ≡ false → Hears old answer new
+  pub turn : t ≡ (if is_arrival (action_of old) then turn.Arrived else turn.Went)
+  pub ends : is_act old.next ≡ false → new ≡ record old { ended = true }
+  pub hears : is_act old.next ≡ true → Hears old answer new
 
 -- ---- turns
 
@@ -72,31 +92,35 @@ abbrev pub all_steps_left : Setting → List Seat → ℕ
 all_steps_left s seats = sum_by (steps_left s) seats
 
 -- process i went on
-pub record GoesOn (s : Setting) (es : List Entry) (i : ℕ) (old : Seat) (all : List Entry) (new : Seat) (arrives : Bool) : Type 0 where
+pub record GoesOn (code : Code) (s : Setting) (es : List Entry) (i : ℕ) (old : Seat) (all : List Entry) (new : Seat) (arrives : Bool) : Type 0 where
   pub takes : Takes s es i all
   pub arrives_is : is_arrival takes.entry.act ≡ arrives
   pub no_fault : is_fault takes.entry.act ≡ false
-  pub seated : Seated s all i new
+  pub seated : Seated code s all i new
   pub lighter : steps_left s new < steps_left s old
 
--- the run stops at process i: with its fault, or for want of memory before its entry or behind it
-abbrev pub StopsAt : Setting → List Entry → ℕ → List Entry → Stop → Type 0
-StopsAt s es i all stop.Faulted = (t : Takes s es i all) × (is_fault t.entry.act ≡ true)
-StopsAt s es i all stop.Memory = ((all ≡ es) × (has_end i es ≡ false)) ⊎ ((t : Takes s es i all) × (is_fault t.entry.act ≡ false) × (is_end t.entry.act ≡ false))
+-- the run stops at process i: with its fault, behind which it stands where it stood, or for want of memory before its entry or behind it
+abbrev pub StopsAt : Code → Setting → List Entry → ℕ → List Entry → Seat → Stop → Type 0
+StopsAt code s es i all new stop.Faulted = (t : Takes s es i all) × (is_fault t.entry.act ≡ true) × Seated code s all i new
+StopsAt code s es i all new stop.Memory = ((all ≡ es) × (has_end i es ≡ false)) ⊎ ((t : Takes s es i all) × (is_fault t.entry.act ≡ false) × (is_end t.entry.act ≡ false))
 
 -- what the turn of process i makes of the entries and of its seat
-abbrev pub TurnLeaves : Setting → List Entry → ℕ → Seat → List Entry → Seat → Result Turn Stop → Type 0
-TurnLeaves s es i old all new (Ok turn.Arrived) = GoesOn s es i old all new true
-TurnLeaves s es i old all new (Ok turn.Went) = GoesOn s es i old all new false
-TurnLeaves s es i old all new (Ok turn.Ended) = (all ≡ es) × (new ≡ old) × (has_end i es ≡ true)
-TurnLeaves s es i old all new (Ok turn.Waits) = (all ≡ es) × (new ≡ old) × Waits s es i
-TurnLeaves s es i old all new (Err why) = StopsAt s es i all why
+abbrev pub TurnLeaves : Code → Setting → List Entry → ℕ → Seat → List Entry → Seat → Result Turn Stop → Type 0
+TurnLeaves code s es i old all new (Ok turn.Arrived) = GoesOn code s es i old all new true
+TurnLeaves code s es i old all new (Ok turn.Went) = GoesOn code s es i old all new false
+TurnLeaves code s es i old all new (Ok turn.Ended) = (all ≡ es) × (new ≡ old) × (has_end i es ≡ true)
+TurnLeaves code s es i old all new (Ok turn.Waits) = (all ≡ es) × (new ≡ old) × Waits s es i
+TurnLeaves code s es i old all new (Err why) = StopsAt code s es i all new why
 
--- a store of the program that goes on
-pub record IsOpen (program : NumberedProgram) (store : StoreState) : Type 0 where
-  pub program_is : program_of store.program ≡ program
+-- a store that goes on, of a program that the code follows, within the limits; with what holds of every run
+pub record IsOpen (code : Code) (store : StoreState) : Type 0 where
   pub unhalted : store.halted ≡ false
   pub goes_on : has_fault store.entries ≡ false
+  pub within : IsWithin store.procs store.fuel
+  pub follows : Follows code (program_of store.program)
+  pub aligned : OfEveryRun IsAlignedRun (program_of store.program)
+  pub balance : OfEveryRun RoundsBalance (program_of store.program)
+  pub fit : OfEveryRun AnswersFit (program_of store.program)
 
 -- ---- teams
 
@@ -114,12 +138,16 @@ pub record Points (s : Setting) (es : List Entry) (c : Cursor) : Type 0 where
   pub before : (i : ℕ) → i < c.at → Rests s es i
   pub together : (i : ℕ) → i < c.waiting → Waits s es i → (j : ℕ) → j < c.waiting → Rests s es j
 
--- the seats tell where all processes stand after the entries, which are those of the solo run so far, and the cursor which is next
-pub record Stands (s : Setting) (es : List Entry) (seats : List Seat) (c : Cursor) : Type 0 where
+-- the seats tell where all processes stand after the entries
+abbrev pub AllSeated : Code → Setting → List Entry → List Seat → Type 0
+AllSeated code s es seats = (d : Seat) (i : ℕ) → i < length seats → Seated code s es i (slice_index_or seats i d)
+
+-- so they do after those of the solo run so far, and the cursor tells which is next
+pub record Stands (code : Code) (s : Setting) (es : List Entry) (seats : List Seat) (c : Cursor) : Type 0 where
   pub solo : IsSolo s es
   pub goes_on : has_fault es ≡ false
   pub count : length seats ≡ s.procs
-  pub seated : (d : Seat) (i : ℕ) → i < length seats → Seated s es i (slice_index_or seats i d)
+  pub seated : AllSeated code s es seats
   pub points : Points s es c
 
 -- how many turns there may still be: of those that take no entry there are at most as many in a row as processes
@@ -127,25 +155,29 @@ abbrev pub turns_left : Setting → List Seat → Cursor → ℕ
 turns_left s seats c = all_steps_left s seats * (s.procs + 1) + (s.procs - c.at)
 
 -- the run goes on, with fewer turns left
-pub record StandsOn (s : Setting) (old : List Seat) (was : Cursor) (es : List Entry) (new : List Seat) (is : Cursor) : Type 0 where
-  pub stands : Stands s es new is
+pub record StandsOn (code : Code) (s : Setting) (old : List Seat) (was : Cursor) (es : List Entry) (new : List Seat) (is : Cursor) : Type 0 where
+  pub stands : Stands code s es new is
   pub lighter : turns_left s new is < turns_left s old was
 
 -- a run that stopped before all had their end
-pub record Stopped (s : Setting) (es : List Entry) (why : Stop) : Type 0 where
+pub record Stopped (code : Code) (s : Setting) (es : List Entry) (seats : List Seat) (why : Stop) : Type 0 where
   pub solo : IsSolo s es
   pub fault : (why ≡ stop.Faulted) ↔ (has_fault es ≡ true)
   pub unended : AllEnded s es → ⊥
+  pub count : length seats ≡ s.procs
+  pub seated : why ≢ stop.Memory → AllSeated code s es seats
 
 -- what a step of a team makes of it and of the entries
-abbrev pub StepLeaves : {U : Type 0} → Setting → Team → List Entry → Team → Result U Stop → Type 0
-StepLeaves s old all new (Ok u) = StandsOn s old.seats.items old.cursor all new.seats.items new.cursor
-StepLeaves s old all new (Err why) = Stopped s all why
+abbrev pub StepLeaves : {U : Type 0} → Code → Setting → Team → List Entry → Team → Result U Stop → Type 0
+StepLeaves code s old all new (Ok u) = StandsOn code s old.seats.items old.cursor all new.seats.items new.cursor
+StepLeaves code s old all new (Err why) = Stopped code s all new.seats.items why
 
 -- ---- runs
 
 -- what a run came to
-pub record CameTo (s : Setting) (es : List Entry) (end : How) : Type 0 where
+pub record CameTo (code : Code) (s : Setting) (es : List Entry) (seats : List Seat) (end : How) : Type 0 where
   pub solo : IsSolo s es
   pub ended : (end ≡ how.Ended) ↔ AllEnded s es
   pub faulted : (end ≡ how.Faulted) ↔ (has_fault es ≡ true)
+  pub count : length seats ≡ s.procs
+  pub seated : end ≢ how.Memory → AllSeated code s es seats

@@ -1,16 +1,17 @@
 // A process's place in the team of a run.
 ghost use Rattle.std.specs.Prelude.{◌≡◌, ◌<◌, ◌^◌, [], true, false, IfOk, IfErr, if◌then◌else◌};
-ghost use Rattle.ti_lang.specs.Program.Views.{program_of};
-ghost use Rattle.ti_lang.specs.Meaning.Histories.{is_end as end_spec, is_arrival};
+ghost use Rattle.ti_lang.specs.Meaning.Histories.{is_arrival};
+ghost use Rattle.ti_lang.specs.Meaning.Runs.{IsSolo};
 ghost use Rattle.ti_eval.specs.Forms.{IsFormedAnswer};
+ghost use Rattle.ti_machine.specs.Standing.{GoesOn, is_act};
 ghost use Rattle.ti_store.specs.Stores.{setting_of};
-ghost use Rattle.ti_runtime.specs.MirrorsTeam.{doing_of, Seated, Moves, IsOpen, TurnLeaves};
+ghost use Rattle.ti_runtime.specs.MirrorsTeam.{doing_of, told_more, StandsAt, Seated, Moves, IsOpen, TurnLeaves};
 
 use crate::cursor::Turn;
 use std::alloc::Global;
 use ti_base::{Action, Answer, Memory, Next, Place};
-use ti_exec::TreeProc;
-use ti_rules::Checked;
+use ti_code::Code;
+use ti_machine::{Proc, has_one_next};
 use ti_store::{ActErr, Store};
 
 /// Why a run stops before all processes have their end.
@@ -22,12 +23,11 @@ pub enum Stop {
     Memory,
 }
 
-/// A process of a run with what it does next, and whether it had its end.
+/// A process of a run with what it has next, and whether it had its end.
 #[derive(Drop)]
 pub struct Seat {
-    pub process: TreeProc,
-    pub place: Place,
-    pub action: Action,
+    pub process: Proc,
+    pub next: Next,
     pub ended: bool,
 }
 
@@ -40,13 +40,6 @@ fn doing(next: Next) -> (Place, Action)
         Next::End(place) => (place, Action::End),
         Next::Fault(kind, place) => (place, Action::Fault { kind }),
     }
-}
-
-// Whether an action is the end of its process.
-fn is_end(action: Action) -> bool
-    ensures { result ≡ end_spec action }
-{
-    matches!(action, Action::End)
 }
 
 // How a process goes on that was answered.
@@ -64,64 +57,66 @@ impl Seat {
     /// The process of a number before its first entry.
     pub fn take(
         alloc: Global,
-        c: &Checked,
+        code: &Code,
         number: u32,
         procs: u32,
         fuel: u32,
     ) -> Result<Seat, Memory>
         requires number { number < 2 ^ 31 }
         requires procs { procs < 2 ^ 31 }
-        ensures { IfOk result (λ seat. Seated (record { program = program_of c.now.program.parts; procs = procs; fuel = fuel }) [] number seat) }
+        requires goes { GoesOn (record { code = code.now; procs = procs; fuel = fuel; number = number; told = []; asks = false }) }
+        ensures stands { IfOk result (λ seat. StandsAt (record { code = code.now; procs = procs; fuel = fuel; number = number; told = []; asks = false }) seat) }
+        ensures unended { IfOk result (λ seat. seat.ended ≡ false) }
     {
-        let mut process = TreeProc::start(alloc, c, number, procs, fuel)?;
-        let (place, action) = doing(process.advance(alloc, c)?);
+        let mut process = Proc::start(alloc, code, number, procs, fuel)?;
+        let next = process.advance(alloc, code)?;
         Ok(Seat {
             process,
-            place,
-            action,
+            next,
             ended: false,
         })
     }
 
-    // Goes on behind what it does next, which got this answer.
-    fn go_on(&mut self, alloc: Global, c: &Checked, answer: Answer) -> Result<Turn, Memory>
-        requires program { program_of c.now.program.parts ≡ program_of self.old.process.program }
-        requires asks { end_spec self.old.action ≡ false → self.old.process.asks ≡ true }
+    // Goes on behind what it has next, which got this answer.
+    fn go_on(&mut self, alloc: Global, code: &Code, answer: Answer) -> Result<Turn, Memory>
+        requires code { code.now ≡ self.old.process.code }
+        requires asks { is_act self.old.next ≡ true → self.old.process.asks ≡ true }
         requires form { IsFormedAnswer answer }
+        requires goes { is_act self.old.next ≡ true → GoesOn (told_more self.old.process answer) }
         ensures moves { IfOk result (λ turn. Moves self.old answer self.new turn) }
-        ensures memory { IfErr result (λ _. end_spec self.old.action ≡ false) }
+        ensures memory { IfErr result (λ _. is_act self.old.next ≡ true) }
     {
-        if is_end(self.action) {
+        let Next::Act(_, action) = self.next else {
             self.ended = true;
             return Ok(Turn::Went);
-        }
-        let turn = turn_of(self.action);
+        };
         self.process.answer(answer);
-        let (place, action) = doing(self.process.advance(alloc, c)?);
-        self.place = place;
-        self.action = action;
-        Ok(turn)
+        self.next = self.process.advance(alloc, code)?;
+        Ok(turn_of(action))
     }
 
     /// The process takes its turn: it does what it has next, if it needn't wait.
     pub fn take_turn(
         &mut self,
         alloc: Global,
-        c: &Checked,
+        code: &Code,
         store: &mut Store,
         number: u32,
     ) -> Result<Turn, Stop>
-        requires open { IsOpen (program_of c.now.program.parts) store.old }
+        requires open { IsOpen code.now store.old }
         requires number { number < store.old.procs }
-        requires seated { Seated (setting_of store.old) store.old.entries number self.old }
-        ensures leaves { TurnLeaves (setting_of store.old) store.old.entries number self.old store.new.entries self.new result }
+        requires solo { IsSolo (setting_of store.old) store.old.entries }
+        requires seated { Seated code.now (setting_of store.old) store.old.entries number self.old }
+        ensures leaves { TurnLeaves code.now (setting_of store.old) store.old.entries number self.old store.new.entries self.new result }
         ensures store { store.new ≡ record store.old { entries = store.new.entries } }
     {
+        has_one_next();
         if self.ended {
             return Ok(Turn::Ended);
         }
-        match store.act(alloc, number, self.place, self.action) {
-            Ok(answer) => match self.go_on(alloc, c, answer) {
+        let (place, action) = doing(self.next);
+        match store.act(alloc, number, place, action) {
+            Ok(answer) => match self.go_on(alloc, code, answer) {
                 Ok(turn) => Ok(turn),
                 Err(Memory) => Err(Stop::Memory),
             },

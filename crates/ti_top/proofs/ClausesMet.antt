@@ -13,6 +13,7 @@ use Rattle.ti_code.specs.Follows.{Follows}
 use Rattle.ti_code.specs.Programs as coded
 use Rattle.ti_lower.specs.Programs.{program_code}
 use Rattle.ti_rules.specs.declared.refusal.Refusal.{Refusal}
+use Rattle.ti_runtime.specs.Ran.{IsDone}
 use Rattle.ti_rules.specs.RefusalOf.{HasProgram}
 use Rattle.ti_top.specs.declared.fault.Fault.{Fault}
 use Rattle.ti_top.specs.declared.reading.ReadEnd.{ReadEnd}
@@ -27,10 +28,10 @@ use Rattle.ti_top.specs.Mirrors.Reading.{ReadsWhole}
 use Rattle.ti_top.specs.Ending.{status_of}
 use Rattle.ti_top.specs.Summary.{summary}
 use Rattle.ti_top.specs.Mirrors.Ended.{Ended}
-use Rattle.ti_top.specs.Run.{HasFile, Runs, run_of, fault_entry, EndsWithFault}
-use Rattle.ti_top.specs.Mirrors.Work.{RanNothing, Ran, WasRefused, WasChecked, WasCoded, RunTextSays, CodeTextSays, TextSays, FileSays, FileDone, SeedDone, WorkSays, work_of, DidNothing}
+use Rattle.ti_top.specs.Run.{HasFile, Runs, HasCode, run_of, fault_entry, EndsWithFault}
+use Rattle.ti_top.specs.Mirrors.Work.{kept_in, RanNothing, Ran, WasRefused, WasChecked, WasCoded, RunTextSays, CodeTextSays, TextSays, FileSays, FileDone, SeedDone, WorkSays, work_of, DidNothing}
 use Rattle.ti_top.specs.Call.{most_read, Call, IsCommand, IsNoCommand, file_in, file_of, SourceRose, SinkRose, ErrRose, Yields, WantsReport}
-use Rattle.ti_top.specs.Clauses.{IsAccepted, IsReadWhole, IsWholeIn, HasText, ReadsText, MakesText, GetsText, RefusesExactly, KeepsRun, RunsCode, WhereAccepted, WhereRun, WritesAll, WritesOutput, IsAlignedRun, EndsRun, NothingFailed, IsComplete, MeetsBesideErr, Says, before_err, Meets}
+use Rattle.ti_top.specs.Clauses.{IsAccepted, IsReadWhole, IsWholeIn, HasText, ReadsText, MakesText, GetsText, RefusesExactly, KeepsRun, RunsCode, CountsInstructions, WhereAccepted, WhereRun, WritesAll, WritesOutput, IsAlignedRun, EndsRun, NothingFailed, IsComplete, MeetsBesideErr, Says, before_err, Meets}
 use Rattle.ti_top.proofs.StatusFrom.{StatusFrom, status_from, not_five, is_done, is_faulted, is_no_memory}
 use Rattle.ti_top.proofs.WordsAnswered.{known, not_both, no_command_answers, command_answers}
 use Rattle.ti_top.proofs.TextRead.{EndsAs, read_whole, reads_text}
@@ -61,7 +62,7 @@ nothing_of_unbegun Code run runs cut = absurd runs
 nothing_of_unbegun Gen run runs cut = append-nil (summary run []) ∙ no_summary run [] (λ ended. cut (inr ended))
 
 -- where nothing was written, the status owes nothing, and an empty history isn't complete
-output_nothing : (c : Call) → (c.status ≡ 0 → WhereAccepted c (λ job program. output job program c.history (wanted job c.watchers) ≡ [])) → (c.status ≡ 2 → WhereAccepted c (λ job program. ⊥)) → (c.status ≡ 6 → WhereRun c (λ job program. IsCompleteRun (run_of program job) [] → ⊥)) → RanNothing c.out c.out_after c.history c.code → WritesOutput c
+output_nothing : (c : Call) → (c.status ≡ 0 → WhereAccepted c (λ job program. output job program c.history (wanted job c.watchers) ≡ [])) → (c.status ≡ 2 → WhereAccepted c (λ job program. ⊥)) → (c.status ≡ 6 → WhereRun c (λ job program. IsCompleteRun (run_of program job) [] → ⊥)) → RanNothing c.out c.out_after (kept_in c) → WritesOutput c
 output_nothing c done_of_none not_faulted not_complete x =
     let same : c.out_after.taken ≡ c.out.taken = ap (λ s. s.taken) x.unwritten in
     let grew_none : c.out_after.taken ≡ c.out.taken ++ [] = same ∙ sym (append-nil c.out.taken) in
@@ -98,15 +99,34 @@ run_nothing job c no_entry = record {
 none_some : (code : coded.Code) → ◌≡◌ {A = Option coded.Code} None (Some code) → ⊥
 none_some code e = cc
 
+-- a mode that runs has code
+pub runs_has : (mode : Mode) → Runs mode → HasCode mode
+runs_has Run runs = tt
+runs_has Check runs = runs
+runs_has Code runs = absurd runs
+runs_has Gen runs = tt
+
 -- there is no code, and none is owed
-no_code : (job : Job) (c : Call) → c.code ≡ None → (c.status ≡ 0 → job.mode ≡ Code → (program : NumberedProgram) → HasProgram c.text program → ⊥) → RunsCode job c
-no_code job c gone unowed = record {
+no_code : (job : Job) (c : Call) → c.code ≡ None → (c.status ≡ 0 → HasCode job.mode → (program : NumberedProgram) → HasProgram c.text program → ⊥)
+    → (c.status ≡ 2 → (program : NumberedProgram) → HasProgram c.text program → ⊥) → RunsCode job c
+no_code job c gone unowed unfaulted = record {
   there = λ is mode program has. absurd (unowed is mode program has);
+  there_at_two = λ is program has. absurd (unfaulted is program has);
   is = λ code some. absurd (none_some code (sym gone ∙ some));
   follows = λ code some. absurd (none_some code (sym gone ∙ some));
   only_where = λ code some. absurd (none_some code (sym gone ∙ some));
   none = λ _. gone;
-  no_other_mode = λ _. gone;
+  unlowered = λ _. gone;
+}
+
+-- nothing is counted, and nothing is owed
+no_count : (job : Job) (c : Call) → c.done ≡ [] → (c.status ≡ 0 → Runs job.mode → (program : NumberedProgram) → HasProgram c.text program → ⊥)
+    → (c.status ≡ 2 → (program : NumberedProgram) → HasProgram c.text program → ⊥) → CountsInstructions job c
+no_count job c gone unowed unfaulted = record {
+  ended = λ is mode program has. absurd (unowed is mode program has);
+  faulted = λ is program has. absurd (unfaulted is program has);
+  none = λ _. gone;
+  unrun = λ _. gone;
 }
 
 -- where nothing was run, no fault is last
@@ -120,11 +140,12 @@ no_fault_of_nothing c fault no_entry e = short e.before (fault_entry fault) (sym
 -- the words are no command
 beside_no_command : (c : Call) → IsNoCommand c → DidNothing c → StatusFrom NoCommand c → MeetsBesideErr c
 beside_no_command c no_job x from = record {
-  words = no_command_answers c no_job x.source x.text x.nothing.no_code x.nothing.no_entry from;
+  words = no_command_answers c no_job x.source x.text x.nothing from;
   text = λ job some. absurd (not_both c job some no_job);
   refusal = λ job some. absurd (not_both c job some no_job);
   run = λ job some. absurd (not_both c job some no_job);
   code = λ job some. absurd (not_both c job some no_job);
+  count = λ job some. absurd (not_both c job some no_job);
   output = output_nothing c (λ _ job some. absurd (not_both c job some no_job)) (λ _ job some. absurd (not_both c job some no_job)) (λ _ job some. absurd (not_both c job some no_job)) x.nothing;
   alignment = record {
     done = λ is. absurd (never NoCommand c 0 from (λ e. omega arith) (λ e. omega arith) is);
@@ -145,6 +166,7 @@ pub record Clauses (job : Job) (c : Call) : Type 0 where
   pub refusal : RefusesExactly job c
   pub run : KeepsRun job c
   pub code : RunsCode job c
+  pub count : CountsInstructions job c
   pub output : WritesOutput c
   pub alignment : IsAlignedRun c
   pub end : EndsRun job c
@@ -159,19 +181,21 @@ not_no_command Read.CantRead before fits is = let x = sym fits ∙ is in cc
 not_no_command Read.NoMemory before fits is = let x = sym fits ∙ is in cc
 
 -- the text is refused
-clauses_refused : (refusal : Refusal) (job : Job) (c : Call) → StatusFrom (Refused refusal) c → HasText job c → WasRefused c.text c.out c.out_after c.history c.code refusal → Clauses job c
+clauses_refused : (refusal : Refusal) (job : Job) (c : Call) → StatusFrom (Refused refusal) c → HasText job c → WasRefused c.text c.out c.out_after (kept_in c) refusal → Clauses job c
 clauses_refused refusal job c from whole refused = let x = refused.nothing in record {
   refusal = record {
     only_where = λ _. (refusal, record { whole = whole; refused = refused.is });
     everywhere = λ _ _. yields (Refused refusal) c from (λ same. inl same) (λ y. inr (inl y));
     no_code = λ _ _. x.no_code;
     no_history = λ _ _. x.no_entry;
+    no_count = λ _ _. x.no_count;
     no_output = λ _ _. ap (λ s. s.taken) x.unwritten;
     accepted_at_zero = λ is. absurd (never (Refused refusal) c 0 from (λ e. omega arith) (λ e. omega arith) is);
     accepted_at_two = λ is. absurd (never (Refused refusal) c 2 from (λ e. omega arith) (λ e. omega arith) is);
   };
   run = run_nothing job c x.no_entry;
-  code = no_code job c x.no_code (λ _ _ program has. refused.no_program program has);
+  code = no_code job c x.no_code (λ _ _ program has. refused.no_program program has) (λ _ program has. refused.no_program program has);
+  count = no_count job c x.no_count (λ _ _ program has. refused.no_program program has) (λ _ program has. refused.no_program program has);
   output = output_nothing c (λ _ _ _ program has. absurd (refused.no_program program has)) (λ _ _ _ program has. refused.no_program program has) (λ _ _ _ _ program has. absurd (refused.no_program program has)) x;
   alignment = record {
     done = λ _ program has. absurd (refused.no_program program has);
@@ -199,7 +223,7 @@ was_read Code job c named whole = whole
 was_read Gen job c named whole = absurd named
 
 -- the file can't be read
-clauses_cant_read : (job : Job) (c : Call) → HasFile job.mode → StatusFrom CantRead c → IsMissing c.source job.file ⊎ SourceRose c → RanNothing c.out c.out_after c.history c.code → Clauses job c
+clauses_cant_read : (job : Job) (c : Call) → HasFile job.mode → StatusFrom CantRead c → IsMissing c.source job.file ⊎ SourceRose c → RanNothing c.out c.out_after (kept_in c) → Clauses job c
 clauses_cant_read job c named from cause x = record {
   refusal = record {
     only_where = λ is. absurd (never CantRead c 1 from (λ e. omega arith) (λ e. omega arith) is);
@@ -208,12 +232,14 @@ clauses_cant_read job c named from cause x = record {
         (λ y. inr (inl y));
     no_code = λ _ _. x.no_code;
     no_history = λ _ _. x.no_entry;
+    no_count = λ _ _. x.no_count;
     no_output = λ _ _. ap (λ s. s.taken) x.unwritten;
     accepted_at_zero = λ is. absurd (never CantRead c 0 from (λ e. omega arith) (λ e. omega arith) is);
     accepted_at_two = λ is. absurd (never CantRead c 2 from (λ e. omega arith) (λ e. omega arith) is);
   };
   run = run_nothing job c x.no_entry;
-  code = no_code job c x.no_code (λ is. absurd (never CantRead c 0 from (λ e. omega arith) (λ e. omega arith) is));
+  code = no_code job c x.no_code (λ is. absurd (never CantRead c 0 from (λ e. omega arith) (λ e. omega arith) is)) (λ is. absurd (never CantRead c 2 from (λ e. omega arith) (λ e. omega arith) is));
+  count = no_count job c x.no_count (λ is. absurd (never CantRead c 0 from (λ e. omega arith) (λ e. omega arith) is)) (λ is. absurd (never CantRead c 2 from (λ e. omega arith) (λ e. omega arith) is));
   output = output_nothing c (λ is. absurd (never CantRead c 0 from (λ e. omega arith) (λ e. omega arith) is)) (λ is. absurd (never CantRead c 2 from (λ e. omega arith) (λ e. omega arith) is)) (λ is. absurd (never CantRead c 6 from (λ e. omega arith) (λ e. omega arith) is)) x;
   alignment = record {
     done = λ is. absurd (never CantRead c 0 from (λ e. omega arith) (λ e. omega arith) is);
@@ -229,19 +255,21 @@ clauses_cant_read job c named from cause x = record {
 }
 
 -- out of memory before the run
-clauses_no_memory : (job : Job) (c : Call) → IsCommand c job → ((other : Job) → IsCommand c other → 1 ≤ other.procs) → StatusFrom NoMemory c → RanNothing c.out c.out_after c.history c.code → Clauses job c
+clauses_no_memory : (job : Job) (c : Call) → IsCommand c job → ((other : Job) → IsCommand c other → 1 ≤ other.procs) → StatusFrom NoMemory c → RanNothing c.out c.out_after (kept_in c) → Clauses job c
 clauses_no_memory job c command some from x = record {
   refusal = record {
     only_where = λ is. absurd (never NoMemory c 1 from (λ e. omega arith) (λ e. omega arith) is);
     everywhere = λ _ _. yields NoMemory c from (λ same. inr (inl (inl same))) (λ y. inr (inl y));
     no_code = λ _ _. x.no_code;
     no_history = λ _ _. x.no_entry;
+    no_count = λ _ _. x.no_count;
     no_output = λ _ _. ap (λ s. s.taken) x.unwritten;
     accepted_at_zero = λ is. absurd (never NoMemory c 0 from (λ e. omega arith) (λ e. omega arith) is);
     accepted_at_two = λ is. absurd (never NoMemory c 2 from (λ e. omega arith) (λ e. omega arith) is);
   };
   run = run_nothing job c x.no_entry;
-  code = no_code job c x.no_code (λ is. absurd (never NoMemory c 0 from (λ e. omega arith) (λ e. omega arith) is));
+  code = no_code job c x.no_code (λ is. absurd (never NoMemory c 0 from (λ e. omega arith) (λ e. omega arith) is)) (λ is. absurd (never NoMemory c 2 from (λ e. omega arith) (λ e. omega arith) is));
+  count = no_count job c x.no_count (λ is. absurd (never NoMemory c 0 from (λ e. omega arith) (λ e. omega arith) is)) (λ is. absurd (never NoMemory c 2 from (λ e. omega arith) (λ e. omega arith) is));
   output = output_nothing c (λ is. absurd (never NoMemory c 0 from (λ e. omega arith) (λ e. omega arith) is)) (λ is. absurd (never NoMemory c 2 from (λ e. omega arith) (λ e. omega arith) is)) (λ _ other is _ program _. unbegun (run_of program other) (some other is)) x;
   alignment = record {
     done = λ is. absurd (never NoMemory c 0 from (λ e. omega arith) (λ e. omega arith) is);
@@ -287,11 +315,11 @@ run_or_check m runs check = subst Runs check runs
 run_or_code : (mode : Mode) → Runs mode → mode ≡ Code → ⊥
 run_or_code m runs code = subst Runs code runs
 
-pub check_or_code : (mode : Mode) → mode ≡ Check → mode ≡ Code → ⊥
+check_or_code : (mode : Mode) → mode ≡ Check → mode ≡ Code → ⊥
 check_or_code m check code = let e = sym check ∙ code in cc
 
 -- the program was run
-clauses_ran : (before : Ending) (job : Job) (c : Call) → Runs job.mode → IsCommand c job → StatusFrom before c → HasText job c → Ran job (wanted job c.watchers) c.text c.out c.out_after c.history c.code before → Clauses job c
+clauses_ran : (before : Ending) (job : Job) (c : Call) → Runs job.mode → IsCommand c job → StatusFrom before c → HasText job c → Ran job (wanted job c.watchers) c.text c.out c.out_after (kept_in c) before → Clauses job c
 clauses_ran before job c mode command from whole x =
     let says = x.says in
     let only = x.compiled.only in
@@ -303,6 +331,7 @@ clauses_ran before job c mode command from whole x =
         everywhere = λ refusal refused. absurd (unrefused refusal refused.refused);
         no_code = λ refusal refused. absurd (unrefused refusal refused);
         no_history = λ refusal refused. absurd (unrefused refusal refused);
+        no_count = λ refusal refused. absurd (unrefused refusal refused);
         no_output = λ refusal refused. absurd (unrefused refusal refused);
         accepted_at_zero = λ _. accepted;
         accepted_at_two = λ _. accepted;
@@ -313,7 +342,21 @@ clauses_ran before job c mode command from whole x =
         none = λ h. absurd (h x.program x.compiled.has);
         unrun = λ unrun. absurd (unrun mode);
       };
-      code = no_code job c x.no_code (λ _ code _ _. run_or_code job.mode mode code);
+      code = record {
+        there = λ _ _ p has. says.code ∙ ap (λ (q : NumberedProgram). Some (program_code q)) (sym (only p has));
+        there_at_two = λ _ p has. says.code ∙ ap (λ (q : NumberedProgram). Some (program_code q)) (sym (only p has));
+        is = λ code some p has. sym (same code some) ∙ ap program_code (sym (only p has));
+        follows = λ code some p has. subst (λ (k : coded.Code). Follows k p) (same code some) (subst (λ (q : NumberedProgram). Follows (program_code x.program) q) (sym (only p has)) says.follows);
+        only_where = λ _ _. ended;
+        none = λ h. absurd (h x.program x.compiled.has);
+        unlowered = λ h. absurd (h (runs_has job.mode mode));
+      };
+      count = record {
+        ended = λ is _ p has. subst (λ (q : NumberedProgram). IsDone (program_code q) (run_of q job) c.history c.done) (sym (only p has)) (says.counted (done_at before c from is));
+        faulted = λ is p has. let f = faulted_at before c from is in subst (λ (q : NumberedProgram). IsDone (program_code q) (run_of q job) c.history c.done) (sym (only p has)) (says.counted_at_fault f.0 f.1);
+        none = λ h. absurd (h x.program x.compiled.has);
+        unrun = λ unrun. absurd (unrun mode);
+      };
       output = record {
         done = λ is told. all (done_not_cut before (done_at before c from is)) (done_not_memory before (done_at before c from is)) told;
         faulted = λ is told. let f = faulted_at before c from is in all (faulted_not_cut before f.0 f.1) (faulted_not_memory before f.0 f.1) told;
@@ -382,6 +425,19 @@ clauses_ran before job c mode command from whole x =
       | inr (inr (inr e)) ↦ k e
     ]
 
+    same : (code : coded.Code) → c.code ≡ Some code → program_code x.program ≡ code
+    same code some = same_Some (program_code x.program) code (sym x.says.code ∙ some)
+
+    cut : (c.status ≡ 5) × ErrRose c → (c.status ≡ 0) ⊎ ((c.status ≡ 2) ⊎ (((c.status ≡ 5) × SinkRose c) ⊎ ((c.status ≡ 6) × Runs job.mode)))
+    cut five = inr (inr (inl (five.0, inr five.1)))
+
+    ended : (c.status ≡ 0) ⊎ ((c.status ≡ 2) ⊎ (((c.status ≡ 5) × SinkRose c) ⊎ ((c.status ≡ 6) × Runs job.mode)))
+    ended = by_end
+        (λ e. elim from [ inl is ↦ inl (is ∙ ap status_of e) | inr five ↦ cut five ])
+        (λ f. elim from [ inl is ↦ inr (inl (is ∙ ap status_of f.1)) | inr five ↦ cut five ])
+        (λ e. elim from [ inl is ↦ inr (inr (inr (is ∙ ap status_of e, mode))) | inr five ↦ cut five ])
+        (λ e. elim from [ inl is ↦ inr (inr (inl (is ∙ ap status_of e, inl (x.says.rose e)))) | inr five ↦ cut five ])
+
     -- a status that no ending of a run has
     other : (n : ℕ) → (0 ≡ n → ⊥) → (2 ≡ n → ⊥) → (6 ≡ n → ⊥) → (5 ≡ n → ⊥) → c.status ≡ n → ⊥
     other n a b d e is = never before c n from (λ s. by_end (λ k. a (sym (ap status_of k) ∙ s)) (λ k. b (sym (ap status_of k.1) ∙ s)) (λ k. d (sym (ap status_of k) ∙ s)) (λ k. e (sym (ap status_of k) ∙ s))) e is
@@ -394,7 +450,7 @@ clauses_ran before job c mode command from whole x =
     all whole there told = alone (λ j q. GrewBy c.out c.out_after (output j q c.history (wanted j c.watchers))) (x.says.all whole there told)
 
 -- the text was checked, and has a program
-clauses_checked : (job : Job) (c : Call) → IsCommand c job → job.mode ≡ Check → StatusFrom Done c → HasText job c → WasChecked c.text c.out c.out_after c.history c.code → Clauses job c
+clauses_checked : (job : Job) (c : Call) → IsCommand c job → job.mode ≡ Check → StatusFrom Done c → HasText job c → WasChecked c.text c.out c.out_after (kept_in c) → Clauses job c
 clauses_checked job c command mode from whole x =
     let checks : (other : Job) → IsCommand c other → other.mode ≡ Check = λ other is. subst (λ (k : Job). k.mode ≡ Check) (job_same c job other command is) mode in
     let unrefused = x.compiled.unrefused in
@@ -406,12 +462,14 @@ clauses_checked job c command mode from whole x =
         everywhere = λ refusal refused. absurd (unrefused refusal refused.refused);
         no_code = λ _ _. x.nothing.no_code;
         no_history = λ _ _. x.nothing.no_entry;
+        no_count = λ _ _. x.nothing.no_count;
         no_output = λ _ _. ap (λ s. s.taken) x.nothing.unwritten;
         accepted_at_zero = λ _. accepted;
         accepted_at_two = λ _. accepted;
       };
       run = run_nothing job c x.nothing.no_entry;
-      code = no_code job c x.nothing.no_code (λ _ code _ _. check_or_code job.mode mode code);
+      code = no_code job c x.nothing.no_code (λ _ has _ _. subst HasCode mode has) (λ is. absurd (never Done c 2 from (λ e. omega arith) (λ e. omega arith) is));
+      count = no_count job c x.nothing.no_count (λ _ run _ _. run_or_check job.mode run mode) (λ is. absurd (never Done c 2 from (λ e. omega arith) (λ e. omega arith) is));
       output = output_nothing c
           (λ _ other is program _. ap (λ (m : Mode). output_in m (run_of program other) c.history (wanted other c.watchers)) (checks other is))
           (λ is. absurd (never Done c 2 from (λ e. omega arith) (λ e. omega arith) is))
@@ -432,7 +490,7 @@ clauses_checked job c command mode from whole x =
     }
 
 -- the code of the program was written
-clauses_coded : (before : Ending) (job : Job) (c : Call) → IsCommand c job → job.mode ≡ Code → (before ≡ Done) ⊎ (before ≡ CantWrite) → StatusFrom before c → HasText job c → WasCoded c.text c.out c.out_after c.history c.code before → Clauses job c
+clauses_coded : (before : Ending) (job : Job) (c : Call) → IsCommand c job → job.mode ≡ Code → (before ≡ Done) ⊎ (before ≡ CantWrite) → StatusFrom before c → HasText job c → WasCoded c.text c.out c.out_after (kept_in c) before → Clauses job c
 clauses_coded before job c command mode either from whole x =
     let only = x.compiled.only in
     let unrefused = x.compiled.unrefused in
@@ -444,6 +502,7 @@ clauses_coded before job c command mode either from whole x =
         everywhere = λ refusal refused. absurd (unrefused refusal refused.refused);
         no_code = λ refusal refused. absurd (unrefused refusal refused);
         no_history = λ refusal refused. absurd (unrefused refusal refused);
+        no_count = λ refusal refused. absurd (unrefused refusal refused);
         no_output = λ refusal refused. absurd (unrefused refusal refused);
         accepted_at_zero = λ _. accepted;
         accepted_at_two = λ _. accepted;
@@ -451,12 +510,14 @@ clauses_coded before job c command mode either from whole x =
       run = run_nothing job c x.no_entry;
       code = record {
         there = λ _ _ p has. x.wrote.there ∙ ap (λ (q : NumberedProgram). Some (program_code q)) (sym (only p has));
+        there_at_two = λ is. absurd (other 2 (λ e. omega arith) (λ e. omega arith) is);
         is = λ code some p has. sym (same code some) ∙ ap program_code (sym (only p has));
         follows = λ code some p has. subst (λ (k : coded.Code). Follows k p) (same code some) (subst (λ (q : NumberedProgram). Follows (program_code x.program) q) (sym (only p has)) x.wrote.follows);
         only_where = λ _ _. written;
         none = λ h. absurd (h x.program x.compiled.has);
-        no_other_mode = λ h. absurd (h mode);
+        unlowered = λ h. absurd (h (subst HasCode (sym mode) tt));
       };
+      count = no_count job c x.no_count (λ _ run _ _. run_or_code job.mode run mode) (λ is. absurd (other 2 (λ e. omega arith) (λ e. omega arith) is));
       output = record {
         done = λ is told. alone (λ j q. GrewBy c.out c.out_after (output j q c.history (wanted j c.watchers))) (subst (λ t. GrewBy c.out c.out_after t) (sym text_is) (x.wrote.all (done_at before c from is) told));
         faulted = λ is. absurd (other 2 (λ e. omega arith) (λ e. omega arith) is);
@@ -496,10 +557,10 @@ clauses_coded before job c command mode either from whole x =
     same : (code : coded.Code) → c.code ≡ Some code → program_code x.program ≡ code
     same code some = same_Some (program_code x.program) code (sym x.wrote.there ∙ some)
 
-    written : (c.status ≡ 0) ⊎ ((c.status ≡ 5) × SinkRose c)
+    written : (c.status ≡ 0) ⊎ ((c.status ≡ 2) ⊎ (((c.status ≡ 5) × SinkRose c) ⊎ ((c.status ≡ 6) × Runs job.mode)))
     written = by_end
-        (λ e. elim from [ inl is ↦ inl (is ∙ ap status_of e) | inr cut ↦ inr (cut.0, inr cut.1) ])
-        (λ e. elim from [ inl is ↦ inr (is ∙ ap status_of e, inl (x.wrote.rose e)) | inr cut ↦ inr (cut.0, inr cut.1) ])
+        (λ e. elim from [ inl is ↦ inl (is ∙ ap status_of e) | inr cut ↦ inr (inr (inl (cut.0, inr cut.1))) ])
+        (λ e. elim from [ inl is ↦ inr (inr (inl (is ∙ ap status_of e, inl (x.wrote.rose e)))) | inr cut ↦ inr (inr (inl (cut.0, inr cut.1))) ])
 
     text_is : output job x.program c.history (wanted job c.watchers) ≡ code_text (program_code x.program)
     text_is = ap (λ (m : Mode). output_in m (run_of x.program job) c.history (wanted job c.watchers)) mode
@@ -516,7 +577,7 @@ record Commanded (before : Ending) (job : Job) (c : Call) : Type 0 where
   pub some : 1 ≤ job.procs
   pub work : WorkSays job.mode job before (work_of job c)
 
-ends_run : (before : Ending) (job : Job) (c : Call) → RunTextSays before job (wanted job c.watchers) c.text c.out c.out_after c.history c.code → EndsAs Read.Whole before
+ends_run : (before : Ending) (job : Job) (c : Call) → RunTextSays before job (wanted job c.watchers) c.text c.out c.out_after (kept_in c) → EndsAs Read.Whole before
 ends_run Done job c says = (λ e. let x = e in cc, λ e. let x = e in cc)
 ends_run (Refused refusal) job c says = (λ e. let x = e in cc, λ e. let x = e in cc)
 ends_run (Faulted fault) job c says = (λ e. let x = e in cc, λ e. let x = e in cc)
@@ -525,7 +586,7 @@ ends_run CantRead job c says = absurd says
 ends_run CantWrite job c says = (λ e. let x = e in cc, λ e. let x = e in cc)
 ends_run NoMemory job c says = (λ e. let x = e in cc, λ e. let x = e in cc)
 
-ends_code : (before : Ending) (c : Call) → CodeTextSays before c.text c.out c.out_after c.history c.code → EndsAs Read.Whole before
+ends_code : (before : Ending) (c : Call) → CodeTextSays before c.text c.out c.out_after (kept_in c) → EndsAs Read.Whole before
 ends_code Done c says = (λ e. let x = e in cc, λ e. let x = e in cc)
 ends_code (Refused refusal) c says = (λ e. let x = e in cc, λ e. let x = e in cc)
 ends_code (Faulted fault) c says = absurd says
@@ -534,7 +595,7 @@ ends_code CantRead c says = absurd says
 ends_code CantWrite c says = (λ e. let x = e in cc, λ e. let x = e in cc)
 ends_code NoMemory c says = (λ e. let x = e in cc, λ e. let x = e in cc)
 
-ends_text : (mode : Mode) (before : Ending) (job : Job) (c : Call) → TextSays mode before job (wanted job c.watchers) c.text c.out c.out_after c.history c.code → EndsAs Read.Whole before
+ends_text : (mode : Mode) (before : Ending) (job : Job) (c : Call) → TextSays mode before job (wanted job c.watchers) c.text c.out c.out_after (kept_in c) → EndsAs Read.Whole before
 ends_text Run before job c says = ends_run before job c says
 ends_text Gen before job c says = ends_run before job c says
 ends_text Code before job c says = ends_code before c says
@@ -567,15 +628,15 @@ record ToldOf (before : Ending) (job : Job) (c : Call) : Type 0 where
 each_has : (job : Job) (c : Call) → IsCommand c job → 1 ≤ job.procs → (other : Job) → IsCommand c other → 1 ≤ other.procs
 each_has job c command some other is = subst (λ (j : Job). 1 ≤ j.procs) (job_same c job other command is) some
 
-told_refused : (refusal : Refusal) (job : Job) (c : Call) → IsCommand c job → StatusFrom (Refused refusal) c → HasText job c → WasRefused c.text c.out c.out_after c.history c.code refusal → ToldOf (Refused refusal) job c
+told_refused : (refusal : Refusal) (job : Job) (c : Call) → IsCommand c job → StatusFrom (Refused refusal) c → HasText job c → WasRefused c.text c.out c.out_after (kept_in c) refusal → ToldOf (Refused refusal) job c
 told_refused refusal job c command from whole refused = record { clauses = clauses_refused refusal job c from whole refused; says = (job, command, record { whole = whole; refused = refused.is }) }
 
-told_unrun : (job : Job) (c : Call) → IsCommand c job → 1 ≤ job.procs → RanNothing c.out c.out_after c.history c.code → StatusFrom NoMemory c → ToldOf NoMemory job c
+told_unrun : (job : Job) (c : Call) → IsCommand c job → 1 ≤ job.procs → RanNothing c.out c.out_after (kept_in c) → StatusFrom NoMemory c → ToldOf NoMemory job c
 told_unrun job c command some nothing from = record { clauses = clauses_no_memory job c command (each_has job c command some) from nothing; says = tt }
 
 -- the text was to be run
 told_run : (before : Ending) (job : Job) (c : Call) → Runs job.mode → IsCommand c job → 1 ≤ job.procs → HasText job c
-    → RunTextSays before job (wanted job c.watchers) c.text c.out c.out_after c.history c.code → StatusFrom before c → ToldOf before job c
+    → RunTextSays before job (wanted job c.watchers) c.text c.out c.out_after (kept_in c) → StatusFrom before c → ToldOf before job c
 told_run Done job c runs command some whole says from =
     record { clauses = clauses_ran Done job c runs command from whole says; says = (job, command, (says.program, says.compiled.has)) }
 told_run (Refused refusal) job c runs command some whole says from = told_refused refusal job c command from whole says
@@ -587,7 +648,7 @@ told_run NoMemory job c runs command some whole says from =
     elim says [ inl nothing ↦ told_unrun job c command some nothing from | inr ran ↦ record { clauses = clauses_ran NoMemory job c runs command from whole ran; says = tt } ]
 
 told_text : (mode : Mode) (before : Ending) (job : Job) (c : Call) → job.mode ≡ mode → IsCommand c job → 1 ≤ job.procs → HasText job c
-    → TextSays mode before job (wanted job c.watchers) c.text c.out c.out_after c.history c.code → StatusFrom before c → ToldOf before job c
+    → TextSays mode before job (wanted job c.watchers) c.text c.out c.out_after (kept_in c) → StatusFrom before c → ToldOf before job c
 told_text Run before job c mode command some whole says from = told_run before job c (subst Runs (sym mode) tt) command some whole says from
 told_text Gen before job c mode command some whole says from = told_run before job c (subst Runs (sym mode) tt) command some whole says from
 told_text Check Done job c mode command some whole says from =
@@ -683,6 +744,7 @@ beside_command before job c x from =
       refusal = λ other some. subst (λ j. RefusesExactly j c) (job_same c job other x.command some) k.refusal;
       run = λ other some. subst (λ j. KeepsRun j c) (job_same c job other x.command some) k.run;
       code = λ other some. subst (λ j. RunsCode j c) (job_same c job other x.command some) k.code;
+      count = λ other some. subst (λ j. CountsInstructions j c) (job_same c job other x.command some) k.count;
       output = k.output;
       alignment = k.alignment;
       end = λ other some. subst (λ j. EndsRun j c) (job_same c job other x.command some) k.end;
@@ -737,11 +799,13 @@ beside_unread c some x from = record {
     no_text = λ _. x.text;
     no_code = λ _. x.nothing.no_code;
     no_history = λ _. x.nothing.no_entry;
+    no_count = λ _. x.nothing.no_count;
   };
   text = λ job _. gets_nothing job.mode job c x from;
   refusal = λ job command. (clauses_no_memory job c command some from x.nothing).refusal;
   run = λ job command. (clauses_no_memory job c command some from x.nothing).run;
   code = λ job command. (clauses_no_memory job c command some from x.nothing).code;
+  count = λ job command. (clauses_no_memory job c command some from x.nothing).count;
   output = output_nothing c (λ is. absurd (never NoMemory c 0 from (λ e. omega arith) (λ e. omega arith) is)) (λ is. absurd (never NoMemory c 2 from (λ e. omega arith) (λ e. omega arith) is)) (λ _ other is _ program _. unbegun (run_of program other) (some other is)) x.nothing;
   alignment = record {
     done = λ is. absurd (never NoMemory c 0 from (λ e. omega arith) (λ e. omega arith) is);

@@ -1,24 +1,28 @@
 -- Two undisturbed calls that ask alike end alike.
 use Rattle.std.proofs.Common.{◌≡◌, ◌⊎◌, inl, inr, ℕ, true, List, [], take, Option, Some, None, refl, sym, ◌∙◌, ap, subst, append-nil}
+use Rattle.ti_base.specs.declared.entry.Entry.{Entry}
 use Rattle.ti_io.specs.Source.{content_of, IsMissing, Holds}
 use Rattle.ti_io.specs.Sink.{GrewBy}
 use Rattle.ti_syntax.specs.declared.token.Token.{Token}
 use Rattle.ti_syntax.specs.Tokenizing.{IsTokenized}
 use Rattle.ti_lang.specs.Program.Classes.{NumberedProgram}
+use Rattle.ti_lower.specs.Programs.{program_code}
 use Rattle.ti_rules.specs.declared.refusal.Refusal.{Refusal}
 use Rattle.ti_rules.specs.RefusalOf.{HasProgram, IsRefusal}
+use Rattle.ti_runtime.specs.Ran.{IsDone}
 use Rattle.ti_words.specs.declared.job.Job.{Job}
 use Rattle.ti_words.specs.declared.job.Mode.{Mode}
 use Rattle.ti_words.specs.declared.job.Mode.TheVariants.{Run, Check, Code, Gen}
 use Rattle.ti_words.specs.Job.{job_of}
 use Rattle.ti_top.specs.declared.fault.Fault.{Fault}
-use Rattle.ti_top.specs.Run.{HasFile, Runs, run_of, EndsWithFault}
+use Rattle.ti_top.specs.Run.{HasFile, Runs, HasCode, run_of, EndsWithFault}
 use Rattle.ti_top.specs.Reports.{wanted, output}
 use Rattle.ti_top.specs.Call.{most_read, Call, IsCommand, IsNoCommand, SinkRose, Yields, WantsReport}
 use Rattle.ti_top.specs.Clauses.{ReadsText, MakesText, GetsText, WritesAll, NothingFailed, IsComplete, Meets}
 use Rattle.ti_top.specs.Agreement.{IsUndisturbed, AskAlike, BothGrew, EndAlike}
-use Rattle.ti_top.proofs.ClausesMet.{check_or_code}
+use Rattle.ti_top.proofs.ClausesMet.{runs_has}
 use Rattle.ti_top.proofs.EmptyText.{no_program}
+use Rattle.ti_top.proofs.OneCount.{one_count}
 use Rattle.ti_top.proofs.OneRun.{one_run}
 
 -- ---- what an undisturbed call doesn't do
@@ -50,6 +54,7 @@ no_command c d m n u v x y = record {
   text = m.beside_err.words.no_text x ∙ sym (n.beside_err.words.no_text y);
   code = m.beside_err.words.no_code x ∙ sym (n.beside_err.words.no_code y);
   history = m.beside_err.words.no_history x ∙ sym (n.beside_err.words.no_history y);
+  done = m.beside_err.words.no_count x ∙ sym (n.beside_err.words.no_count y);
   output = λ watchers told heard. nothing_grew c d (m.beside_err.output.no_command x) (n.beside_err.output.no_command y);
 }
 
@@ -66,14 +71,11 @@ missing_alike known job c d m n x y four fourth none nought = record {
   text = none ∙ sym nought;
   code = (m.beside_err.code job x).none (nothing_has known c none) ∙ sym ((n.beside_err.code job y).none (nothing_has known d nought));
   history = (m.beside_err.run job x).none (nothing_has known c none) ∙ sym ((n.beside_err.run job y).none (nothing_has known d nought));
+  done = (m.beside_err.count job x).none (nothing_has known c none) ∙ sym ((n.beside_err.count job y).none (nothing_has known d nought));
   output = λ watchers told heard. nothing_grew c d (m.beside_err.output.nothing_at_four four) (n.beside_err.output.nothing_at_four fourth);
 }
 
 -- ---- the text is judged
-
--- in the other modes there is no code
-uncoded_alike : (job : Job) (c d : Call) → Meets c → Meets d → IsCommand c job → IsCommand d job → (job.mode ≡ Code → ⊥) → c.code ≡ d.code
-uncoded_alike job c d m n x y other = (m.beside_err.code job x).no_other_mode other ∙ sym ((n.beside_err.code job y).no_other_mode other)
 
 -- a call on a text that is there ends with status 0, 1 or 2
 abbrev Ends : Call → Type 0
@@ -98,6 +100,7 @@ refused_alike job c d m n x y whole all same refusal is =
       text = same;
       code = (m.beside_err.refusal job x).no_code refusal is ∙ sym ((n.beside_err.refusal job y).no_code refusal is_too);
       history = (m.beside_err.refusal job x).no_history refusal is ∙ sym ((n.beside_err.refusal job y).no_history refusal is_too);
+      done = (m.beside_err.refusal job x).no_count refusal is ∙ sym ((n.beside_err.refusal job y).no_count refusal is_too);
       output = λ watchers told heard. nothing_grew c d (m.beside_err.output.nothing_at_one one) (n.beside_err.output.nothing_at_one first);
     }
 
@@ -123,6 +126,7 @@ unrun_alike job c d m n x y same a b mode program has = record {
   text = same;
   code = codes mode;
   history = histories;
+  done = (m.beside_err.count job x).unrun unrun ∙ sym ((n.beside_err.count job y).unrun unrun);
   output = λ watchers told heard.
       wrote_alike job c d x y (m.beside_err.output.done (done c m x a) told) (n.beside_err.output.done (done d n y b) heard) same histories watchers program has;
 }
@@ -138,10 +142,11 @@ unrun_alike job c d m n x y same a b mode program has = record {
     histories = (m.beside_err.run job x).unrun unrun ∙ sym ((n.beside_err.run job y).unrun unrun)
 
     codes : (job.mode ≡ Check) ⊎ (job.mode ≡ Code) → c.code ≡ d.code
-    codes (inl is) = uncoded_alike job c d m n x y (λ code. check_or_code job.mode is code)
+    codes (inl is) = (m.beside_err.code job x).unlowered (subst HasCode is) ∙ sym ((n.beside_err.code job y).unlowered (subst HasCode is))
     codes (inr is) =
-        (m.beside_err.code job x).there (done c m x a) is program has
-        ∙ sym ((n.beside_err.code job y).there (done d n y b) is program (subst (λ text. HasProgram text program) same has))
+        let has_code : HasCode job.mode = subst HasCode (sym is) tt in
+        (m.beside_err.code job x).there (done c m x a) has_code program has
+        ∙ sym ((n.beside_err.code job y).there (done d n y b) has_code program (subst (λ text. HasProgram text program) same has))
 
 -- a text with a program is run
 run_alike : OneAnswer → (job : Job) (c d : Call) → Meets c → Meets d → IsUndisturbed c → IsUndisturbed d → IsCommand c job → IsCommand d job → IsComplete job c → IsComplete job d
@@ -150,8 +155,10 @@ run_alike : OneAnswer → (job : Job) (c d : Call) → Meets c → Meets d → I
 run_alike known job c d m n u v x y whole all same a b runs program has = record {
   status = statuses a b;
   text = same;
-  code = uncoded_alike job c d m n x y (λ code. subst Runs code runs);
+  code = codes c m x a program has ∙ sym (codes d n y b program has_too);
   history = one;
+  done = one_count (program_code program) (run_of program job) c.history c.done d.done (counts c m x a program has)
+      (subst (λ (es : List Entry). IsDone (program_code program) (run_of program job) es d.done) (sym one) (counts d n y b program has_too));
   output = λ watchers told heard. wrote_alike job c d x y (grew c m a told) (grew d n b heard) same one watchers program has;
 }
   where
@@ -162,6 +169,14 @@ run_alike known job c d m n u v x y whole all same a b runs program has = record
     one =
         one_run (run_of program job) c.history d.history ((m.beside_err.run job x).solo program has) (whole.ended runs program has) ((n.beside_err.run job y).solo program has_too)
         (all.ended runs program has_too)
+
+    codes : (e : Call) → Meets e → IsCommand e job → (e.status ≡ 0) ⊎ (e.status ≡ 2) → (p : NumberedProgram) → HasProgram e.text p → e.code ≡ Some (program_code p)
+    codes e k z (inl none) p there = (k.beside_err.code job z).there none (runs_has job.mode runs) p there
+    codes e k z (inr two) p there = (k.beside_err.code job z).there_at_two two p there
+
+    counts : (e : Call) → Meets e → IsCommand e job → (e.status ≡ 0) ⊎ (e.status ≡ 2) → (p : NumberedProgram) → HasProgram e.text p → IsDone (program_code p) (run_of p job) e.history e.done
+    counts e k z (inl none) p there = (k.beside_err.count job z).ended none runs p there
+    counts e k z (inr two) p there = (k.beside_err.count job z).faulted two p there
 
     -- a history that ends with a fault tells the status
     two : (e : Call) → Meets e → IsUndisturbed e → IsCommand e job → (fault : Fault) → EndsWithFault e.history fault → e.status ≡ 2

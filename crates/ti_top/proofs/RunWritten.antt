@@ -1,13 +1,16 @@
 -- The lines of a run or its summary, and then the reports on it.
-use Rattle.std.proofs.Common.{◌≡◌, ◌⊎◌, inl, inr, ℕ, false, List, [], ◌++◌, Ok, Err, arith, refl, sym, ◌∙◌, ap, subst, append_assoc}
+use Rattle.std.proofs.Common.{◌≡◌, ◌⊎◌, inl, inr, ℕ, false, List, [], ◌++◌, Some, Ok, Err, arith, refl, sym, ◌∙◌, ap, subst, append_assoc}
 use Rattle.std.proofs.lemmas.List.{append-nil}
 use Rattle.ti_base.specs.declared.entry.Entry.{Entry}
 use Rattle.ti_io.specs.Sink.{SinkState, GrewBy, GrewByFront, Writes}
 use Rattle.ti_io.proofs.Rising.{rose_since}
+use Rattle.ti_code.specs.Follows.{Follows}
 use Rattle.ti_lang.specs.Program.Classes.{NumberedProgram}
 use Rattle.ti_lang.specs.Meaning.Processes.{Setting}
 use Rattle.ti_lang.specs.Meaning.Histories.{has_fault}
 use Rattle.ti_lang.specs.Meaning.Runs.{IsComplete, IsRun, IsSolo, AllEnded}
+use Rattle.ti_lower.specs.Programs.{program_code}
+use Rattle.ti_runtime.specs.Ran.{IsDone}
 use Rattle.ti_words.specs.declared.job.Job.{Job}
 use Rattle.ti_words.specs.declared.job.Mode.{Mode}
 use Rattle.ti_words.specs.declared.job.Mode.TheVariants.{Run, Check, Code, Gen}
@@ -20,7 +23,7 @@ use Rattle.ti_top.specs.Reports.{Watcher, reports, output_in}
 use Rattle.ti_top.specs.Run.{Runs, run_of}
 use Rattle.ti_top.specs.Mirrors.Reporting.{Reported}
 use Rattle.ti_top.specs.Mirrors.RunEnds.{RunEnds}
-use Rattle.ti_top.specs.Mirrors.Work.{ending_after, head_after, ReportsAfter, WroteRun, RunSays}
+use Rattle.ti_top.specs.Mirrors.Work.{Kept, ending_after, head_after, ReportsAfter, WroteRun, RunSays}
 use Rattle.ti_top.proofs.FaultLast.{fault_is_there}
 use Rattle.ti_top.proofs.HaveEnded.{summary_is}
 
@@ -152,9 +155,16 @@ output_is Check ended s h ws runs run ends = absurd runs
 output_is Code ended s h ws runs run ends = absurd runs
 output_is Gen ended s h ws runs run ends = ap (λ t. t ++ reports ws h) (summary_is ended s h run ends)
 
+-- the program was run by its code, and the instructions of a run that ended so are counted
+pub record IsByCode (p : NumberedProgram) (job : Job) (ended : Ending) (k : Kept) : Type 0 where
+  pub code : k.code ≡ Some (program_code p)
+  pub follows : Follows (program_code p) p
+  pub counted : ended ≡ Done → IsDone (program_code p) (run_of p job) k.history k.done
+  pub counted_at_fault : (fault : Fault) → ended ≡ Faulted fault → IsDone (program_code p) (run_of p job) k.history k.done
+
 -- the run of a program, and what was written of it
-pub run_says : (ended : Ending) (p : NumberedProgram) (job : Job) (ws : List Watcher) (s0 s1 : SinkState) (h : List Entry) (ending : Ending) → Runs job.mode → IsRun (run_of p job) h → IsSolo (run_of p job) h → RunEnds (run_of p job) h ended → WroteRun ended (head_after job.mode ended p h) ws h s0 s1 ending → RunSays p job ws s0 s1 h ending
-run_says ended p job ws s0 s1 h ending runs run solo ends wrote = record {
+pub run_says : (ended : Ending) (p : NumberedProgram) (job : Job) (ws : List Watcher) (s0 s1 : SinkState) (kept : Kept) (ending : Ending) → Runs job.mode → IsRun (run_of p job) kept.history → IsSolo (run_of p job) kept.history → RunEnds (run_of p job) kept.history ended → IsByCode p job ended kept → WroteRun ended (head_after job.mode ended p kept.history) ws kept.history s0 s1 ending → RunSays p job ws s0 s1 kept ending
+run_says ended p job ws s0 s1 kept ending runs run solo ends by wrote = record {
   run = run;
   solo = solo;
   ended = λ is. (done is).0;
@@ -177,13 +187,24 @@ run_says ended p job ws s0 s1 h ending runs run solo ends wrote = record {
         none_of_cut = λ cut. k.none_of_cut (run_whole ended s h ends cut);
         not_all = λ complete. k.not_all (λ cut. run_cut ended s h ends cut complete);
       };
+  code = by.code;
+  follows = by.follows;
+  counted = λ is. by.counted (ending_is ended ending Done wrote.known is (λ e. let x = e in cc) (λ e. let x = e in cc));
+  counted_at_fault = λ fault is. by.counted_at_fault fault (ending_is ended ending (Faulted fault) wrote.known is (λ e. let x = e in cc) (λ e. let x = e in cc));
 }
   where
     s : Setting
     s = run_of p job
+
+    h : List Entry
+    h = kept.history
 
     same : (few : List Watcher) → output_in job.mode s h few ≡ head_after job.mode ended p h ++ reports few h
     same few = output_is job.mode ended s h few runs run ends
 
     done : ending ≡ Done → AllEnded s h × (has_fault h ≡ false)
     done is = subst (RunEnds s h) (ending_is ended ending Done wrote.known is (λ e. let x = e in cc) (λ e. let x = e in cc)) ends
+
+-- the same of what is kept in another place
+pub said_of : (p : NumberedProgram) (job : Job) (ws : List Watcher) (s0 s1 : SinkState) (kept k : Kept) (ending : Ending) → k ≡ kept → RunSays p job ws s0 s1 kept ending → RunSays p job ws s0 s1 k ending
+said_of p job ws s0 s1 kept k ending same says = subst (λ (x : Kept). RunSays p job ws s0 s1 x ending) (sym same) says

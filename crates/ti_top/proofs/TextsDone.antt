@@ -1,9 +1,7 @@
 -- From what was done with a program to what became of its text.
-use Rattle.std.proofs.Common.{◌≡◌, ◌⊎◌, inl, inr, ℕ, List, [], Option, None, sym, subst}
-use Rattle.ti_base.specs.declared.entry.Entry.{Entry}
+use Rattle.std.proofs.Common.{◌≡◌, ◌⊎◌, inl, inr, ℕ, List, [], sym, subst}
 use Rattle.ti_io.specs.Sink.{SinkState}
 use Rattle.ti_lang.specs.Program.Classes.{NumberedProgram}
-use Rattle.ti_code.specs.Programs as coded
 use Rattle.ti_rules.specs.declared.refusal.Refusal.{Refusal}
 use Rattle.ti_rules.specs.RefusalOf.{IsRefusal}
 use Rattle.ti_words.specs.declared.job.Job.{Job}
@@ -16,7 +14,7 @@ use Rattle.ti_top.specs.Run.{Runs}
 use Rattle.ti_top.specs.Reports.{Watcher}
 use Rattle.ti_top.specs.Mirrors.Coding.{CodeSays}
 use Rattle.ti_top.specs.Mirrors.Compiling.{IsCompiled, HasNoProgram}
-use Rattle.ti_top.specs.Mirrors.Work.{RanNothing, RunSays, WasChecked, RunTextSays, CodeTextSays, TextSays, Work, FileDone, SeedDone, WorkSays}
+use Rattle.ti_top.specs.Mirrors.Work.{Kept, RanNothing, RunSays, WasChecked, RunTextSays, CodeTextSays, TextSays, Work, FileDone, SeedDone, WorkSays}
 
 -- the endings of a run
 abbrev IsOfRun : Ending → Type 0
@@ -41,24 +39,24 @@ not_cant_read (inr (inr (inl e))) = let x = e in cc
 not_cant_read (inr (inr (inr e))) = let x = e in cc
 
 -- the program of the text was run
-pub ran_text : (ending : Ending) (p : NumberedProgram) (job : Job) (ws : List Watcher) (text : List ℕ) (out after : SinkState) (h : List Entry) (code : Option coded.Code) → IsCompiled text p → code ≡ None → RunSays p job ws out after h ending → RunTextSays ending job ws text out after h code
-ran_text Done p job ws text out after h code compiled none says = record { program = p; compiled = compiled; says = says; no_code = none }
-ran_text (Refused refusal) p job ws text out after h code compiled none says = absurd (not_refused refusal says.known)
-ran_text (Faulted fault) p job ws text out after h code compiled none says = record { program = p; compiled = compiled; says = says; no_code = none }
-ran_text NoCommand p job ws text out after h code compiled none says = absurd (not_no_command says.known)
-ran_text CantRead p job ws text out after h code compiled none says = absurd (not_cant_read says.known)
-ran_text CantWrite p job ws text out after h code compiled none says = record { program = p; compiled = compiled; says = says; no_code = none }
-ran_text NoMemory p job ws text out after h code compiled none says = inr (record { program = p; compiled = compiled; says = says; no_code = none })
+pub ran_text : (ending : Ending) (p : NumberedProgram) (job : Job) (ws : List Watcher) (text : List ℕ) (out after : SinkState) (k : Kept) → IsCompiled text p → RunSays p job ws out after k ending → RunTextSays ending job ws text out after k
+ran_text Done p job ws text out after k compiled says = record { program = p; compiled = compiled; says = says }
+ran_text (Refused refusal) p job ws text out after k compiled says = absurd (not_refused refusal says.known)
+ran_text (Faulted fault) p job ws text out after k compiled says = record { program = p; compiled = compiled; says = says }
+ran_text NoCommand p job ws text out after k compiled says = absurd (not_no_command says.known)
+ran_text CantRead p job ws text out after k compiled says = absurd (not_cant_read says.known)
+ran_text CantWrite p job ws text out after k compiled says = record { program = p; compiled = compiled; says = says }
+ran_text NoMemory p job ws text out after k compiled says = inr (record { program = p; compiled = compiled; says = says })
 
 -- the code of the text's program was written
-pub coded_text : (ending : Ending) (p : NumberedProgram) (text : List ℕ) (out after : SinkState) (h : List Entry) (code : Option coded.Code) → IsCompiled text p → h ≡ [] → CodeSays ending p out after code → CodeTextSays ending text out after h code
-coded_text Done p text out after h code compiled none says = record { program = p; compiled = compiled; wrote = says; no_entry = none }
-coded_text (Refused refusal) p text out after h code compiled none says = absurd says
-coded_text (Faulted fault) p text out after h code compiled none says = absurd says
-coded_text NoCommand p text out after h code compiled none says = absurd says
-coded_text CantRead p text out after h code compiled none says = absurd says
-coded_text CantWrite p text out after h code compiled none says = record { program = p; compiled = compiled; wrote = says; no_entry = none }
-coded_text NoMemory p text out after h code compiled none says = record { unwritten = says.0; no_entry = none; no_code = says.1 }
+pub coded_text : (ending : Ending) (p : NumberedProgram) (text : List ℕ) (out after : SinkState) (k : Kept) → IsCompiled text p → k.history ≡ [] → k.done ≡ [] → CodeSays ending p out after k.code → CodeTextSays ending text out after k
+coded_text Done p text out after k compiled none uncounted says = record { program = p; compiled = compiled; wrote = says; no_entry = none; no_count = uncounted }
+coded_text (Refused refusal) p text out after k compiled none uncounted says = absurd says
+coded_text (Faulted fault) p text out after k compiled none uncounted says = absurd says
+coded_text NoCommand p text out after k compiled none uncounted says = absurd says
+coded_text CantRead p text out after k compiled none uncounted says = absurd says
+coded_text CantWrite p text out after k compiled none uncounted says = record { program = p; compiled = compiled; wrote = says; no_entry = none; no_count = uncounted }
+coded_text NoMemory p text out after k compiled none uncounted says = record { unwritten = says.0; no_entry = none; no_code = says.1; no_count = uncounted }
 
 -- the modes that run
 pub run_or_gen : (mode : Mode) → (mode ≡ Run) ⊎ (mode ≡ Gen) → Runs mode
@@ -76,26 +74,26 @@ pub done_by_seed : (mode : Mode) (job : Job) (ending : Ending) (w : Work) → mo
 done_by_seed m job ending w is done = subst (λ (m : Mode). WorkSays m job ending w) (sym is) done
 
 -- what a run says is said in its mode
-pub run_in_mode : (mode : Mode) (ending : Ending) (job : Job) (ws : List Watcher) (text : List ℕ) (out after : SinkState) (h : List Entry) (code : Option coded.Code) → Runs mode → RunTextSays ending job ws text out after h code → TextSays mode ending job ws text out after h code
-run_in_mode Run ending job ws text out after h code runs says = says
-run_in_mode Check ending job ws text out after h code runs says = absurd runs
-run_in_mode Code ending job ws text out after h code runs says = absurd runs
-run_in_mode Gen ending job ws text out after h code runs says = says
+pub run_in_mode : (mode : Mode) (ending : Ending) (job : Job) (ws : List Watcher) (text : List ℕ) (out after : SinkState) (k : Kept) → Runs mode → RunTextSays ending job ws text out after k → TextSays mode ending job ws text out after k
+run_in_mode Run ending job ws text out after k runs says = says
+run_in_mode Check ending job ws text out after k runs says = absurd runs
+run_in_mode Code ending job ws text out after k runs says = absurd runs
+run_in_mode Gen ending job ws text out after k runs says = says
 
 -- the text has a refusal
-pub refused_text : (mode : Mode) (refusal : Refusal) (job : Job) (ws : List Watcher) (text : List ℕ) (out after : SinkState) (h : List Entry) (code : Option coded.Code) → IsRefusal text refusal × HasNoProgram text → RanNothing out after h code → TextSays mode (Refused refusal) job ws text out after h code
-refused_text Run refusal job ws text out after h code is nothing = record { is = is.0; no_program = is.1; nothing = nothing }
-refused_text Check refusal job ws text out after h code is nothing = record { is = is.0; no_program = is.1; nothing = nothing }
-refused_text Code refusal job ws text out after h code is nothing = record { is = is.0; no_program = is.1; nothing = nothing }
-refused_text Gen refusal job ws text out after h code is nothing = record { is = is.0; no_program = is.1; nothing = nothing }
+pub refused_text : (mode : Mode) (refusal : Refusal) (job : Job) (ws : List Watcher) (text : List ℕ) (out after : SinkState) (k : Kept) → IsRefusal text refusal × HasNoProgram text → RanNothing out after k → TextSays mode (Refused refusal) job ws text out after k
+refused_text Run refusal job ws text out after k is nothing = record { is = is.0; no_program = is.1; nothing = nothing }
+refused_text Check refusal job ws text out after k is nothing = record { is = is.0; no_program = is.1; nothing = nothing }
+refused_text Code refusal job ws text out after k is nothing = record { is = is.0; no_program = is.1; nothing = nothing }
+refused_text Gen refusal job ws text out after k is nothing = record { is = is.0; no_program = is.1; nothing = nothing }
 
 -- memory was wanting before a run
-pub unrun_text : (mode : Mode) (job : Job) (ws : List Watcher) (text : List ℕ) (out after : SinkState) (h : List Entry) (code : Option coded.Code) → RanNothing out after h code → TextSays mode NoMemory job ws text out after h code
-unrun_text Run job ws text out after h code nothing = inl nothing
-unrun_text Check job ws text out after h code nothing = nothing
-unrun_text Code job ws text out after h code nothing = nothing
-unrun_text Gen job ws text out after h code nothing = inl nothing
+pub unrun_text : (mode : Mode) (job : Job) (ws : List Watcher) (text : List ℕ) (out after : SinkState) (k : Kept) → RanNothing out after k → TextSays mode NoMemory job ws text out after k
+unrun_text Run job ws text out after k nothing = inl nothing
+unrun_text Check job ws text out after k nothing = nothing
+unrun_text Code job ws text out after k nothing = nothing
+unrun_text Gen job ws text out after k nothing = inl nothing
 
 -- the text has a program, and is checked alone
-pub checked_text : (p : NumberedProgram) (text : List ℕ) (out after : SinkState) (h : List Entry) (code : Option coded.Code) → IsCompiled text p → RanNothing out after h code → WasChecked text out after h code
-checked_text p text out after h code compiled nothing = record { program = p; compiled = compiled; nothing = nothing }
+pub checked_text : (p : NumberedProgram) (text : List ℕ) (out after : SinkState) (k : Kept) → IsCompiled text p → RanNothing out after k → WasChecked text out after k
+checked_text p text out after k compiled nothing = record { program = p; compiled = compiled; nothing = nothing }

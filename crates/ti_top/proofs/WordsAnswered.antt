@@ -1,11 +1,12 @@
 -- From the ending of a call to the clause on its words.
-use Rattle.std.proofs.Common.{◌≡◌, inl, inr, [], None, arith}
+use Rattle.std.proofs.Common.{◌≡◌, inl, inr, [], arith}
 use Rattle.ti_top.specs.declared.ending.Ending.{Ending}
 use Rattle.ti_top.specs.declared.ending.Ending.TheVariants.{NoCommand, CantWrite}
 use Rattle.ti_words.specs.declared.job.Job.{Job}
 use Rattle.ti_top.specs.Ending.{status_of}
 use Rattle.ti_top.specs.Call.{Call, IsCommand, IsNoCommand}
 use Rattle.ti_top.specs.Clauses.{AnswersWords}
+use Rattle.ti_top.specs.Mirrors.Work.{kept_in, RanNothing}
 use Rattle.ti_top.proofs.StatusFrom.{StatusFrom, not_five, is_no_command}
 
 pub known : (before : Ending) (c : Call) → StatusFrom before c → (ending : Ending) × (c.status ≡ status_of ending)
@@ -17,15 +18,16 @@ pub not_both : (c : Call) (job : Job) → IsCommand c job → IsNoCommand c → 
 not_both c job some none = cc
 
 -- the words are no command, and nothing was done
-pub no_command_answers : (c : Call) → IsNoCommand c → c.source_after ≡ c.source → c.text ≡ [] → c.code ≡ None → c.history ≡ [] → StatusFrom NoCommand c → AnswersWords c
-no_command_answers c none source text code history from = record {
+pub no_command_answers : (c : Call) → IsNoCommand c → c.source_after ≡ c.source → c.text ≡ [] → RanNothing c.out c.out_after (kept_in c) → StatusFrom NoCommand c → AnswersWords c
+no_command_answers c none source text nothing from = record {
   known = known NoCommand c from;
   only_where = λ _. none;
   everywhere = λ _. elim from [ inl same ↦ inl same | inr cut ↦ inr (inr (cut.0, inr cut.1)) ];
   source_as_before = λ _. source;
   no_text = λ _. text;
-  no_code = λ _. code;
-  no_history = λ _. history;
+  no_code = λ _. nothing.no_code;
+  no_history = λ _. nothing.no_entry;
+  no_count = λ _. nothing.no_count;
 }
 
 -- the words are a command
@@ -38,4 +40,5 @@ command_answers before c job some other from = record {
   no_text = λ none. absurd (not_both c job some none);
   no_code = λ none. absurd (not_both c job some none);
   no_history = λ none. absurd (not_both c job some none);
+  no_count = λ none. absurd (not_both c job some none);
 }

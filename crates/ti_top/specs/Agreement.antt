@@ -22,13 +22,14 @@ pub record AskAlike (c d : Call) : Type 0 where
 abbrev pub BothGrew : Call → Call → List ℕ → Type 0
 BothGrew c d text = GrewBy c.out c.out_after text × GrewBy d.out d.out_after text
 
--- Two calls end alike: with the same status, of the same text, and with the same code and the same history; and where the same watchers were
+-- Two calls end alike: with the same status, of the same text, and with the same code, the same history and the same counts of instructions; and where the same watchers were
 -- handed in and both outs tell what they take, with the same output.
 pub record EndAlike (c d : Call) : Type 0 where
   pub status : c.status ≡ d.status
   pub text : c.text ≡ d.text
   pub code : c.code ≡ d.code
   pub history : c.history ≡ d.history
+  pub done : c.done ≡ d.done
   pub output : c.watchers ≡ d.watchers → c.out.tells ≡ true → d.out.tells ≡ true → (text : List ℕ) × BothGrew c d text
 
 -- two calls that keep their promises, that ask alike and are undisturbed, end alike

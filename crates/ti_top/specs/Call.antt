@@ -32,6 +32,8 @@ pub record Call : Type 0 where
   pub code : Option Code
   -- the entries of the run
   pub history : List Entry
+  -- for each process how many instructions it has finished
+  pub done : List ℕ
 
 -- the words are a command for this job
 abbrev pub IsCommand : Call → Job → Type 0

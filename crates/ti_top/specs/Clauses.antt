@@ -9,6 +9,7 @@ use Rattle.ti_align.specs.Alignment.{IsAligned}
 use Rattle.ti_code.specs.Follows.{Follows}
 use Rattle.ti_code.specs.Programs as coded
 use Rattle.ti_lower.specs.Programs.{program_code}
+use Rattle.ti_runtime.specs.Ran.{IsDone}
 use Rattle.ti_rules.specs.declared.refusal.Refusal.{Refusal}
 use Rattle.ti_rules.specs.RefusalOf.{HasNone, HasProgram, IsRefusal}
 use Rattle.ti_words.specs.declared.job.Job.{Job}
@@ -17,7 +18,7 @@ use Rattle.ti_words.specs.declared.job.Mode.TheVariants.{Run, Check, Code, Gen}
 use Rattle.ti_top.specs.declared.fault.Fault.{Fault}
 use Rattle.ti_top.specs.declared.ending.Ending.{Ending}
 use Rattle.ti_top.specs.declared.ending.Ending.TheVariants.{Done, Refused, Faulted, NoCommand, CantRead, CantWrite, NoMemory}
-use Rattle.ti_top.specs.Run.{HasFile, Runs, run_of, EndsWithFault}
+use Rattle.ti_top.specs.Run.{HasFile, Runs, HasCode, run_of, EndsWithFault}
 use Rattle.ti_top.specs.Ending.{status_of, err_line}
 use Rattle.ti_top.specs.Reports.{wanted, output, WroteFew}
 use Rattle.ti_top.specs.Call.{most_read, Call, IsCommand, IsNoCommand, file_of, SourceRose, OutRose, ErrRose, SinkRose, Yields, WantsReport}
@@ -32,6 +33,7 @@ pub record AnswersWords (c : Call) : Type 0 where
   pub no_text : IsNoCommand c → c.text ≡ []
   pub no_code : IsNoCommand c → c.code ≡ None
   pub no_history : IsNoCommand c → c.history ≡ []
+  pub no_count : IsNoCommand c → c.done ≡ []
 
 -- The text was read whole: the file isn't missing, and the text is what it holds, or its first bytes where it holds more
 -- than is read. Over a source that doesn't tell its bytes a text counts as read whole with every status but 3 and 4.
@@ -97,6 +99,7 @@ pub record RefusesExactly (job : Job) (c : Call) : Type 0 where
   pub everywhere : (refusal : Refusal) → IsRefused job c refusal → (c.status ≡ 1) ⊎ (Yields c ⊎ ((c.status ≡ 4) × SourceRose c))
   pub no_code : (refusal : Refusal) → IsRefusal c.text refusal → c.code ≡ None
   pub no_history : (refusal : Refusal) → IsRefusal c.text refusal → c.history ≡ []
+  pub no_count : (refusal : Refusal) → IsRefusal c.text refusal → c.done ≡ []
   pub no_output : (refusal : Refusal) → IsRefusal c.text refusal → c.out_after.taken ≡ c.out.taken
   pub accepted_at_zero : c.status ≡ 0 → IsAccepted c.text
   pub accepted_at_two : c.status ≡ 2 → IsAccepted c.text
@@ -109,16 +112,25 @@ pub record KeepsRun (job : Job) (c : Call) : Type 0 where
   pub none : ((program : NumberedProgram) → HasProgram c.text program → ⊥) → c.history ≡ []
   pub unrun : (Runs job.mode → ⊥) → c.history ≡ []
 
--- The code: with status 0 in mode code it is there. One that is there is that of the text's program, and follows it: for each number of
--- processes, all ticks, each process and all answers that fit, it has next the action, the fault or the end that the program has, at the
--- same place. It is there in no other mode, and with no other status, unless a sink failed.
+-- The code: with status 0 or 2 in the modes run, code and gen it is there. One that is there is that of the text's program, and follows it:
+-- for each number of processes, all ticks, each process and all answers that fit, it has next the action, the fault or the end that the
+-- program has, at the same place. It is there in no other mode, and with no other status, unless a sink failed, or the run was out of memory.
 pub record RunsCode (job : Job) (c : Call) : Type 0 where
-  pub there : c.status ≡ 0 → job.mode ≡ Code → (program : NumberedProgram) → HasProgram c.text program → c.code ≡ Some (program_code program)
+  pub there : c.status ≡ 0 → HasCode job.mode → (program : NumberedProgram) → HasProgram c.text program → c.code ≡ Some (program_code program)
+  pub there_at_two : c.status ≡ 2 → (program : NumberedProgram) → HasProgram c.text program → c.code ≡ Some (program_code program)
   pub is : (code : coded.Code) → c.code ≡ Some code → (program : NumberedProgram) → HasProgram c.text program → code ≡ program_code program
   pub follows : (code : coded.Code) → c.code ≡ Some code → (program : NumberedProgram) → HasProgram c.text program → Follows code program
-  pub only_where : (code : coded.Code) → c.code ≡ Some code → (c.status ≡ 0) ⊎ ((c.status ≡ 5) × SinkRose c)
+  pub only_where : (code : coded.Code) → c.code ≡ Some code → (c.status ≡ 0) ⊎ ((c.status ≡ 2) ⊎ (((c.status ≡ 5) × SinkRose c) ⊎ ((c.status ≡ 6) × Runs job.mode)))
   pub none : ((program : NumberedProgram) → HasProgram c.text program → ⊥) → c.code ≡ None
-  pub no_other_mode : (job.mode ≡ Code → ⊥) → c.code ≡ None
+  pub unlowered : (HasCode job.mode → ⊥) → c.code ≡ None
+
+-- The count of instructions: where the program was run with status 0 or 2, there is for each process the number of instructions of the code
+-- that it has finished for the answers of its entries. Where nothing was run there is none.
+pub record CountsInstructions (job : Job) (c : Call) : Type 0 where
+  pub ended : c.status ≡ 0 → Runs job.mode → (program : NumberedProgram) → HasProgram c.text program → IsDone (program_code program) (run_of program job) c.history c.done
+  pub faulted : c.status ≡ 2 → (program : NumberedProgram) → HasProgram c.text program → IsDone (program_code program) (run_of program job) c.history c.done
+  pub none : ((program : NumberedProgram) → HasProgram c.text program → ⊥) → c.done ≡ []
+  pub unrun : (Runs job.mode → ⊥) → c.done ≡ []
 
 -- this holds of the job and the program wherever the text has one
 abbrev pub WhereAccepted : Call → (Job → NumberedProgram → Type 0) → Type 0
@@ -172,6 +184,7 @@ pub record MeetsBesideErr (c : Call) : Type 0 where
   pub refusal : (job : Job) → IsCommand c job → RefusesExactly job c
   pub run : (job : Job) → IsCommand c job → KeepsRun job c
   pub code : (job : Job) → IsCommand c job → RunsCode job c
+  pub count : (job : Job) → IsCommand c job → CountsInstructions job c
   pub output : WritesOutput c
   pub alignment : IsAlignedRun c
   pub end : (job : Job) → IsCommand c job → EndsRun job c

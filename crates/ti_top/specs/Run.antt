@@ -24,6 +24,13 @@ Runs Check = ⊥
 Runs Code = ⊥
 Runs Gen = Unit {0}
 
+-- in these modes the program has code
+abbrev pub HasCode : Mode → Type 0
+HasCode Run = Unit {0}
+HasCode Check = ⊥
+HasCode Code = Unit {0}
+HasCode Gen = Unit {0}
+
 -- the program, run by as many processes as the job asks for, with as many ticks each
 abbrev pub run_of : NumberedProgram → Job → Setting
 run_of program job = record { program = program; procs = job.procs; fuel = job.fuel }

@@ -21,11 +21,14 @@ pub struct Outcome {
     pub status: u8,
     /// What was read, or in mode gen what was made.
     pub text: Vec<u8>,
-    /// The code of the text's program: in mode code there where the status is 0, and where its text couldn't be written whole to out. Else
-    /// there is none.
+    /// The code of the text's program, which in the modes run and gen was run: there in every mode but check where the status is 0 or 2, and
+    /// where a write to out or err failed or the run was out of memory. Else there is none.
     pub code: Option<Code>,
     /// The entries of the run, in order.
     pub history: Vec<Entry>,
+    /// For each process, in the order of their numbers, how many instructions of the code it has finished for the answers of its entries,
+    /// where the program was run with status 0 or 2. Where nothing was run it is empty.
+    pub done: Vec<u64>,
 }
 
 impl Outcome {
@@ -35,18 +38,20 @@ impl Outcome {
         ensures text { result.text.items ≡ [] }
         ensures code { result.code ≡ None }
         ensures history { result.history.items ≡ [] }
+        ensures done { result.done.items ≡ [] }
     {
         Outcome {
             status,
             text: Vec::new(alloc),
             code: None,
             history: Vec::new(alloc),
+            done: Vec::new(alloc),
         }
     }
 }
 
 /// The command of these words, those after the program's name: reads the file that they name, refuses
-/// its text or runs it, writes the lines of the run to `out` and behind them the reports of the watchers
+/// its text or makes its code and runs it, writes the lines of the run to `out` and behind them the reports of the watchers
 /// whose flag is given, and where it can't be done a line to `err`. In mode check it runs nothing and writes
 /// nothing to `out`. In mode code it runs nothing either, and writes the code of the program. In mode gen no
 /// file is named: it makes the text from a seed, and in place of the lines writes one that sums up the run.
@@ -76,6 +81,7 @@ pub fn titan_top<R: AllocGlobal, S: Source, K: Sink>(
       text = result.text.items;
       code = result.code;
       history = result.history.items;
+      done = result.done.items;
     }) }
 {
     let alloc = rt.alloc();
@@ -93,7 +99,8 @@ pub fn titan_top<R: AllocGlobal, S: Source, K: Sink>(
     Outcome {
         status,
         text: worked.text,
-        code: worked.code,
-        history: worked.history,
+        code: worked.kept.code,
+        history: worked.kept.history,
+        done: worked.kept.done,
     }
 }

@@ -6,6 +6,7 @@ mod command;
 mod compiling;
 mod ending;
 mod fault;
+mod kept;
 mod laws;
 mod printing;
 mod reading;

@@ -1,13 +1,15 @@
 // What is done before the line on err.
-ghost use Rattle.std.specs.Prelude.{◌≡◌, ℕ, List, [], None, map};
+ghost use Rattle.std.specs.Prelude.{◌≡◌, ℕ, List, [], None, Some, IfOk, map};
+ghost use Rattle.ti_code.specs.Follows.{Follows};
 ghost use Rattle.ti_lang.specs.Meaning.Processes.{Setting};
 ghost use Rattle.ti_lang.specs.Program.Views.{program_of};
+ghost use Rattle.ti_lower.specs.Programs.{program_code};
 ghost use Rattle.ti_runtime.specs.Ran.{Ran};
 ghost use Rattle.ti_store.specs.Conditions.{IsWithin};
 ghost use Rattle.ti_top.specs.Mirrors.Compiling.{IsCompiled};
 ghost use Rattle.ti_top.specs.Mirrors.Line.{HasRoom};
 ghost use Rattle.ti_top.specs.Mirrors.RunEnds.{RunEnds};
-ghost use Rattle.ti_top.specs.Mirrors.Work.{ending_after as after_spec, ReportsAfter, RunSays, RunTextSays, CodeTextSays, TextSays, SeedSays, FileDone, WorkSays};
+ghost use Rattle.ti_top.specs.Mirrors.Work.{kept_of, ending_after as after_spec, ReportsAfter, RunSays, RunTextSays, CodeTextSays, TextSays, SeedSays, FileDone, WorkSays};
 ghost use Rattle.ti_top.specs.Reports.{Watcher, wanted};
 ghost use Rattle.ti_top.specs.Run.{Runs};
 
@@ -15,6 +17,7 @@ use crate::coding::write_code;
 use crate::compiling::{CompileErr, compile};
 use crate::ending::Ending;
 use crate::fault::Fault;
+use crate::kept::Kept;
 use crate::printing::write_head;
 use crate::reading::{ReadEnd, read_whole};
 use crate::reports::{ReportEnd, keep_wanted, write_reports};
@@ -24,47 +27,51 @@ use ti_base::{Entry, Memory};
 use ti_code::Code;
 use ti_gen::gen_source;
 use ti_io::{Sink, Source};
+use ti_lower::lower;
 use ti_rules::Checked;
 use ti_runtime::{How, RunEnd, run};
 use ti_watch::Watch;
 use ti_words::{Job, Mode};
 
-/// How the work ended, what was read or made, its code, and the entries of the run.
+/// How the work ended, what was read or made, and what is kept.
 #[derive(Drop)]
 pub struct Worked {
     pub ending: Ending,
     pub text: Vec<u8>,
-    pub code: Option<Code>,
-    pub history: Vec<Entry>,
+    pub kept: Kept,
 }
 
-// How what was done with a text ended, its code, and the entries of its run.
+// How what was done with a text ended, and what is kept.
 #[derive(Drop)]
 struct Written {
     ending: Ending,
-    code: Option<Code>,
-    history: Vec<Entry>,
+    kept: Kept,
 }
 
 impl Written {
     // Nothing was run and nothing written.
     fn nothing(alloc: Global, ending: Ending) -> Self
         ensures ending { result.ending ≡ ending }
-        ensures code { result.code ≡ None }
-        ensures history { result.history.items ≡ [] }
+        ensures kept { kept_of result.kept ≡ record { code = None; history = []; done = [] } }
     {
         Written {
             ending,
-            code: None,
-            history: Vec::new(alloc),
+            kept: Kept::nothing(alloc),
         }
     }
 }
 
+// What a run needs: the code, and room for a line.
+#[derive(Drop)]
+struct Ready {
+    code: Code,
+    line: RunLine,
+}
+
 // How the work ends where all of a run is written.
-fn ending_of(end: &RunEnd) -> Ending
-    requires { (s : Setting) × Ran s end.now }
-    ensures { (s : Setting) → Ran s end.now → RunEnds s end.now.history.items result }
+fn ending_of(end: &RunEnd, code: &Code) -> Ending
+    requires { (s : Setting) × Ran code.now s end.now }
+    ensures { (s : Setting) → Ran code.now s end.now → RunEnds s end.now.history.items result }
 {
     match end.how {
         How::Ended => Ending::Done,
@@ -103,39 +110,68 @@ fn report_after<K: Sink>(
     }
 }
 
-// Runs a program, and writes its lines, for which there is room, or its summary, and the reports on it. Where the run runs out of
-// memory, the lines of the entries so far are written.
+// Runs a program by its code, and writes its lines, for which there is room, or its summary, and the reports on it. Where the run runs out
+// of memory, the lines of the entries so far are written.
 fn run_program<K: Sink>(
     alloc: Global,
     job: &Job,
     checked: &Checked,
-    line: &mut RunLine,
+    ready: Ready,
     watchers: Vec<Box<dyn Watch>>,
     out: &mut K,
 ) -> Written
     requires within { IsWithin job.now.procs job.now.fuel }
     requires mode { Runs job.now.mode }
-    requires room { HasRoom checked.now.program.parts.literals.items line.old }
-    ensures code { result.code ≡ None }
-    ensures run { RunSays (program_of checked.now.program.parts) job.now (map {B = Watcher} (λ w. record { kind = kind_of w; told = told w }) watchers.items) (K.state out.old) (K.state out.new) result.history.items result.ending }
+    requires room { HasRoom checked.now.program.parts.literals.items ready.line }
+    requires code { ready.code ≡ program_code (program_of checked.now.program.parts) }
+    requires follows { Follows ready.code (program_of checked.now.program.parts) }
+    ensures { RunSays (program_of checked.now.program.parts) job.now (map {B = Watcher} (λ w. record { kind = kind_of w; told = told w }) watchers.items) (K.state out.old) (K.state out.new) (kept_of result.kept) result.ending }
 {
-    let end = run(alloc, checked, job.procs, job.fuel);
-    let ended = ending_of(&end);
-    match write_head(out, line, job.mode, ended, &checked.program, &end.history) {
+    let Ready { code, mut line } = ready;
+    let end = run(alloc, checked, &code, job.procs, job.fuel);
+    let ended = ending_of(&end, &code);
+    match write_head(
+        out,
+        &mut line,
+        job.mode,
+        ended,
+        &checked.program,
+        &end.history,
+    ) {
         Ok(()) => Written {
             ending: report_after(alloc, ended, &end.history, watchers, out),
-            code: None,
-            history: end.history,
+            kept: kept_of_run(code, end),
         },
         Err(_) => Written {
             ending: Ending::CantWrite,
-            code: None,
-            history: end.history,
+            kept: kept_of_run(code, end),
         },
     }
 }
 
-// Runs the program of a text. Room for its lines is taken before the run.
+// What is kept of a run by this code.
+fn kept_of_run(code: Code, end: RunEnd) -> Kept
+    ensures { kept_of result ≡ record { code = Some code; history = end.history.items; done = end.done.items } }
+{
+    Kept {
+        code: Some(code),
+        history: end.history,
+        done: end.done,
+    }
+}
+
+// Makes a program's code, and takes room for its lines.
+fn ready_for(alloc: Global, checked: &Checked) -> Result<Ready, Memory>
+    ensures code { IfOk result (λ r. r.code ≡ program_code (program_of checked.now.program.parts)) }
+    ensures follows { IfOk result (λ r. Follows r.code (program_of checked.now.program.parts)) }
+    ensures room { IfOk result (λ r. HasRoom checked.now.program.parts.literals.items r.line) }
+{
+    let code = lower(alloc, checked)?;
+    let line = RunLine::with_room(alloc, &checked.program.parts.literals)?;
+    Ok(Ready { code, line })
+}
+
+// Runs the program of a text. Its code is made and room for its lines is taken before the run.
 fn run_compiled<K: Sink>(
     alloc: Global,
     job: &Job,
@@ -145,23 +181,26 @@ fn run_compiled<K: Sink>(
 ) -> Written
     requires within { IsWithin job.now.procs job.now.fuel }
     requires mode { Runs job.now.mode }
-    ensures { (text : List ℕ) → IsCompiled text (program_of checked.now.program.parts) → RunTextSays result.ending job.now (map {B = Watcher} (λ w. record { kind = kind_of w; told = told w }) watchers.items) text (K.state out.old) (K.state out.new) result.history.items result.code }
+    ensures { (text : List ℕ) → IsCompiled text (program_of checked.now.program.parts) → RunTextSays result.ending job.now (map {B = Watcher} (λ w. record { kind = kind_of w; told = told w }) watchers.items) text (K.state out.old) (K.state out.new) (kept_of result.kept) }
 {
-    match RunLine::with_room(alloc, &checked.program.parts.literals) {
-        Ok(mut line) => run_program(alloc, job, checked, &mut line, watchers, out),
+    match ready_for(alloc, checked) {
+        Ok(ready) => run_program(alloc, job, checked, ready, watchers, out),
         Err(Memory) => Written::nothing(alloc, Ending::NoMemory),
     }
 }
 
 // Writes the code of a text's program.
 fn code_compiled<K: Sink>(alloc: Global, checked: &Checked, out: &mut K) -> Written
-    ensures { (text : List ℕ) → IsCompiled text (program_of checked.now.program.parts) → CodeTextSays result.ending text (K.state out.old) (K.state out.new) result.history.items result.code }
+    ensures { (text : List ℕ) → IsCompiled text (program_of checked.now.program.parts) → CodeTextSays result.ending text (K.state out.old) (K.state out.new) (kept_of result.kept) }
 {
     let coded = write_code(alloc, checked, out);
     Written {
         ending: coded.ending,
-        code: coded.code,
-        history: Vec::new(alloc),
+        kept: Kept {
+            code: coded.code,
+            history: Vec::new(alloc),
+            done: Vec::new(alloc),
+        },
     }
 }
 
@@ -174,7 +213,7 @@ fn do_text<K: Sink>(
     out: &mut K,
 ) -> Written
     requires { IsWithin job.now.procs job.now.fuel }
-    ensures { TextSays job.now.mode result.ending job.now (map {B = Watcher} (λ w. record { kind = kind_of w; told = told w }) watchers.items) text.now (K.state out.old) (K.state out.new) result.history.items result.code }
+    ensures { TextSays job.now.mode result.ending job.now (map {B = Watcher} (λ w. record { kind = kind_of w; told = told w }) watchers.items) text.now (K.state out.old) (K.state out.new) (kept_of result.kept) }
 {
     match compile(alloc, text) {
         Ok(checked) => match job.mode {
@@ -203,8 +242,7 @@ fn work_on_file<S: Source, K: Sink>(
       out = K.state out.old;
       out_after = K.state out.new;
       text = result.text.items;
-      code = result.code;
-      history = result.history.items;
+      kept = kept_of result.kept;
     }) }
 {
     let mut text = Vec::new(alloc);
@@ -216,8 +254,7 @@ fn work_on_file<S: Source, K: Sink>(
     Worked {
         ending: written.ending,
         text,
-        code: written.code,
-        history: written.history,
+        kept: written.kept,
     }
 }
 
@@ -229,7 +266,7 @@ fn work_on_seed<K: Sink>(
     watchers: Vec<Box<dyn Watch>>,
 ) -> Worked
     requires { IsWithin job.now.procs job.now.fuel }
-    ensures { SeedSays result.ending job.now (map {B = Watcher} (λ w. record { kind = kind_of w; told = told w }) watchers.items) result.text.items (K.state out.old) (K.state out.new) result.history.items result.code }
+    ensures { SeedSays result.ending job.now (map {B = Watcher} (λ w. record { kind = kind_of w; told = told w }) watchers.items) result.text.items (K.state out.old) (K.state out.new) (kept_of result.kept) }
 {
     match gen_source(alloc, job.seed) {
         Ok(text) => {
@@ -237,15 +274,13 @@ fn work_on_seed<K: Sink>(
             Worked {
                 ending: written.ending,
                 text,
-                code: written.code,
-                history: written.history,
+                kept: written.kept,
             }
         }
         Err(Memory) => Worked {
             ending: Ending::NoMemory,
             text: Vec::new(alloc),
-            code: None,
-            history: Vec::new(alloc),
+            kept: Kept::nothing(alloc),
         },
     }
 }
@@ -268,8 +303,7 @@ pub fn work<S: Source, K: Sink>(
       out = K.state out.old;
       out_after = K.state out.new;
       text = result.text.items;
-      code = result.code;
-      history = result.history.items;
+      kept = kept_of result.kept;
     }) }
 {
     let mut watchers = watchers;

@@ -1,6 +1,6 @@
 -- Nobody has to believe this: it mirrors code, and only contracts of private functions speak of it.
 -- What was done before the line on err, for each way in which it may end.
-use Rattle.std.specs.Prelude.{◌≡◌, ◌⊎◌, ℕ, ◌≤◌, true, false, List, [], ◌++◌, Option, None}
+use Rattle.std.specs.Prelude.{◌≡◌, ◌⊎◌, ℕ, ◌≤◌, true, false, List, [], ◌++◌, Option, None, Some}
 use Rattle.ti_gen.specs.Source.{source_text}
 use Rattle.ti_base.specs.declared.entry.Entry.{Entry}
 use Rattle.ti_io.specs.Faults.{Rose}
@@ -11,13 +11,17 @@ use Rattle.ti_lang.specs.Meaning.Histories.{has_fault}
 use Rattle.ti_lang.specs.Meaning.Lines.{lines_of}
 use Rattle.ti_lang.specs.Meaning.Runs.{AllEnded, IsComplete, IsRun, IsSolo}
 use Rattle.ti_top.specs.declared.fault.Fault.{Fault}
+use Rattle.ti_top.specs.declared.kept.Kept.{Kept as KeptHere}
 use Rattle.ti_top.specs.declared.reading.ReadEnd.{ReadEnd}
 use Rattle.ti_top.specs.declared.reading.ReadEnd.TheVariants as Read
 use Rattle.ti_top.specs.declared.reports.ReportEnd.{ReportEnd}
 use Rattle.ti_top.specs.declared.reports.ReportEnd.TheVariants as Report
 use Rattle.ti_top.specs.declared.ending.Ending.{Ending}
 use Rattle.ti_top.specs.declared.ending.Ending.TheVariants.{Done, Refused, Faulted, NoCommand, CantRead, CantWrite, NoMemory}
+use Rattle.ti_code.specs.Follows.{Follows}
 use Rattle.ti_code.specs.Programs as coded
+use Rattle.ti_lower.specs.Programs.{program_code}
+use Rattle.ti_runtime.specs.Ran.{IsDone}
 use Rattle.ti_rules.specs.declared.refusal.Refusal.{Refusal}
 use Rattle.ti_rules.specs.RefusalOf.{IsRefusal}
 use Rattle.ti_words.specs.declared.job.Job.{Job}
@@ -32,7 +36,16 @@ use Rattle.ti_top.specs.Mirrors.Reading.{ReadsWhole}
 use Rattle.ti_top.specs.Mirrors.Reporting.{Reported}
 use Rattle.ti_top.specs.Run.{run_of, EndsWithFault}
 
--- the watchers that are wanted, the source and out before and after, what was read or made, its code, and the entries of the run
+-- what is kept of the work: the code, the entries of the run, and how many instructions each process has finished
+pub record Kept : Type 0 where
+  pub code : Option coded.Code
+  pub history : List Entry
+  pub done : List ℕ
+
+abbrev pub kept_of : KeptHere → Kept
+kept_of k = record { code = k.code; history = k.history.items; done = k.done.items }
+
+-- the watchers that are wanted, the source and out before and after, what was read or made, and what is kept
 pub record Work : Type 0 where
   pub watchers : List Watcher
   pub source : SourceState
@@ -40,8 +53,7 @@ pub record Work : Type 0 where
   pub out : SinkState
   pub out_after : SinkState
   pub text : List ℕ
-  pub code : Option coded.Code
-  pub history : List Entry
+  pub kept : Kept
 
 -- how the work ends after reports that ended so
 abbrev pub ending_after : ReportEnd → Ending → Ending
@@ -92,90 +104,95 @@ pub record WroteRun (ended : Ending) (head : List ℕ) (watchers : List Watcher)
   pub few : ending ≡ NoMemory → out.tells ≡ true → WroteFewOf ended head watchers history out out_after
 
 -- nothing was run and nothing written, and there is no code
-pub record RanNothing (out out_after : SinkState) (history : List Entry) (code : Option coded.Code) : Type 0 where
+pub record RanNothing (out out_after : SinkState) (kept : Kept) : Type 0 where
   pub unwritten : out_after ≡ out
-  pub no_entry : history ≡ []
-  pub no_code : code ≡ None
+  pub no_entry : kept.history ≡ []
+  pub no_code : kept.code ≡ None
+  pub no_count : kept.done ≡ []
 
--- the program was run, and what is written of it in the job's mode was written up to the first call that failed
-pub record RunSays (program : NumberedProgram) (job : Job) (watchers : List Watcher) (out out_after : SinkState) (history : List Entry) (ending : Ending) : Type 0 where
-  pub run : IsRun (run_of program job) history
-  pub solo : IsSolo (run_of program job) history
-  pub ended : ending ≡ Done → AllEnded (run_of program job) history
-  pub no_fault : ending ≡ Done → has_fault history ≡ false
-  pub faulted : (fault : Fault) → ending ≡ Faulted fault → EndsWithFault history fault
-  pub unfinished : ending ≡ NoMemory → IsComplete (run_of program job) history → watchers ≡ [] → ⊥
+-- the program was run by its code, and what is written of it in the job's mode was written up to the first call that failed
+pub record RunSays (program : NumberedProgram) (job : Job) (watchers : List Watcher) (out out_after : SinkState) (kept : Kept) (ending : Ending) : Type 0 where
+  pub run : IsRun (run_of program job) kept.history
+  pub solo : IsSolo (run_of program job) kept.history
+  pub ended : ending ≡ Done → AllEnded (run_of program job) kept.history
+  pub no_fault : ending ≡ Done → has_fault kept.history ≡ false
+  pub faulted : (fault : Fault) → ending ≡ Faulted fault → EndsWithFault kept.history fault
+  pub unfinished : ending ≡ NoMemory → IsComplete (run_of program job) kept.history → watchers ≡ [] → ⊥
   pub known : (ending ≡ Done) ⊎ ((fault : Fault) × (ending ≡ Faulted fault)) ⊎ (ending ≡ NoMemory) ⊎ (ending ≡ CantWrite)
   pub never_falls : out.faults ≤ out_after.faults
   pub tells : out_after.tells ≡ out.tells
   pub rose : ending ≡ CantWrite → Rose out.faults out_after.faults
-  pub all : (ending ≡ CantWrite → ⊥) → (ending ≡ NoMemory → ⊥) → out.tells ≡ true → GrewBy out out_after (output job program history watchers)
-  pub part : out.tells ≡ true → GrewByFront out out_after (output job program history watchers)
-  pub few : ending ≡ NoMemory → out.tells ≡ true → WroteFew job.mode (run_of program job) watchers history out out_after
+  pub all : (ending ≡ CantWrite → ⊥) → (ending ≡ NoMemory → ⊥) → out.tells ≡ true → GrewBy out out_after (output job program kept.history watchers)
+  pub part : out.tells ≡ true → GrewByFront out out_after (output job program kept.history watchers)
+  pub few : ending ≡ NoMemory → out.tells ≡ true → WroteFew job.mode (run_of program job) watchers kept.history out out_after
+  pub code : kept.code ≡ Some (program_code program)
+  pub follows : Follows (program_code program) program
+  pub counted : ending ≡ Done → IsDone (program_code program) (run_of program job) kept.history kept.done
+  pub counted_at_fault : (fault : Fault) → ending ≡ Faulted fault → IsDone (program_code program) (run_of program job) kept.history kept.done
 
 -- so was the program of the text
-pub record Ran (job : Job) (watchers : List Watcher) (text : List ℕ) (out out_after : SinkState) (history : List Entry) (code : Option coded.Code) (ending : Ending) : Type 0 where
+pub record Ran (job : Job) (watchers : List Watcher) (text : List ℕ) (out out_after : SinkState) (kept : Kept) (ending : Ending) : Type 0 where
   pub program : NumberedProgram
   pub compiled : IsCompiled text program
-  pub says : RunSays program job watchers out out_after history ending
-  pub no_code : code ≡ None
+  pub says : RunSays program job watchers out out_after kept ending
 
 -- the text is refused, and nothing was run
-pub record WasRefused (text : List ℕ) (out out_after : SinkState) (history : List Entry) (code : Option coded.Code) (refusal : Refusal) : Type 0 where
+pub record WasRefused (text : List ℕ) (out out_after : SinkState) (kept : Kept) (refusal : Refusal) : Type 0 where
   pub is : IsRefusal text refusal
   pub no_program : HasNoProgram text
-  pub nothing : RanNothing out out_after history code
+  pub nothing : RanNothing out out_after kept
 
 -- the text has a program, and nothing was run
-pub record WasChecked (text : List ℕ) (out out_after : SinkState) (history : List Entry) (code : Option coded.Code) : Type 0 where
+pub record WasChecked (text : List ℕ) (out out_after : SinkState) (kept : Kept) : Type 0 where
   pub program : NumberedProgram
   pub compiled : IsCompiled text program
-  pub nothing : RanNothing out out_after history code
+  pub nothing : RanNothing out out_after kept
 
 -- so it became of the program of the text
-pub record WasCoded (text : List ℕ) (out out_after : SinkState) (history : List Entry) (code : Option coded.Code) (ending : Ending) : Type 0 where
+pub record WasCoded (text : List ℕ) (out out_after : SinkState) (kept : Kept) (ending : Ending) : Type 0 where
   pub program : NumberedProgram
   pub compiled : IsCompiled text program
-  pub wrote : WroteCode program out out_after code ending
-  pub no_entry : history ≡ []
+  pub wrote : WroteCode program out out_after kept.code ending
+  pub no_entry : kept.history ≡ []
+  pub no_count : kept.done ≡ []
 
 -- what became of a whole text that is to be run
-abbrev pub RunTextSays : Ending → Job → List Watcher → List ℕ → SinkState → SinkState → List Entry → Option coded.Code → Type 0
-RunTextSays Done job watchers text out out_after history code = Ran job watchers text out out_after history code Done
-RunTextSays (Refused refusal) job watchers text out out_after history code = WasRefused text out out_after history code refusal
-RunTextSays (Faulted fault) job watchers text out out_after history code = Ran job watchers text out out_after history code (Faulted fault)
-RunTextSays CantWrite job watchers text out out_after history code = Ran job watchers text out out_after history code CantWrite
-RunTextSays NoMemory job watchers text out out_after history code = RanNothing out out_after history code ⊎ Ran job watchers text out out_after history code NoMemory
-RunTextSays NoCommand job watchers text out out_after history code = ⊥
-RunTextSays CantRead job watchers text out out_after history code = ⊥
+abbrev pub RunTextSays : Ending → Job → List Watcher → List ℕ → SinkState → SinkState → Kept → Type 0
+RunTextSays Done job watchers text out out_after kept = Ran job watchers text out out_after kept Done
+RunTextSays (Refused refusal) job watchers text out out_after kept = WasRefused text out out_after kept refusal
+RunTextSays (Faulted fault) job watchers text out out_after kept = Ran job watchers text out out_after kept (Faulted fault)
+RunTextSays CantWrite job watchers text out out_after kept = Ran job watchers text out out_after kept CantWrite
+RunTextSays NoMemory job watchers text out out_after kept = RanNothing out out_after kept ⊎ Ran job watchers text out out_after kept NoMemory
+RunTextSays NoCommand job watchers text out out_after kept = ⊥
+RunTextSays CantRead job watchers text out out_after kept = ⊥
 
 -- what became of one that is to be checked
-abbrev pub CheckTextSays : Ending → List ℕ → SinkState → SinkState → List Entry → Option coded.Code → Type 0
-CheckTextSays Done text out out_after history code = WasChecked text out out_after history code
-CheckTextSays (Refused refusal) text out out_after history code = WasRefused text out out_after history code refusal
-CheckTextSays NoMemory text out out_after history code = RanNothing out out_after history code
-CheckTextSays ending text out out_after history code = ⊥
+abbrev pub CheckTextSays : Ending → List ℕ → SinkState → SinkState → Kept → Type 0
+CheckTextSays Done text out out_after kept = WasChecked text out out_after kept
+CheckTextSays (Refused refusal) text out out_after kept = WasRefused text out out_after kept refusal
+CheckTextSays NoMemory text out out_after kept = RanNothing out out_after kept
+CheckTextSays ending text out out_after kept = ⊥
 
 -- what became of one whose code is to be written
-abbrev pub CodeTextSays : Ending → List ℕ → SinkState → SinkState → List Entry → Option coded.Code → Type 0
-CodeTextSays Done text out out_after history code = WasCoded text out out_after history code Done
-CodeTextSays (Refused refusal) text out out_after history code = WasRefused text out out_after history code refusal
-CodeTextSays CantWrite text out out_after history code = WasCoded text out out_after history code CantWrite
-CodeTextSays NoMemory text out out_after history code = RanNothing out out_after history code
-CodeTextSays ending text out out_after history code = ⊥
+abbrev pub CodeTextSays : Ending → List ℕ → SinkState → SinkState → Kept → Type 0
+CodeTextSays Done text out out_after kept = WasCoded text out out_after kept Done
+CodeTextSays (Refused refusal) text out out_after kept = WasRefused text out out_after kept refusal
+CodeTextSays CantWrite text out out_after kept = WasCoded text out out_after kept CantWrite
+CodeTextSays NoMemory text out out_after kept = RanNothing out out_after kept
+CodeTextSays ending text out out_after kept = ⊥
 
 -- what became of a whole text, in a mode
-abbrev pub TextSays : Mode → Ending → Job → List Watcher → List ℕ → SinkState → SinkState → List Entry → Option coded.Code → Type 0
-TextSays Run ending job watchers text out out_after history code = RunTextSays ending job watchers text out out_after history code
-TextSays Check ending job watchers text out out_after history code = CheckTextSays ending text out out_after history code
-TextSays Code ending job watchers text out out_after history code = CodeTextSays ending text out out_after history code
-TextSays Gen ending job watchers text out out_after history code = RunTextSays ending job watchers text out out_after history code
+abbrev pub TextSays : Mode → Ending → Job → List Watcher → List ℕ → SinkState → SinkState → Kept → Type 0
+TextSays Run ending job watchers text out out_after kept = RunTextSays ending job watchers text out out_after kept
+TextSays Check ending job watchers text out out_after kept = CheckTextSays ending text out out_after kept
+TextSays Code ending job watchers text out out_after kept = CodeTextSays ending text out out_after kept
+TextSays Gen ending job watchers text out out_after kept = RunTextSays ending job watchers text out out_after kept
 
 -- what a reading that ended so leads to
 abbrev pub FileSays : ReadEnd → Ending → Job → Work → Type 0
-FileSays Read.Whole ending job w = TextSays job.mode ending job w.watchers w.text w.out w.out_after w.history w.code
-FileSays Read.CantRead ending job w = (ending ≡ CantRead) × RanNothing w.out w.out_after w.history w.code
-FileSays Read.NoMemory ending job w = (ending ≡ NoMemory) × RanNothing w.out w.out_after w.history w.code
+FileSays Read.Whole ending job w = TextSays job.mode ending job w.watchers w.text w.out w.out_after w.kept
+FileSays Read.CantRead ending job w = (ending ≡ CantRead) × RanNothing w.out w.out_after w.kept
+FileSays Read.NoMemory ending job w = (ending ≡ NoMemory) × RanNothing w.out w.out_after w.kept
 
 -- what was done where a file is named
 pub record FileDone (job : Job) (ending : Ending) (w : Work) : Type 0 where
@@ -184,14 +201,14 @@ pub record FileDone (job : Job) (ending : Ending) (w : Work) : Type 0 where
   pub says : FileSays end ending job w
 
 -- the text of the seed was made, or it ran out of memory before
-abbrev pub SeedSays : Ending → Job → List Watcher → List ℕ → SinkState → SinkState → List Entry → Option coded.Code → Type 0
-SeedSays ending job watchers text out out_after history code =
-    ((text ≡ source_text job.seed) × TextSays job.mode ending job watchers text out out_after history code) ⊎ ((text ≡ []) × (ending ≡ NoMemory) × RanNothing out out_after history code)
+abbrev pub SeedSays : Ending → Job → List Watcher → List ℕ → SinkState → SinkState → Kept → Type 0
+SeedSays ending job watchers text out out_after kept =
+    ((text ≡ source_text job.seed) × TextSays job.mode ending job watchers text out out_after kept) ⊎ ((text ≡ []) × (ending ≡ NoMemory) × RanNothing out out_after kept)
 
 -- what was done where none is
 pub record SeedDone (job : Job) (ending : Ending) (w : Work) : Type 0 where
   pub unread : w.source_after ≡ w.source
-  pub says : SeedSays ending job w.watchers w.text w.out w.out_after w.history w.code
+  pub says : SeedSays ending job w.watchers w.text w.out w.out_after w.kept
 
 -- what was done for a command, in a mode
 abbrev pub WorkSays : Mode → Job → Ending → Work → Type 0
@@ -199,6 +216,10 @@ WorkSays Run job ending w = FileDone job ending w
 WorkSays Check job ending w = FileDone job ending w
 WorkSays Code job ending w = FileDone job ending w
 WorkSays Gen job ending w = SeedDone job ending w
+
+-- what is kept of a call
+abbrev pub kept_in : Call → Kept
+kept_in c = record { code = c.code; history = c.history; done = c.done }
 
 -- what was done in a call for a job before the line on err
 abbrev pub work_of : Job → Call → Work
@@ -209,12 +230,11 @@ work_of job c = record {
   out = c.out;
   out_after = c.out_after;
   text = c.text;
-  code = c.code;
-  history = c.history;
+  kept = kept_in c;
 }
 
 -- nothing was done where the words are no command
 pub record DidNothing (c : Call) : Type 0 where
   pub source : c.source_after ≡ c.source
   pub text : c.text ≡ []
-  pub nothing : RanNothing c.out c.out_after c.history c.code
+  pub nothing : RanNothing c.out c.out_after (kept_in c)

@@ -4,19 +4,28 @@ use Rattle.ti_lang.specs.declared.program.classes.Method.{Method}
 use Rattle.ti_lang.specs.Program.Views.{program_of, numbered_method_of}
 use Rattle.ti_code.specs.declared.code.MethodCode.{MethodCode}
 use Rattle.ti_code.specs.JumpRule.{keep_jump_rule}
+use Rattle.ti_code.specs.Forms.{AreFormed}
 use Rattle.ti_code.specs.Programs.{Code}
 use Rattle.ti_code.specs.Follows.{Follows}
 use Rattle.ti_lower.specs.Programs.{methods_code, program_code}
 use Rattle.ti_lower.proofs.Jumping.{program_keeps_rule}
+use Rattle.ti_lower.proofs.Constants.{program_formed}
 use Rattle.ti_lower.proofs.Programs.{checked_follows}
 use Rattle.ti_lower.proofs.methods.lower.Goals as goal
 
-pub new-requires : goal.new-requires
-new-requires c =
+pub new-requires-clause-rule : goal.new-requires-clause-rule
+new-requires-clause-rule c =
     let program = program_of c.program.result.now.parts in
     subst (λ (z : List MethodCode). IsTrue (keep_jump_rule z))
     (sym (c.in_ok-methods.ensures ∙ ap (λ (xs : List Method). methods_code program 0 (map numbered_method_of xs)) c.deref.ensures.value))
     (program_keeps_rule program)
+
+pub new-requires-clause-formed : goal.new-requires-clause-formed
+new-requires-clause-formed c =
+    let program = program_of c.program.result.now.parts in
+    subst AreFormed
+    (sym (c.in_ok-methods.ensures ∙ ap (λ (xs : List Method). methods_code program 0 (map numbered_method_of xs)) c.deref.ensures.value))
+    (program_formed program)
 
 abbrev code_with : List MethodCode → ℕ → Code
 code_with methods main = record { methods = methods; main = main }

@@ -1,5 +1,4 @@
 use Rattle.std.proofs.Common.{◌≡◌}
-use Rattle.ti_lang.specs.Program.Views.{program_of}
 use Rattle.ti_store.specs.Stores.{setting_of}
 use Rattle.ti_runtime.specs.MirrorsTeam.{IsOpen, Stands, turns_left}
 use Rattle.ti_runtime.proofs.runner.play.Given as goal
@@ -7,8 +6,8 @@ use Rattle.ti_runtime.proofs.runner.play.Given as goal
 abbrev pub invariant-turns : goal.invariant-turns
 invariant-turns l = record {
   same : setting_of l.store ≡ setting_of l.initial.store;
-  open_still : IsOpen (program_of l.c.program.parts) l.store;
-  stands : Stands (setting_of l.store) l.store.entries l.team.seats.items l.team.cursor;
+  open_still : IsOpen l.code l.store;
+  stands : Stands l.code (setting_of l.store) l.store.entries l.team.seats.items l.team.cursor;
 }
 
 abbrev pub decreases-turns : goal.decreases-turns

@@ -1,27 +1,26 @@
-use Rattle.std.proofs.Common.{◌∙◌, [], refl, ap}
+use Rattle.std.proofs.Common.{subst}
 use Rattle.ti_lang.specs.Program.Views.{program_of}
 use Rattle.ti_lang.specs.Meaning.Processes.{Setting}
-use Rattle.ti_store.specs.Stores.{StoreState, setting_of}
-use Rattle.ti_runtime.specs.declared.runner.How.TheVariants as how
 use Rattle.ti_runtime.specs.MirrorsTeam.{CameTo}
-use Rattle.ti_runtime.proofs.Endings.{unbegun, ran, came_so}
-use Rattle.ti_runtime.proofs.runner.run.Goals.{in-Ok-begin, in-Err}
+use Rattle.ti_runtime.proofs.Endings.{opens, stands_first, ran}
 use Rattle.ti_runtime.proofs.runner.run.Goals as goal
 
-pub returns-in_default : goal.returns-in_default
-returns-in_default c =
-    let s : Setting = record { program = program_of c.args.c.now.program.parts; procs = c.args.procs; fuel = c.args.fuel } in
-    ran s _ [] c.new-in_default.ensures.items (unbegun s c.requires.within.some)
+pub play-how-requires-clause-open : goal.play-how-requires-clause-open
+play-how-requires-clause-open c =
+    opens c.args.code.now (record { program = program_of c.args.c.now.program.parts; procs = c.args.procs; fuel = c.args.fuel }) c.in-Ok.store c.in-Ok.ensures.setting c.in-Ok.ensures.entries c.in-Ok.ensures.halted
+    c.requires.within c.requires.follows c.aligned.ensures.aligned c.rounds_balance.ensures c.answers_fit.ensures
+
+pub play-how-requires-clause-stands : goal.play-how-requires-clause-stands
+play-how-requires-clause-stands c =
+    let program = program_of c.args.c.now.program.parts in
+    stands_first c.args.code.now (record { program = program; procs = c.args.procs; fuel = c.args.fuel }) c.in-Ok.store c.in-Ok-begin.team.seats.items c.in-Ok-begin.team.cursor c.in-Ok.ensures.setting c.in-Ok.ensures.entries
+    (c.in-Ok-begin.ensures program c.requires.follows)
 
 pub returns : goal.returns
 returns c =
+    let code = c.args.code.now in
     let s : Setting = record { program = program_of c.args.c.now.program.parts; procs = c.args.procs; fuel = c.args.fuel } in
-    let end = c.match-begin in
-    let came : CameTo s end.store.entries end.how = elim end.branch [
-      | in-Ok-begin w ↦
-          came_so s (setting_of c.in-Ok.store) w.play-how.new.store.entries end.store.entries w.play-how.result end.how c.in-Ok.ensures.setting (ap (λ (t : StoreState). t.entries) w.store-is) w.how-is
-          w.play-how.ensures
-      | in-Err w ↦
-          came_so s s [] end.store.entries how.Memory end.how refl (ap (λ (t : StoreState). t.entries) w.store-is ∙ c.in-Ok.ensures.entries) w.how-is (unbegun s c.requires.within.some)
-    ] in
-    ran s _ end.store.entries c.into_history-history.ensures.entries came
+    let es = c.play-how.new.store.entries in
+    let seats = c.play-how.new.team.seats.items in
+    let came = subst (λ s. CameTo code s es seats c.play-how.result) c.in-Ok.ensures.setting c.play-how.ensures in
+    ran code s _ es seats c.into_history.ensures.entries came c.finished.ensures.count c.finished.ensures.each

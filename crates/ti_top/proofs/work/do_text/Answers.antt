@@ -5,4 +5,4 @@ pub run_compiled-requires : goal.run_compiled-requires
 run_compiled-requires g c = record { within = c.requires; mode = run_or_gen _ c.in-Run.is }
 
 pub returns-in-Ok : goal.returns-in-Ok
-returns-in-Ok g c = run_in_mode _ _ _ _ _ _ _ _ _ (run_or_gen _ c.in-Run.is) (c.run_compiled.ensures c.args.text.now c.in-Ok.ensures)
+returns-in-Ok g c = run_in_mode _ _ _ _ _ _ _ _ (run_or_gen _ c.in-Run.is) (c.run_compiled.ensures c.args.text.now c.in-Ok.ensures)

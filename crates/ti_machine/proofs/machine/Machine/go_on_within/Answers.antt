@@ -1,18 +1,36 @@
-use Rattle.std.proofs.Common.{sym, subst, ℕ, add-one}
+use Rattle.std.proofs.Common.{subst}
 use Rattle.ti_code.specs.Machine.{turn}
 use Rattle.ti_machine.specs.declared.machine.Turn.{Turn}
-use Rattle.ti_machine.specs.MirrorsMachines.{machine_of, IsTurn, Silently}
-use Rattle.ti_machine.specs.MirrorsMachines as silent
-use Rattle.ti_machine.proofs.Paths.{silently_on}
+use Rattle.ti_machine.specs.MirrorsMachines.{machine_of, IsTurn}
+use Rattle.ti_machine.proofs.Paths.{passes_then, passes_none, passes_one}
+use Rattle.ti_machine.proofs.Weights.{known}
 use Rattle.ti_machine.proofs.machine.Machine.go_on_within.Goals as goal
 
-pub loop-n-init : goal.loop-n-init
-loop-n-init c = silent.none
+pub loop-init : goal.loop-init
+loop-init c = passes_none c.args.code.now (machine_of c.args.code.now c.args.self.now)
 
-pub loop-n-preserved : goal.loop-n-preserved
-loop-n-preserved c =
+pub loop-preserved : goal.loop-preserved
+loop-preserved c =
     let p = c.args.code.now in
-    let m = machine_of p c.loop-n.self in
+    let o = machine_of p c.args.self.now in
+    let m = machine_of p c.hurry-more.new.self in
     let n = machine_of p c.step.new.self in
     let e = subst (λ (t : Turn). IsTurn p (turn p m) t n) c.in-Went.is c.in_ok-step.ensures in
-    subst (λ (k : ℕ). Silently p (machine_of p c.args.self.now) k n) (sym (add-one c.loop-n.n)) (silently_on p c.loop-n.invariant e)
+    passes_then p o m n c.saturating_add-count.result 1 c.saturating_add-count-in-Went.result
+    (passes_then p o (machine_of p c.loop.self) m c.loop.count c.hurry-more.result c.saturating_add-count.result c.loop.invariant c.hurry-more.ensures c.saturating_add-count.ensures)
+    (passes_one p m n (known p c.hurry-more.new.self) e) c.saturating_add-count-in-Went.ensures
+
+pub returns-in-Stands : goal.returns-in-Stands
+returns-in-Stands c =
+    let p = c.args.code.now in
+    let o = machine_of p c.args.self.now in
+    let m = machine_of p c.hurry-more.new.self in
+    let n = machine_of p c.step.new.self in
+    let way = passes_then p o (machine_of p c.loop.self) m c.loop.count c.hurry-more.result c.saturating_add-count.result c.loop.invariant c.hurry-more.ensures c.saturating_add-count.ensures in
+    record {
+      number = way.0;
+      there = m;
+      silently = way.2;
+      count_is = way.1;
+      stood = subst (λ (t : Turn). IsTurn p (turn p m) t n) c.in-Stands.is c.in_ok-step.ensures;
+    }

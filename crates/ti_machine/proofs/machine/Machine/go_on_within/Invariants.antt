@@ -1,5 +1,5 @@
-use Rattle.ti_machine.specs.MirrorsMachines.{machine_of, Silently}
+use Rattle.ti_machine.specs.MirrorsMachines.{machine_of, Passes}
 use Rattle.ti_machine.proofs.machine.Machine.go_on_within.Given as goal
 
-abbrev pub invariant-loop-n : goal.invariant-loop-n
-invariant-loop-n l = Silently l.code (machine_of l.code l.initial.self) l.n (machine_of l.code l.self)
+abbrev pub invariant-loop : goal.invariant-loop
+invariant-loop l = Passes l.code (machine_of l.code l.initial.self) l.count (machine_of l.code l.self)

@@ -3,12 +3,13 @@ use Rattle.ti_base.specs.declared.value.Value.TheVariants as v
 use Rattle.ti_code.specs.declared.instr.Instr.{Instr}
 use Rattle.ti_code.specs.declared.instr.Instr.TheVariants as i
 use Rattle.ti_code.specs.declared.code.MethodCode.{MethodCode}
+use Rattle.ti_code.specs.Forms.{IsFormedInstr, IsFormedMethod}
 use Rattle.ti_code.specs.Machine as seen
 use Rattle.ti_code.specs.Machine.{turn, first}
 use Rattle.ti_machine.specs.MirrorsDesks.{spot_of}
 use Rattle.ti_machine.specs.MirrorsInstrs.{instrs_at}
 use Rattle.ti_machine.specs.MirrorsMachines.{machine_of, frame_at, below_of, IsTurn}
-use Rattle.std.specs.Prelude.{pos}
+use Rattle.std.specs.Prelude.{pos, All}
 use Rattle.std.proofs.Common.{get_or}
 use Rattle.ti_machine.proofs.Withins.{there, there_or, gone, instrs_there, stuck_method, stuck_turn}
 use Rattle.ti_machine.proofs.machine.Machine.step.Goals as goal
@@ -48,18 +49,10 @@ act-requires-clause-here c =
 
 pub act-requires-clause-form : goal.act-requires-clause-form
 act-requires-clause-form c =
-    let p = c.args.code.now in
     let m = c.args.self.now in
-    let at = m.top.desk.at in
     let x = c.index-methods-method.result in
-    let found : slice_get p.methods m.top.method ≡ Some x =
-    subst (λ (ms : List MethodCode). slice_get ms m.top.method ≡ Some x) c.methods-methods.ensures.methods (there c.methods-methods.result.now m.top.method x c.if-method-methods.false c.index-methods-method.is) in
-    let own : c.as_slice-instrs.result.now ≡ x.instrs = c.as_slice-instrs.ensures ∙ ap (λ (y : MethodCode). y.instrs) (sym c.index-methods-method.is) in
-    let same : c.as_slice-instrs.result.now ≡ instrs_at p m.top.method = own ∙ sym (instrs_there p m.top.method x found) in
-    let none : Instr = i.Const (v.Int (pos 0)) in
-    let instr = get_or c.as_slice-instrs.result.now at (i.Const (v.Int (pos 0))) in
-    let first : slice_get c.as_slice-instrs.result.now at ≡ Some instr = there_or c.as_slice-instrs.result.now at (i.Const (v.Int (pos 0))) c.if-at-instrs.false in
-    c.requires m.top.method at x instr found (subst (λ (is : List Instr). slice_get is at ≡ Some instr) own first)
+    let formed : IsFormedMethod x = subst IsFormedMethod (sym c.index-methods-method.is) (c.methods-methods.ensures.formed m.top.method x c.if-method-methods.false) in
+    subst (All IsFormedInstr) (sym (c.as_slice-instrs.ensures ∙ ap (λ (y : MethodCode). y.instrs) (sym c.index-methods-method.is))) formed m.top.desk.at (i.Const (v.Int (pos 0))) c.if-at-instrs.false
 
 pub returns : goal.returns
 returns c =

@@ -18,13 +18,13 @@ returns-in-Stands-clause-next c =
     let a = subst (Agrees s t.steps t.machine) c.in-Stands.is c.self.invariant.agrees in
     subst (λ (u : Standing). HasNext u c.in-Stands.next) c.self.view_is (stood_next s t.steps a.0 (machine_of s.code t.machine) c.in-Stands.next c.in-Stands.field-1 a.1 a.2)
 
-pub go_on-requires-clause-goes : goal.go_on-requires-clause-goes
-go_on-requires-clause-goes c =
+pub go_on-requires : goal.go_on-requires
+go_on-requires c =
     let t = c.self.inside in
     let s = standing_in t in
     let same : c.args.code.now ≡ s.code = c.requires.code ∙ ap (λ (u : Standing). u.code) (sym c.self.view_is) in
     let a = subst (Agrees s t.steps t.machine) c.in-Goes.is c.self.invariant.agrees in
-    subst (λ (p : Code). (n : Next) × code.HasNext p (machine_of p t.machine) [] n) (sym same) (goes_from s t.steps (machine_of s.code t.machine) a (subst GoesOn (sym c.self.view_is) c.requires.goes))
+    record { goes = subst (λ (p : Code). (n : Next) × code.HasNext p (machine_of p t.machine) [] n) (sym same) (goes_from s t.steps (machine_of s.code t.machine) a (subst GoesOn (sym c.self.view_is) c.requires.goes)) }
 
 pub invariant_of-self-2 : goal.invariant_of-self-2
 invariant_of-self-2 c =

@@ -1,5 +1,4 @@
 use Rattle.std.proofs.Common.{sym, subst, slice_set}
-use Rattle.ti_align.specs.Alignment.{OfEveryRun}
 use Rattle.ti_align.specs.Stopping.{RoundsBalance}
 use Rattle.ti_store.specs.Stores.{setting_of}
 use Rattle.ti_runtime.specs.MirrorsTeam.{StandsOn}
@@ -8,16 +7,17 @@ use Rattle.ti_runtime.proofs.team.Team.step.Goals as goal
 
 pub returns-in-Ok-clause-leaves : goal.returns-in-Ok-clause-leaves
 returns-in-Ok-clause-leaves c =
+    let code = c.args.code.now in
     let store = c.args.store.now in
     let team = c.args.self.now in
-    let balance = law_of RoundsBalance (setting_of store) store.entries (subst (OfEveryRun RoundsBalance) (sym c.requires.open.program_is) c.rounds_balance.ensures) c.requires.within c.requires.stands.solo in
-    let on = turned (setting_of store) store.entries team.seats.items team.cursor c.requires.stands c.requires.some_left c.index_mut.result.now c.index_mut.ensures.value balance
+    let balance = law_of RoundsBalance (setting_of store) store.entries c.requires.open.balance c.requires.open.within c.requires.stands.solo in
+    let on = turned code (setting_of store) store.entries team.seats.items team.cursor c.requires.stands c.requires.some_left c.index_mut.result.now c.index_mut.ensures.value balance
     c.take_turn.new.store.entries c.take_turn.new.self c.in-Ok.turn c.in-Ok.ensures.leaves in
-    subst (StandsOn (setting_of store) team.seats.items team.cursor c.take_turn.new.store.entries (slice_set team.seats.items team.cursor.at c.take_turn.new.self)) (sym c.after-self.ensures) on
+    subst (StandsOn code (setting_of store) team.seats.items team.cursor c.take_turn.new.store.entries (slice_set team.seats.items team.cursor.at c.take_turn.new.self)) (sym c.after-self.ensures) on
 
 pub returns-in-Err-clause-leaves : goal.returns-in-Err-clause-leaves
 returns-in-Err-clause-leaves c =
     let store = c.args.store.now in
     let team = c.args.self.now in
-    stopped (setting_of store) store.entries team.seats.items team.cursor c.requires.stands c.requires.some_left c.index_mut.result.now c.index_mut.ensures.value
-    c.take_turn.new.store.entries c.in-Err.stop c.in-Err.ensures.leaves
+    stopped c.args.code.now (setting_of store) store.entries team.seats.items team.cursor c.requires.stands c.requires.some_left c.index_mut.result.now c.index_mut.ensures.value
+    c.take_turn.new.store.entries c.take_turn.new.self c.in-Err.stop c.in-Err.ensures.leaves

@@ -1,0 +1,6 @@
+use Rattle.std.proofs.Common.{refl}
+use Rattle.ti_runtime.proofs.Endings.{unbegun}
+use Rattle.ti_runtime.proofs.runner.unbegun.Goals as goal
+
+pub returns : goal.returns
+returns c = λ code s some. unbegun code s _ some refl c.new.ensures.items

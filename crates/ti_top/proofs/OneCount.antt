@@ -1,0 +1,36 @@
+-- The instructions that the processes of a run have finished are counted in one way alone.
+use Rattle.std.proofs.Common.{◌≡◌, ◌∙◌, refl, ap, sym, subst, ℕ, ◌+◌, ◌<◌, List, ◌∷◌, length}
+use Rattle.std.proofs.Math.ListN.{get_or}
+use Rattle.std.proofs.lemmas.List.{ext_get_or}
+use Rattle.std.proofs.lemmas.Option.{slice_get-get_or}
+use Rattle.ti_base.specs.declared.entry.Answer.{Answer}
+use Rattle.ti_base.specs.declared.entry.Entry.{Entry}
+use Rattle.ti_lang.specs.Meaning.Asking.{Got, Gives}
+use Rattle.ti_lang.specs.Meaning.Processes.{Setting}
+use Rattle.ti_code.specs.Programs.{Code}
+use Rattle.ti_code.specs.Machine.{Machine, Turn, On, turn}
+use Rattle.ti_code.specs.Follows.{Finishes, all, one}
+use Rattle.ti_machine.specs.Standing.{Standing, begun_of, counted, HasFinished}
+use Rattle.ti_runtime.specs.Ran.{standing_of, IsDone}
+
+on_same : (a b : Machine) (xs ys : List Answer) → ◌≡◌ {A = Got Turn} (Gives (On a) xs) (Gives (On b) ys) → a ≡ b
+on_same a b xs ys e = cc
+
+left_same : (a b : Machine) (xs ys : List Answer) → ◌≡◌ {A = Got Turn} (Gives (On a) xs) (Gives (On b) ys) → xs ≡ ys
+left_same a b xs ys e = cc
+
+-- so many instructions are finished with the last of the answers, and no other number
+finishes_same : (c : Code) {m : Machine} {rs : List Answer} {j k : ℕ} → Finishes c m rs j → Finishes c m rs k → j ≡ k
+finishes_same c all all = refl
+finishes_same c (one {n} {rest = rest} {k = j} t f) (one {n = o} {rest = left} {k = k} u g) =
+    let there = on_same o n left rest (sym u ∙ t) in
+    let same = left_same o n left rest (sym u ∙ t) in
+    ap (λ (i : ℕ). i + 1) (finishes_same c f (subst (λ (xs : List Answer). Finishes c n xs k) same (subst (λ (x : Machine). Finishes c x left k) there g)))
+
+finished_same : (s : Standing) (a b : ℕ) → HasFinished s a → HasFinished s b → a ≡ b
+finished_same s a b x y = x.2 ∙ ap counted (finishes_same s.code x.1 y.1) ∙ sym y.2
+
+pub one_count : (c : Code) (s : Setting) (es : List Entry) (xs ys : List ℕ) → IsDone c s es xs → IsDone c s es ys → xs ≡ ys
+one_count c s es xs ys x y = ext_get_or 0 xs ys (x.count ∙ sym y.count) (λ i below.
+    let under : i < length ys = subst (λ (n : ℕ). i < n) (x.count ∙ sym y.count) below in
+    finished_same (standing_of c s es i) (get_or xs i 0) (get_or ys i 0) (x.each i (get_or xs i 0) (slice_get-get_or xs i 0 below)) (y.each i (get_or ys i 0) (slice_get-get_or ys i 0 under)))
