@@ -13,10 +13,9 @@ use Rattle.ti_lang.specs.Meaning.Processes.{Setting, Process, begin}
 use Rattle.ti_lang.specs.Meaning.Steps.{Step, To, At, Ends, Faults, step}
 use Rattle.ti_lang.specs.Meaning.NextStep.{shown, IsNext, After}
 use Rattle.ti_lang.specs.Meaning.Histories.{is_end, is_fault, is_arrival, is_answered, entries_of, answers_of, has_end, has_fault}
-use Rattle.ti_lang.specs.Meaning.Runs.{World, IsReady, CanTake, IsSolo, more}
+use Rattle.ti_lang.specs.Meaning.Runs.{World, IsReady, CanTake, IsRun, more}
 use Rattle.ti_lang.proofs.MeaningLaws.Limits.{within}
 use Rattle.ti_lang.proofs.MeaningLaws.Requests.{no_end_asked}
-use Rattle.ti_lang.proofs.MeaningLaws.Running.{solo_run}
 use Rattle.ti_align.specs.Answering.{AnswersFit}
 use Rattle.ti_align.proofs.Paying.{after_pays}
 use Rattle.ti_align.proofs.Vars.{or_right}
@@ -131,7 +130,7 @@ or_none false b h = h
 
 -- ---- the seat behind an answer
 
-module _ (code : Code) (st : StoreState) (o : IsOpen code st) (solo : IsSolo (setting_of st) st.entries) (i : ℕ) (l : i < st.procs) (old : Seat) (y : Seated code (setting_of st) st.entries i old) (u : old.ended ≡ false) where
+module _ (code : Code) (st : StoreState) (o : IsOpen code st) (run : IsRun (setting_of st) st.entries) (i : ℕ) (l : i < st.procs) (old : Seat) (y : Seated code (setting_of st) st.entries i old) (u : old.ended ≡ false) where
   abbrev s : Setting
   s = setting_of st
 
@@ -152,7 +151,7 @@ module _ (code : Code) (st : StoreState) (o : IsOpen code st) (solo : IsSolo (se
     can = taken code st i old here l o.goes_on u y d.becomes
 
     fit : AnswersFit s all
-    fit = o.fit st.procs st.fuel all o.within.some o.within.few o.within.fueled o.within.limited (more (solo_run s es solo) can refl)
+    fit = o.fit st.procs st.fuel all o.within.some o.within.few o.within.fueled o.within.limited (more run can refl)
 
     -- behind its end a process stands where it stood
     seated_end : is_act old.next ≡ false → Seated code s all i (record old { ended = true })
