@@ -9,13 +9,9 @@ use Rattle.ti_lang.specs.Meaning.Processes.{Setting}
 use Rattle.ti_lang.specs.Meaning.Histories.{has_end, has_fault}
 use Rattle.ti_lang.specs.Meaning.Runs.{IsRun, IsSolo, AllEnded}
 use Rattle.ti_lang.specs.Meaning.Runs as run
-use Rattle.ti_align.specs.Alignment.{NoneStuck, IsAligned, OfEveryRun}
-use Rattle.ti_align.specs.Answering.{AnswersFit}
-use Rattle.ti_align.specs.Stopping.{RoundsBalance}
-use Rattle.ti_store.specs.Conditions.{IsWithin}
+use Rattle.ti_align.specs.Alignment.{NoneStuck}
 use Rattle.ti_store.specs.Stores.{StoreState, setting_of}
 use Rattle.ti_code.specs.Programs.{Code}
-use Rattle.ti_code.specs.Follows.{Follows}
 use Rattle.ti_machine.specs.Standing.{HasFinished}
 use Rattle.ti_runtime.specs.declared.cursor.Cursor.{Cursor}
 use Rattle.ti_runtime.specs.declared.seat.Seat.{Seat}
@@ -24,7 +20,7 @@ use Rattle.ti_runtime.specs.declared.runner.How.TheVariants as how
 use Rattle.ti_runtime.specs.declared.runner.RunEnd.{RunEnd}
 use Rattle.ti_runtime.specs.Ran.{standing_of, IsDone, Ran}
 use Rattle.ti_runtime.specs.MirrorsWaiting.{Waits, Rests}
-use Rattle.ti_runtime.specs.MirrorsTeam.{Seated, AllSeated, IsOpen, Stands, Stopped, CameTo}
+use Rattle.ti_runtime.specs.MirrorsTeam.{Seated, AllSeated, IsOpen, Stands, Stopped, CameTo, MayRun}
 use Rattle.ti_runtime.proofs.Waiting.{rest_takes_none}
 
 true_false : true ≡ false → ⊥
@@ -69,17 +65,8 @@ pub begins : (code : Code) (s : Setting) (seats : List Seat) → length seats �
 begins code s seats count seated = starts code s [] seats run.none refl count seated
 
 -- a store before the first entry
-pub opens : (code : Code) (s : Setting) (st : StoreState) → setting_of st ≡ s → st.entries ≡ [] → st.halted ≡ false → IsWithin s.procs s.fuel → Follows code s.program
-    → IsAligned s.program → OfEveryRun RoundsBalance s.program → OfEveryRun AnswersFit s.program → IsOpen code st
-opens code s st is none unhalted within follows aligned balance fit = record {
-  unhalted = unhalted;
-  goes_on = ap has_fault none;
-  within = subst (λ (x : Setting). IsWithin x.procs x.fuel) (sym is) within;
-  follows = subst (λ (x : Setting). Follows code x.program) (sym is) follows;
-  aligned = subst (λ (x : Setting). IsAligned x.program) (sym is) aligned;
-  balance = subst (λ (x : Setting). OfEveryRun RoundsBalance x.program) (sym is) balance;
-  fit = subst (λ (x : Setting). OfEveryRun AnswersFit x.program) (sym is) fit;
-}
+pub opens : (code : Code) (s : Setting) (st : StoreState) → setting_of st ≡ s → st.entries ≡ [] → st.halted ≡ false → MayRun code s → IsOpen code st
+opens code s st is none unhalted may = record { unhalted = unhalted; goes_on = ap has_fault none; may = subst (MayRun code) (sym is) may }
 
 pub stands_first : (code : Code) (s : Setting) (st : StoreState) (seats : List Seat) (c : Cursor) → setting_of st ≡ s → st.entries ≡ [] → Stands code s [] seats c → Stands code (setting_of st) st.entries seats c
 stands_first code s st seats c is none x = subst (λ t. Stands code t st.entries seats c) (sym is) (subst (λ es. Stands code s es seats c) (sym none) x)

@@ -1,6 +1,7 @@
+mod Endings
 mod Entries
-mod Waiting
 mod Following
 mod Seats
 mod Turns
-mod Endings
+mod Waiting
+pub mod Mates

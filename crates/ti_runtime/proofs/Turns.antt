@@ -43,15 +43,7 @@ same_setting old new is = ap setting_of is
 
 -- a store goes on being open as it grows
 pub open_on : (code : Code) (old new : StoreState) → new ≡ record old { entries = new.entries } → has_fault new.entries ≡ false → IsOpen code old → IsOpen code new
-open_on code old new is f o = subst (IsOpen code) (sym is) (record {
-  unhalted = o.unhalted;
-  goes_on = f;
-  within = o.within;
-  follows = o.follows;
-  aligned = o.aligned;
-  balance = o.balance;
-  fit = o.fit;
-})
+open_on code old new is f o = subst (IsOpen code) (sym is) (record { unhalted = o.unhalted; goes_on = f; may = o.may })
 
 -- ---- a run with one entry more
 
@@ -88,7 +80,7 @@ module _ (s : Setting) (es all : List Entry) (i : ℕ) (t : Takes s es i all) wh
 -- ---- seats
 
 -- the seat of a process tells where it stands still, where the run went on elsewhere
-seated_still : (code : Code) (s : Setting) (es all : List Entry) (i : ℕ) (seat : Seat) → entries_of i all ≡ entries_of i es → Seated code s es i seat → Seated code s all i seat
+pub seated_still : (code : Code) (s : Setting) (es all : List Entry) (i : ℕ) (seat : Seat) → entries_of i all ≡ entries_of i es → Seated code s es i seat → Seated code s all i seat
 seated_still code s es all i seat same y =
     seated_with code s es all i seat seat.ended (ap (λ own. map (λ (e : Entry). e.answer) (filter is_answered own)) same) (ap (list_any (λ (e : Entry). is_end e.act)) same ∙ y.ended) y
 

@@ -8,7 +8,6 @@ use Rattle.ti_base.specs.declared.entry.Answer.{Answer}
 use Rattle.ti_base.specs.declared.entry.Entry.{Entry}
 use Rattle.ti_base.specs.declared.entry.Next.{Next}
 use Rattle.ti_base.specs.declared.entry.Next.TheVariants as next
-use Rattle.ti_lang.specs.Program.Views.{program_of}
 use Rattle.ti_lang.specs.Meaning.Processes.{Setting, Process}
 use Rattle.ti_lang.specs.Meaning.NextStep.{IsNext}
 use Rattle.ti_lang.specs.Meaning.Histories.{is_end, is_fault, is_arrival, has_end, has_fault}
@@ -17,7 +16,7 @@ use Rattle.ti_align.specs.Alignment.{IsAlignedRun, OfEveryRun}
 use Rattle.ti_align.specs.Answering.{AnswersFit}
 use Rattle.ti_align.specs.Stopping.{RoundsBalance}
 use Rattle.ti_store.specs.Conditions.{IsWithin}
-use Rattle.ti_store.specs.Stores.{StoreState}
+use Rattle.ti_store.specs.Stores.{StoreState, setting_of}
 use Rattle.ti_code.specs.Programs.{Code}
 use Rattle.ti_code.specs.Follows.{Follows}
 use Rattle.ti_machine.specs.Standing.{Standing, HasNext, is_act}
@@ -112,15 +111,19 @@ TurnLeaves code s es i old all new (Ok turn.Ended) = (all ≡ es) × (new ≡ ol
 TurnLeaves code s es i old all new (Ok turn.Waits) = (all ≡ es) × (new ≡ old) × Waits s es i
 TurnLeaves code s es i old all new (Err why) = StopsAt code s es i all new why
 
--- a store that goes on, of a program that the code follows, within the limits; with what holds of every run
+-- the limits are kept and the code follows the program; with what holds of every run
+pub record MayRun (code : Code) (s : Setting) : Type 0 where
+  pub within : IsWithin s.procs s.fuel
+  pub follows : Follows code s.program
+  pub aligned : OfEveryRun IsAlignedRun s.program
+  pub balance : OfEveryRun RoundsBalance s.program
+  pub fit : OfEveryRun AnswersFit s.program
+
+-- a store that goes on
 pub record IsOpen (code : Code) (store : StoreState) : Type 0 where
   pub unhalted : store.halted ≡ false
   pub goes_on : has_fault store.entries ≡ false
-  pub within : IsWithin store.procs store.fuel
-  pub follows : Follows code (program_of store.program)
-  pub aligned : OfEveryRun IsAlignedRun (program_of store.program)
-  pub balance : OfEveryRun RoundsBalance (program_of store.program)
-  pub fit : OfEveryRun AnswersFit (program_of store.program)
+  pub may : MayRun code (setting_of store)
 
 -- ---- teams
 

@@ -1,7 +1,9 @@
 //! Runs of checked programs.
 #![tactic(auto)]
 
+mod by_code;
 mod cursor;
+mod mate;
 mod runner;
 mod seat;
 mod team;

@@ -32,8 +32,8 @@ pub struct Seat {
     pub ended: bool,
 }
 
-// What a process has next, as a store takes it.
-fn doing(next: Next) -> (Place, Action)
+/// What a process has next, as a store takes it.
+pub fn doing(next: Next) -> (Place, Action)
     ensures { result ≡ doing_of next }
 {
     match next {
@@ -78,14 +78,15 @@ impl Seat {
         })
     }
 
-    // Goes on behind what it has next, which got this answer.
-    fn go_on(&mut self, alloc: Global, code: &Code, answer: Answer) -> Result<Turn, Memory>
+    /// Goes on behind what it has next, which got this answer.
+    pub fn go_on(&mut self, alloc: Global, code: &Code, answer: Answer) -> Result<Turn, Memory>
         requires code { code.now ≡ self.old.process.code }
         requires asks { is_act self.old.next ≡ true → self.old.process.asks ≡ true }
         requires form { IsFormedAnswer answer }
         requires goes { is_act self.old.next ≡ true → GoesOn (told_more self.old.process answer) }
         ensures moves { IfOk result (λ turn. Moves self.old answer self.new turn) }
         ensures memory { IfErr result (λ _. is_act self.old.next ≡ true) }
+        ensures kept { IfErr result (λ _. self.new.ended ≡ self.old.ended) }
     {
         let Next::Act(_, action) = self.next else {
             self.ended = true;

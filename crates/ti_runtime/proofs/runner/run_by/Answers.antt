@@ -8,7 +8,7 @@ use Rattle.ti_runtime.proofs.runner.run_by.Goals as goal
 pub play-how-requires-clause-open : goal.play-how-requires-clause-open
 play-how-requires-clause-open g c =
     opens c.args.code.now (record { program = program_of c.args.c.now.program.parts; procs = c.args.procs; fuel = c.args.fuel }) c.in-Ok.store c.in-Ok.ensures.setting c.in-Ok.ensures.entries c.in-Ok.ensures.halted
-    c.requires.within c.requires.follows c.aligned.ensures.aligned c.rounds_balance.ensures c.answers_fit.ensures
+    (record { within = c.requires.within; follows = c.requires.follows; aligned = c.aligned.ensures.aligned; balance = c.rounds_balance.ensures; fit = c.answers_fit.ensures })
 
 pub play-how-requires-clause-stands : goal.play-how-requires-clause-stands
 play-how-requires-clause-stands g c =
