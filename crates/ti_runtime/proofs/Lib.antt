@@ -4,4 +4,6 @@ mod Following
 mod Seats
 mod Turns
 mod Waiting
+pub mod Dealing
+pub mod Fit
 pub mod Mates

@@ -2,7 +2,9 @@
 #![tactic(auto)]
 
 mod by_code;
+mod crew;
 mod cursor;
+mod dealt;
 mod mate;
 mod runner;
 mod seat;
