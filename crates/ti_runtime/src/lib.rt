@@ -7,7 +7,9 @@ mod cursor;
 mod dealt;
 mod mate;
 mod runner;
+mod scope;
 mod seat;
 mod team;
+mod threads;
 
 pub use runner::{How, RunEnd, run};
