@@ -8,3 +8,4 @@ pub mod Crossing
 pub mod Dealing
 pub mod Fit
 pub mod Mates
+pub mod Settling

@@ -58,9 +58,6 @@ own_known es k seen legal =
 
 -- ---- the log grows
 
-pub same_entries : (st new : StoreState) → new ≡ st → new.entries ≡ st.entries
-same_entries st new is = ap (λ (x : StoreState). x.entries) is
-
 log_more : (es all : List Entry) (e : Entry) → all ≡ es ++ e ∷ [] → log_of all ≡ log_of es ++ (e.proc, e) ∷ []
 log_more es all e h = ap log_of h ∙ map-append {B = ℕ × Entry} (λ (e : Entry). (e.proc, e)) es (e ∷ [])
 

@@ -9,6 +9,7 @@ mod mate;
 mod runner;
 mod scope;
 mod seat;
+mod settled;
 mod team;
 mod threads;
 

@@ -1,4 +1,4 @@
-use Rattle.std.proofs.Common.{◌≡◌, ◌+◌, ◌<◌, length, sym, ap, ◌∙◌, arith}
+use Rattle.std.proofs.Common.{◌<◌, sym, ap, ◌∙◌, arith}
 use Rattle.ti_turnstile.specs.Turnstiles.{identity_of}
 use Rattle.ti_runtime.proofs.Dealing.{last_pass, one_longer, begins_here, seated_here}
 use Rattle.ti_runtime.proofs.dealt.deal_out.Goals as goal
