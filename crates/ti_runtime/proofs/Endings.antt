@@ -9,14 +9,9 @@ use Rattle.ti_lang.specs.Meaning.Processes.{Setting}
 use Rattle.ti_lang.specs.Meaning.Histories.{has_end, has_fault}
 use Rattle.ti_lang.specs.Meaning.Runs.{IsRun, IsSolo, AllEnded}
 use Rattle.ti_lang.specs.Meaning.Runs as run
-use Rattle.ti_lang.proofs.MeaningLaws.Running.{solo_run}
-use Rattle.ti_align.specs.Alignment.{NoneStuck, IsAligned, OfEveryRun}
-use Rattle.ti_align.specs.Answering.{AnswersFit}
-use Rattle.ti_align.specs.Stopping.{RoundsBalance}
-use Rattle.ti_store.specs.Conditions.{IsWithin}
+use Rattle.ti_align.specs.Alignment.{NoneStuck}
 use Rattle.ti_store.specs.Stores.{StoreState, setting_of}
 use Rattle.ti_code.specs.Programs.{Code}
-use Rattle.ti_code.specs.Follows.{Follows}
 use Rattle.ti_machine.specs.Standing.{HasFinished}
 use Rattle.ti_runtime.specs.declared.cursor.Cursor.{Cursor}
 use Rattle.ti_runtime.specs.declared.seat.Seat.{Seat}
@@ -25,7 +20,7 @@ use Rattle.ti_runtime.specs.declared.runner.How.TheVariants as how
 use Rattle.ti_runtime.specs.declared.runner.RunEnd.{RunEnd}
 use Rattle.ti_runtime.specs.Ran.{standing_of, IsDone, Ran}
 use Rattle.ti_runtime.specs.MirrorsWaiting.{Waits, Rests}
-use Rattle.ti_runtime.specs.MirrorsTeam.{Seated, AllSeated, IsOpen, Stands, Stopped, CameTo}
+use Rattle.ti_runtime.specs.MirrorsTeam.{Seated, AllSeated, IsOpen, Stands, Stopped, CameTo, MayRun}
 use Rattle.ti_runtime.proofs.Waiting.{rest_takes_none}
 
 true_false : true ≡ false → ⊥
@@ -51,41 +46,36 @@ none_below P i l = absurd (omega arith)
 no_more : (n : ℕ) → 0 ≤ n
 no_more n = omega arith
 
--- before the first entry, process 0 is tried
-pub begins : (code : Code) (s : Setting) (seats : List Seat) → length seats ≡ s.procs → AllSeated code s [] seats → Stands code s [] seats (record { at = 0; waiting = 0 })
-begins code s seats count seated = record {
-  solo = run.none;
-  goes_on = refl;
+-- a run that can go on is taken up with process 0
+pub starts : (code : Code) (s : Setting) (es : List Entry) (seats : List Seat) → IsRun s es → has_fault es ≡ false → length seats ≡ s.procs → AllSeated code s es seats → Stands code s es seats (record { at = 0; waiting = 0 })
+starts code s es seats so_far goes_on count seated = record {
+  run = so_far;
+  goes_on = goes_on;
   count = count;
   seated = seated;
   points = record {
     most = no_more s.procs;
     few = no_more s.procs;
-    before = λ i l. none_below (Rests s []) i l;
-    together = λ i l. none_below (λ k. Waits s [] k → (j : ℕ) → j < 0 → Rests s [] j) i l;
+    before = λ i l. none_below (Rests s es) i l;
+    together = λ i l. none_below (λ k. Waits s es k → (j : ℕ) → j < 0 → Rests s es j) i l;
   };
 }
 
+pub begins : (code : Code) (s : Setting) (seats : List Seat) → length seats ≡ s.procs → AllSeated code s [] seats → Stands code s [] seats (record { at = 0; waiting = 0 })
+begins code s seats count seated = starts code s [] seats run.none refl count seated
+
 -- a store before the first entry
-pub opens : (code : Code) (s : Setting) (st : StoreState) → setting_of st ≡ s → st.entries ≡ [] → st.halted ≡ false → IsWithin s.procs s.fuel → Follows code s.program
-    → IsAligned s.program → OfEveryRun RoundsBalance s.program → OfEveryRun AnswersFit s.program → IsOpen code st
-opens code s st is none unhalted within follows aligned balance fit = record {
-  unhalted = unhalted;
-  goes_on = ap has_fault none;
-  within = subst (λ (x : Setting). IsWithin x.procs x.fuel) (sym is) within;
-  follows = subst (λ (x : Setting). Follows code x.program) (sym is) follows;
-  aligned = subst (λ (x : Setting). IsAligned x.program) (sym is) aligned;
-  balance = subst (λ (x : Setting). OfEveryRun RoundsBalance x.program) (sym is) balance;
-  fit = subst (λ (x : Setting). OfEveryRun AnswersFit x.program) (sym is) fit;
-}
+pub opens : (code : Code) (s : Setting) (st : StoreState) → setting_of st ≡ s → st.entries ≡ [] → st.halted ≡ false → MayRun code s → IsOpen code st
+opens code s st is none unhalted may = record { unhalted = unhalted; goes_on = ap has_fault none; may = subst (MayRun code) (sym is) may }
 
 pub stands_first : (code : Code) (s : Setting) (st : StoreState) (seats : List Seat) (c : Cursor) → setting_of st ≡ s → st.entries ≡ [] → Stands code s [] seats c → Stands code (setting_of st) st.entries seats c
 stands_first code s st seats c is none x = subst (λ t. Stands code t st.entries seats c) (sym is) (subst (λ es. Stands code s es seats c) (sym none) x)
 
 -- ---- the end
 
-pub faults : (code : Code) (s : Setting) (es : List Entry) (seats : List Seat) → Stopped code s es seats stop.Faulted → CameTo code s es seats how.Faulted
-faults code s es seats x = record {
+pub faults : (code : Code) (s : Setting) (before es : List Entry) (seats : List Seat) → Stopped code s before es seats stop.Faulted → CameTo code s before es seats how.Faulted
+faults code s before es seats x = record {
+  run = x.run;
   solo = x.solo;
   ended = (λ e. cc, λ ended. absurd (x.unended ended));
   faulted = (λ e. x.fault.0 refl, λ h. refl);
@@ -93,8 +83,9 @@ faults code s es seats x = record {
   seated = λ e. x.seated (λ z. cc);
 }
 
-pub wants : (code : Code) (s : Setting) (es : List Entry) (seats : List Seat) → Stopped code s es seats stop.Memory → CameTo code s es seats how.Memory
-wants code s es seats x = record {
+pub wants : (code : Code) (s : Setting) (before es : List Entry) (seats : List Seat) → Stopped code s before es seats stop.Memory → CameTo code s before es seats how.Memory
+wants code s before es seats x = record {
+  run = x.run;
   solo = x.solo;
   ended = (λ e. cc, λ ended. absurd (x.unended ended));
   faulted = (λ e. cc, λ h. let none : stop.Memory ≡ stop.Faulted = x.fault.1 h in cc);
@@ -103,11 +94,12 @@ wants code s es seats x = record {
 }
 
 -- nobody is left to be tried, so nobody can go on, and all have their end
-pub ends : (code : Code) (s : Setting) (es : List Entry) (seats : List Seat) (c : Cursor) → Stands code s es seats c → length seats ≤ c.at → NoneStuck s es → CameTo code s es seats how.Ended
-ends code s es seats c x past unstuck =
+pub ends : (code : Code) (s : Setting) (before es : List Entry) (seats : List Seat) (c : Cursor) → (IsSolo s before → IsSolo s es) → Stands code s es seats c → length seats ≤ c.at → NoneStuck s es → CameTo code s before es seats how.Ended
+ends code s before es seats c solo x past unstuck =
     let all : AllEnded s es = unstuck x.goes_on (λ i e t. rest_takes_none s es i e (x.points.before i (tried i s.procs (length seats) c.at t.within x.count past)) t) in
     record {
-      solo = x.solo;
+      run = x.run;
+      solo = solo;
       ended = (λ e. all, λ ended. refl);
       faulted = (λ e. cc, λ h. absurd (true_false (sym h ∙ x.goes_on)));
       count = x.count;
@@ -161,13 +153,13 @@ done_is code s es seats done count seated even each = record { count = even ∙ 
         let d = some_seat seats i inside in
         subst (λ t. HasFinished t n) (seated d i inside).process (subst (λ k. HasFinished (get_or seats i d).process k) (get_or_from_slice_get done i n 0 z) (each d i inside))
 
-pub ran : (code : Code) (s : Setting) (end : RunEnd) (es : List Entry) (seats : List Seat) → end.history.items ≡ es → CameTo code s es seats end.how → length end.done.items ≡ length seats
+pub ran : (code : Code) (s : Setting) (end : RunEnd) (es : List Entry) (seats : List Seat) → end.history.items ≡ es → CameTo code s [] es seats end.how → length end.done.items ≡ length seats
     → ((d : Seat) (i : ℕ) → i < length seats → HasFinished (get_or seats i d).process (get_or end.done.items i 0)) → Ran code s end
 ran code s end es seats is x even each =
-    let y = subst (λ xs. CameTo code s xs seats end.how) (sym is) x in
+    let y = subst (λ xs. CameTo code s [] xs seats end.how) (sym is) x in
     record {
-      run = solo_run s end.history.items y.solo;
-      solo = y.solo;
+      run = y.run;
+      solo = y.solo run.none;
       ended = y.ended;
       faulted = y.faulted;
       done = λ z. done_is code s end.history.items seats end.done.items y.count (y.seated z) even each;

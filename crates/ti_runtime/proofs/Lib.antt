@@ -1,6 +1,11 @@
+mod Endings
 mod Entries
-mod Waiting
 mod Following
 mod Seats
 mod Turns
-mod Endings
+mod Waiting
+pub mod Crossing
+pub mod Dealing
+pub mod Fit
+pub mod Mates
+pub mod Settling

@@ -13,10 +13,9 @@ use Rattle.ti_lang.specs.Meaning.Processes.{Setting, Process, begin}
 use Rattle.ti_lang.specs.Meaning.Steps.{Step, To, At, Ends, Faults, step}
 use Rattle.ti_lang.specs.Meaning.NextStep.{shown, IsNext, After}
 use Rattle.ti_lang.specs.Meaning.Histories.{is_end, is_fault, is_arrival, is_answered, entries_of, answers_of, has_end, has_fault}
-use Rattle.ti_lang.specs.Meaning.Runs.{World, IsReady, CanTake, IsSolo, more}
+use Rattle.ti_lang.specs.Meaning.Runs.{World, IsReady, CanTake, IsRun, more}
 use Rattle.ti_lang.proofs.MeaningLaws.Limits.{within}
 use Rattle.ti_lang.proofs.MeaningLaws.Requests.{no_end_asked}
-use Rattle.ti_lang.proofs.MeaningLaws.Running.{solo_run}
 use Rattle.ti_align.specs.Answering.{AnswersFit}
 use Rattle.ti_align.proofs.Paying.{after_pays}
 use Rattle.ti_align.proofs.Vars.{or_right}
@@ -62,7 +61,7 @@ next_back p (next.End at) x = refl
 next_back p (next.Fault kind at) x = refl
 
 -- an action is answered
-answered_act : (p : Process) (n : Next) → IsNext p n → is_act n ≡ true → (is_end (doing_of n).1 ≡ false) × (is_fault (doing_of n).1 ≡ false)
+pub answered_act : (p : Process) (n : Next) → IsNext p n → is_act n ≡ true → (is_end (doing_of n).1 ≡ false) × (is_fault (doing_of n).1 ≡ false)
 answered_act p (next.Act at a) x e = acts (step x.0) x.0 at a refl x.1.stands
 answered_act p (next.End at) x e = absurd (true_false (sym e))
 answered_act p (next.Fault kind at) x e = absurd (true_false (sym e))
@@ -131,7 +130,7 @@ or_none false b h = h
 
 -- ---- the seat behind an answer
 
-module _ (code : Code) (st : StoreState) (o : IsOpen code st) (solo : IsSolo (setting_of st) st.entries) (i : ℕ) (l : i < st.procs) (old : Seat) (y : Seated code (setting_of st) st.entries i old) (u : old.ended ≡ false) where
+module _ (code : Code) (st : StoreState) (o : IsOpen code st) (run : IsRun (setting_of st) st.entries) (i : ℕ) (l : i < st.procs) (old : Seat) (y : Seated code (setting_of st) st.entries i old) (u : old.ended ≡ false) where
   abbrev s : Setting
   s = setting_of st
 
@@ -152,7 +151,7 @@ module _ (code : Code) (st : StoreState) (o : IsOpen code st) (solo : IsSolo (se
     can = taken code st i old here l o.goes_on u y d.becomes
 
     fit : AnswersFit s all
-    fit = o.fit st.procs st.fuel all o.within.some o.within.few o.within.fueled o.within.limited (more (solo_run s es solo) can refl)
+    fit = o.may.fit st.procs st.fuel all o.may.within.some o.may.within.few o.may.within.fueled o.may.within.limited (more run can refl)
 
     -- behind its end a process stands where it stood
     seated_end : is_act old.next ≡ false → Seated code s all i (record old { ended = true })
@@ -179,13 +178,13 @@ module _ (code : Code) (st : StoreState) (o : IsOpen code st) (solo : IsSolo (se
     pub goes : is_act old.next ≡ true → machine.GoesOn (told_more old.process answer)
     goes e =
         let q = world_on e in
-        subst machine.GoesOn (sym (told e)) (code_goes_on code s o.follows o.within all fit i l q.0 q.1)
+        subst machine.GoesOn (sym (told e)) (code_goes_on code s o.may.follows o.may.within all fit i l q.0 q.1)
 
     seated_heard : OneNext → (seat : Seat) → is_act old.next ≡ true → Hears old answer seat → Seated code s all i seat
     seated_heard one seat e h =
         let q = world_on e in
         let unended : has_end i all ≡ has_end i es = end_more i es here refl ∙ or_none (has_end i es) (is_end (action_of old)) (answered_act y.there old.next y.is_next e).0 in
-        seated code s o.follows o.within all fit i l q.0 q.1 one seat (subst (λ t. StandsAt t seat) (told e) h.stands) (unended ∙ y.ended ∙ sym h.ended)
+        seated code s o.may.follows o.may.within all fit i l q.0 q.1 one seat (subst (λ t. StandsAt t seat) (told e) h.stands) (unended ∙ y.ended ∙ sym h.ended)
 
     -- fewer steps are left
     lighter_end : steps_left s (record old { ended = true }) < steps_left s old
@@ -201,7 +200,7 @@ module _ (code : Code) (st : StoreState) (o : IsOpen code st) (solo : IsSolo (se
         one_fewer fuel m n k l = omega arith
 
     -- the process went on, and was answered
-    went_with : OneNext → (seat : Seat) (t : Turn) → Moves old answer seat t → (b : Bool) → is_arrival (action_of old) ≡ b → GoesOn code s es i old new.entries seat b
+    pub went_with : OneNext → (seat : Seat) (t : Turn) → Moves old answer seat t → (b : Bool) → is_arrival (action_of old) ≡ b → GoesOn code s es i old new.entries seat b
     went_with one seat t m b a = record {
       takes = record { entry = here; can = can; after = after };
       arrives_is = a;

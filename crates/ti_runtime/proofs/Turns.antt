@@ -8,13 +8,13 @@ use Rattle.ti_base.specs.declared.action.Action.TheVariants as act
 use Rattle.ti_base.specs.declared.entry.Entry.{Entry}
 use Rattle.ti_lang.specs.Meaning.Processes.{Setting}
 use Rattle.ti_lang.specs.Meaning.Histories.{is_end, is_fault, is_arrival, is_answered, entries_of, has_end, has_fault}
-use Rattle.ti_lang.specs.Meaning.Runs.{IsSolo, more}
-use Rattle.ti_lang.proofs.MeaningLaws.Running.{taker, solo_run}
+use Rattle.ti_lang.specs.Meaning.Runs.{IsRun, IsSolo, more}
+use Rattle.ti_lang.proofs.MeaningLaws.Running.{taker}
 use Rattle.ti_align.specs.Alignment.{OfEveryRun}
 use Rattle.ti_align.specs.Stopping.{RoundsBalance}
 use Rattle.ti_align.proofs.Vars.{or_right}
 use Rattle.ti_store.specs.Conditions.{IsWithin}
-use Rattle.ti_store.specs.Stores.{StoreState}
+use Rattle.ti_store.specs.Stores.{StoreState, setting_of}
 use Rattle.ti_store.proofs.OneMore.{fault_more}
 use Rattle.ti_code.specs.Programs.{Code}
 use Rattle.ti_runtime.specs.declared.cursor.Cursor.{Cursor}
@@ -33,21 +33,17 @@ use Rattle.ti_runtime.proofs.Endings.{none_below}
 true_false : true ≡ false → ⊥
 true_false e = cc
 
--- what holds of every run of a program holds of a solo run
-pub law_of : (fact : Setting → List Entry → Type 0) (s : Setting) (es : List Entry) → OfEveryRun fact s.program → IsWithin s.procs s.fuel → IsSolo s es → fact s es
-law_of fact s es all w solo = all s.procs s.fuel es w.some w.few w.fueled w.limited (solo_run s es solo)
+-- what holds of every run of a program holds of this one
+pub law_of : (fact : Setting → List Entry → Type 0) (s : Setting) (es : List Entry) → OfEveryRun fact s.program → IsWithin s.procs s.fuel → IsRun s es → fact s es
+law_of fact s es all w run = all s.procs s.fuel es w.some w.few w.fueled w.limited run
+
+-- a store that grows is of the same setting
+pub same_setting : (old new : StoreState) → new ≡ record old { entries = new.entries } → setting_of new ≡ setting_of old
+same_setting old new is = ap setting_of is
 
 -- a store goes on being open as it grows
 pub open_on : (code : Code) (old new : StoreState) → new ≡ record old { entries = new.entries } → has_fault new.entries ≡ false → IsOpen code old → IsOpen code new
-open_on code old new is f o = subst (IsOpen code) (sym is) (record {
-  unhalted = o.unhalted;
-  goes_on = f;
-  within = o.within;
-  follows = o.follows;
-  aligned = o.aligned;
-  balance = o.balance;
-  fit = o.fit;
-})
+open_on code old new is f o = subst (IsOpen code) (sym is) (record { unhalted = o.unhalted; goes_on = f; may = o.may })
 
 -- ---- a run with one entry more
 
@@ -55,7 +51,11 @@ or_false : (a b : Bool) → a ≡ false → b ≡ false → (a || b) ≡ false
 or_false a b x y = rw (x, y) refl
 
 module _ (s : Setting) (es all : List Entry) (i : ℕ) (t : Takes s es i all) where
-  -- it is the solo run still
+  -- it is a run still
+  pub run_on : IsRun s es → IsRun s all
+  run_on run = more run t.can t.after
+
+  -- and the solo run, where it was
   pub solo_on : IsSolo s es → ((j : ℕ) → j < i → Rests s es j) → IsSolo s all
   solo_on solo rest = more solo t.can (λ j d l. rest_takes_none s es j d (rest j l)) t.after
 
@@ -80,7 +80,7 @@ module _ (s : Setting) (es all : List Entry) (i : ℕ) (t : Takes s es i all) wh
 -- ---- seats
 
 -- the seat of a process tells where it stands still, where the run went on elsewhere
-seated_still : (code : Code) (s : Setting) (es all : List Entry) (i : ℕ) (seat : Seat) → entries_of i all ≡ entries_of i es → Seated code s es i seat → Seated code s all i seat
+pub seated_still : (code : Code) (s : Setting) (es all : List Entry) (i : ℕ) (seat : Seat) → entries_of i all ≡ entries_of i es → Seated code s es i seat → Seated code s all i seat
 seated_still code s es all i seat same y =
     seated_with code s es all i seat seat.ended (ap (λ own. map (λ (e : Entry). e.answer) (filter is_answered own)) same) (ap (list_any (λ (e : Entry). is_end e.act)) same ∙ y.ended) y
 
@@ -186,12 +186,12 @@ module _ (s : Setting) (es : List Entry) (c : Cursor) (p : Points s es c) (insid
   }
 
   -- behind one that arrived
-  pub points_arrived : IsSolo s es → RoundsBalance s es → (all : List Entry) → (t : Takes s es c.at all) → is_arrival t.entry.act ≡ true → Points s all (cursor_after c turn.Arrived)
-  points_arrived solo balance all t a = record {
+  pub points_arrived : IsRun s es → RoundsBalance s es → (all : List Entry) → (t : Takes s es c.at all) → is_arrival t.entry.act ≡ true → Points s all (cursor_after c turn.Arrived)
+  points_arrived run balance all t a = record {
     most = no_more s.procs;
     few = less c.at s.procs inside;
     before = λ i l. none_below (Rests s all) i l;
-    together = λ i l w j k. wait_together s es all c.at t.entry (solo_run s es solo) balance t.can t.after a p.before i l w j k;
+    together = λ i l w j k. wait_together s es all c.at t.entry run balance t.can t.after a p.before i l w j k;
   }
 
 -- ---- turns
@@ -225,10 +225,11 @@ module _ (code : Code) (s : Setting) (es : List Entry) (seats : List Seat) (c : 
   within = subst (λ n. c.at < n) (sym x.count) inside
 
   -- by an entry
-  onward : (all : List Entry) (new : Seat) (arrives : Bool) (d : Cursor) → GoesOn code s es c.at old all new arrives → Points s all d → StandsOn code s seats c all (slice_set seats c.at new) d
+  onward : (all : List Entry) (new : Seat) (arrives : Bool) (d : Cursor) → GoesOn code s es c.at old all new arrives → Points s all d → StandsOn code s es seats c all (slice_set seats c.at new) d
   onward all new arrives d g p = record {
+    solo = λ solo. solo_on s es all c.at g.takes solo x.points.before;
     stands = record {
-      solo = solo_on s es all c.at g.takes x.solo x.points.before;
+      run = run_on s es all c.at g.takes x.run;
       goes_on = no_fault_on s es all c.at g.takes g.no_fault;
       count = length-set seats c.at new ∙ x.count;
       seated = seated_on code s es all seats c.at new g.takes g.seated within x.seated;
@@ -238,27 +239,29 @@ module _ (code : Code) (s : Setting) (es : List Entry) (seats : List Seat) (c : 
   }
 
   -- by none
-  still : (d : Cursor) → Points s es d → c.at < d.at → StandsOn code s seats c es seats d
+  still : (d : Cursor) → Points s es d → c.at < d.at → StandsOn code s es seats c es seats d
   still d p l = record {
-    stands = record { solo = x.solo; goes_on = x.goes_on; count = x.count; seated = x.seated; points = p };
+    solo = λ solo. solo;
+    stands = record { run = x.run; goes_on = x.goes_on; count = x.count; seated = x.seated; points = p };
     lighter = falls_same (all_steps_left s seats * (s.procs + 1)) s.procs d.at c.at l inside;
   }
 
-  rested : (all : List Entry) (new : Seat) (d : Cursor) → all ≡ es → new ≡ old → Points s es d → c.at < d.at → StandsOn code s seats c all (slice_set seats c.at new) d
+  rested : (all : List Entry) (new : Seat) (d : Cursor) → all ≡ es → new ≡ old → Points s es d → c.at < d.at → StandsOn code s es seats c all (slice_set seats c.at new) d
   rested all new d e same p l =
-      subst (λ xs. StandsOn code s seats c xs (slice_set seats c.at new) d) (sym e)
-      (subst (λ xs. StandsOn code s seats c es xs d) (sym (ap (slice_set seats c.at) (same ∙ is) ∙ set_same seats c.at old)) (still d p l))
+      subst (λ xs. StandsOn code s es seats c xs (slice_set seats c.at new) d) (sym e)
+      (subst (λ xs. StandsOn code s es seats c es xs d) (sym (ap (slice_set seats c.at) (same ∙ is) ∙ set_same seats c.at old)) (still d p l))
 
-  pub turned : RoundsBalance s es → (all : List Entry) (new : Seat) (t : Turn) → TurnLeaves code s es c.at old all new (Ok t) → StandsOn code s seats c all (slice_set seats c.at new) (cursor_after c t)
-  turned balance all new turn.Arrived g = onward all new true (cursor_after c turn.Arrived) g (points_arrived s es c x.points inside x.solo balance all g.takes g.arrives_is)
+  pub turned : RoundsBalance s es → (all : List Entry) (new : Seat) (t : Turn) → TurnLeaves code s es c.at old all new (Ok t) → StandsOn code s es seats c all (slice_set seats c.at new) (cursor_after c t)
+  turned balance all new turn.Arrived g = onward all new true (cursor_after c turn.Arrived) g (points_arrived s es c x.points inside x.run balance all g.takes g.arrives_is)
   turned balance all new turn.Went g = onward all new false (cursor_after c turn.Went) g (points_went s es c x.points inside all g.takes g.arrives_is)
   turned balance all new turn.Ended g = rested all new (cursor_after c turn.Ended) g.0 g.1 (points_ended s es c x.points inside g.2) (one_further c.at)
   turned balance all new turn.Waits g = rested all new (cursor_after c turn.Waits) g.0 g.1 (points_waits s es c x.points inside g.2) (further c.at c.waiting)
 
   -- a run that stops at this turn
-  pub stopped : (all : List Entry) (new : Seat) (why : Stop) → StopsAt code s es c.at all new why → Stopped code s all (slice_set seats c.at new) why
+  pub stopped : (all : List Entry) (new : Seat) (why : Stop) → StopsAt code s es c.at all new why → Stopped code s es all (slice_set seats c.at new) why
   stopped all new stop.Faulted t = record {
-    solo = solo_on s es all c.at t.0 x.solo x.points.before;
+    run = run_on s es all c.at t.0 x.run;
+    solo = λ solo. solo_on s es all c.at t.0 solo x.points.before;
     fault = (λ e. fault_on s es all c.at t.0 t.1, λ h. refl);
     unended = λ ended. true_false (sym (ended c.at inside) ∙ unended_on s es all c.at t.0 (fault_no_end t.0.entry.act t.1));
     count = length-set seats c.at new ∙ x.count;
@@ -269,14 +272,16 @@ module _ (code : Code) (s : Setting) (es : List Entry) (seats : List Seat) (c : 
       fault_no_end (act.Fault kind) f = refl
       fault_no_end _ f = absurd (true_false (sym f))
   stopped all new stop.Memory (inl t) = record {
-    solo = subst (IsSolo s) (sym t.0) x.solo;
+    run = subst (IsRun s) (sym t.0) x.run;
+    solo = λ solo. subst (IsSolo s) (sym t.0) solo;
     fault = (λ e. cc, λ h. absurd (true_false (sym h ∙ ap has_fault t.0 ∙ x.goes_on)));
     unended = λ ended. true_false (sym (ended c.at inside) ∙ ap (has_end c.at) t.0 ∙ t.1);
     count = length-set seats c.at new ∙ x.count;
     seated = λ e. absurd (e refl);
   }
   stopped all new stop.Memory (inr t) = record {
-    solo = solo_on s es all c.at t.0 x.solo x.points.before;
+    run = run_on s es all c.at t.0 x.run;
+    solo = λ solo. solo_on s es all c.at t.0 solo x.points.before;
     fault = (λ e. cc, λ h. absurd (true_false (sym h ∙ no_fault_on s es all c.at t.0 t.1)));
     unended = λ ended. true_false (sym (ended c.at inside) ∙ unended_on s es all c.at t.0 t.2);
     count = length-set seats c.at new ∙ x.count;

@@ -8,16 +8,15 @@ use Rattle.ti_base.specs.declared.entry.Answer.{Answer}
 use Rattle.ti_base.specs.declared.entry.Entry.{Entry}
 use Rattle.ti_base.specs.declared.entry.Next.{Next}
 use Rattle.ti_base.specs.declared.entry.Next.TheVariants as next
-use Rattle.ti_lang.specs.Program.Views.{program_of}
 use Rattle.ti_lang.specs.Meaning.Processes.{Setting, Process}
 use Rattle.ti_lang.specs.Meaning.NextStep.{IsNext}
 use Rattle.ti_lang.specs.Meaning.Histories.{is_end, is_fault, is_arrival, has_end, has_fault}
-use Rattle.ti_lang.specs.Meaning.Runs.{World, CanTake, IsSolo, AllEnded}
+use Rattle.ti_lang.specs.Meaning.Runs.{World, CanTake, IsRun, IsSolo, AllEnded}
 use Rattle.ti_align.specs.Alignment.{IsAlignedRun, OfEveryRun}
 use Rattle.ti_align.specs.Answering.{AnswersFit}
 use Rattle.ti_align.specs.Stopping.{RoundsBalance}
 use Rattle.ti_store.specs.Conditions.{IsWithin}
-use Rattle.ti_store.specs.Stores.{StoreState}
+use Rattle.ti_store.specs.Stores.{StoreState, setting_of}
 use Rattle.ti_code.specs.Programs.{Code}
 use Rattle.ti_code.specs.Follows.{Follows}
 use Rattle.ti_machine.specs.Standing.{Standing, HasNext, is_act}
@@ -112,15 +111,19 @@ TurnLeaves code s es i old all new (Ok turn.Ended) = (all ≡ es) × (new ≡ ol
 TurnLeaves code s es i old all new (Ok turn.Waits) = (all ≡ es) × (new ≡ old) × Waits s es i
 TurnLeaves code s es i old all new (Err why) = StopsAt code s es i all new why
 
--- a store that goes on, of a program that the code follows, within the limits; with what holds of every run
+-- the limits are kept and the code follows the program; with what holds of every run
+pub record MayRun (code : Code) (s : Setting) : Type 0 where
+  pub within : IsWithin s.procs s.fuel
+  pub follows : Follows code s.program
+  pub aligned : OfEveryRun IsAlignedRun s.program
+  pub balance : OfEveryRun RoundsBalance s.program
+  pub fit : OfEveryRun AnswersFit s.program
+
+-- a store that goes on
 pub record IsOpen (code : Code) (store : StoreState) : Type 0 where
   pub unhalted : store.halted ≡ false
   pub goes_on : has_fault store.entries ≡ false
-  pub within : IsWithin store.procs store.fuel
-  pub follows : Follows code (program_of store.program)
-  pub aligned : OfEveryRun IsAlignedRun (program_of store.program)
-  pub balance : OfEveryRun RoundsBalance (program_of store.program)
-  pub fit : OfEveryRun AnswersFit (program_of store.program)
+  pub may : MayRun code (setting_of store)
 
 -- ---- teams
 
@@ -142,9 +145,9 @@ pub record Points (s : Setting) (es : List Entry) (c : Cursor) : Type 0 where
 abbrev pub AllSeated : Code → Setting → List Entry → List Seat → Type 0
 AllSeated code s es seats = (d : Seat) (i : ℕ) → i < length seats → Seated code s es i (slice_index_or seats i d)
 
--- so they do after those of the solo run so far, and the cursor tells which is next
+-- so they do after those of a run so far, and the cursor tells which is next
 pub record Stands (code : Code) (s : Setting) (es : List Entry) (seats : List Seat) (c : Cursor) : Type 0 where
-  pub solo : IsSolo s es
+  pub run : IsRun s es
   pub goes_on : has_fault es ≡ false
   pub count : length seats ≡ s.procs
   pub seated : AllSeated code s es seats
@@ -154,29 +157,32 @@ pub record Stands (code : Code) (s : Setting) (es : List Entry) (seats : List Se
 abbrev pub turns_left : Setting → List Seat → Cursor → ℕ
 turns_left s seats c = all_steps_left s seats * (s.procs + 1) + (s.procs - c.at)
 
--- the run goes on, with fewer turns left
-pub record StandsOn (code : Code) (s : Setting) (old : List Seat) (was : Cursor) (es : List Entry) (new : List Seat) (is : Cursor) : Type 0 where
+-- the run goes on, with fewer turns left; where the entries before were those of the solo run, so are these
+pub record StandsOn (code : Code) (s : Setting) (before : List Entry) (old : List Seat) (was : Cursor) (es : List Entry) (new : List Seat) (is : Cursor) : Type 0 where
   pub stands : Stands code s es new is
+  pub solo : IsSolo s before → IsSolo s es
   pub lighter : turns_left s new is < turns_left s old was
 
 -- a run that stopped before all had their end
-pub record Stopped (code : Code) (s : Setting) (es : List Entry) (seats : List Seat) (why : Stop) : Type 0 where
-  pub solo : IsSolo s es
+pub record Stopped (code : Code) (s : Setting) (before es : List Entry) (seats : List Seat) (why : Stop) : Type 0 where
+  pub run : IsRun s es
+  pub solo : IsSolo s before → IsSolo s es
   pub fault : (why ≡ stop.Faulted) ↔ (has_fault es ≡ true)
   pub unended : AllEnded s es → ⊥
   pub count : length seats ≡ s.procs
   pub seated : why ≢ stop.Memory → AllSeated code s es seats
 
 -- what a step of a team makes of it and of the entries
-abbrev pub StepLeaves : {U : Type 0} → Code → Setting → Team → List Entry → Team → Result U Stop → Type 0
-StepLeaves code s old all new (Ok u) = StandsOn code s old.seats.items old.cursor all new.seats.items new.cursor
-StepLeaves code s old all new (Err why) = Stopped code s all new.seats.items why
+abbrev pub StepLeaves : {U : Type 0} → Code → Setting → List Entry → Team → List Entry → Team → Result U Stop → Type 0
+StepLeaves code s before old all new (Ok u) = StandsOn code s before old.seats.items old.cursor all new.seats.items new.cursor
+StepLeaves code s before old all new (Err why) = Stopped code s before all new.seats.items why
 
 -- ---- runs
 
--- what a run came to
-pub record CameTo (code : Code) (s : Setting) (es : List Entry) (seats : List Seat) (end : How) : Type 0 where
-  pub solo : IsSolo s es
+-- what a run came to that went on behind the entries before
+pub record CameTo (code : Code) (s : Setting) (before es : List Entry) (seats : List Seat) (end : How) : Type 0 where
+  pub run : IsRun s es
+  pub solo : IsSolo s before → IsSolo s es
   pub ended : (end ≡ how.Ended) ↔ AllEnded s es
   pub faulted : (end ≡ how.Faulted) ↔ (has_fault es ≡ true)
   pub count : length seats ≡ s.procs

@@ -13,11 +13,13 @@ ghost use Rattle.ti_runtime.specs.MirrorsTeam.{IsOpen, Stands, CameTo};
 use crate::seat::Stop;
 use crate::team::Team;
 use std::alloc::Global;
+use std::marker::Brand;
 use ti_align::{aligned, answers_fit, rounds_balance};
 use ti_base::Entry;
 use ti_code::Code;
+use ti_io::{Gate, OpenGate};
 use ti_rules::Checked;
-use ti_store::Store;
+use ti_store::{Store, Terms};
 
 /// How a run ended.
 #[derive(Clone, Copy, Debug, PartialEq, Eq)]
@@ -51,13 +53,19 @@ fn unbegun(alloc: Global) -> RunEnd
 }
 
 // The processes take their turns, until all have their end or the run stops.
-fn play(alloc: Global, code: &Code, team: &mut Team, store: &mut Store) -> How
+fn play<J: Terms, G: Gate>(
+    alloc: Global,
+    code: &Code,
+    gate: &G,
+    team: &mut Team,
+    store: &mut Store<J>,
+) -> How
     requires open { IsOpen code.now store.old }
     requires stands { Stands code.now (setting_of store.old) store.old.entries team.old.seats.items team.old.cursor }
-    ensures { CameTo code.now (setting_of store.old) store.new.entries team.new.seats.items result }
+    ensures { CameTo code.now (setting_of store.old) store.old.entries store.new.entries team.new.seats.items result }
 {
     'turns: while (team.cursor.at as usize) < team.seats.len() {
-        match team.step(alloc, code, store) {
+        match team.step(alloc, code, gate, store) {
             Ok(()) => {}
             Err(Stop::Faulted) => return How::Faulted,
             Err(Stop::Memory) => return How::Memory,
@@ -66,16 +74,21 @@ fn play(alloc: Global, code: &Code, team: &mut Team, store: &mut Store) -> How
     How::Ended
 }
 
-/// Runs a checked program by its code, as so many processes, each with so many ticks of fuel, on one thread.
-///
-/// The history is the solo run: each entry is that of the lowest-numbered process that can take one. It goes on to a
-/// fault or until all processes have their end, unless memory is wanting.
-pub fn run(alloc: Global, c: &Checked, code: &Code, procs: u32, fuel: u32) -> RunEnd
+// The run by terms that somebody has picked.
+fn run_by<J: Terms, G: Gate>(
+    alloc: Global,
+    c: &Checked,
+    code: &Code,
+    gate: &G,
+    procs: u32,
+    fuel: u32,
+) -> RunEnd
     requires within { IsWithin procs fuel }
+    requires terms { record { program = program_of c.now.program.parts; procs = procs; fuel = fuel } ≡ J.setting }
     requires follows { Follows code.now (program_of c.now.program.parts) }
     ensures { Ran code.now (record { program = program_of c.now.program.parts; procs = procs; fuel = fuel }) result }
 {
-    let Ok(mut store) = Store::new(alloc, c, procs, fuel) else {
+    let Ok(mut store) = Store::<J>::new(alloc, c, procs, fuel) else {
         return unbegun(alloc);
     };
     let Ok(mut team) = Team::begin(alloc, code, procs, fuel) else {
@@ -87,10 +100,22 @@ pub fn run(alloc: Global, c: &Checked, code: &Code, procs: u32, fuel: u32) -> Ru
     aligned(c);
     answers_fit(c);
     rounds_balance(c);
-    let how = play(alloc, code, &mut team, &mut store);
+    let how = play(alloc, code, gate, &mut team, &mut store);
     RunEnd {
         how,
         history: store.into_history(),
         done: team.finished(done),
     }
+}
+
+/// Runs a checked program by its code, as so many processes, each with so many ticks of fuel, on one thread.
+///
+/// The history is the solo run: each entry is that of the lowest-numbered process that can take one. It goes on to a
+/// fault or until all processes have their end, unless memory is wanting.
+pub fn run(alloc: Global, c: &Checked, code: &Code, procs: u32, fuel: u32) -> RunEnd
+    requires within { IsWithin procs fuel }
+    requires follows { Follows code.now (program_of c.now.program.parts) }
+    ensures { Ran code.now (record { program = program_of c.now.program.parts; procs = procs; fuel = fuel }) result }
+{
+    run_by::<Brand, OpenGate>(alloc, c, code, &OpenGate, procs, fuel)
 }

@@ -1,7 +1,7 @@
 // A process's place in the team of a run.
 ghost use Rattle.std.specs.Prelude.{◌≡◌, ◌<◌, ◌^◌, [], true, false, IfOk, IfErr, if◌then◌else◌};
 ghost use Rattle.ti_lang.specs.Meaning.Histories.{is_arrival};
-ghost use Rattle.ti_lang.specs.Meaning.Runs.{IsSolo};
+ghost use Rattle.ti_lang.specs.Meaning.Runs.{IsRun};
 ghost use Rattle.ti_eval.specs.Forms.{IsFormedAnswer};
 ghost use Rattle.ti_machine.specs.Standing.{GoesOn, is_act};
 ghost use Rattle.ti_store.specs.Stores.{setting_of};
@@ -11,8 +11,9 @@ use crate::cursor::Turn;
 use std::alloc::Global;
 use ti_base::{Action, Answer, Memory, Next, Place};
 use ti_code::Code;
+use ti_io::Gate;
 use ti_machine::{Proc, has_one_next};
-use ti_store::{ActErr, Store};
+use ti_store::{ActErr, Store, Terms};
 
 /// Why a run stops before all processes have their end.
 #[derive(Clone, Copy)]
@@ -31,8 +32,8 @@ pub struct Seat {
     pub ended: bool,
 }
 
-// What a process has next, as a store takes it.
-fn doing(next: Next) -> (Place, Action)
+/// What a process has next, as a store takes it.
+pub fn doing(next: Next) -> (Place, Action)
     ensures { result ≡ doing_of next }
 {
     match next {
@@ -77,14 +78,15 @@ impl Seat {
         })
     }
 
-    // Goes on behind what it has next, which got this answer.
-    fn go_on(&mut self, alloc: Global, code: &Code, answer: Answer) -> Result<Turn, Memory>
+    /// Goes on behind what it has next, which got this answer.
+    pub fn go_on(&mut self, alloc: Global, code: &Code, answer: Answer) -> Result<Turn, Memory>
         requires code { code.now ≡ self.old.process.code }
         requires asks { is_act self.old.next ≡ true → self.old.process.asks ≡ true }
         requires form { IsFormedAnswer answer }
         requires goes { is_act self.old.next ≡ true → GoesOn (told_more self.old.process answer) }
         ensures moves { IfOk result (λ turn. Moves self.old answer self.new turn) }
         ensures memory { IfErr result (λ _. is_act self.old.next ≡ true) }
+        ensures kept { IfErr result (λ _. self.new.ended ≡ self.old.ended) }
     {
         let Next::Act(_, action) = self.next else {
             self.ended = true;
@@ -95,17 +97,18 @@ impl Seat {
         Ok(turn_of(action))
     }
 
-    /// The process takes its turn: it does what it has next, if it needn't wait.
-    pub fn take_turn(
+    /// The process takes its turn: it passes the gate, and does what it has next, if it needn't wait.
+    pub fn take_turn<J: Terms, G: Gate>(
         &mut self,
         alloc: Global,
         code: &Code,
-        store: &mut Store,
+        gate: &G,
+        store: &mut Store<J>,
         number: u32,
     ) -> Result<Turn, Stop>
         requires open { IsOpen code.now store.old }
         requires number { number < store.old.procs }
-        requires solo { IsSolo (setting_of store.old) store.old.entries }
+        requires run { IsRun (setting_of store.old) store.old.entries }
         requires seated { Seated code.now (setting_of store.old) store.old.entries number self.old }
         ensures leaves { TurnLeaves code.now (setting_of store.old) store.old.entries number self.old store.new.entries self.new result }
         ensures store { store.new ≡ record store.old { entries = store.new.entries } }
@@ -114,6 +117,7 @@ impl Seat {
         if self.ended {
             return Ok(Turn::Ended);
         }
+        gate.pass(number);
         let (place, action) = doing(self.next);
         match store.act(alloc, number, place, action) {
             Ok(answer) => match self.go_on(alloc, code, answer) {

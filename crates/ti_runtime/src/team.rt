@@ -13,8 +13,9 @@ use crate::seat::{Seat, Stop};
 use std::alloc::Global;
 use ti_base::Memory;
 use ti_code::Code;
+use ti_io::Gate;
 use ti_machine::has_one_next;
-use ti_store::Store;
+use ti_store::{Store, Terms};
 
 /// The processes of a run by their numbers, and which is tried next.
 #[derive(Drop)]
@@ -41,15 +42,21 @@ impl Team {
     }
 
     /// The next process takes its turn, which may be that it has to wait.
-    pub fn step(&mut self, alloc: Global, code: &Code, store: &mut Store) -> Result<(), Stop>
+    pub fn step<J: Terms, G: Gate>(
+        &mut self,
+        alloc: Global,
+        code: &Code,
+        gate: &G,
+        store: &mut Store<J>,
+    ) -> Result<(), Stop>
         requires open { IsOpen code.now store.old }
         requires some_left { self.old.cursor.at < store.old.procs }
         requires stands { Stands code.now (setting_of store.old) store.old.entries self.old.seats.items self.old.cursor }
-        ensures leaves { StepLeaves code.now (setting_of store.old) self.old store.new.entries self.new result }
+        ensures leaves { StepLeaves code.now (setting_of store.old) store.old.entries self.old store.new.entries self.new result }
         ensures store { store.new ≡ record store.old { entries = store.new.entries } }
     {
         let number = self.cursor.at;
-        match self.seats[number as usize].take_turn(alloc, code, store, number) {
+        match self.seats[number as usize].take_turn(alloc, code, gate, store, number) {
             Ok(turn) => {
                 self.cursor = self.cursor.after(turn);
                 Ok(())

@@ -2,6 +2,7 @@ pub mod Beginning
 pub mod Counting
 pub mod Counts
 pub mod Courses
+pub mod Crossing
 pub mod Deleting
 pub mod Deposits
 pub mod Doing
@@ -9,6 +10,7 @@ pub mod Forgetting
 pub mod Forming
 pub mod HeapSteps
 pub mod Lockstep
+pub mod Logging
 pub mod Meeting
 pub mod Names
 pub mod NewThings

@@ -11,7 +11,6 @@ use Rattle.ti_align.specs.Typed.{RunTyped}
 use Rattle.ti_align.specs.Formed.{ActionsFormed}
 use Rattle.ti_align.specs.Dangling.{NothingDangles}
 use Rattle.ti_store.specs.declared.ledger.Ledger.{Ledger}
-use Rattle.ti_store.specs.declared.store.Store.TheInside.{Inside}
 use Rattle.ti_store.specs.Conditions.{IsWithin}
 use Rattle.ti_store.specs.Stores.{StoreState}
 use Rattle.ti_store.specs.MirrorsParts.{program_in, history_in, IsKept}
@@ -42,8 +41,7 @@ pub record IsLedger (l : Ledger) (fuel : ℕ) (faulted : Bool) : Type 0 where
   pub faulted_is : faulted ≡ has_fault l.entries.items
   pub kept : IsKept l (history_in l)
 
-abbrev pub state_in : Inside → StoreState
-state_in s = state_of s.ledger s.fuel s.halted
-
-abbrev pub IsStore : Inside → Type 0
-IsStore s = IsLedger s.ledger s.fuel s.faulted
+-- and the store is of these terms
+pub record IsStore (l : Ledger) (fuel : ℕ) (faulted : Bool) (terms : Setting) : Type 0 where
+  pub ledger : IsLedger l fuel faulted
+  pub terms_are : setting_in l fuel ≡ terms

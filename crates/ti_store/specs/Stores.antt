@@ -1,5 +1,5 @@
 -- What contracts see of a store, and how it answers an action.
-use Rattle.std.specs.Prelude.{◌≡◌, ℕ, Bool, false, true, ◌||◌, List, ◌∷◌, ◌++◌, [], Some}
+use Rattle.std.specs.Prelude.{◌≡◌, ℕ, Bool, false, true, ◌||◌, List, ◌∷◌, ◌++◌, [], map, Some}
 use Rattle.ti_base.specs.declared.place.Place.{Place}
 use Rattle.ti_base.specs.declared.fault.FaultKind.{FaultKind}
 use Rattle.ti_base.specs.declared.action.Action.{Action}
@@ -29,6 +29,10 @@ pub record StoreState : Type 0 where
 -- what the processes of a store share
 abbrev pub setting_of : StoreState → Setting
 setting_of s = record { program = program_of s.program; procs = s.procs; fuel = s.fuel }
+
+-- the entries as a log: each with the number of its process
+abbrev pub log_of : List Entry → List (ℕ × Entry)
+log_of es = map (λ (e : Entry). (e.proc, e)) es
 
 -- nothing more is done: the history ends with a fault, or want of memory halted the store
 abbrev pub is_halted : StoreState → Bool

@@ -10,8 +10,9 @@ ghost use Rattle.ti_store.specs.Stores.{setting_of, IsNextOf, IsDone, IsRefused}
 use crate::act_err::ActErr;
 use crate::ledger::{Ledger, Reply};
 use crate::makings::Makings;
+use crate::terms::Terms;
 use std::alloc::Global;
-use std::marker::Model;
+use std::marker::{Model, PhantomData};
 use ti_align::{
     actions_formed, arrivals_agree, fields_fit, fields_storable, none_impossible, nothing_dangles,
     rounds_balance, run_typed,
@@ -21,20 +22,23 @@ use ti_heap::Heap;
 use ti_region::Regions;
 use ti_rounds::Rounds;
 use ti_rules::Checked;
+use ti_turnstile::Kept;
 
 /// The history of a run, with the heap, the rounds and the regions that it makes.
 ///
 /// Contracts see the program, the number of processes, the fuel of each, the entries so far, and whether
-/// want of memory halted the store. The entries are always a run of the program.
+/// want of memory halted the store. The entries are always a run of the program, and program, number of
+/// processes and fuel are those of its terms, however the store was come by.
 #[derive(Drop)]
-pub struct Store {
+pub struct Store<J: Terms> {
     ledger: Ledger,
     fuel: u32,
     faulted: bool,
     halted: bool,
+    of: PhantomData<J>,
 }
 
-impl Model for Store {
+impl<J: Terms> Model for Store<J> {
     ghost use Rattle.ti_base.specs.contracts.entry.Entry as entry;
     ghost use Rattle.ti_lang.specs.contracts.program.classes.Parts as parts;
     ghost use Rattle.ti_store.specs.Stores.{StoreState};
@@ -44,19 +48,36 @@ impl Model for Store {
 
     ghost coded = { state_code parts.the_row.coded entry.the_row.coded };
 
-    ghost use Rattle.ti_store.specs.MirrorsStore.{state_in, IsStore};
+    ghost use Rattle.ti_store.specs.MirrorsStore.{state_of, IsStore};
 
-    ghost view = { state_in };
+    ghost view = { λ s. state_of s.ledger s.fuel s.halted };
 
-    ghost invariant = { IsStore };
+    ghost invariant = { λ s. IsStore s.ledger s.fuel s.faulted J.setting };
 }
 
-impl Store {
+impl<J: Terms> Kept for Store<J> {
+    ghost use Rattle.ti_store.specs.Stores.{log_of};
+
+    type Item = Entry;
+
+    ghost log = { λ s. log_of s.entries };
+
+    fn len(&self) -> usize {
+        self.ledger.entries.len()
+    }
+
+    fn number_at(&self, i: usize) -> u32 {
+        self.ledger.entries[i].proc
+    }
+}
+
+impl<J: Terms> Store<J> {
     /// The store of a program with so many processes and so much fuel for each, before the first entry.
     ///
     /// It keeps a copy of the program.
     pub fn new(alloc: Global, c: &Checked, procs: u32, fuel: u32) -> Result<Self, Memory>
         requires within { IsWithin procs fuel }
+        requires terms { record { program = program_of c.now.program.parts; procs = procs; fuel = fuel } ≡ J.setting }
         ensures setting { IfOk result (λ s. setting_of s ≡ record { program = program_of c.now.program.parts; procs = procs; fuel = fuel }) }
         ensures entries { IfOk result (λ s. s.entries ≡ []) }
         ensures halted { IfOk result (λ s. s.halted ≡ false) }
@@ -88,6 +109,7 @@ impl Store {
             fuel,
             faulted: false,
             halted: false,
+            of: PhantomData,
         })
     }
 
@@ -128,6 +150,13 @@ impl Store {
         self.halted = true;
     }
 
+    /// A law: program, number of processes and fuel are those of the terms.
+    pub fn knows_terms(&self)
+        ensures { setting_of self.now ≡ J.setting }
+    {
+        let _fuel = self.fuel;
+    }
+
     /// The entries so far, which are a run.
     pub fn history(&self) -> &[Entry]
         ensures entries { result.now ≡ self.now.entries }
@@ -146,6 +175,7 @@ impl Store {
             fuel: _,
             faulted: _,
             halted: _,
+            of: _,
         } = self;
         let Ledger {
             program: _,

@@ -1,0 +1,152 @@
+-- Processes that come back from the workers, and stand in the order of their numbers.
+use Rattle.std.proofs.Common.{◌≡◌, ◌≢◌, ℕ, zero, suc, ◌<◌, ◌+◌, ◌-◌, inl, inr, Bool, true, false, ◌||◌, List, [], ◌∷◌, ◌++◌, map, length, length-append, slice_set, get_or, refl, sym, ap, ◌∙◌, subst, arith, get_or-set_same, get_or-set_other}
+use Rattle.std.specs.Prelude.{Option, Some, None}
+use Rattle.std.proofs.lemmas.List.{get_or_append_left, get_or_push}
+use native.Mathlib.Decide.{ℕ_discrete}
+use Rattle.atomic_table.specs.Seated.{TableId}
+use Rattle.ti_base.specs.declared.entry.Entry.{Entry}
+use Rattle.ti_lang.specs.Meaning.Processes.{Setting}
+use Rattle.ti_code.specs.Programs.{Code}
+use Rattle.ti_turnstile.specs.declared.kept.Kept.{Ghosts}
+use Rattle.ti_turnstile.specs.declared.turnstile.Pass.{Pass}
+use Rattle.ti_turnstile.specs.Parts.{HasNumber}
+use Rattle.ti_turnstile.specs.Turnstiles.{turnstile_of, number_of, seen_by, part_of, AreOf, AreLegal}
+use Rattle.ti_store.specs.Stores.{log_of}
+use Rattle.ti_runtime.specs.declared.seat.Seat.{Seat}
+use Rattle.ti_runtime.specs.MirrorsStays.{entries_in, Stays}
+use Rattle.ti_runtime.specs.MirrorsSettled.{at_place, NoneStands, IsKnown, ArePlaced, IsBack, AreSeated}
+use Rattle.ti_runtime.proofs.Mates.{seated_inside, ended_inside}
+
+-- one place more, where nobody stands
+pub none_more : (xs : List (Option Seat)) → NoneStands xs → NoneStands (xs ++ None ∷ [])
+none_more [] h zero = refl
+none_more [] h (suc i) = refl
+none_more (x ∷ xs) h zero = h 0
+none_more (x ∷ xs) h (suc i) = none_more xs (λ j. h (suc j)) i
+
+-- one pass more of the turnstile
+pub one_back : {V : Type 0} {g : Ghosts V Entry} (turnstile : TableId) (all ps : List (Pass V Entry g)) (p : Pass V Entry g) → all ≡ ps ++ p ∷ [] → AreOf turnstile ps → turnstile_of p ≡ turnstile → AreOf turnstile all
+one_back {V = V} {g = g} turnstile all ps p is h same = rw is (added ps h)
+  where
+    added : (ps : List (Pass V Entry g)) → AreOf turnstile ps → AreOf turnstile (ps ++ p ∷ [])
+    added [] h = (same, tt)
+    added (x ∷ xs) h = (h.0, added xs h.1)
+
+either_first : (a b c : Bool) → c ≡ (a || b) → c ≡ false → a ≡ false
+either_first true b c e f = sym e ∙ f
+either_first false b c e f = refl
+
+either_second : (a b c : Bool) → c ≡ (a || b) → c ≡ false → b ≡ false
+either_second true b c e f = cc
+either_second false b c e f = sym e ∙ f
+
+module _ (code : Code) (s : Setting) where
+  pub stays_weaker : (es : List Entry) (k : ℕ) (seat : Seat) (a b : Bool) → (b ≡ false → a ≡ false) → Stays code s es k seat a → Stays code s es k seat b
+  stays_weaker es k seat a b f y = record { ended = y.ended; seated = λ e. y.seated (f e) }
+
+module _ (s : Setting) (places : List (Option Seat)) (count : length places ≡ s.procs) (number : ℕ) (inside : number < s.procs) (seat : Seat) where
+  abbrev after : List (Option Seat)
+  after = slice_set places (s.procs - 1 - number) (Some seat)
+
+  here : at_place s.procs after number ≡ Some seat
+  here = get_or-set_same places (s.procs - 1 - number) (Some seat) None (omega (arith, count, inside))
+
+  elsewhere : (k : ℕ) → k < s.procs → k ≢ number → at_place s.procs after k ≡ at_place s.procs places k
+  elsewhere k l ne = get_or-set_other places (s.procs - 1 - number) (s.procs - 1 - k) (Some seat) None (λ e. ne (omega (arith, l, inside, e)))
+
+  has_its_place : (k : ℕ) → k < s.procs → (y : Seat) × (at_place s.procs places k ≡ Some y) → (y : Seat) × (at_place s.procs after k ≡ Some y)
+  has_its_place k l h = elim (ℕ_discrete k number) as (λ _. (y : Seat) × (at_place s.procs after k ≡ Some y)) [
+    | yes same ↦ (seat, ap (at_place s.procs after) same ∙ here)
+    | no ne ↦ (h.0, elsewhere k l ne ∙ h.1)
+  ]
+
+module _ {V : Type 0} {g : Ghosts V Entry} (s : Setting) (places : List (Option Seat)) (count : length places ≡ s.procs) (number : ℕ) (inside : number < s.procs) (seat : Seat) where
+  -- one more has its place
+  pub placed_on : (ps : List (Pass V Entry g)) (p : Pass V Entry g) → number_of p ≡ number → ArePlaced s.procs places ps → ArePlaced s.procs (after s places count number inside seat) (ps ++ p ∷ [])
+  placed_on [] p e h = (subst (λ k. k < s.procs) (sym e) inside, (seat, ap (at_place s.procs (after s places count number inside seat)) e ∙ here s places count number inside seat), tt)
+  placed_on (x ∷ xs) p e h = (h.0, has_its_place s places count number inside seat (number_of x) h.0 h.1, placed_on xs p e h.2)
+
+module _ {V : Type 0} {g : Ghosts V Entry} (code : Code) (s : Setting) where
+  known_left : (k : ℕ) (seat : Seat) (a b : Bool) (ps : List (Pass V Entry g)) (p : Pass V Entry g) → (b ≡ false → a ≡ false) → IsKnown code s k seat a ps → IsKnown code s k seat b (ps ++ p ∷ [])
+  known_left k seat a b [] p f h = absurd h
+  known_left k seat a b (x ∷ xs) p f (inl h) = inl (h.0, stays_weaker code s (entries_in (seen_by x)) k seat a b f h.1)
+  known_left k seat a b (x ∷ xs) p f (inr h) = inr (known_left k seat a b xs p f h)
+
+  known_right : (k : ℕ) (seat : Seat) (b : Bool) (ps : List (Pass V Entry g)) (p : Pass V Entry g) → number_of p ≡ k → Stays code s (entries_in (seen_by p)) k seat b → IsKnown code s k seat b (ps ++ p ∷ [])
+  known_right k seat b [] p e y = inl (e, y)
+  known_right k seat b (x ∷ xs) p e y = inr (known_right k seat b xs p e y)
+
+  -- one more came back
+  pub back_on : (places : List (Option Seat)) (count : length places ≡ s.procs) (number : ℕ) (inside : number < s.procs) (seat : Seat) (ps : List (Pass V Entry g)) (p : Pass V Entry g) (a b : Bool) → (b ≡ false → a ≡ false) → number_of p ≡ number
+      → Stays code s (entries_in (seen_by p)) number seat b → IsBack code s places ps a → IsBack code s (after s places count number inside seat) (ps ++ p ∷ []) b
+  back_on places count number inside seat ps p a b f e y back k x l is = elim (ℕ_discrete k number) as (λ _. IsKnown code s k x b (ps ++ p ∷ [])) [
+    | yes same ↦
+        let one : Some seat ≡ Some x = sym (here s places count number inside seat) ∙ sym (ap (at_place s.procs (after s places count number inside seat)) same) ∙ is in
+        let it : seat ≡ x = cc one in
+        known_right k x b ps p (e ∙ sym same) (subst (λ z. Stays code s (entries_in (seen_by p)) k z b) it (subst (λ j. Stays code s (entries_in (seen_by p)) j seat b) (sym same) y))
+    | no ne ↦ known_left k x a b ps p f (back k x l (sym (elsewhere s places count number inside seat k l ne) ∙ is))
+  ]
+
+  -- so it is behind one turn of the loop
+  pub all_back : (places : List (Option Seat)) (count : length places ≡ s.procs) (number : ℕ) (inside : number < s.procs) (seat : Seat) (ps pushed : List (Pass V Entry g)) (p : Pass V Entry g) (a b c : Bool) (last : ℕ) → last ≡ s.procs → pushed ≡ ps ++ p ∷ []
+      → c ≡ (a || b) → number_of p ≡ number → Stays code s (entries_in (seen_by p)) number seat b → ArePlaced s.procs places ps → IsBack code s places ps a
+      → ArePlaced s.procs (slice_set places (last - 1 - number) (Some seat)) pushed × IsBack code s (slice_set places (last - 1 - number) (Some seat)) pushed c
+  all_back places count number inside seat ps pushed p a b c last last_is pushed_is either same stays placed back =
+      subst (λ (x : ℕ × List (Pass V Entry g)). ArePlaced s.procs (slice_set places (x.0 - 1 - number) (Some seat)) x.1 × IsBack code s (slice_set places (x.0 - 1 - number) (Some seat)) x.1 c) (λ i. (sym last_is i, sym pushed_is i)) (
+        placed_on s places count number inside seat ps p same placed,
+        back_on places count number inside seat ps p a c (either_first a b c either) same (stays_weaker code s (entries_in (seen_by p)) number seat b c (either_second a b c either) stays) back,
+      )
+
+  -- behind close a process stands in all entries where it stands in those of its pass
+  known_whole : (es : List Entry) (k : ℕ) (seat : Seat) (b : Bool) (ps : List (Pass V Entry g)) → AreLegal (log_of es) ps → IsKnown code s k seat b ps → Stays code s es k seat b
+  known_whole es k seat b [] legal h = absurd h
+  known_whole es k seat b (p ∷ ps) legal (inl h) = record {
+    ended = ended_inside es (number_of p) k (seen_by p) seat.ended h.0 legal.0 h.1.ended;
+    seated = λ e. seated_inside code s es (number_of p) k (seen_by p) seat h.0 legal.0 (h.1.seated e);
+  }
+  known_whole es k seat b (p ∷ ps) legal (inr h) = known_whole es k seat b ps legal.1 h
+
+  has_place : (places : List (Option Seat)) (k : ℕ) (ps : List (Pass V Entry g)) → ArePlaced s.procs places ps → HasNumber k (map part_of ps) → (seat : Seat) × (at_place s.procs places k ≡ Some seat)
+  has_place places k [] placed h = absurd h
+  has_place places k (p ∷ ps) placed (inl e) = (placed.1.0, ap (at_place s.procs places) (sym e) ∙ placed.1.1)
+  has_place places k (p ∷ ps) placed (inr h) = has_place places k ps placed.2 h
+
+  module _ (places : List (Option Seat)) (count : length places ≡ s.procs) (ps : List (Pass V Entry g)) where
+    pub all_filled : ArePlaced s.procs places ps → ((k : ℕ) → k < s.procs → HasNumber k (map part_of ps)) → (i : ℕ) → i < length places → get_or places i None ≢ None
+    all_filled placed all i l e =
+        let k : ℕ = s.procs - 1 - i in
+        let below : k < s.procs = omega (arith, count, l) in
+        let same : s.procs - 1 - k ≡ i = omega (arith, count, l) in
+        let it = has_place places k ps placed (all k below) in
+        let one : get_or places i None ≡ Some it.0 = ap (λ j. get_or places j None) (sym same) ∙ it.1 in
+        cc (one, e)
+
+    pub all_seated : (es : List Entry) (b : Bool) (seats : List Seat) → AreLegal (log_of es) ps → IsBack code s places ps b → length seats ≡ length places
+        → ((d : Seat) (k : ℕ) → k < length seats → get_or places (length places - 1 - k) None ≡ Some (get_or seats k d)) → AreSeated code s es seats b
+    all_seated es b seats legal back even each d k l =
+        let below : k < s.procs = omega (arith, count, even, l) in
+        known_whole es k (get_or seats k d) b ps legal (back k (get_or seats k d) below (subst (λ n. get_or places (n - 1 - k) None ≡ Some (get_or seats k d)) count (each d k l)))
+
+-- ---- in order
+
+-- the last place is taken, and its process stands behind the others
+pub order_on : (all old left : List (Option Seat)) (seats more : List Seat) (seat : Seat) → old ≡ left ++ Some seat ∷ [] → more ≡ seats ++ seat ∷ [] → length old + length seats ≡ length all
+    → ((i : ℕ) → i < length old → get_or old i None ≡ get_or all i None) → ((d : Seat) (k : ℕ) → k < length seats → get_or all (length all - 1 - k) None ≡ Some (get_or seats k d))
+    → (d : Seat) (k : ℕ) → k < length more → get_or all (length all - 1 - k) None ≡ Some (get_or more k d)
+order_on all old left seats more seat is more_is count same each d k l = elim (ℕ_discrete k (length seats)) as (λ _. get_or all (length all - 1 - k) None ≡ Some (get_or more k d)) [
+  | yes e ↦
+      let size : length old ≡ length left + 1 = omega (arith, ap length is, length-append left (Some seat ∷ [])) in
+      let at : length all - 1 - k ≡ length left = omega (arith, count, size, e) in
+      let inside : length left < length old = omega (arith, size) in
+      let there : get_or old (length left) None ≡ Some seat = ap (λ xs. get_or xs (length left) None) is ∙ get_or_push left (Some seat) None (length left) refl in
+      let mine : get_or more k d ≡ seat = ap (λ xs. get_or xs k d) more_is ∙ get_or_push seats seat d k (sym e) in
+      ap (λ j. get_or all j None) at ∙ sym (same (length left) inside) ∙ there ∙ ap Some (sym mine)
+  | no ne ↦
+      let below : k < length seats = omega (arith, l, ap length more_is, length-append seats (seat ∷ []), ne) in
+      each d k below ∙ ap Some (sym (ap (λ xs. get_or xs k d) more_is ∙ get_or_append_left seats (seat ∷ []) d k below))
+]
+
+pub left_same : (all old left : List (Option Seat)) (last : Option Seat) → old ≡ left ++ last ∷ [] → ((i : ℕ) → i < length old → get_or old i None ≡ get_or all i None) → (i : ℕ) → i < length left → get_or left i None ≡ get_or all i None
+left_same all old left last is same i l =
+    let inside : i < length old = omega (arith, ap length is, length-append left (last ∷ []), l) in
+    sym (ap (λ xs. get_or xs i None) is ∙ get_or_append_left left (last ∷ []) None i l) ∙ same i inside

@@ -1,0 +1,62 @@
+use Rattle.std.proofs.Common.{◌-◌, ◌∙◌, arith, rules, length-set}
+use Rattle.std.specs.Prelude.{Some}
+use Rattle.ti_turnstile.specs.Turnstiles.{identity_of}
+use Rattle.ti_runtime.specs.MirrorsMates.{AllOf}
+use Rattle.ti_runtime.proofs.Dealing.{one_longer}
+use Rattle.ti_runtime.proofs.Fit.{all_before, all_last}
+use Rattle.ti_runtime.proofs.Settling.{one_back, all_back}
+use Rattle.ti_runtime.proofs.settled.place_all.Goals as goal
+
+pub loop-mate-preserved-in-Some : goal.loop-mate-preserved-in-Some
+loop-mate-preserved-in-Some g c =
+    let id = identity_of c.args.turnstile.now in
+    let code = g.J.ByCode.code in
+    let s = g.J.Terms.setting in
+    let inv = c.loop-mate.invariant in
+    let old = c.loop-mate.mates.items in
+    let left = c.pop.new.self.items in
+    let mate = c.in-Some.mate in
+    let out = c.in-Some.ensures.items in
+    let parts = c.into_parts-number in
+    let pass = parts.result.3 in
+    let passes = c.loop-mate.passes.items in
+    let pushed = c.push_reserved.ensures.items in
+    let places = c.loop-mate.places.items in
+    let both = all_back code s places inv.places parts.result.0 parts.ensures.number.1 parts.result.1 passes c.push_reserved.new.self.items pass c.loop-mate.wants parts.result.2 c.either-wants.result c.len-last.result
+    (c.len-last.ensures ∙ c.args.places.ok.0 ∙ c.requires.places) pushed c.either-wants.ensures parts.ensures.number.2 parts.ensures.stays inv.placed inv.back in
+    record {
+      mates = all_before (AllOf id) old left mate out inv.mates;
+      count = omega (arith, one_longer old left mate out, one_longer c.push_reserved.new.self.items passes pass pushed, inv.count);
+      room = search (rules, arith, inv.room);
+      turnstile = one_back id c.push_reserved.new.self.items passes pass pushed inv.turnstile (parts.ensures.turnstile ∙ all_last (AllOf id) old left mate out inv.mates);
+      places = length-set places (c.len-last.result - 1 - parts.result.0) (Some parts.result.1) ∙ inv.places;
+      placed = both.0;
+      back = both.1;
+    }
+
+pub loop-mate-preserved : goal.loop-mate-preserved
+loop-mate-preserved g c =
+    let id = identity_of c.args.turnstile.now in
+    let code = g.J.ByCode.code in
+    let s = g.J.Terms.setting in
+    let inv = c.loop-mate.invariant in
+    let old = c.loop-mate.mates.items in
+    let left = c.pop.new.self.items in
+    let mate = c.in-Some.mate in
+    let out = c.in-Some.ensures.items in
+    let parts = c.into_parts-number in
+    let pass = parts.result.3 in
+    let passes = c.loop-mate.passes.items in
+    let pushed = c.push_reserved.ensures.items in
+    let places = c.loop-mate.places.items in
+    let both = all_back code s places inv.places parts.result.0 parts.ensures.number.1 parts.result.1 passes c.push_reserved.new.self.items pass c.loop-mate.wants parts.result.2 c.either-wants.result c.len-last.result
+    (c.len-last.ensures ∙ c.args.places.ok.0 ∙ c.requires.places) pushed c.either-wants.ensures parts.ensures.number.2 parts.ensures.stays inv.placed inv.back in
+    record {
+      mates = all_before (AllOf id) old left mate out inv.mates;
+      count = omega (arith, one_longer old left mate out, one_longer c.push_reserved.new.self.items passes pass pushed, inv.count);
+      room = search (rules, arith, inv.room);
+      turnstile = one_back id c.push_reserved.new.self.items passes pass pushed inv.turnstile (parts.ensures.turnstile ∙ all_last (AllOf id) old left mate out inv.mates);
+      places = length-set places (c.len-last.result - 1 - parts.result.0) (Some parts.result.1) ∙ inv.places;
+      placed = both.0;
+      back = both.1;
+    }

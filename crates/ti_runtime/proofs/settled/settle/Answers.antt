@@ -1,0 +1,17 @@
+use Rattle.std.proofs.Common.{◌<◌, ℕ, map, subst}
+use Rattle.ti_turnstile.specs.Parts.{HasNumber}
+use Rattle.ti_turnstile.specs.Turnstiles.{part_of}
+use Rattle.ti_runtime.proofs.Settling.{all_filled, all_seated}
+use Rattle.ti_runtime.proofs.settled.settle.Goals as goal
+
+pub in_order-seats-requires-clause-filled : goal.in_order-seats-requires-clause-filled
+in_order-seats-requires-clause-filled g c =
+    let back = c.place_all-passes in
+    all_filled g.J.ByCode.code g.J.Terms.setting back.result.places.items back.ensures.places back.result.passes.items back.ensures.placed
+    (subst (λ n. (k : ℕ) → k < n → HasNumber k (map part_of back.result.passes.items)) c.requires.procs c.close-store.ensures.all)
+
+pub returns-clause-seated : goal.returns-clause-seated
+returns-clause-seated g c =
+    let back = c.place_all-passes in
+    all_seated g.J.ByCode.code g.J.Terms.setting back.result.places.items back.ensures.places back.result.passes.items c.close-store.result.entries back.result.wants c.in_order-seats.result.items c.close-store.ensures.legal back.ensures.back
+    c.in_order-seats.ensures.count c.in_order-seats.ensures.each

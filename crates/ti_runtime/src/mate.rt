@@ -1,0 +1,226 @@
+// A process on a worker: with its pass, by which it knows its own entries.
+ghost use Rattle.std.specs.Prelude.{◌≡◌, ◌<◌, [], false, IfOk, IfErr};
+ghost use Rattle.ti_lang.specs.Meaning.Runs.{IsRun};
+ghost use Rattle.ti_eval.specs.Forms.{IsFormedAnswer};
+ghost use Rattle.ti_store.specs.Stores.{setting_of, log_of, IsDone, IsRefused};
+ghost use Rattle.ti_turnstile.specs.Passes.{GrownBy};
+ghost use Rattle.ti_turnstile.specs.Turnstiles.{identity_of, turnstile_of, number_of, seen_by};
+ghost use Rattle.ti_runtime.specs.MirrorsTeam.{place_of, action_of, Seated, MayRun};
+ghost use Rattle.ti_runtime.specs.MirrorsStays.{entries_in, Stays};
+
+use crate::by_code::ByCode;
+use crate::seat::{Seat, doing};
+use std::alloc::Global;
+use std::marker::Model;
+use std::sync::Wait;
+use ti_base::{Answer, Entry, Memory};
+use ti_code::Code;
+use ti_io::Gate;
+use ti_machine::has_one_next;
+use ti_store::{ActErr, Store, Terms};
+use ti_turnstile::{Kept, Pass, Turnstile};
+
+/// What came of a try of a process.
+#[derive(Clone, Copy, PartialEq, Eq)]
+pub enum Tried {
+    /// It did what it had next.
+    Went,
+    /// It had its end before.
+    Ended,
+    /// It waits at a collective for others.
+    Waits,
+    /// Nobody goes on: there is a fault, or memory was wanting.
+    Stops,
+}
+
+/// A process with its pass. It had the answers of the pass's items, unless memory was wanting behind the last of them.
+///
+/// Contracts see the turnstile of its pass, its number, and whether memory was wanting.
+#[derive(Drop)]
+pub struct Mate<J: Terms + ByCode>
+where
+    Store<J>: Kept<Item = Entry>,
+{
+    number: u32,
+    seat: Seat,
+    wants: bool,
+    pass: Pass<Store<J>>,
+}
+
+impl<J: Terms + ByCode> Model for Mate<J>
+where
+    Store<J>: Kept<Item = Entry>,
+{
+    ghost use Rattle.ti_runtime.specs.MirrorsMates.{Rider, rider_code};
+
+    ghost Value = { Rider };
+
+    ghost coded = { rider_code };
+
+    ghost use Rattle.std.specs.Prelude.{◌≡◌, ◌<◌};
+    ghost use Rattle.ti_turnstile.specs.Turnstiles.{turnstile_of, number_of, seen_by};
+    ghost use Rattle.ti_runtime.specs.MirrorsStays.{entries_in, Stays};
+
+    ghost view = { λ m. record { turnstile = turnstile_of m.pass; number = m.number; wants = m.wants } };
+
+    ghost invariant = { λ m. (m.number < J.setting.procs) × (number_of m.pass ≡ m.number) × Stays J.code J.setting (entries_in (seen_by m.pass)) m.number m.seat m.wants };
+}
+
+// Does what a process has next.
+fn act<J: Terms + ByCode>(
+    alloc: Global,
+    seat: &Seat,
+    number: u32,
+    store: &mut Store<J>,
+) -> Result<Answer, ActErr>
+    requires number { number < J.setting.procs }
+    requires seated { Seated J.code J.setting store.old.entries number seat.now }
+    requires unended { seat.now.ended ≡ false }
+    ensures terms { setting_of store.old ≡ J.setting }
+    ensures run { IsRun (setting_of store.old) store.old.entries }
+    ensures done { IfOk result (λ answer. IsDone store.old number (place_of seat.now) (action_of seat.now) answer store.new) }
+    ensures refused { IfErr result (λ why. IsRefused store.old number (place_of seat.now) (action_of seat.now) why store.new) }
+    ensures form { IfOk result IsFormedAnswer }
+    ensures grown { GrownBy number (log_of store.old.entries) (log_of store.new.entries) }
+{
+    store.knows_terms();
+    let _run = store.history();
+    let (place, action) = doing(seat.next);
+    store.act(alloc, number, place, action)
+}
+
+impl<J: Terms + ByCode> Mate<J> {
+    /// A process that has done nothing yet, with a pass that has seen nothing.
+    pub fn new(number: u32, seat: Seat, pass: Pass<Store<J>>) -> Mate<J>
+        requires number { number < J.setting.procs }
+        requires same { number_of pass ≡ number }
+        requires seen { seen_by pass ≡ [] }
+        requires seated { Seated J.code J.setting [] number seat }
+        ensures { result ≡ record { turnstile = turnstile_of pass; number = number; wants = false } }
+    {
+        Mate {
+            number,
+            seat,
+            wants: false,
+            pass,
+        }
+    }
+
+    /// Its number, where it stands, whether memory was wanting, and its pass.
+    pub fn into_parts(self) -> (u32, Seat, bool, Pass<Store<J>>)
+        ensures number { (result.0 ≡ self.number) × (result.0 < J.setting.procs) × (number_of result.3 ≡ result.0) }
+        ensures turnstile { turnstile_of result.3 ≡ self.turnstile }
+        ensures stays { Stays J.code J.setting (entries_in (seen_by result.3)) result.0 result.1 result.2 }
+    {
+        let Mate {
+            number,
+            seat,
+            wants,
+            pass,
+        } = self;
+        (number, seat, wants, pass)
+    }
+
+    // Nobody does anything more.
+    fn halt<R: Wait>(self, rt: &R, turnstile: &Turnstile<Store<J>>) -> Mate<J>
+        requires turnstile { self.turnstile ≡ identity_of turnstile.now }
+        ensures { result.turnstile ≡ identity_of turnstile.now }
+    {
+        let Mate {
+            number,
+            seat,
+            wants: _,
+            pass,
+        } = self;
+        let mut inside = turnstile.enter(rt, pass);
+        inside.value().halt_for_memory();
+        let pass = turnstile.leave(inside);
+        Mate {
+            number,
+            seat,
+            wants: true,
+            pass,
+        }
+    }
+
+    /// One try.
+    pub fn try_turn<R: Wait, G: Gate>(
+        self,
+        rt: &R,
+        alloc: Global,
+        code: &Code,
+        gate: &G,
+        turnstile: &Turnstile<Store<J>>,
+    ) -> (Mate<J>, Tried)
+        requires code { code.now ≡ J.code }
+        requires may { MayRun J.code J.setting }
+        requires turnstile { self.turnstile ≡ identity_of turnstile.now }
+        ensures { result.0.turnstile ≡ identity_of turnstile.now }
+    {
+        if self.seat.ended {
+            return (self, Tried::Ended);
+        }
+        if self.wants {
+            return (self, Tried::Stops);
+        }
+        has_one_next();
+        gate.pass(self.number);
+        let Mate {
+            number,
+            mut seat,
+            wants: _,
+            pass,
+        } = self;
+        let mut inside = turnstile.enter(rt, pass);
+        let acted = act(alloc, &seat, number, inside.value());
+        let pass = turnstile.leave(inside);
+        match acted {
+            Ok(answer) => match seat.go_on(alloc, code, answer) {
+                Ok(_) => {
+                    let mate = Mate {
+                        number,
+                        seat,
+                        wants: false,
+                        pass,
+                    };
+                    (mate, Tried::Went)
+                }
+                Err(Memory) => {
+                    let mate = Mate {
+                        number,
+                        seat,
+                        wants: true,
+                        pass,
+                    };
+                    (mate.halt(rt, turnstile), Tried::Stops)
+                }
+            },
+            Err(why) => {
+                let mate = Mate {
+                    number,
+                    seat,
+                    wants: false,
+                    pass,
+                };
+                mate.refused(rt, turnstile, why)
+            }
+        }
+    }
+
+    // What comes of a refusal.
+    fn refused<R: Wait>(
+        self,
+        rt: &R,
+        turnstile: &Turnstile<Store<J>>,
+        why: ActErr,
+    ) -> (Mate<J>, Tried)
+        requires turnstile { self.turnstile ≡ identity_of turnstile.now }
+        ensures { result.0.turnstile ≡ identity_of turnstile.now }
+    {
+        match why {
+            ActErr::NotYet => (self, Tried::Waits),
+            ActErr::Faulted(_) | ActErr::Halted => (self, Tried::Stops),
+            ActErr::Memory => (self.halt(rt, turnstile), Tried::Stops),
+        }
+    }
+}
