@@ -4,7 +4,7 @@ ghost use Rattle.ti_base.specs.declared.entry.Entry.{Entry as Listed};
 ghost use Rattle.ti_lang.specs.Program.Views.{program_of};
 ghost use Rattle.ti_lang.specs.Meaning.Processes.{Setting};
 ghost use Rattle.ti_lang.specs.Meaning.Runs.{IsRun};
-ghost use Rattle.ti_align.specs.Alignment.{ArrivalsAgree, IsAligned, most_procs, most_fuel};
+ghost use Rattle.ti_align.specs.Alignment.{IsAligned, most_procs, most_fuel};
 ghost use Rattle.ti_align.specs.Formed.{ActionsFormed};
 ghost use Rattle.ti_lang.specs.Meaning.Races.{races};
 ghost use Rattle.ti_lang.specs.Meaning.Spots.{races_told};
@@ -24,11 +24,6 @@ pub fn determinate(p: &Program, procs: u32, fuel: u32, entries: &[Entry])
     requires is_aligned { IsAligned (program_of p.now.parts) }
     requires is_run { IsRun (record { program = program_of p.now.parts; procs = procs; fuel = fuel }) entries.now }
     ensures { Determines (record { program = program_of p.now.parts; procs = procs; fuel = fuel }) entries.now }
-{}
-
-/// The same of every setting and every list of entries: of alignment it takes that arrivals agree in this one run.
-pub fn no_race_decides()
-    ensures { (s : Setting) (kept : List Listed) → IsRun s kept → ArrivalsAgree s kept → Determines s kept }
 {}
 
 /// In a run the entries that stand in a race are told by the entries alone, without the program: two accesses meet

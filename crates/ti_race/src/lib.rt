@@ -12,5 +12,5 @@ mod uses;
 mod watch;
 
 pub use finding::{races, told_races};
-pub use laws::{determinate, no_race_decides, races_are_told};
+pub use laws::{determinate, races_are_told};
 pub use watch::RaceWatch;
