@@ -55,6 +55,7 @@ const RULES: &[Rule] = &[
     Rule::S7,
     Rule::S8,
     Rule::S9,
+    Rule::B1,
 ];
 
 const FAULTS: &[FaultKind] = &[

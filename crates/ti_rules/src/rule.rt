@@ -69,6 +69,9 @@ pub enum Rule {
     S8,
     /// A single result of a method that isn't declared single.
     S9,
+    /// A collective that no marking of single values aligns. The rules of the marks that stand in a text are S1 to S9; this one is
+    /// for a text whose marks are to be found.
+    B1,
 }
 
 impl Rule {
@@ -115,6 +118,7 @@ impl Rule {
             Rule::S7 => "S7",
             Rule::S8 => "S8",
             Rule::S9 => "S9",
+            Rule::B1 => "B1",
         }
     }
 }
@@ -155,5 +159,6 @@ pub fn rule_text(r: Rule) -> &'static str
         Rule::S7 => "a plain value returned as single",
         Rule::S8 => "a root or region that isn't single",
         Rule::S9 => "a single result of a method that isn't single",
+        Rule::B1 => "no marking of single values aligns the collectives",
     }
 }
