@@ -5,7 +5,7 @@ The texts that documents quote are files below crates/ti_rows_of_texts/data, and
 A document quotes in three ways:
 
 - ```java examples/hello.ti        a block whose first line names a file holds that file;
-  ```java rules/N4.ti 27-28        or these lines of it. Each such file is run by a row.
+  ```java rules/N4.ti 27-28        or these lines of it, or one line. Each such file is run by a row.
 - $ titan --procs 4 examples/hello.ti
                                    a block with such lines holds below each of them what the command writes, as a row says: out, then err.
 - <!-- rows -->                    the table below this line has in each row a text, then the rule that it breaks and the token there, then what
@@ -78,8 +78,8 @@ def quoted(words, inside, runs):
         return f"no row runs {words[1]}"
     whole = path.read_text().splitlines()
     if len(words) > 2:
-        first, last = (int(number) for number in words[2].split("-"))
-        whole = whole[first - 1:last]
+        first, _, last = words[2].partition("-")
+        whole = whole[int(first) - 1:int(last or first)]
     return None if inside == whole else f"not what {words[1]} holds"
 
 
