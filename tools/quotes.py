@@ -11,14 +11,13 @@ A document quotes in three ways:
 - <!-- rows -->                    the table below this line has in each row a text, then the rule that it breaks and the token there, then what
                                    is written instead; rows say that the first is refused so, and that the others come to their end.
 
-    python3 tools/quotes.py                  holds all documents against the files
-    python3 tools/quotes.py --run COMMAND    runs each `$ titan` line by COMMAND in place of titan, and holds the documents against that
-
-Each difference is printed. The status is 1 where there is one, else 0.
+Each difference is printed with its line, first what the document has and then what it should have. The status is 1 where there is one, else 0.
 """
+import argparse
 import re
 import subprocess
 import sys
+from itertools import zip_longest
 from pathlib import Path
 
 TOP = Path(__file__).resolve().parent.parent
@@ -30,15 +29,14 @@ ESCAPES = {"n": "\n", "t": "\t", "r": "\r", "f": "\f", "\\": "\\"}
 
 def unescaped(text):
     """What a row means by its escapes."""
-    meant = lambda found: ESCAPES.get(found[1]) or chr(int(found[1][1:], 16))
-    return re.sub(r"\\(x[0-9a-f]{2}|.)", meant, text)
+    return re.sub(r"\\(x[0-9a-f]{2}|.)", lambda found: ESCAPES.get(found[1]) or chr(int(found[1][1:], 16)), text)
 
 
 def read_rows():
-    """The rows that ask for a command: by words and file what is written, and by text the frame, the status and what is written."""
+    """The rows that ask for a command: what is written, by words and file; and frame, status and what is written, by text."""
     runs, texts = {}, {}
     for path in sorted(DATA.glob("*.rows")):
-        asks = ""
+        asks, frame = "", ""
         for line in path.read_text().splitlines():
             if line.startswith("ask "):
                 asks, frame = line.split()[1:]
@@ -65,31 +63,38 @@ def blocks(lines):
         else:
             yield opened, lines[opened - 1][3:].split(), lines[opened:number - 1]
             opened = None
-    if opened is not None:
-        yield opened, ["unclosed"], []
 
 
-def quoted(words, inside, runs):
+def compared(number, has, wanted):
+    """The first difference between lines behind a line of this number and those that are wanted."""
+    for behind, (line, other) in enumerate(zip_longest(has, wanted), 1):
+        if line != other:
+            shown = ["nothing" if one is None else repr(one) for one in (line, other)]
+            yield number + behind, " for ".join(shown)
+            return
+
+
+def quoted(number, words, inside, runs):
     """How a block that names a file differs from it."""
     path = DATA / words[1]
     if not path.is_file():
-        return f"no file {words[1]}"
+        yield number, f"no file {words[1]}"
+        return
     if all(text != words[1] for _, text in runs):
-        return f"no row runs {words[1]}"
+        yield number, f"no row runs {words[1]}"
     whole = path.read_text().splitlines()
     if len(words) > 2:
         first, _, last = words[2].partition("-")
         whole = whole[int(first) - 1:int(last or first)]
-    return None if inside == whole else f"not what {words[1]} holds"
+    yield from compared(number, inside, whole)
 
 
-def written(line, runs, command):
-    """What a `$ titan` line writes: by a row, or by the command where it is run."""
-    words = line.split()[2:]
+def written(words, runs, command):
+    """What titan with these words writes: by a row, or by the command where it is run."""
     if command:
         ran = subprocess.run([command, *words], cwd=DATA, capture_output=True, text=True)
         return ran.stdout + ran.stderr
-    found = runs.get((" ".join(words[:-1] + ["a.ti"]), words[-1]))
+    found = runs.get((" ".join([*words[:-1], "a.ti"]), words[-1]))
     return found and re.sub(r"^a\.ti:", words[-1] + ":", found, flags=re.M)
 
 
@@ -97,15 +102,15 @@ def commands(number, inside, runs, command):
     """How what stands below the `$ titan` lines of a block differs from what they write."""
     at = [k for k, line in enumerate(inside) if line.startswith("$ titan ")]
     for k, end in zip(at, at[1:] + [len(inside)]):
-        wanted = written(inside[k], runs, command)
+        wanted = written(inside[k].split()[2:], runs, command)
         if wanted is None:
             yield number + 1 + k, f"no row for {inside[k]}"
-        elif inside[k + 1:end] != wanted.splitlines():
-            yield number + 1 + k, f"not what comes of {inside[k]}"
+        else:
+            yield from compared(number + 1 + k, inside[k + 1:end], wanted.splitlines())
 
 
 def refused(text, rule, token, texts):
-    """How a text that a table gives differs from the rows."""
+    """How a text that a table gives as refused differs from the rows."""
     for frame, status, said in texts.get(text, []):
         place = re.match(r"a\.ti:1:(\d+): (\w+) ", said)
         if status == "1" and place and place[2] == rule:
@@ -114,47 +119,48 @@ def refused(text, rule, token, texts):
     return f"no row that says {rule}"
 
 
-def table(number, lines, texts):
-    """How a table of texts differs from the rows. Its first two lines are the heading."""
-    for line in lines[2:]:
-        cells = [re.findall(r"`([^`]+)`", cell) for cell in line.replace("\\|", "\0").strip("|").split("|")]
-        (text,), (rule, *token), mends = ([code.replace("\0", "|") for code in cell] for cell in cells)
-        differs = refused(text, rule, token[0] if token else "", texts)
-        if differs:
-            yield number, f"{text}: {differs}"
-        for mend in mends:
-            if all(status != "0" for _, status, _ in texts.get(mend, [])):
-                yield number, f"{mend}: no row that says it is accepted"
+def tabled(number, line, texts):
+    """How a line of a table of texts differs from the rows."""
+    cells = [re.findall(r"`([^`]+)`", cell) for cell in line.replace("\\|", "\0").strip("|").split("|")]
+    if [len(cell) > 0 for cell in cells[:2]] != [True, True] or len(cells) != 3:
+        yield number, "no text, rule and mend"
+        return
+    (text, *_), (rule, *token), mends = ([code.replace("\0", "|") for code in cell] for cell in cells)
+    differs = refused(text, rule, token[0] if token else "", texts)
+    if differs:
+        yield number, f"{text}: {differs}"
+    for mend in mends:
+        if all(status != "0" for _, status, _ in texts.get(mend, [])):
+            yield number, f"{mend}: no row that says it is accepted"
 
 
-def differences(path, runs, texts, command):
-    """Where a document differs, by line."""
-    lines = path.read_text().splitlines()
+def differences(lines, runs, texts, command):
+    """Where a document differs, each with the number of the line."""
+    if sum(line.startswith("```") for line in lines) % 2:
+        yield len(lines), "a block without end"
     for number, words, inside in blocks(lines):
-        if words == ["unclosed"]:
-            yield number, "a block without end"
-        elif len(words) > 1:
-            differs = quoted(words, inside, runs)
-            if differs:
-                yield number, differs
+        if len(words) > 1:
+            yield from quoted(number, words, inside, runs)
         yield from commands(number, inside, runs, command)
+    heading = None
     for number, line in enumerate(lines, 1):
         if line == "<!-- rows -->":
-            rows = []
-            for row in lines[number:]:
-                if not row.startswith("|"):
-                    break
-                rows.append(row)
-            yield from table(number, rows, texts)
+            heading = number
+        elif not line.startswith("|"):
+            heading = None
+        elif heading and number > heading + 2:
+            yield from tabled(number, line, texts)
 
 
 def main():
-    command = str(Path(sys.argv[2]).resolve()) if sys.argv[1:2] == ["--run"] else None
+    parser = argparse.ArgumentParser(description=__doc__, formatter_class=argparse.RawDescriptionHelpFormatter)
+    parser.add_argument("--run", metavar="COMMAND", type=Path, help="run each `$ titan` line by COMMAND, and hold the documents against that")
+    command = parser.parse_args().run
     runs, texts = read_rows()
     documents = sorted([*TOP.glob("*.md"), *TOP.glob("docs/*.md"), *TOP.glob("crates/*/*.md")])
     found = 0
     for path in documents:
-        for number, differs in differences(path, runs, texts, command):
+        for number, differs in differences(path.read_text().splitlines(), runs, texts, command and command.resolve()):
             print(f"{path.relative_to(TOP)}:{number}: {differs}")
             found += 1
     print(f"quotes: {len(documents)} documents, {found} differences")
