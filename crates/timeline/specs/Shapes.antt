@@ -1,0 +1,17 @@
+-- How texts are written in a picture.
+use Rattle.std.specs.Prelude.{ℕ, ◌==◌, if◌then◌else◌, List, ◌++◌, flat_map, codes}
+use Rattle.std.specs.Char.{encode_utf8}
+use Rattle.timeline.specs.declared.entry.Entry.{Entry}
+use Rattle.timeline.specs.Lines.{entry_text}
+
+-- the four bytes that have a meaning in a picture are written by their names, each other as the character with its number
+abbrev pub escape_of : ℕ → List ℕ
+escape_of byte =
+    if byte == 38 then codes "&amp;" else if byte == 60 then codes "&lt;" else if byte == 62 then codes "&gt;" else if byte == 34 then codes "&quot;" else encode_utf8 byte
+
+abbrev pub escaped : List ℕ → List ℕ
+escaped text = flat_map escape_of text
+
+-- what an entry of the picture tells of itself: the line that told it
+abbrev pub title_text : ℕ → Entry → List ℕ
+title_text number e = codes "<title>" ++ (escaped (entry_text number e) ++ codes "</title>")

@@ -1,0 +1,70 @@
+// Lines of a trace become entries.
+ghost use Rattle.std.specs.Prelude.{◌≡◌, ◌<◌, ◌++◌, codes, decimal, IfSome};
+ghost use Rattle.timeline.specs.Lines.{rest_text, entry_text};
+
+use crate::entry::{Act, Entry, PROCESSES};
+use crate::parts::{is_shown, number, place as place_of};
+
+/// The kind of the act with a word.
+fn act_of(word: &str) -> Option<Act> {
+    match word {
+        "getField" | "getElem" | "domainOf" | "take" => Some(Act::Read),
+        "putField" | "putElem" => Some(Act::Write),
+        "newObj" | "newGrid" | "makeView" => Some(Act::Make),
+        "print" => Some(Act::Print),
+        "arrive" => Some(Act::Arrive),
+        "depart" => Some(Act::Depart),
+        "end" => Some(Act::End),
+        "fault" => Some(Act::Fault),
+        _ => None,
+    }
+}
+
+/// The number of a process, such as `p3`.
+fn process_of(text: &str) -> Option<usize>
+    ensures { IfSome result (λ p. (p < 32) × (text.now ≡ codes "p" ++ decimal p)) }
+{
+    let process = number(text.strip_prefix('p')?)? as usize;
+    if process < PROCESSES {
+        Some(process)
+    } else {
+        None
+    }
+}
+
+/// The first word of a text.
+fn first_word(text: &str) -> &str {
+    match text.split_once(' ') {
+        Some((word, _)) => word,
+        None => text,
+    }
+}
+
+/// What stands behind the number of an entry.
+fn read_rest<'a>(rest: &'a str) -> Option<Entry<'a>>
+    ensures { IfSome result (λ e. rest.now ≡ rest_text e) }
+{
+    let (process, rest) = rest.split_once(' ')?;
+    let process = process_of(process)?;
+    let (place, rest) = rest.split_once(' ')?;
+    let (done, answer) = rest.split_once(" -> ")?;
+    Some(Entry {
+        process,
+        place: place_of(place)?,
+        act: act_of(first_word(done))?,
+        done,
+        answer,
+    })
+}
+
+/// The entry of this number that a line tells.
+pub(crate) fn read_entry<'a>(line: &'a str, expected: usize) -> Option<Entry<'a>>
+    ensures { IfSome result (λ e. line.now ≡ entry_text expected e) }
+{
+    let (found, rest) = line.split_once(' ')?;
+    if number(found)? as usize == expected && is_shown(line) {
+        read_rest(rest)
+    } else {
+        None
+    }
+}

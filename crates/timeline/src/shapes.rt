@@ -1,0 +1,81 @@
+// Pieces of the picture's text.
+ghost use Rattle.std.specs.Prelude.{◌≡◌, ◌++◌, string_bytes, IfOk, OnOk};
+ghost use Rattle.timeline.specs.Shapes.{escape_of, escaped, title_text};
+ghost use Rattle.timeline.specs.Lines.{entry_text};
+
+use crate::entry::{Act, Entry, Place};
+use std::alloc::{AllocError, Global};
+
+/// Adds a byte as it is written in a picture.
+fn push_escaped(out: &mut String, byte: u8) -> Result<(), AllocError>
+    ensures { OnOk result (string_bytes out.new ≡ string_bytes out.old ++ escape_of byte) }
+{
+    match byte {
+        b'&' => out.push_str("&amp;"),
+        b'<' => out.push_str("&lt;"),
+        b'>' => out.push_str("&gt;"),
+        b'"' => out.push_str("&quot;"),
+        _ => out.push(char::from(byte)),
+    }
+}
+
+/// A text as it is written in a picture.
+pub(crate) fn escaped(alloc: Global, text: &str) -> Result<String, AllocError>
+    ensures { IfOk result (λ s. string_bytes s ≡ escaped text.now) }
+{
+    let mut out = String::new(alloc);
+    for byte in text.as_bytes() {
+        push_escaped(&mut out, *byte)?;
+    }
+    Ok(out)
+}
+
+/// The line that tells an entry.
+fn line_of(alloc: Global, number: usize, entry: &Entry) -> Result<String, AllocError>
+    ensures { IfOk result (λ s. string_bytes s ≡ entry_text number entry.now) }
+{
+    let Entry {
+        process,
+        place: Place { line, column },
+        done,
+        answer,
+        ..
+    } = *entry;
+    format!(in alloc; "{number} p{process} {line}:{column} {done} -> {answer}")
+}
+
+/// What the picture tells of an entry where one points at it: its line.
+pub(crate) fn title_of(alloc: Global, number: usize, entry: &Entry) -> Result<String, AllocError>
+    ensures { IfOk result (λ s. string_bytes s ≡ title_text number entry.now) }
+{
+    let line = line_of(alloc, number, entry)?;
+    let line = escaped(alloc, line.as_str())?;
+    format!(in alloc; "<title>{line}</title>")
+}
+
+/// How entries of an act look.
+pub(crate) fn look(act: Act, is_racing: bool) -> &'static str {
+    match act {
+        _ if is_racing => "race",
+        Act::Read => "read",
+        Act::Write => "write",
+        Act::Make => "make",
+        Act::Print => "print",
+        Act::Arrive | Act::Depart => "meet",
+        Act::End => "end",
+        Act::Fault => "fault",
+    }
+}
+
+/// What the picture shows of an entry: what was done and what came of it, without what says nothing.
+pub(crate) fn label_of(alloc: Global, entry: &Entry) -> Result<String, AllocError> {
+    let done = match entry.done.strip_prefix("arrive ") {
+        Some(arrival) => arrival,
+        None => entry.done.strip_prefix("depart").unwrap_or(entry.done),
+    };
+    let done = done.trim_end_matches(" -");
+    match entry.answer {
+        "done" => String::from_str(alloc, done),
+        answer => format!(in alloc; "{done} -> {answer}"),
+    }
+}
