@@ -113,12 +113,24 @@ fn write<'p>(
     Ok(w)
 }
 
-// The same with all targets known.
+// The same with all targets known. What has no forward jumps is the same whatever is known.
+fn write_known(alloc: Global, program: &Parts, m: &Method) -> Result<Vec<Instr>, Memory>
+    ensures { IfOk result (λ code. code.items ≡ (body_on (program_of program.now) (numbered_method_of m.now) (body_on (program_of program.now) (numbered_method_of m.now) []).targets).code) }
+{
+    let first = write(alloc, program, m, &[])?;
+    if first.targets.is_empty() {
+        return Ok(first.code);
+    }
+    let targets = first.targets;
+    drop(first.code);
+    Ok(write(alloc, program, m, &targets)?.code)
+}
+
+// The same with a return at its end.
 fn write_all(alloc: Global, program: &Parts, m: &Method) -> Result<Vec<Instr>, Memory>
     ensures { IfOk result (λ code. code.items ≡ laid.body_code (program_of program.now) (numbered_method_of m.now)) }
 {
-    let targets = write(alloc, program, m, &[])?.targets;
-    let mut code = write(alloc, program, m, &targets)?.code;
+    let mut code = write_known(alloc, program, m)?;
     code.push(Instr::Return)?;
     Ok(code)
 }
@@ -133,15 +145,13 @@ fn main_instr(instr: Instr, end: Place) -> Instr
     }
 }
 
-// Instructions of the method where the run begins.
-fn main_instrs(alloc: Global, instrs: &[Instr], end: Place) -> Result<Vec<Instr>, Memory>
-    ensures { IfOk result (λ v. v.items ≡ map (laid.in_main end) instrs.now) }
+// Makes each return the end.
+fn end_run(instrs: &mut [Instr], end: Place)
+    ensures { instrs.new ≡ map (laid.in_main end) instrs.old }
 {
-    let mut found = Vec::new(alloc);
-    for instr in instrs {
-        found.push(main_instr(*instr, end))?;
+    for i in 0..instrs.len() {
+        instrs[i] = main_instr(instrs[i], end);
     }
-    Ok(found)
 }
 
 // The instructions of a method, where its end is that of the run or where it returns.
@@ -153,11 +163,11 @@ fn instrs_of(
 ) -> Result<Vec<Instr>, Memory>
     ensures { IfOk result (λ v. v.items ≡ laid.instrs_in end (laid.body_code (program_of program.now) (numbered_method_of m.now))) }
 {
-    let code = write_all(alloc, program, m)?;
-    match end {
-        Some(end) => main_instrs(alloc, &code, end),
-        None => Ok(code),
+    let mut code = write_all(alloc, program, m)?;
+    if let Some(end) = end {
+        end_run(&mut code, end);
     }
+    Ok(code)
 }
 
 // How many parameters a method has besides `this`.
