@@ -1,5 +1,5 @@
 -- What a use more tells of the spots.
-use Rattle.std.proofs.Common.{◌≡◌, ℕ, ℤ, ◌==◌, Bool, true, false, not, ◌&&◌, ◌||◌, if◌then◌else◌, filter, map, List, [], ◌∷◌, ◌++◌, Option, Some, refl, ap, ap₂, sym, ◌∙◌, subst, eq-eqb, eqb-true}
+use Rattle.std.proofs.Common.{◌≡◌, ℕ, ℤ, ◌==◌, Bool, true, false, not, ◌&&◌, ◌||◌, if◌then◌else◌, filter, List, [], ◌∷◌, ◌++◌, Option, Some, refl, ap, ap₂, sym, ◌∙◌, subst, eq-eqb, eqb-true}
 use Rattle.std.specs.List.{list_any}
 use Rattle.std.proofs.lemmas.List.Folds.{list_any-append}
 use Rattle.std.specs.HashMap.{HashMap, get, Updates}
@@ -96,7 +96,7 @@ spot_turned a b = by (same_spot a b) refl (same_spot b a) refl
     by false p true q = subst (λ c. same_spot c b ≡ same_spot b c) (spot_same b a q) refl
     by false p false q = p ∙ sym q
 
-key_same : (a b : Key) → same_key a b ≡ true → a ≡ b
+pub key_same : (a b : Key) → same_key a b ≡ true → a ≡ b
 key_same a b k = λ i. (spot_same a.0 b.0 (both_left (same_spot a.0 b.0) _ k) i, eqb-true a.1 b.1 (both_right (same_spot a.0 b.0) _ k) i)
 
 turned : (a b : ℕ) → (a == b) ≡ (b == a)
@@ -187,5 +187,5 @@ racing_is table us t u = by u.writes refl
     by true k = (t (key_of u) u.proc).0 ∙ sym (clash_writing u k us)
     by false k = (t (key_of u) u.proc).1 ∙ sym (clash_reading u k us)
 
-pub racing_all : {S : Type 0} (table : HashMap Key Seen S) (us xs : List Use) → Tells table us → map (λ (u : Use). u.number) (filter (racing_by table) xs) ≡ map (λ (u : Use). u.number) (filter (λ u. list_any (clash u) us) xs)
-racing_all table us xs t = ap (λ (test : Use → Bool). map (λ (u : Use). u.number) (filter test xs)) (λ i u. racing_is table us t u i)
+pub racing_all : {S : Type 0} (table : HashMap Key Seen S) (us xs : List Use) → Tells table us → filter (racing_by table) xs ≡ filter (λ u. list_any (clash u) us) xs
+racing_all table us xs t = ap (λ (test : Use → Bool). filter test xs) (λ i u. racing_is table us t u i)

@@ -1,12 +1,13 @@
 -- Two uses clash as they are kept exactly where they clash as they are told.
-use Rattle.std.proofs.Common.{◌≡◌, ◌∙◌, refl, ap, ap₂, sym, subst, ℕ, ◌+◌, ◌==◌, ℤ, Bool, true, false, not, ◌&&◌, ◌||◌, if◌then◌else◌, map, filter, reverse, List, [], ◌∷◌, ◌++◌, Option, Some, None, arith, eq-eqb, eqb-true}
-use Rattle.std.specs.List.{list_any}
+use Rattle.std.proofs.Common.{◌≡◌, ◌∙◌, refl, ap, ap₂, sym, subst, ℕ, ◌+◌, ◌==◌, ℤ, Bool, true, false, not, ◌&&◌, ◌||◌, if◌then◌else◌, All, map, filter, reverse, length, slice_get, codes, decimal, List, [], ◌∷◌, ◌++◌, Option, Some, None, arith, eq-eqb, eqb-true}
+use Rattle.std.specs.List.{list_any, flat_map}
 use Rattle.std.specs.Option.{option_map}
 use Rattle.std.specs.Ordering.{int_eq}
-use Rattle.std.proofs.lemmas.List.{reverse-append, reverse-reverse, map-append, append-nil}
-use Rattle.std.proofs.lemmas.List.Elements.{filter-append}
+use Rattle.std.proofs.lemmas.List.{reverse-append, reverse-reverse, map-append, append-nil, length-map}
+use Rattle.std.proofs.lemmas.List.Elements.{filter-append, All-head, All-tail, All-filter}
 use Rattle.std.proofs.lemmas.List.Folds.{list_any-append}
 use Rattle.ti_base.specs.declared.entry.Entry.{Entry}
+use Rattle.ti_base.specs.declared.place.Place.{Place}
 use Rattle.ti_base.specs.declared.point.Point.{Point}
 use Rattle.ti_base.specs.declared.point.Rect.{Rect}
 use Rattle.ti_base.specs.declared.value.Id.{Id}
@@ -16,7 +17,7 @@ use Rattle.ti_base.specs.Cells.{same_id}
 use Rattle.ti_base.proofs.DomainLaws.{number_from, number_self, same_from, same_self}
 use Rattle.ti_lang.specs.Meaning.Histories.{History, history_of}
 use Rattle.ti_lang.specs.Meaning.Spots as told
-use Rattle.ti_lang.specs.Meaning.Spots.{uses, clashes_among, races_told}
+use Rattle.ti_lang.specs.Meaning.Spots.{uses, clashes_among, races_told, race_line, races_text}
 use Rattle.ti_grid.specs.Views.{place_in}
 use Rattle.ti_race.specs.declared.spots.Spot.{Spot}
 use Rattle.ti_race.specs.declared.spots.Spot.TheVariants.{FieldOf, CellOf, PointOf}
@@ -26,8 +27,8 @@ use Rattle.ti_race.specs.declared.spots.Use.{Use}
 use Rattle.ti_race.specs.contracts.spots.NamePartialEq.TheImpl as name_eq
 use Rattle.ti_race.specs.contracts.spots.ThingPartialEq.TheImpl as thing_eq
 use Rattle.ti_race.specs.contracts.spots.AtPartialEq.TheImpl as at_eq
-use Rattle.ti_race.specs.MirrorsTable.{same_spot, clash, races_of}
-use Rattle.ti_race.specs.MirrorsTold.{name_key, point_key, whole_at, IsThing, IsSpot, IsUse, AreUses, HasUses}
+use Rattle.ti_race.specs.MirrorsTable.{same_spot, clash, racing_in}
+use Rattle.ti_race.specs.MirrorsTold.{name_key, point_key, whole_at, IsThing, IsSpot, IsUse, AreUses, HasUses, IsListed, use_line, report_of}
 use Rattle.ti_race.proofs.Noting.{int_eq-true}
 use Rattle.ti_race.proofs.Seen.{true_false, not_true}
 use Rattle.std.proofs.lemmas.Cmp.{int_eq_equiv}
@@ -207,12 +208,30 @@ map_back f (x ∷ xs) =
     ap (map f) (reverse-append (x ∷ []) xs) ∙ map-append f (reverse xs) (x ∷ []) ∙ ap (λ ys. ys ++ f x ∷ []) (map_back f xs) ∙ sym (reverse-append (f x ∷ []) (map f xs))
 
 -- the numbers in the order of the uses are those of the uses backwards, turned
-numbers_back : (us : List Use) → races_of us ≡ reverse (map (λ (u : Use). u.number) (filter (λ u. list_any (clash u) (reverse us)) (reverse us)))
+numbers_back : (us : List Use) → map (λ (u : Use). u.number) (racing_in us) ≡ reverse (map (λ (u : Use). u.number) (filter (λ u. list_any (clash u) (reverse us)) (reverse us)))
 numbers_back us =
-    sym (reverse-reverse (races_of us))
-    ∙ ap reverse (sym (map_back (λ (u : Use). u.number) (filter (λ u. list_any (clash u) us) us)) ∙ ap (map (λ (u : Use). u.number)) (sym (filter_back (λ u. list_any (clash u) us) us)
+    sym (reverse-reverse (map (λ (u : Use). u.number) (racing_in us)))
+    ∙ ap reverse (sym (map_back (λ (u : Use). u.number) (racing_in us)) ∙ ap (map (λ (u : Use). u.number)) (sym (filter_back (λ u. list_any (clash u) us) us)
     ∙ ap (λ (p : Use → Bool). filter p (reverse us)) (λ i u. sym (any_back (clash u) us) i)))
 
 -- the races of the uses of entries are those that the entries tell
-pub races_like : (es : List Entry) (us : List Use) → HasUses (history_of es) us → races_of us ≡ races_told es
+pub races_like : (es : List Entry) (us : List Use) → HasUses (history_of es) us → map (λ (u : Use). u.number) (racing_in us) ≡ races_told es
 races_like es us has = numbers_back us ∙ ap reverse (numbers_among (history_of es) (reverse us) (uses (history_of es)) has (reverse us) (uses (history_of es)) has)
+
+-- ---- the report
+
+line_like : (es : List Entry) (u : Use) → IsListed es u → race_line u.number (slice_get es u.number) ≡ use_line u
+line_like es u is =
+    ap (race_line u.number) is.1
+    ∙ ap₂ (λ (p : ℕ) (at : Place). decimal u.number ++ codes " p" ++ decimal p ++ codes " " ++ decimal at.line ++ codes ":" ++ decimal at.col ++ 10 ∷ []) (sym is.2) (sym is.3)
+
+lines_like : (es : List Entry) (us : List Use) → All (IsListed es) us → flat_map (λ n. race_line n (slice_get es n)) (map (λ (u : Use). u.number) us) ≡ flat_map use_line us
+lines_like es [] all = refl
+lines_like es (u ∷ us) all = ap₂ (λ (a b : List ℕ). a ++ b) (line_like es u (All-head (IsListed es) u us all)) (lines_like es us (All-tail (IsListed es) u us all))
+
+-- the report on entries, from their uses that stand in a race
+pub report_like : (es : List Entry) (us : List Use) → HasUses (history_of es) us → All (IsListed es) us
+    → races_text es ≡ report_of us
+report_like es us has all =
+    ap (λ (ns : List ℕ). codes "races " ++ decimal (length ns) ++ 10 ∷ flat_map (λ n. race_line n (slice_get es n)) ns) (sym (races_like es us has))
+    ∙ ap₂ (λ (n : ℕ) (text : List ℕ). codes "races " ++ decimal n ++ 10 ∷ text) (length-map (racing_in us) (λ (u : Use). u.number)) (lines_like es (racing_in us) (All-filter (λ u. list_any (clash u) us) (IsListed es) us all))

@@ -1,6 +1,8 @@
 -- What one entry more makes of what is told of grids and of phases.
 use Rattle.std.proofs.Common.{◌≡◌, ◌↔◌, ◌∙◌, refl, ap, ap₂, sym, subst, ℕ, suc, ◌+◌, ◌<◌, ◌==◌, Bool, true, false, ◌&&◌, if◌then◌else◌, IsTrue, [], ◌∷◌, length, Option, Some, None, arith, add-one, eq-eqb, eqb-true}
 use Rattle.std.specs.HashMap.{HashMap, get, Updates}
+use Rattle.std.specs.Map.{lookup}
+use Rattle.std.specs.Prelude.{Result, Ok, Err, OnErr}
 use Rattle.ti_base.specs.declared.action.Action.{Action}
 use Rattle.ti_base.specs.declared.action.Action.TheVariants as act
 use Rattle.ti_base.specs.declared.action.ViewHow.{ViewHow}
@@ -106,6 +108,17 @@ block_lies e h number id zero domain view counted made small same whole =
 
 pub no_block_lies : (h : History) (id : Id) (number : ℕ) (zero : Zero) (domain : Rect) → is_block domain ≡ false → Lies h None (block_told id number zero domain)
 no_block_lies h id number zero domain large = subst (Lies h None) (sym (if_false (is_block domain) (Some (record { number = number; grid = whole_grid id zero domain })) None large)) tt
+
+-- ---- tables
+
+-- a table with the entries of another has the same at each key
+pub same_at : {K X S : Type 0} (eq : K → K → Bool) (m n : HashMap K X S) (k : K) → n.entries ≡ m.entries → get eq n k ≡ get eq m k
+same_at eq m n k same = ap (lookup (eq k)) same
+
+-- what holds anyhow holds where there is an error
+pub on_err : {T E P : Type 0} (r : Result T E) → P → OnErr r P
+on_err (Ok x) p = tt
+on_err (Err e) p = p
 
 -- ---- the table of grids
 

@@ -1,6 +1,6 @@
 -- Nobody has to believe what stands here: it mirrors the code, and only contracts of private functions speak of it.
 -- Uses of spots as they are kept in a table, and which of them stand in a race.
-use Rattle.std.specs.Prelude.{◌≡◌, ℕ, ◌==◌, Bool, true, false, not, ◌&&◌, ◌||◌, if◌then◌else◌, List, map, filter, Option, Some, None}
+use Rattle.std.specs.Prelude.{◌≡◌, ℕ, ◌==◌, Bool, true, false, not, ◌&&◌, ◌||◌, if◌then◌else◌, List, filter, Option, Some, None}
 use Rattle.std.specs.List.{list_any}
 use Rattle.std.specs.HashMap.{HashMap, get}
 use Rattle.ti_race.specs.declared.spots.Use.{Use}
@@ -18,9 +18,9 @@ same_spot = (spot_eq.ghosts).eq
 abbrev pub clash : Use → Use → Bool
 clash a b = not (a.proc == b.proc) && a.phase == b.phase && same_spot a.spot b.spot && (a.writes || b.writes)
 
--- the numbers of those that stand in a race
-abbrev pub races_of : List Use → List ℕ
-races_of uses = map (λ (u : Use). u.number) (filter (λ u. list_any (clash u) uses) uses)
+-- those that stand in a race
+abbrev pub racing_in : List Use → List Use
+racing_in uses = filter (λ u. list_any (clash u) uses) uses
 
 -- ---- what is kept of the uses of a spot in a phase
 

@@ -1,12 +1,14 @@
 -- Nobody has to believe what stands here: it mirrors the code, and only contracts of private functions speak of it.
 -- What is kept of a history, and how it stands for the things and uses that the history tells.
-use Rattle.std.specs.Prelude.{◌≡◌, ℕ, ◌==◌, if◌then◌else◌, List, [], ◌∷◌, reverse, length, Option, None, Some}
+use Rattle.std.specs.Prelude.{◌≡◌, ℕ, ◌==◌, if◌then◌else◌, List, [], ◌∷◌, ◌++◌, All, reverse, length, slice_get, codes, decimal, Option, None, Some}
 use Rattle.std.specs.HashMap.{get}
+use Rattle.std.specs.List.{flat_map}
 use Rattle.ti_base.specs.declared.action.Action.{Action}
 use Rattle.ti_base.specs.declared.action.Action.TheVariants as act
 use Rattle.ti_base.specs.declared.action.ViewHow.{ViewHow}
 use Rattle.ti_base.specs.declared.entry.Answer.{Answer}
 use Rattle.ti_base.specs.declared.entry.Answer.TheVariants.{Val}
+use Rattle.ti_base.specs.declared.entry.Entry.{Entry}
 use Rattle.ti_base.specs.declared.point.Point.{Point}
 use Rattle.ti_base.specs.declared.point.Rect.{Rect}
 use Rattle.ti_base.specs.declared.value.Id.{Id}
@@ -15,7 +17,7 @@ use Rattle.ti_base.specs.declared.value.Zero.{Zero}
 use Rattle.ti_base.specs.Cells.{whole_grid}
 use Rattle.ti_base.specs.Forms.{is_view}
 use Rattle.ti_base.specs.Rects.{points_of}
-use Rattle.ti_lang.specs.Meaning.Histories.{History, departures}
+use Rattle.ti_lang.specs.Meaning.Histories.{History, history_of, departures}
 use Rattle.ti_lang.specs.Meaning.Spots as told
 use Rattle.ti_lang.specs.Meaning.Spots.{Block, is_block, viewed_told, object_told, grid_told}
 use Rattle.ti_grid.specs.Views.{place_in}
@@ -28,8 +30,10 @@ use Rattle.ti_race.specs.declared.spots.Spot.{Spot}
 use Rattle.ti_race.specs.declared.spots.Spot.TheVariants as spot
 use Rattle.ti_race.specs.declared.spots.Use.{Use}
 use Rattle.ti_race.specs.declared.told.Told.{Told}
+use Rattle.ti_race.specs.declared.uses.Uses.{Uses}
 use Rattle.ti_race.specs.contracts.spots.NamePartialEq.TheImpl as name_eq
 use Rattle.ti_race.specs.MirrorsLying.{Keeps}
+use Rattle.ti_race.specs.MirrorsTable.{racing_in}
 
 -- names and points as parts of keys
 abbrev pub name_key : Id → Name
@@ -151,3 +155,28 @@ AreUses h us rest = ⊥
 -- these are the uses of a history in the order of its entries
 abbrev pub HasUses : History → List Use → Type 0
 HasUses h us = AreUses h (reverse us) (told.uses h)
+
+-- ---- a list of entries
+
+-- the list of this, where there is one
+abbrev pub one_or_none : {A : Type 0} → Option A → List A
+one_or_none None = []
+one_or_none (Some x) = x ∷ []
+
+-- the process and the place of the use are those of the entry of its number
+abbrev pub IsListed : List Entry → Use → Type 0
+IsListed es u = (e : Entry) × (slice_get es u.number ≡ Some e) × (u.proc ≡ e.proc) × (u.place ≡ e.place)
+
+-- this is kept of a list of entries
+pub record Gathers (kept : Uses) (es : List Entry) : Type 0 where
+  pub told : Tells kept.told (history_of es)
+  pub uses : HasUses (history_of es) kept.found.items
+  pub listed : All (IsListed es) kept.found.items
+
+-- the line of the entry of a use
+abbrev pub use_line : Use → List ℕ
+use_line u = decimal u.number ++ codes " p" ++ decimal u.proc ++ codes " " ++ decimal u.place.line ++ codes ":" ++ decimal u.place.col ++ 10 ∷ []
+
+-- the report on uses
+abbrev pub report_of : List Use → List ℕ
+report_of us = codes "races " ++ decimal (length (racing_in us)) ++ 10 ∷ flat_map use_line (racing_in us)

@@ -1,5 +1,5 @@
 // Which entries of a list stand in a race.
-ghost use Rattle.std.specs.Prelude.{◌≡◌, List, IfOk};
+ghost use Rattle.std.specs.Prelude.{◌≡◌, List, map, IfOk};
 ghost use Rattle.ti_base.specs.declared.entry.Entry.{Entry as Listed};
 ghost use Rattle.ti_lang.specs.Program.Views.{program_of};
 ghost use Rattle.ti_lang.specs.Meaning.Races.{races as race_numbers};
@@ -8,19 +8,32 @@ ghost use Rattle.ti_lang.specs.Meaning.Spots.{races_told};
 ghost use Rattle.ti_align.specs.Formed.{ActionsFormed};
 
 use crate::laws::races_are_told;
-use crate::table::races_of;
+use crate::spots::Use;
+use crate::table::racing_of;
 use crate::uses::uses_of;
 use std::alloc::Global;
 use ti_base::{Entry, Memory};
 use ti_lang::program::Program;
+
+// The numbers of the entries of these uses.
+fn numbers_of(alloc: Global, uses: &[Use]) -> Result<Vec<u32>, Memory>
+    ensures { IfOk result (λ numbers. numbers.items ≡ map (λ u. u.number) uses.now) }
+{
+    let mut numbers = Vec::new(alloc);
+    for u in uses {
+        numbers.push(u.number)?;
+    }
+    Ok(numbers)
+}
 
 /// The numbers of the entries of any list that stand in a race, from 0 and rising. What an access goes to is told by the entries before it
 /// alone. The one error is want of memory.
 pub fn told_races(alloc: Global, entries: &[Entry]) -> Result<Vec<u32>, Memory>
     ensures { IfOk result (λ numbers. numbers.items ≡ races_told entries.now) }
 {
-    let found = uses_of(alloc, entries)?;
-    let numbers = races_of(alloc, &found)?;
+    let uses = uses_of(alloc, entries)?;
+    let racing = racing_of(alloc, &uses.found)?;
+    let numbers = numbers_of(alloc, &racing)?;
     Ok(numbers)
 }
 

@@ -3,6 +3,7 @@
 
 mod finding;
 mod forms;
+mod heard;
 mod laws;
 mod lying;
 mod spots;

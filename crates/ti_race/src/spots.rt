@@ -1,7 +1,7 @@
 // What entries read and write, as it is kept in tables.
 ghost use Rattle.std.specs.Prelude.{◌≡◌};
 
-use ti_base::{Id, Point};
+use ti_base::{Id, Place, Point};
 
 /// The name of a thing.
 #[derive(Clone, Copy, PartialEq, Eq, Hash, Drop)]
@@ -49,6 +49,8 @@ pub struct Use {
     pub phase: u32,
     pub spot: Spot,
     pub writes: bool,
+    /// Where the entry stands in the text.
+    pub place: Place,
 }
 
 /// The name as a key of tables.

@@ -1,11 +1,11 @@
 // A table of what is known of each spot in each phase.
-ghost use Rattle.std.specs.Prelude.{◌≡◌, map, filter, ◌||◌, ◌&&◌, ◌==◌, not, ℕ, if◌then◌else◌, take, OnOk, IfOk};
+ghost use Rattle.std.specs.Prelude.{◌≡◌, filter, ◌||◌, ◌&&◌, ◌==◌, not, ℕ, if◌then◌else◌, take, OnOk, IfOk};
 ghost use Rattle.std.specs.HashMap.{get};
-ghost use Rattle.ti_race.specs.MirrorsTable.{others, Key, same_key, key_of, users_in, writers_in, used_by_others, written_by_others, racing_by, Tells, races_of as race_numbers};
+ghost use Rattle.ti_race.specs.MirrorsTable.{others, Key, same_key, key_of, users_in, writers_in, used_by_others, written_by_others, racing_by, Tells, racing_in};
 
 use crate::spots::{Spot, Use};
+use indexmap::IndexMap;
 use std::alloc::Global;
-use std::collections::HashMap;
 use ti_base::Memory;
 
 /// One process, or several.
@@ -22,7 +22,7 @@ pub struct Seen {
     pub writers: Option<Procs>,
 }
 
-type Table = HashMap<(Spot, u32), Seen>;
+type Table = IndexMap<(Spot, u32), Seen>;
 
 /// With one process more.
 fn joined(procs: Option<Procs>, proc: u32) -> Option<Procs>
@@ -71,56 +71,76 @@ fn noted(seen: Option<Seen>, u: Use) -> Seen
     }
 }
 
-/// Notes one use more.
-fn note(table: &mut Table, u: Use) -> Result<(), Memory>
+/// Notes one use more, and answers where in the table.
+fn note(table: &mut Table, u: Use) -> Result<usize, Memory>
     ensures users { OnOk result ((key : Key) (i : ℕ) → others (users_in (get same_key table.new key)) i ≡ (others (users_in (get same_key table.old key)) i || (same_key (key_of u) key && not (u.proc == i)))) }
     ensures writers { OnOk result ((key : Key) (i : ℕ) → others (writers_in (get same_key table.new key)) i ≡ (others (writers_in (get same_key table.old key)) i || (same_key (key_of u) key && (u.writes && not (u.proc == i))))) }
 {
     let key = (u.spot, u.phase);
     let seen = table.get(&key).copied();
-    table.insert(key, noted(seen, u))?;
-    Ok(())
+    let (place, _) = table.insert_full(key, noted(seen, u))?;
+    Ok(place)
 }
 
-/// What is known of all uses.
-fn table_of(alloc: Global, uses: &[Use]) -> Result<Table, Memory>
-    ensures { IfOk result (λ table. Tells table uses.now) }
+/// What is known of all uses, and where in the table each was noted.
+fn table_of(alloc: Global, uses: &[Use]) -> Result<(Table, Vec<usize>), Memory>
+    ensures { IfOk result (λ made. Tells made.0 uses.now) }
 {
-    let mut table = HashMap::new(alloc);
+    let mut table = IndexMap::new(alloc);
+    let mut places = Vec::new(alloc);
     for u in uses {
-        note(&mut table, *u)?;
+        let place = note(&mut table, *u)?;
+        places.push(place)?;
     }
-    Ok(table)
+    Ok((table, places))
+}
+
+/// What is known where a use is. The place is where it was noted: that spares a search, and nothing rests on it.
+fn seen_by(table: &Table, u: Use, place: usize) -> Option<Seen>
+    ensures { result ≡ get same_key table.now (key_of u) }
+{
+    if let Some((key, seen)) = table.get_index(place) {
+        if key.0 == u.spot && key.1 == u.phase {
+            return Some(*seen);
+        }
+    }
+    table.get(&(u.spot, u.phase)).copied()
 }
 
 /// Whether a use stands in a race with one of these.
-fn is_racing(table: &Table, u: Use) -> bool
+fn is_racing(table: &Table, u: Use, place: usize) -> bool
     ensures { result ≡ racing_by table.now u }
 {
-    match table.get(&(u.spot, u.phase)) {
+    match seen_by(table, u, place) {
         None => false,
         Some(seen) => has_others(if u.writes { seen.users } else { seen.writers }, u.proc),
     }
 }
 
-/// The numbers of the uses that stand in a race.
-pub fn races_of(alloc: Global, uses: &[Use]) -> Result<Vec<u32>, Memory>
-    ensures { IfOk result (λ numbers. numbers.items ≡ race_numbers uses.now) }
+/// The uses that stand in a race, in their order.
+pub fn racing_of(alloc: Global, uses: &[Use]) -> Result<Vec<Use>, Memory>
+    ensures { IfOk result (λ racing. racing.items ≡ racing_in uses.now) }
 {
-    let table = table_of(alloc, uses)?;
-    let numbers = racing_among(alloc, &table, uses)?;
-    Ok(numbers)
+    let (table, places) = table_of(alloc, uses)?;
+    let racing = racing_among(alloc, &table, &places, uses)?;
+    Ok(racing)
 }
 
-/// The numbers of those uses that the table says stand in a race.
-fn racing_among(alloc: Global, table: &Table, uses: &[Use]) -> Result<Vec<u32>, Memory>
-    ensures { IfOk result (λ numbers. numbers.items ≡ map (λ u. u.number) (filter (racing_by table.now) uses.now)) }
+/// Those uses that the table says stand in a race.
+fn racing_among(
+    alloc: Global,
+    table: &Table,
+    places: &[usize],
+    uses: &[Use],
+) -> Result<Vec<Use>, Memory>
+    ensures { IfOk result (λ racing. racing.items ≡ filter (racing_by table.now) uses.now) }
 {
-    let mut numbers = Vec::new(alloc);
-    for u in uses {
-        if is_racing(table, *u) {
-            numbers.push(u.number)?;
+    let mut racing = Vec::new(alloc);
+    for (number, u) in uses.iter().enumerate() {
+        let place = places.get(number).copied().unwrap_or(0);
+        if is_racing(table, *u, place) {
+            racing.push(*u)?;
         }
     }
-    Ok(numbers)
+    Ok(racing)
 }

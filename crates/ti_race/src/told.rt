@@ -1,5 +1,5 @@
 // What the entries of a history tell of things, and of the collectives that processes have left.
-ghost use Rattle.std.specs.Prelude.{◌≡◌, ◌∷◌, [], true, false, ◌≤◌, Some, None, length, IsTrue, OnOk};
+ghost use Rattle.std.specs.Prelude.{◌≡◌, ◌∷◌, [], true, false, ◌≤◌, Some, None, length, IsTrue, OnOk, OnErr, IfSome};
 ghost use Rattle.ti_base.specs.declared.entry.Entry.{Entry as Listed};
 ghost use Rattle.ti_lang.specs.Meaning.Histories.{History, is_departure, departures};
 ghost use Rattle.ti_lang.specs.Meaning.Races.{is_put};
@@ -186,7 +186,8 @@ impl Told {
 
     /// The use of an entry behind the history.
     pub fn use_of(&self, e: &Entry) -> Option<Use>
-        ensures { (h : History) → Tells self.now h → IsUseIf h result (use_told e.now h) }
+        ensures told { (h : History) → Tells self.now h → IsUseIf h result (use_told e.now h) }
+        ensures entry { IfSome result (λ u. (u.number ≡ self.now.count) × (u.proc ≡ e.now.proc) × (u.place ≡ e.now.place)) }
     {
         match self.spot(e.act) {
             Some(spot) => Some(Use {
@@ -195,6 +196,7 @@ impl Told {
                 phase: self.phase(e.proc),
                 spot,
                 writes: writes(e.act),
+                place: e.place,
             }),
             None => None,
         }
@@ -239,6 +241,8 @@ impl Told {
     // Notes the object that an entry makes.
     fn note_object(&mut self, e: &Entry) -> Result<(), Memory>
         ensures objects { OnOk result ((h : History) → self.old.count ≡ length h → TellsObjects self.old h → TellsObjects self.new (e.now ∷ h)) }
+        ensures kept { OnErr result ((h : History) → TellsObjects self.old h → TellsObjects self.new h) }
+        ensures silent { spec.makes_object e.now.act ≡ false → self.new ≡ self.old }
         ensures rest { self.new ≡ record self.old { objects = self.new.objects } }
     {
         if makes_object(e.act) {
@@ -252,6 +256,9 @@ impl Told {
     // Notes the grid that an entry makes.
     fn note_grid(&mut self, e: &Entry) -> Result<(), Memory>
         ensures grids { OnOk result ((h : History) → self.old.count ≡ length h → TellsGrids self.old h → TellsGrids self.new (e.now ∷ h)) }
+        ensures kept { OnErr result ((h : History) → TellsGrids self.old h → TellsGrids self.new h) }
+        ensures fails { OnErr result (spec.makes_grid e.now.act ≡ true) }
+        ensures silent { spec.makes_grid e.now.act ≡ false → self.new ≡ self.old }
         ensures rest { self.new ≡ record self.old { grids = self.new.grids } }
     {
         if makes_grid(e.act) {
@@ -266,6 +273,8 @@ impl Told {
     // Notes the collective that an entry leaves.
     fn note_departure(&mut self, e: &Entry) -> Result<(), Memory>
         ensures phases { OnOk result ((h : History) → TellsPhases self.old h → TellsPhases self.new (e.now ∷ h)) }
+        ensures kept { OnErr result ((h : History) → TellsPhases self.old h → TellsPhases self.new h) }
+        ensures fails { OnErr result (is_departure e.now.act ≡ true) }
         ensures rest { self.new ≡ record self.old { phases = self.new.phases } }
     {
         if departs(e.act) {
@@ -277,9 +286,10 @@ impl Told {
         Ok(())
     }
 
-    /// Notes an entry behind the history.
+    /// Notes an entry behind the history. On want of memory it tells as before.
     pub fn note(&mut self, e: &Entry) -> Result<(), Memory>
-        ensures { OnOk result ((h : History) → Tells self.old h → Tells self.new (e.now ∷ h)) }
+        ensures told { OnOk result ((h : History) → Tells self.old h → Tells self.new (e.now ∷ h)) }
+        ensures kept { OnErr result ((h : History) → Tells self.old h → Tells self.new h) }
     {
         let Some(count) = self.count.checked_add(1) else {
             return Err(Memory);

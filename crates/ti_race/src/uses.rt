@@ -1,17 +1,25 @@
 // The reads and writes of a list of entries.
-ghost use Rattle.std.specs.Prelude.{◌≡◌, reverse, IfOk, OnOk};
-ghost use Rattle.ti_lang.specs.Meaning.Races.{added};
-ghost use Rattle.ti_lang.specs.Meaning.Histories.{history_of};
-ghost use Rattle.ti_race.specs.MirrorsTold.{HasUses};
+ghost use Rattle.std.specs.Prelude.{◌≡◌, [], ◌∷◌, ◌++◌, take, vec_len, IfOk, OnOk, OnErr, List};
+ghost use Rattle.ti_base.specs.declared.entry.Entry.{Entry as Listed};
+ghost use Rattle.ti_race.specs.MirrorsTold.{one_or_none, Gathers};
 
 use crate::spots::Use;
 use crate::told::Told;
 use std::alloc::Global;
 use ti_base::{Entry, Memory};
 
+/// What is kept of a list of entries that are told one by one.
+#[derive(Drop)]
+pub struct Uses {
+    pub told: Told,
+    /// The uses in the order of the entries.
+    pub found: Vec<Use>,
+}
+
 // Adds a use, where there is one.
 fn push_use(found: &mut Vec<Use>, u: Option<Use>) -> Result<(), Memory>
-    ensures { OnOk result (reverse found.new.items ≡ added u (reverse found.old.items)) }
+    ensures items { OnOk result (found.new.items ≡ found.old.items ++ one_or_none u) }
+    ensures kept { OnErr result (found.new.items ≡ found.old.items) }
 {
     if let Some(u) = u {
         found.push(u)?;
@@ -19,16 +27,42 @@ fn push_use(found: &mut Vec<Use>, u: Option<Use>) -> Result<(), Memory>
     Ok(())
 }
 
-/// The uses in the order of the entries.
-pub fn uses_of(alloc: Global, entries: &[Entry]) -> Result<Vec<Use>, Memory>
-    ensures { IfOk result (λ found. HasUses (history_of entries.now) found.items) }
-{
-    let mut told = Told::new(alloc);
-    let mut found = Vec::new(alloc);
-    for e in entries {
-        let u = told.use_of(e);
-        push_use(&mut found, u)?;
-        told.note(e)?;
+impl Uses {
+    /// Of no entry.
+    pub fn new(alloc: Global) -> Uses
+        ensures { Gathers result [] }
+    {
+        Uses {
+            told: Told::new(alloc),
+            found: Vec::new(alloc),
+        }
     }
-    Ok(found)
+
+    /// Is told an entry. On want of memory it was told nothing.
+    pub fn see(&mut self, e: &Entry) -> Result<(), Memory>
+        ensures told { OnOk result ((es : List Listed) → Gathers self.old es → Gathers self.new (es ++ e.now ∷ [])) }
+        ensures kept { OnErr result ((es : List Listed) → Gathers self.old es → Gathers self.new es) }
+    {
+        let len = self.found.len();
+        let u = self.told.use_of(e);
+        push_use(&mut self.found, u)?;
+        match self.told.note(e) {
+            Ok(()) => Ok(()),
+            Err(memory) => {
+                self.found.truncate(len);
+                Err(memory)
+            }
+        }
+    }
+}
+
+/// What is kept of a list of entries.
+pub fn uses_of(alloc: Global, entries: &[Entry]) -> Result<Uses, Memory>
+    ensures { IfOk result (λ uses. Gathers uses entries.now) }
+{
+    let mut uses = Uses::new(alloc);
+    for e in entries {
+        uses.see(e)?;
+    }
+    Ok(uses)
 }

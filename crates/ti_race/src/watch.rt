@@ -1,27 +1,36 @@
 // The report of races: a line for each entry that stands in one.
-ghost use Rattle.std.specs.Prelude.{◌≡◌, [], ◌∷◌, ◌++◌, codes, decimal, flat_map, slice_get, take, vec_len, OnOk};
-ghost use Rattle.ti_lang.specs.Meaning.Spots.{race_line as line_text, races_text};
+ghost use Rattle.std.specs.Prelude.{◌≡◌, [], ◌∷◌, ◌++◌, codes, decimal, flat_map, take, vec_len, OnOk};
+ghost use Rattle.ti_race.specs.MirrorsTold.{use_line, report_of};
 
-use crate::finding::told_races;
+use crate::heard::Heard;
+use crate::spots::Use;
+use crate::table::racing_of;
+use crate::uses::Uses;
 use std::alloc::Global;
 use std::marker::Model;
 use ti_base::{Entry, Memory};
 use ti_watch::{Line, Watch};
 
 /// Lists the entries that stand in a race, a line for each. Its kind is 2.
+///
+/// It keeps the reads and writes, and of the other entries what they tell of things and phases.
 #[derive(Drop)]
 pub struct RaceWatch {
-    told: Vec<Entry>,
+    uses: Uses,
+    heard: Heard,
     alloc: Global,
 }
 
 impl Model for RaceWatch {
     ghost use Rattle.std.specs.Prelude.{List};
     ghost use Rattle.ti_base.specs.declared.entry.Entry.{Entry};
+    ghost use Rattle.ti_race.specs.MirrorsTold.{Gathers};
 
     ghost Value = { List Entry };
 
-    ghost view = { λ watch. watch.told.items };
+    ghost view = { λ watch. watch.heard.entries };
+
+    ghost invariant = { λ watch. Gathers watch.uses watch.heard.entries };
 }
 
 impl RaceWatch {
@@ -30,7 +39,8 @@ impl RaceWatch {
         ensures { result ≡ [] }
     {
         RaceWatch {
-            told: Vec::new(alloc),
+            uses: Uses::new(alloc),
+            heard: Heard::new(),
             alloc,
         }
     }
@@ -46,40 +56,38 @@ fn count_line(count: usize) -> Line
     line
 }
 
-// The line of the entry of this number, or none.
-fn race_line(entries: &[Entry], number: u32) -> Line
-    ensures { result ≡ line_text number (slice_get entries.now number) }
+// The line of the entry of a use.
+fn race_line(u: &Use) -> Line
+    ensures { result ≡ use_line u.now }
 {
     let mut line = Line::new();
-    if let Some(e) = entries.get(number as usize) {
-        line.number(number);
-        line.labelled(b" p", e.proc);
-        line.labelled(b" ", e.place.line);
-        line.labelled(b":", e.place.col);
-        line.text(b"\n");
-    }
+    line.number(u.number);
+    line.labelled(b" p", u.proc);
+    line.labelled(b" ", u.place.line);
+    line.labelled(b":", u.place.col);
+    line.text(b"\n");
     line
 }
 
-// Adds the lines of the entries of these numbers, or some bytes.
-fn add_lines(entries: &[Entry], numbers: &[u32], out: &mut Vec<u8>) -> Result<(), Memory>
-    ensures text { OnOk result (out.new.items ≡ out.old.items ++ flat_map (λ n. line_text n (slice_get entries.now n)) numbers.now) }
+// Adds the lines of the entries of these uses, or some bytes.
+fn add_lines(uses: &[Use], out: &mut Vec<u8>) -> Result<(), Memory>
+    ensures text { OnOk result (out.new.items ≡ out.old.items ++ flat_map use_line uses.now) }
     ensures kept { take (vec_len out.old) out.new.items ≡ out.old.items }
 {
-    for number in numbers {
-        out.extend_from_slice(race_line(entries, *number).as_slice())?;
+    for u in uses {
+        out.extend_from_slice(race_line(u).as_slice())?;
     }
     Ok(())
 }
 
 // Adds the report, or some bytes.
-fn add_report(alloc: Global, entries: &[Entry], out: &mut Vec<u8>) -> Result<(), Memory>
-    ensures text { OnOk result (out.new.items ≡ out.old.items ++ races_text entries.now) }
+fn add_report(alloc: Global, uses: &[Use], out: &mut Vec<u8>) -> Result<(), Memory>
+    ensures text { OnOk result (out.new.items ≡ out.old.items ++ report_of uses.now) }
     ensures kept { take (vec_len out.old) out.new.items ≡ out.old.items }
 {
-    let numbers = told_races(alloc, entries)?;
-    out.extend_from_slice(count_line(numbers.len()).as_slice())?;
-    add_lines(entries, &numbers, out)
+    let racing = racing_of(alloc, uses)?;
+    out.extend_from_slice(count_line(racing.len()).as_slice())?;
+    add_lines(&racing, out)
 }
 
 impl Watch for RaceWatch {
@@ -92,16 +100,19 @@ impl Watch for RaceWatch {
     }
 
     fn see(&mut self, e: &Entry) -> Result<(), Memory> {
-        self.told.push(*e)?;
+        self.uses.see(e)?;
+        self.heard = self.heard.and(e);
         Ok(())
     }
 
     fn report(&self, out: &mut Vec<u8>) -> Result<(), Memory> {
         let len = out.len();
-        if add_report(self.alloc, &self.told, out).is_err() {
-            out.truncate(len);
-            return Err(Memory);
+        match add_report(self.alloc, &self.uses.found, out) {
+            Ok(()) => Ok(()),
+            Err(memory) => {
+                out.truncate(len);
+                Err(memory)
+            }
         }
-        Ok(())
     }
 }

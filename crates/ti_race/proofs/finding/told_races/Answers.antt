@@ -1,7 +1,10 @@
-use Rattle.std.proofs.Common.{ap, ◌∙◌}
-use Rattle.ti_race.specs.MirrorsTable.{races_of}
+use Rattle.std.proofs.Common.{map, ap, ◌∙◌}
+use Rattle.ti_race.specs.declared.spots.Use.{Use}
+use Rattle.ti_race.specs.MirrorsTable.{racing_in}
 use Rattle.ti_race.proofs.SameSpots.{races_like}
 use Rattle.ti_race.proofs.finding.told_races.Goals as goal
 
 pub returns : goal.returns
-returns c = c.in_ok-numbers.ensures ∙ ap races_of c.deref.ensures.value ∙ races_like c.args.entries.now c.in_ok-found.found.items c.in_ok-found.ensures
+returns c =
+    c.in_ok-numbers.ensures ∙ ap (map (λ (u : Use). u.number)) (c.deref-2.ensures.value ∙ c.in_ok-racing.ensures ∙ ap racing_in c.deref.ensures.value)
+    ∙ races_like c.args.entries.now c.in_ok-uses.uses.found.items c.in_ok-uses.ensures.uses

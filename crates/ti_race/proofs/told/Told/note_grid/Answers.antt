@@ -1,8 +1,11 @@
-use Rattle.std.proofs.Common.{refl, ◌∙◌, sym, subst, Some}
+use Rattle.std.proofs.Common.{refl, ◌∙◌, sym, subst, Option, Some}
 use Rattle.std.specs.HashMap.{Updates}
 use Rattle.ti_race.specs.declared.spots.Name.{Name}
+use Rattle.ti_lang.specs.Meaning.Spots.{grid_told}
 use Rattle.ti_race.specs.contracts.spots.NamePartialEq.TheImpl as name_eq
-use Rattle.ti_race.proofs.ToldThings.{grids_more, grids_stay, no_making, no_name, no_some}
+use Rattle.ti_race.specs.declared.lying.Lying.{Lying}
+use Rattle.ti_race.specs.MirrorsTold.{name_key, Lies, lying_in}
+use Rattle.ti_race.proofs.ToldThings.{grids_more, grids_stay, no_making, no_name, no_some, same_at, on_err}
 use Rattle.ti_race.proofs.told.Told.note_grid.Goals as goal
 
 pub returns-in_ok-insert-clause-grids : goal.returns-in_ok-insert-clause-grids
@@ -15,3 +18,6 @@ returns-in_default-clause-grids c h counted tells id = grids_stay c.args.e.now h
 
 pub returns-else-makes_grid-clause-grids : goal.returns-else-makes_grid-clause-grids
 returns-else-makes_grid-clause-grids c h counted tells id = grids_stay c.args.e.now h id _ (no_making c.args.e.now id (sym c.makes_grid.ensures ∙ c.if-makes_grid.false)) (tells id)
+
+pub returns-in_err-insert-clause-kept : goal.returns-in_err-insert-clause-kept
+returns-in_err-insert-clause-kept c = on_err c.from_residual.result (λ h tells id. subst (λ (l : Option (Option Lying)). Lies h (lying_in l) (grid_told id h)) (sym (same_at (name_eq.ghosts).eq c.args.self.now.grids c.insert.new.self (name_key id) c.in_err-insert.ensures.err)) (tells id))

@@ -1,6 +1,0 @@
-use Rattle.std.proofs.Common.{◌∙◌}
-use Rattle.ti_race.proofs.Noting.{racing_all}
-use Rattle.ti_race.proofs.table.races_of.Goals as goal
-
-pub returns : goal.returns
-returns c = c.in_ok-numbers.ensures ∙ racing_all c.in_ok-table.table c.args.uses.now c.args.uses.now c.in_ok-table.ensures
