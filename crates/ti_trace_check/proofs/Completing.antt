@@ -1,0 +1,134 @@
+-- What the seats tell of a whole run, and the verdict behind the lines.
+use Rattle.std.proofs.Common.{◌≡◌, inl, inr, ℕ, zero, suc, ◌+◌, ◌<◌, ◌≤◌, Bool, true, false, ◌&&◌, ◌||◌, List, [], ◌∷◌, ◌++◌, length, take, get_or, refl, ap, sym, ◌∙◌, subst, arith, append-nil}
+use Rattle.std.specs.List.{list_all}
+use Rattle.std.proofs.lemmas.List.{take_all, length-take-le}
+use Rattle.ti_base.specs.declared.entry.Entry.{Entry}
+use Rattle.ti_lang.specs.Meaning.Processes.{Setting}
+use Rattle.ti_lang.specs.Meaning.Histories.{has_end, has_fault}
+use Rattle.ti_lang.specs.Meaning.Runs.{IsRun, IsComplete, AllEnded}
+use Rattle.ti_watch.specs.Reports.{trace_text}
+use Rattle.ti_trace_check.specs.declared.seat.Seat.{Seat}
+use Rattle.ti_trace_check.specs.declared.following.Followed.{Followed}
+use Rattle.ti_trace_check.specs.declared.verdict.Verdict.{Verdict}
+use Rattle.ti_trace_check.specs.declared.verdict.Verdict.TheVariants.{Run, NoRun}
+use Rattle.ti_trace_check.specs.MirrorsSeats.{Stands, CameTo, LeavesText, Gives}
+use Rattle.ti_trace_check.specs.Verdicts.{IsWrong, Judges, Keeps}
+
+true_false : true ≡ false → ⊥
+true_false e = cc
+
+-- ---- whether all had their end
+
+abbrev pub all_have : List Seat → Bool
+all_have seats = list_all (λ (seat : Seat). seat.ended) seats
+
+-- the seats tell of the processes from number k on
+abbrev Tells : List Entry → ℕ → List Seat → Type 0
+Tells es k seats = (d : Seat) (i : ℕ) → i < length seats → has_end (k + i) es ≡ (get_or seats i d).ended
+
+shift : (k i : ℕ) → k + 1 + i ≡ k + suc i
+shift k i = omega arith
+
+one_more : (i n : ℕ) → i < n → suc i < suc n
+one_more i n l = omega arith
+
+one_less : (i n : ℕ) → suc i < suc n → i < n
+one_less i n l = omega arith
+
+tells_rest : (es : List Entry) (k : ℕ) (x : Seat) (xs : List Seat) → Tells es k (x ∷ xs) → Tells es (k + 1) xs
+tells_rest es k x xs t d i l = subst (λ n. has_end n es ≡ (get_or xs i d).ended) (sym (shift k i)) (t d (suc i) (one_more i (length xs) l))
+
+first_of : (a b : Bool) → (a && b) ≡ true → a ≡ true
+first_of true b h = refl
+first_of false b h = cc
+
+rest_of : (a b : Bool) → (a && b) ≡ true → b ≡ true
+rest_of true b h = h
+rest_of false b h = cc
+
+all_ended : (es : List Entry) (k : ℕ) (seats : List Seat) → Tells es k seats → all_have seats ≡ true → (i : ℕ) → i < length seats → has_end (k + i) es ≡ true
+all_ended es k [] t h i l = absurd (none i l)
+  where
+    none : (i : ℕ) → i < 0 → ⊥
+    none i l = omega (arith, l)
+all_ended es k (x ∷ xs) t h zero l = t x 0 l ∙ first_of x.ended (all_have xs) h
+all_ended es k (x ∷ xs) t h (suc i) l =
+    subst (λ n. has_end n es ≡ true) (shift k i) (all_ended es (k + 1) xs (tells_rest es k x xs t) (rest_of x.ended (all_have xs) h) i (one_less i (length xs) l))
+
+not_all : (es : List Entry) (k : ℕ) (seats : List Seat) → Tells es k seats → all_have seats ≡ false → ((i : ℕ) → i < length seats → has_end (k + i) es ≡ true) → ⊥
+not_all es k [] t h all = true_false h
+not_all es k (x ∷ xs) t h all =
+    not_all es (k + 1) xs (tells_rest es k x xs t) (by x.ended (sym (t x 0 (some (length xs))) ∙ all 0 (some (length xs))) h)
+    (λ i l. subst (λ n. has_end n es ≡ true) (sym (shift k i)) (all (suc i) (one_more i (length xs) l)))
+  where
+    some : (n : ℕ) → 0 < suc n
+    some n = omega arith
+
+    by : (b : Bool) → b ≡ true → (b && all_have xs) ≡ false → all_have xs ≡ false
+    by true e h = h
+    by false e h = cc
+
+module _ (s : Setting) (es : List Entry) (seats : List Seat) (x : Stands s es seats) where
+  tells : Tells es 0 seats
+  tells d i l = subst (λ n. has_end n es ≡ (get_or seats i d).ended) (plain i) (x.seated d i l).ended
+    where
+      plain : (i : ℕ) → i ≡ 0 + i
+      plain i = omega arith
+
+  ended : all_have seats ≡ true → AllEnded s es
+  ended h i l = subst (λ n. has_end n es ≡ true) (plain i) (all_ended es 0 seats tells h i (subst (λ n. i < n) (sym x.count) l))
+    where
+      plain : (i : ℕ) → 0 + i ≡ i
+      plain i = omega arith
+
+  unended : all_have seats ≡ false → AllEnded s es → ⊥
+  unended h all = not_all es 0 seats tells h (λ i l. subst (λ n. has_end n es ≡ true) (plain i) (all i (subst (λ n. i < n) x.count l)))
+    where
+      plain : (i : ℕ) → i ≡ 0 + i
+      plain i = omega arith
+
+  pub complete : (a b : Bool) → a ≡ all_have seats → b ≡ has_fault es → (a || b) ≡ true → IsComplete s es
+  complete true b e f h = inr (ended (sym e))
+  complete false b e f h = inl (sym f ∙ h)
+
+  pub not_complete : (a b : Bool) → a ≡ all_have seats → b ≡ has_fault es → (a || b) ≡ false → IsComplete s es → ⊥
+  not_complete true b e f h done = true_false h
+  not_complete false b e f h (inl fault) = true_false (sym fault ∙ sym f ∙ h)
+  not_complete false b e f h (inr all) = unended (sym e) all
+
+-- ---- verdicts
+
+module _ (s : Setting) (all : List Entry) (seats : List Seat) (end : Followed) (came : CameTo s all seats end) (b : Bool) (yes : end.is_end ≡ true → b ≡ true → IsComplete s all) (no : end.is_end ≡ true → b ≡ false → IsComplete s all → ⊥) where
+  whole : end.is_end ≡ true → take end.taken all ≡ all
+  whole e = take_all end.taken all (least (length all) end.taken (came.whole e).0)
+    where
+      least : (n t : ℕ) → t ≡ n → n ≤ t
+      least n t e = omega arith
+
+  counted : length (take end.taken all) ≡ end.taken
+  counted = length-take-le end.taken all came.within
+
+  pub keeps : (v : Verdict) → Gives end b all v → Keeps s v
+  keeps (Run es) g = (
+    subst (IsRun s) (sym g.2) came.run,
+    subst (IsComplete s) (sym (g.2 ∙ whole g.0)) (yes g.0 g.1),
+  )
+  keeps (NoRun line es) g = (subst (IsRun s) (sym g.2) came.run, g.1 ∙ ap (λ n. n + 1) (sym (ap length g.2 ∙ counted)))
+
+  wrong : (text : List ℕ) → (x : LeavesText s text all end) → (end.is_end ≡ true → b ≡ false) → (f : Bool) → end.is_end ≡ f → IsWrong s (take end.taken all) x.left
+  wrong text x h true e = inr (x.nothing e, λ c. no e (h e) (subst (IsComplete s) (whole e) c))
+  wrong text x h false e = inl (x.wrong e)
+
+  pub judges : (text : List ℕ) → LeavesText s text all end → (v : Verdict) → Gives end b all v → Judges s text v
+  judges text x (Run es) g = record {
+    run = subst (IsRun s) (sym g.2) came.run;
+    complete = subst (IsComplete s) (sym (g.2 ∙ whole g.0)) (yes g.0 g.1);
+    is = x.begins ∙ ap (λ l. trace_text (take end.taken all) ++ l) (x.nothing g.0) ∙ append-nil (trace_text (take end.taken all)) ∙ ap trace_text (sym g.2);
+  }
+  judges text x (NoRun line es) g = record {
+    run = subst (IsRun s) (sym g.2) came.run;
+    number = g.1 ∙ ap (λ n. n + 1) (sym (ap length g.2 ∙ counted));
+    left = x.left;
+    begins = x.begins ∙ ap (λ xs. trace_text xs ++ x.left) (sym g.2);
+    wrong = subst (λ xs. IsWrong s xs x.left) (sym g.2) (wrong text x g.0 end.is_end refl);
+  }

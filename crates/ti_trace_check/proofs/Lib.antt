@@ -1,0 +1,11 @@
+pub mod FirstLines
+pub mod Names
+pub mod LineEnds
+pub mod Texts
+pub mod Entries
+pub mod Seats
+pub mod Turns
+pub mod OfLines
+pub mod Taking
+pub mod Refusing
+pub mod Completing

@@ -1,0 +1,121 @@
+-- A run that follows the lines of a text.
+use Rattle.std.proofs.Common.{◌≡◌, ◌⊎◌, inl, inr, ℕ, ◌<◌, ◌≤◌, ◌^◌, ◌==◌, Bool, true, false, eq-eqb, List, [], ◌∷◌, ◌++◌, length, take, refl, ap, sym, ◌∙◌, subst, arith, append_assoc, append-nil}
+use Rattle.std.proofs.lemmas.List.{take_all}
+use Rattle.ti_base.specs.declared.entry.Entry.{Entry}
+use Rattle.ti_lang.specs.Meaning.Processes.{Setting}
+use Rattle.ti_lang.specs.Meaning.Runs.{IsRun}
+use Rattle.ti_watch.specs.Lines.{line_room}
+use Rattle.ti_watch.specs.Reports.{entry_text, trace_text}
+use Rattle.ti_trace_check.specs.declared.seat.Seat.{Seat}
+use Rattle.ti_trace_check.specs.MirrorsPieces.{TakesLine}
+use Rattle.ti_trace_check.specs.MirrorsSeats.{Stands, GoesOn, IsOff, CameTo, LeavesText}
+use Rattle.ti_trace_check.specs.Lines.{first_line}
+use Rattle.ti_trace_check.specs.Verdicts.{IsTrace}
+use Rattle.ti_trace_check.proofs.FirstLines.{none_more, some_line}
+use Rattle.ti_trace_check.proofs.Texts.{trace_more, one_more}
+
+-- the text begins with the trace of the entries, and behind it comes the line with the rest
+pub record Goes (text : List ℕ) (es : List Entry) (line rest : List ℕ) : Type 0 where
+  pub left : List ℕ
+  pub begins : text ≡ trace_text es ++ left
+  pub takes : TakesLine left line rest
+
+no_room : (line : List ℕ) → line ≡ [] → line_room ≤ length line → ⊥
+no_room line e l = absurd (omega (arith, ap length e, l))
+
+-- an empty line is taken at the end alone
+pub at_end : (left line rest : List ℕ) → line ≡ [] → TakesLine left line rest → left ≡ []
+at_end left line rest none t = by t.first.whole
+  where
+    by : (t.first.more ≡ []) ⊎ (line_room ≤ length line) → left ≡ []
+    by (inl e) = some_line left (t.first.begins ∙ ap (λ m. line ++ m) e ∙ append-nil line ∙ none)
+    by (inr l) = absurd (no_room line none l)
+
+-- before the first line
+pub begins : (text line rest : List ℕ) (es : List Entry) → es ≡ [] → TakesLine text line rest → Goes text es line rest
+begins text line rest es none t = record { left = text; begins = ap (λ xs. trace_text xs ++ text) (sym none); takes = t }
+
+-- behind a line
+pub goes : (s : Setting) (text : List ℕ) (es : List Entry) (old new : List Seat) (all : List Entry) (line rest next later : List ℕ) → GoesOn s es old all new line → Goes text es line rest → TakesLine rest next later → Goes text all next later
+goes s text es old new all line rest next later g x t = record {
+  left = rest;
+  begins = x.begins
+      ∙ ap (λ l. trace_text es ++ l) (x.takes.off ∙ ap (λ l. l ++ rest) g.text)
+      ∙ sym (append_assoc (trace_text es) (entry_text (length es) g.entry) rest)
+      ∙ ap (λ l. l ++ rest) (sym (trace_more es g.entry) ∙ ap trace_text (sym g.after));
+  takes = t;
+}
+
+-- at the end of the text
+pub came_whole : (s : Setting) (es : List Entry) (seats : List Seat) (taken : ℕ) → Stands s es seats → taken ≡ length es → CameTo s es seats (record { taken = taken; is_end = true })
+came_whole s es seats taken x e = record {
+  within = same taken (length es) e;
+  run = subst (IsRun s) (sym (take_all taken es (same (length es) taken (sym e)))) x.run;
+  whole = λ _. (e, x);
+}
+  where
+    same : (m n : ℕ) → m ≡ n → m ≤ n
+    same m n e = omega (arith, e)
+
+pub left_whole : (s : Setting) (text line rest : List ℕ) (es : List Entry) (taken : ℕ) → taken ≡ length es → line ≡ [] → Goes text es line rest → LeavesText s text es (record { taken = taken; is_end = true })
+left_whole s text line rest es taken e none x = record {
+  left = x.left;
+  begins = x.begins ∙ ap (λ xs. trace_text xs ++ x.left) (sym (take_all taken es (same (length es) taken (sym e))));
+  nothing = λ _. at_end x.left line rest none x.takes;
+  wrong = λ f. absurd (true_false f);
+}
+  where
+    same : (m n : ℕ) → m ≡ n → m ≤ n
+    same m n e = omega (arith, e)
+
+    true_false : true ≡ false → ⊥
+    true_false e = cc
+
+-- at a line that is off
+pub came_off : (s : Setting) (es all : List Entry) (seats : List Seat) (line : List ℕ) (taken : ℕ) → taken ≡ length es → IsRun s es → IsOff s es all line → CameTo s all seats (record { taken = taken; is_end = false })
+came_off s es all seats line taken e ran off = record {
+  within = subst (λ n. n ≤ length all) (sym e) off.within;
+  run = subst (IsRun s) (sym (ap (λ n. take n all) e ∙ off.kept)) ran;
+  whole = λ f. absurd (false_true f);
+}
+  where
+    false_true : false ≡ true → ⊥
+    false_true e = cc
+
+some_text : (text line rest : List ℕ) → (line ≡ [] → ⊥) → text ≡ line ++ rest → text ≡ [] → ⊥
+some_text text [] rest some off none = some refl
+some_text text (x ∷ xs) rest some off none = none_more x (xs ++ rest) (sym none ∙ off)
+
+pub left_off : (s : Setting) → s.procs < 2 ^ 64 → (text line rest : List ℕ) (es all : List Entry) (taken : ℕ) → taken ≡ length es → IsRun s es → (line ≡ [] → ⊥) → IsOff s es all line → Goes text es line rest
+    → LeavesText s text all (record { taken = taken; is_end = false })
+left_off s few text line rest es all taken e ran some off x = record {
+  left = x.left;
+  begins = x.begins ∙ ap (λ xs. trace_text xs ++ x.left) (sym same);
+  nothing = λ f. absurd (false_true f);
+  wrong = λ _ t. none (subst (λ xs. IsTrace s (trace_text xs ++ first_line x.left)) same t);
+}
+  where
+    false_true : false ≡ true → ⊥
+    false_true e = cc
+
+    same : take taken all ≡ es
+    same = ap (λ n. take n all) e ∙ off.kept
+
+    none : IsTrace s (trace_text es ++ first_line x.left) → ⊥
+    none t =
+        let r = one_more s few es t.0 x.left ran t.1 (some_text x.left line rest some x.takes.off) t.2 in
+        off.none r.0 r.2 x.takes.first.more (sym r.1 ∙ x.takes.first.begins) x.takes.first.whole
+
+-- a line that isn't empty, as the code finds it
+pub not_empty_line : (held line : List ℕ) (b : Bool) → held ≡ line → b ≡ (length held == 0) → b ≡ false → line ≡ [] → ⊥
+not_empty_line held line b same is other none = by b is other (ap length (same ∙ none))
+  where
+    by : (b : Bool) → b ≡ (length held == 0) → b ≡ false → length held ≡ 0 → ⊥
+    by b is other short = absurd (false_true (sym other ∙ is ∙ eq-eqb (length held) 0 short))
+      where
+        false_true : false ≡ true → ⊥
+        false_true e = cc
+
+-- the same of a line and a setting that are the same
+pub goes_of : (s t : Setting) (es : List Entry) (old : List Seat) (all : List Entry) (new : List Seat) (line same : List ℕ) → s ≡ t → line ≡ same → GoesOn s es old all new line → GoesOn t es old all new same
+goes_of s t es old all new line same e f x = subst (λ l. GoesOn t es old all new l) f (subst (λ z. GoesOn z es old all new line) e x)

@@ -1,0 +1,274 @@
+-- What the turn of a process makes of its seat.
+use Rattle.std.proofs.Common.{◌≡◌, ℕ, ◌+◌, ◌-◌, ◌<◌, ◌≤◌, Bool, true, false, not, ◌||◌, length, Some, List, [], ◌∷◌, ◌++◌, refl, sym, ap, ◌∙◌, subst, arith, length-append}
+use Rattle.ti_base.specs.declared.place.Place.{Place}
+use Rattle.ti_base.specs.declared.fault.FaultKind.{FaultKind}
+use Rattle.ti_base.specs.declared.action.Action.{Action}
+use Rattle.ti_base.specs.declared.entry.Answer.{Answer}
+use Rattle.ti_base.specs.declared.entry.Entry.{Entry}
+use Rattle.ti_base.specs.declared.entry.Next.{Next}
+use Rattle.ti_base.specs.declared.entry.Next.TheVariants as next
+use Rattle.ti_lang.specs.Meaning.Asking.{Request}
+use Rattle.ti_lang.specs.Meaning.Processes.{Setting, Process, begin}
+use Rattle.ti_lang.specs.Meaning.Steps.{Step, To, At, Ends, Faults, step}
+use Rattle.ti_lang.specs.Meaning.NextStep.{shown, IsNext, After}
+use Rattle.ti_lang.specs.Meaning.Histories.{is_end, is_fault, is_answered, entries_of, answers_of, has_end, has_fault}
+use Rattle.ti_lang.specs.Meaning.Runs.{IsReady, CanTake}
+use Rattle.ti_lang.proofs.MeaningLaws.Limits.{within}
+use Rattle.ti_lang.proofs.MeaningLaws.Requests.{no_end_asked}
+use Rattle.ti_lang.proofs.MeaningLaws.Steps.{next_same, after_same}
+use Rattle.ti_align.proofs.Paying.{after_pays}
+use Rattle.ti_align.proofs.Vars.{or_right}
+use Rattle.ti_exec.specs.Standing.{Standing, HasNext, is_act}
+use Rattle.ti_exec.specs.Standing as exec
+use Rattle.ti_store.specs.Conditions as store
+use Rattle.ti_store.specs.Stores.{StoreState, setting_of, next_of, Becomes, fault_entry, IsDone, IsRefused}
+use Rattle.ti_store.specs.declared.act_err.ActErr.TheVariants as err
+use Rattle.ti_store.proofs.Running.{next_acts}
+use Rattle.ti_store.proofs.OneMore.{fault_more}
+use Rattle.ti_trace_check.specs.declared.seat.Seat.{Seat}
+use Rattle.ti_trace_check.specs.MirrorsSeats.{doing_of, place_of, action_of, StandsAt, Seated, told_more, Hears, Moves, steps_left, faults_left, TurnLeaves}
+use Rattle.ti_trace_check.proofs.Entries.{end_more, answers_more, answers_still}
+
+true_false : true ≡ false → ⊥
+true_false e = cc
+
+-- ---- what is next
+
+-- an action that a process has next is neither an end nor a fault
+acts : (st : Step) (q : Process) (at : Place) (a : Action) → step q ≡ st → shown st ≡ Some (next.Act at a) → (is_end a ≡ false) × (is_fault a ≡ false)
+acts (To p) q at a e h = cc
+acts (At request go) q at a e h =
+    let same : request.action ≡ a = some_action request at a h in
+    let none = no_end_asked q request go e in
+    (subst (λ b. is_end b ≡ false) same none.0, subst (λ b. is_fault b ≡ false) same none.1)
+  where
+    some_action : (request : Request) (at : Place) (a : Action) → Some (next.Act request.place request.action) ≡ Some (next.Act at a) → request.action ≡ a
+    some_action request at a h = cc
+acts (Ends place) q at a e h = cc
+acts (Faults kind place) q at a e h = cc
+
+-- what the store takes comes back as what is next
+next_back : (p : Process) (n : Next) → IsNext p n → next_of (doing_of n).0 (doing_of n).1 ≡ n
+next_back p (next.Act at a) x = let none = acts (step x.0) x.0 at a refl x.1.stands in next_acts at a none.0 none.1
+next_back p (next.End at) x = refl
+next_back p (next.Fault kind at) x = refl
+
+-- an action is answered
+answered_act : (p : Process) (n : Next) → IsNext p n → is_act n ≡ true → (is_end (doing_of n).1 ≡ false) × (is_fault (doing_of n).1 ≡ false)
+answered_act p (next.Act at a) x e = acts (step x.0) x.0 at a refl x.1.stands
+answered_act p (next.End at) x e = absurd (true_false (sym e))
+answered_act p (next.Fault kind at) x e = absurd (true_false (sym e))
+
+-- what is neither an action nor a fault is the end
+end_left : (n : Next) → is_act n ≡ false → is_fault (doing_of n).1 ≡ false → is_end (doing_of n).1 ≡ true
+end_left (next.Act at a) e f = absurd (true_false e)
+end_left (next.End at) e f = refl
+end_left (next.Fault kind at) e f = absurd (true_false f)
+
+-- ---- what a seat tells
+
+-- what is next hangs on what the process is and was told alone
+same_next : (t u : Standing) (n : Next) → exec.setting_of t ≡ exec.setting_of u → t.number ≡ u.number → t.told ≡ u.told → HasNext t n → HasNext u n
+same_next t u n s i r h = (
+  h.0,
+  subst (λ k. After (begin k u.number) u.told h.0) s
+      (subst (λ k. After (begin (exec.setting_of t) k) u.told h.0) i (subst (λ k. After (begin (exec.setting_of t) t.number) k h.0) r h.1)),
+  h.2,
+)
+
+-- a seat that stands at what this process has next tells where it stands
+pub seated_at : (s : Setting) (es : List Entry) (i : ℕ) (t : Standing) (seat : Seat) → exec.setting_of t ≡ s → t.number ≡ i → t.told ≡ answers_of i es → has_end i es ≡ seat.ended → StandsAt t seat → Seated s es i seat
+seated_at s es i t seat x y z e h = record {
+  setting = ap exec.setting_of h.process ∙ x;
+  number = ap (λ (u : Standing). u.number) h.process ∙ y;
+  told = ap (λ (u : Standing). u.told) h.process ∙ z;
+  asks = ap (λ (u : Standing). u.asks) h.process;
+  next = same_next t seat.process seat.next (sym (ap exec.setting_of h.process)) (sym (ap (λ (u : Standing). u.number) h.process)) (sym (ap (λ (u : Standing). u.told) h.process)) h.next;
+  ended = e;
+}
+
+within_ticks : (n s f : ℕ) → 0 + n ≤ s → s ≤ f → n ≤ f
+within_ticks n s f h k = omega arith
+
+-- each answer cost a tick
+answers_few : (s : Setting) (i : ℕ) (rs : List Answer) (p : Process) → After (begin s i) rs p → length rs ≤ s.fuel
+answers_few s i rs p x = within_ticks (length rs) p.spent s.fuel (after_pays (begin s i) p rs x) (within s i rs p x).0
+
+-- the seat tells the same where the process got no answer since
+seated_with : (s : Setting) (es all : List Entry) (i : ℕ) (seat : Seat) (ended : Bool) → answers_of i all ≡ answers_of i es → has_end i all ≡ ended → Seated s es i seat → Seated s all i (record seat { ended = ended })
+seated_with s es all i seat ended same e y = record {
+  setting = y.setting;
+  number = y.number;
+  told = y.told ∙ sym same;
+  asks = y.asks;
+  next = y.next;
+  ended = e;
+}
+
+module _ (s : Setting) (es : List Entry) (i : ℕ) (seat : Seat) (y : Seated s es i seat) where
+  -- the process of the seat in the world of the entries
+  world : After (begin s i) (answers_of i es) y.next.0
+  world =
+      subst (λ k. After (begin s i) k y.next.0) y.told
+      (subst (λ k. After (begin s k) seat.process.told y.next.0) y.number (subst (λ k. After (begin k seat.process.number) seat.process.told y.next.0) y.setting y.next.1))
+
+  few : length seat.process.told ≤ s.fuel
+  few = subst (λ xs. length xs ≤ s.fuel) (sym y.told) (answers_few s i (answers_of i es) y.next.0 world)
+
+  next_taken : IsNext y.next.0 (next_of (place_of seat) (action_of seat))
+  next_taken = subst (IsNext y.next.0) (sym (next_back y.next.0 seat.next y.next.2)) y.next.2
+
+-- the store takes what the process has next
+pub acting : (st : StoreState) (i : ℕ) (seat : Seat) → Seated (setting_of st) st.entries i seat → seat.ended ≡ false
+    → store.HasNext (setting_of st) i (entries_of i st.entries) (next_of (place_of seat) (action_of seat))
+acting st i seat y u = record {
+  unended = y.ended ∙ u;
+  process = y.next.0;
+  world = world (setting_of st) st.entries i seat y;
+  is_next = next_taken (setting_of st) st.entries i seat y;
+}
+
+-- an entry that the process can take is that of what the seat has next
+only_next : (s : Setting) (es : List Entry) (i : ℕ) (seat : Seat) (e : Entry) (y : Seated s es i seat) (t : CanTake s es i e) → t.next ≡ next_of (place_of seat) (action_of seat)
+only_next s es i seat e y t =
+    let same : t.process ≡ y.next.0 = after_same _ _ _ _ t.world (world s es i seat y) in
+    next_same y.next.0 _ _ (subst (λ p. IsNext p t.next) same t.is_next) (next_taken s es i seat y)
+
+or_none : (a b : Bool) → b ≡ false → (a || b) ≡ a
+or_none true b h = refl
+or_none false b h = h
+
+or_false : (a b : Bool) → a ≡ false → b ≡ false → (a || b) ≡ false
+or_false a b x y = rw (x, y) refl
+
+-- the entry of what a process does, with its answer
+abbrev entry_with : ℕ → Seat → Answer → Entry
+entry_with i seat answer = record { proc = i; place = place_of seat; act = action_of seat; answer = answer }
+
+-- ---- turns
+
+module _ (st : StoreState) (i : ℕ) (l : i < st.procs) (old : Seat) (y : Seated (setting_of st) st.entries i old) (u : old.ended ≡ false) where
+  abbrev s : Setting
+  s = setting_of st
+
+  abbrev es : List Entry
+  es = st.entries
+
+  can_take : (e : Entry) → has_fault es ≡ false → Becomes st i (place_of old) (action_of old) e → CanTake s es i e
+  can_take e f b = record {
+    within = l;
+    goes_on = f;
+    unended = y.ended ∙ u;
+    process = y.next.0;
+    world = world s es i old y;
+    next = next_of (place_of old) (action_of old);
+    is_next = next_taken s es i old y;
+    ready = b.ready;
+    entry = b.entry;
+  }
+
+  goes : (halted : Bool) → (halted || has_fault es) ≡ false → has_fault es ≡ false
+  goes true h = cc
+  goes false h = h
+
+  module _ (answer : Answer) (new : StoreState) (d : IsDone st i (place_of old) (action_of old) answer new) where
+    abbrev here : Entry
+    here = entry_with i old answer
+
+    abbrev all : List Entry
+    all = es ++ here ∷ []
+
+    after : new.entries ≡ all
+    after = ap (λ (x : StoreState). x.entries) d.after
+
+    going : has_fault es ≡ false
+    going = goes st.halted d.becomes.goes_on
+
+    -- behind its end a process stands where it stood
+    seated_end : is_act old.next ≡ false → Seated s all i (record old { ended = true })
+    seated_end e =
+        let end = end_left old.next e d.no_fault in
+        let still : answers_of i all ≡ answers_of i es = answers_still i es here refl (ap (λ b. not (b || is_fault (action_of old))) end) in
+        seated_with s es all i old true still (end_more i es here refl ∙ or_right (has_end i es) (is_end (action_of old)) end) y
+
+    answered : is_act old.next ≡ true → is_answered here ≡ true
+    answered e = rw ((answered_act y.next.0 old.next y.next.2 e).0, d.no_fault) refl
+
+    seated_heard : (seat : Seat) → is_act old.next ≡ true → Hears old answer seat → Seated s all i seat
+    seated_heard seat e h =
+        let unended : has_end i all ≡ has_end i es = end_more i es here refl ∙ or_none (has_end i es) (is_end (action_of old)) (answered_act y.next.0 old.next y.next.2 e).0 in
+        seated_at s all i (told_more old.process answer) seat y.setting y.number
+        (ap (λ rs. rs ++ answer ∷ []) y.told ∙ sym (answers_more i es here refl (answered e))) (unended ∙ y.ended ∙ sym h.ended) h.stands
+
+    -- fewer steps are left
+    lighter_end : steps_left s (record old { ended = true }) < steps_left s old
+    lighter_end = rw u (omega arith)
+
+    lighter_heard : (seat : Seat) → is_act old.next ≡ true → Hears old answer seat → steps_left s seat < steps_left s old
+    lighter_heard seat e h =
+        let limit : length seat.process.told ≤ s.fuel = few s all i seat (seated_heard seat e h) in
+        let more : length seat.process.told ≡ length old.process.told + 1 = ap (λ (x : Standing). length x.told) h.stands.process ∙ length-append old.process.told (answer ∷ []) in
+        rw (h.ended, u) (one_fewer s.fuel (length old.process.told) (length seat.process.told) more limit)
+      where
+        one_fewer : (fuel m n : ℕ) → n ≡ m + 1 → n ≤ fuel → (fuel - n) + 1 < (fuel - m) + 1
+        one_fewer fuel m n k l = omega arith
+
+    no_fault_here : faults_left new.entries ≡ faults_left es
+    no_fault_here =
+        let none : has_fault new.entries ≡ false = ap has_fault after ∙ fault_more es here ∙ or_false (has_fault es) (is_fault (action_of old)) going d.no_fault in
+        rw (none, going) refl
+
+    -- the process went on, and was answered
+    pub went : (seat : Seat) → Moves old answer seat → TurnLeaves s es i old new.entries seat true
+    went seat m = record {
+      entry = here;
+      can = can_take here going d.becomes;
+      after = after;
+      seated = subst (λ xs. Seated s xs i seat) (sym after) (seated_on (is_act old.next) refl);
+      lighter = subst (λ k. steps_left s seat + k < steps_left s old + faults_left es) (sym no_fault_here) (more (steps_left s seat) (steps_left s old) (faults_left es) (lighter_on (is_act old.next) refl));
+    }
+      where
+        more : (a b c : ℕ) → a < b → a + c < b + c
+        more a b c h = omega arith
+
+        seated_on : (b : Bool) → is_act old.next ≡ b → Seated s all i seat
+        seated_on false e = subst (Seated s all i) (sym (m.ends e)) (seated_end e)
+        seated_on true e = seated_heard seat e (m.hears e)
+
+        lighter_on : (b : Bool) → is_act old.next ≡ b → steps_left s seat < steps_left s old
+        lighter_on false e = subst (λ x. steps_left s x < steps_left s old) (sym (m.ends e)) lighter_end
+        lighter_on true e = lighter_heard seat e (m.hears e)
+
+  -- behind a fault it stands where it stood
+  pub faulted : (new : StoreState) (kind : FaultKind) → IsRefused st i (place_of old) (action_of old) (err.Faulted kind) new → TurnLeaves s es i old new.entries old true
+  faulted new kind r =
+      let e = fault_entry i (place_of old) kind in
+      let after : new.entries ≡ es ++ e ∷ [] = ap (λ (x : StoreState). x.entries) r.1 in
+      let unended : has_end i (es ++ e ∷ []) ≡ old.ended = end_more i es e refl ∙ or_none (has_end i es) false refl ∙ y.ended in
+      let going : has_fault es ≡ false = goes st.halted r.0.goes_on in
+      let fault : has_fault new.entries ≡ true = ap has_fault after ∙ fault_more es e ∙ or_right (has_fault es) true refl in
+      record {
+        entry = e;
+        can = can_take e going r.0;
+        after = after;
+        seated = subst (λ xs. Seated s xs i old) (sym after) (seated_with s es (es ++ e ∷ []) i old old.ended (answers_still i es e refl refl) unended y);
+        lighter = rw (fault, going) (last (steps_left s old));
+      }
+    where
+      last : (a : ℕ) → a + 0 < a + 1
+      last a = omega arith
+
+  -- one that has to wait, or behind a fault, can take none
+  pub waits : (new : StoreState) → IsRefused st i (place_of old) (action_of old) err.NotYet new → TurnLeaves s es i old new.entries old false
+  waits new r = (ap (λ (x : StoreState). x.entries) r.2, λ e t. r.1 (subst (IsReady s es i) (only_next s es i old e y t) t.ready))
+
+  pub stopped : st.halted ≡ false → (new : StoreState) → IsRefused st i (place_of old) (action_of old) err.Halted new → TurnLeaves s es i old new.entries old false
+  stopped unhalted new r = (ap (λ (x : StoreState). x.entries) r.1, λ e t. absurd (either st.halted (has_fault es) unhalted t.goes_on r.0))
+    where
+      either : (a b : Bool) → a ≡ false → b ≡ false → (a || b) ≡ true → ⊥
+      either true b x z h = cc
+      either false b x z h = cc
+
+-- neither can one that has its end
+pub at_end : (s : Setting) (es : List Entry) (i : ℕ) (old : Seat) → Seated s es i old → old.ended ≡ true → TurnLeaves s es i old es old false
+at_end s es i old y ended = (refl, λ e t. true_false (sym ended ∙ sym y.ended ∙ t.unended))

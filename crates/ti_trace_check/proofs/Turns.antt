@@ -1,0 +1,74 @@
+-- What the turn of a process makes of all seats.
+use Rattle.std.proofs.Common.{◌≡◌, ℕ, ◌+◌, ◌<◌, ◌==◌, Bool, true, false, map, filter, nat_lt, List, [], ◌∷◌, ◌++◌, length, get_or, slice_set, refl, sym, ap, ◌∙◌, subst, arith, eqb-true, ltb-true, length-set, get_or-set_same, get_or-set_other, length-append}
+use Rattle.std.specs.Prelude.{sum_by}
+use Rattle.std.specs.List.{list_any}
+use Rattle.std.proofs.lemmas.Bool.{eqb-false, ltb-false}
+use Rattle.std.proofs.lemmas.List.{get_or_append_left, get_or_push}
+use Rattle.std.proofs.lemmas.List.Sums.{sum_by-set}
+use Rattle.ti_base.specs.declared.entry.Entry.{Entry}
+use Rattle.ti_lang.specs.Meaning.Processes.{Setting}
+use Rattle.ti_lang.specs.Meaning.Histories.{is_end, is_answered, entries_of}
+use Rattle.ti_lang.specs.Meaning.Runs.{more}
+use Rattle.ti_lang.proofs.MeaningLaws.Running.{taker}
+use Rattle.ti_watch.specs.Reports.{entry_text}
+use Rattle.ti_trace_check.specs.declared.seat.Seat.{Seat}
+use Rattle.ti_trace_check.specs.MirrorsSeats.{Seated, steps_left, faults_left, Takes, AllSeated, Stands, turns_left, GoesOn}
+use Rattle.ti_trace_check.proofs.Entries.{other_more}
+
+-- the seat of a process tells where it stands still, where the run went on elsewhere
+seated_still : (s : Setting) (es all : List Entry) (i : ℕ) (seat : Seat) → entries_of i all ≡ entries_of i es → Seated s es i seat → Seated s all i seat
+seated_still s es all i seat same y = record {
+  setting = y.setting;
+  number = y.number;
+  told = y.told ∙ sym (ap (λ own. map (λ (e : Entry). e.answer) (filter is_answered own)) same);
+  asks = y.asks;
+  next = y.next;
+  ended = ap (list_any (λ (e : Entry). is_end e.act)) same ∙ y.ended;
+}
+
+module _ (s : Setting) (es all : List Entry) (seats : List Seat) (i : ℕ) (old new : Seat) (g : Takes s es i old all new) (x : Stands s es seats) (inside : i < length seats) (is : old ≡ get_or seats i old) where
+  -- nothing changes for another
+  other_on : (j : ℕ) → (i == j) ≡ false → entries_of j all ≡ entries_of j es
+  other_on j h = ap (entries_of j) g.after ∙ other_more j es g.entry (ap (λ k. k == j) (taker s es i g.entry g.can) ∙ h)
+
+  seated_on : AllSeated s all (slice_set seats i new)
+  seated_on d j l = by (i == j) refl
+    where
+      by : (b : Bool) → (i == j) ≡ b → Seated s all j (get_or (slice_set seats i new) j d)
+      by true h =
+          let same : i ≡ j = eqb-true i j h in
+          subst (λ k. Seated s all k (get_or (slice_set seats i new) k d)) same (subst (Seated s all i) (sym (get_or-set_same seats i new d inside)) g.seated)
+      by false h =
+          subst (Seated s all j) (sym (get_or-set_other seats i j new d (λ e. eqb-false i j h (sym e))))
+          (seated_still s es all j (get_or seats j d) (other_on j h) (x.seated d j (subst (λ n. j < n) (length-set seats i new) l)))
+
+  lighter_on : turns_left s all (slice_set seats i new) < turns_left s es seats
+  lighter_on =
+      let sums = sum_by-set (steps_left s) seats i new old inside in
+      let same : steps_left s (get_or seats i old) ≡ steps_left s old = ap (steps_left s) (sym is) in
+      fewer (sum_by (steps_left s) (slice_set seats i new)) (steps_left s (get_or seats i old)) (sum_by (steps_left s) seats) (steps_left s new) (steps_left s old) (faults_left all) (faults_left es) sums same g.lighter
+    where
+      fewer : (a b c d e f h : ℕ) → a + b ≡ c + d → b ≡ e → d + f < e + h → a + f < c + h
+      fewer a b c d e f h k l m = omega arith
+
+  -- the run goes on by the entry of the line
+  pub goes_on : (line : List ℕ) → line ≡ entry_text (length es) g.entry → GoesOn s es seats all (slice_set seats i new) line
+  goes_on line text = record {
+    entry = g.entry;
+    after = g.after;
+    text = text;
+    stands = record { run = more x.run g.can g.after; count = length-set seats i new ∙ x.count; seated = seated_on };
+    lighter = lighter_on;
+  }
+
+-- one seat more, before the first entry
+pub seated_more : (s : Setting) (xs : List Seat) (x : Seat) → Seated s [] (length xs) x → AllSeated s [] xs → AllSeated s [] (xs ++ x ∷ [])
+seated_more s xs x y seated d i l = by (nat_lt i (length xs)) refl
+  where
+    by : (b : Bool) → nat_lt i (length xs) ≡ b → Seated s [] i (get_or (xs ++ x ∷ []) i d)
+    by true h =
+        let before = ltb-true i (length xs) h in
+        subst (Seated s [] i) (sym (get_or_append_left xs (x ∷ []) d i before)) (seated d i before)
+    by false h =
+        let last : length xs ≡ i = omega (arith, ltb-false i (length xs) h, length-append xs (x ∷ [])) in
+        subst (Seated s [] i) (sym (get_or_push xs x d i last)) (subst (λ k. Seated s [] k x) last y)

@@ -1,0 +1,21 @@
+use Rattle.std.proofs.Common.{◌≡◌, ◌≤◌, ◌++◌, true, length}
+use Rattle.ti_io.specs.Source.{SameFiles}
+use Rattle.ti_store.specs.Stores.{setting_of}
+use Rattle.ti_trace_check.specs.MirrorsPieces.{held, IsRoom}
+use Rattle.ti_trace_check.specs.MirrorsSeats.{Stands, turns_left}
+use Rattle.ti_trace_check.proofs.OfLines.{Goes}
+use Rattle.ti_trace_check.proofs.following.follow.Given as goal
+
+abbrev pub invariant-lines : goal.invariant-lines
+invariant-lines g l = record {
+  store : l.store ≡ record l.fn.store { entries = l.store.entries };
+  stands : Stands (setting_of l.fn.store) l.store.entries l.seats.items;
+  taken : l.taken ≡ length l.store.entries;
+  room : IsRoom l.pieces;
+  never_falls : (g.S.Source.state l.fn.source).faults ≤ (g.S.Source.state l.source).faults;
+  same : SameFiles (g.S.Source.state l.fn.source) (g.S.Source.state l.source);
+  told : (g.S.Source.state l.fn.source).tells ≡ true → Goes (g.S.Source.state l.fn.source).left l.store.entries l.line (held l.pieces ++ (g.S.Source.state l.source).left);
+}
+
+abbrev pub decreases-lines : goal.decreases-lines
+decreases-lines g l = turns_left (setting_of l.fn.store) l.store.entries l.seats.items

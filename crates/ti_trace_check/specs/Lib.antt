@@ -1,0 +1,4 @@
+pub mod Lines
+pub mod Verdicts
+pub mod MirrorsPieces
+pub mod MirrorsSeats

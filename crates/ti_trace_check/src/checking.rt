@@ -1,0 +1,115 @@
+// The check of a trace.
+ghost use Rattle.std.specs.Prelude.{◌≡◌, ◌≤◌, ◌||◌, [], true, length, IfOk, IfErr};
+ghost use Rattle.std.specs.List.{list_all};
+ghost use Rattle.ti_io.specs.Faults.{Rose};
+ghost use Rattle.ti_io.specs.Source.{SameFiles};
+ghost use Rattle.ti_lang.specs.Meaning.Histories.{has_fault as fault_in};
+ghost use Rattle.ti_lang.specs.Program.Views.{program_of};
+ghost use Rattle.ti_store.specs.Conditions.{IsWithin};
+ghost use Rattle.ti_trace_check.specs.declared.error.TraceErr.TheVariants.{Read};
+ghost use Rattle.ti_trace_check.specs.MirrorsSeats.{Stands, Gives};
+ghost use Rattle.ti_trace_check.specs.Verdicts.{Keeps, Judges};
+
+use crate::error::TraceErr;
+use crate::following::{Followed, follow};
+use crate::seat::Seat;
+use crate::verdict::Verdict;
+use std::alloc::Global;
+use std::marker::Brand;
+use ti_base::{Action, Entry, Memory};
+use ti_io::Source;
+use ti_rules::Checked;
+use ti_store::{Store, Terms};
+
+// The processes of a run before the first entry.
+fn seats_of(alloc: Global, c: &Checked, procs: u32, fuel: u32) -> Result<Vec<Seat>, Memory>
+    requires { IsWithin procs fuel }
+    ensures { IfOk result (λ seats. Stands (record { program = program_of c.now.program.parts; procs = procs; fuel = fuel }) [] seats.items) }
+{
+    let mut seats = Vec::with_capacity(alloc, procs as usize)?;
+    for number in 0..procs {
+        let seat = Seat::take(alloc, c, number, procs, fuel)?;
+        seats.push(seat)?;
+    }
+    Ok(seats)
+}
+
+// Whether some entry is a fault.
+fn has_fault(entries: &[Entry]) -> bool
+    ensures { result ≡ fault_in entries.now }
+{
+    entries
+        .iter()
+        .any(|e| matches!(e.act, Action::Fault { .. }))
+}
+
+// Whether all processes had their end.
+fn have_ended(seats: &[Seat]) -> bool
+    ensures { result ≡ list_all (λ seat. seat.ended) seats.now }
+{
+    seats.iter().all(|seat| seat.ended)
+}
+
+// Whether one of the two holds.
+fn either(one: bool, other: bool) -> bool
+    ensures { result ≡ (one || other) }
+{
+    one || other
+}
+
+// The verdict on a text that a run followed so far.
+fn verdict_of(end: Followed, is_complete: bool, mut entries: Vec<Entry>) -> Verdict
+    requires { end.taken ≤ length entries.items }
+    ensures { Gives end is_complete entries.items result }
+{
+    entries.truncate(end.taken);
+    if end.is_end && is_complete {
+        Verdict::Run(entries)
+    } else {
+        Verdict::NoRun(end.taken as u64 + 1, entries)
+    }
+}
+
+// The verdict by terms that somebody has picked.
+fn check_by<J: Terms, S: Source>(
+    alloc: Global,
+    c: &Checked,
+    procs: u32,
+    fuel: u32,
+    source: &mut S,
+) -> Result<Verdict, TraceErr>
+    requires within { IsWithin procs fuel }
+    requires terms { record { program = program_of c.now.program.parts; procs = procs; fuel = fuel } ≡ J.setting }
+    ensures never_falls { (S.state source.old).faults ≤ (S.state source.new).faults }
+    ensures same { SameFiles (S.state source.old) (S.state source.new) }
+    ensures keeps { IfOk result (λ v. Keeps (record { program = program_of c.now.program.parts; procs = procs; fuel = fuel }) v) }
+    ensures judges { IfOk result (λ v. (S.state source.old).tells ≡ true → Judges (record { program = program_of c.now.program.parts; procs = procs; fuel = fuel }) (S.state source.old).left v) }
+    ensures read { IfErr result (λ e. e ≡ Read → Rose (S.state source.old).faults (S.state source.new).faults) }
+{
+    let mut store = Store::<J>::new(alloc, c, procs, fuel)?;
+    let mut seats = seats_of(alloc, c, procs, fuel)?;
+    let end = follow(alloc, c, &mut seats, &mut store, source)?;
+    let is_complete = either(have_ended(&seats), has_fault(store.history()));
+    Ok(verdict_of(end, is_complete, store.into_history()))
+}
+
+/// Whether what is left of a source is the trace of a complete run of a checked program, by so many processes with so many ticks of fuel
+/// each.
+///
+/// Each line names the process whose next entry it has to be. What is left is read in pieces, and one line is held at a time.
+pub fn check_trace<S: Source>(
+    alloc: Global,
+    c: &Checked,
+    procs: u32,
+    fuel: u32,
+    source: &mut S,
+) -> Result<Verdict, TraceErr>
+    requires within { IsWithin procs fuel }
+    ensures never_falls { (S.state source.old).faults ≤ (S.state source.new).faults }
+    ensures same { SameFiles (S.state source.old) (S.state source.new) }
+    ensures keeps { IfOk result (λ v. Keeps (record { program = program_of c.now.program.parts; procs = procs; fuel = fuel }) v) }
+    ensures judges { IfOk result (λ v. (S.state source.old).tells ≡ true → Judges (record { program = program_of c.now.program.parts; procs = procs; fuel = fuel }) (S.state source.old).left v) }
+    ensures read { IfErr result (λ e. e ≡ Read → Rose (S.state source.old).faults (S.state source.new).faults) }
+{
+    check_by::<Brand, S>(alloc, c, procs, fuel, source)
+}

@@ -1,0 +1,24 @@
+// The line of an entry.
+ghost use Rattle.std.specs.Prelude.{◌≡◌, ◌≤◌, length};
+ghost use Rattle.ti_watch.specs.Reports.{entry_text};
+
+use ti_base::Entry;
+use ti_watch::Line;
+
+/// The line of an entry that has this number, with its end.
+pub fn entry_line(number: usize, e: &Entry) -> Line
+    ensures text { result ≡ entry_text number e.now }
+    ensures short { length result ≤ 345 }
+{
+    let mut line = Line::new();
+    line.number(number);
+    line.labelled(b" p", e.proc);
+    line.labelled(b" ", e.place.line);
+    line.labelled(b":", e.place.col);
+    line.text(b" ");
+    line.act(e.act);
+    line.text(b" -> ");
+    line.answer(e.answer);
+    line.text(b"\n");
+    line
+}

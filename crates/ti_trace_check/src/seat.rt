@@ -1,0 +1,104 @@
+// A process of a run with what it has next.
+ghost use Rattle.std.specs.Prelude.{◌≡◌, ◌<◌, ◌^◌, [], true, false, IfOk, OnOk};
+ghost use Rattle.ti_eval.specs.Forms.{IsFormedAnswer};
+ghost use Rattle.ti_exec.specs.Standing.{is_act};
+ghost use Rattle.ti_lang.specs.Meaning.Runs.{IsRun};
+ghost use Rattle.ti_lang.specs.Program.Views.{program_of};
+ghost use Rattle.ti_store.specs.Stores.{setting_of};
+ghost use Rattle.ti_trace_check.specs.MirrorsSeats.{doing_of, StandsAt, Seated, Moves, TurnLeaves};
+
+use std::alloc::Global;
+use ti_base::{Action, Answer, Memory, Next, Place};
+use ti_exec::TreeProc;
+use ti_rules::Checked;
+use ti_store::{ActErr, Store, Terms};
+
+/// A process of a run with what it has next, and whether it had its end.
+#[derive(Drop)]
+pub struct Seat {
+    pub process: TreeProc,
+    pub next: Next,
+    pub ended: bool,
+}
+
+// What a process has next, as a store takes it.
+fn doing(next: Next) -> (Place, Action)
+    ensures { result ≡ doing_of next }
+{
+    match next {
+        Next::Act(place, action) => (place, action),
+        Next::End(place) => (place, Action::End),
+        Next::Fault(kind, place) => (place, Action::Fault { kind }),
+    }
+}
+
+impl Seat {
+    /// The process of a number before its first entry.
+    pub fn take(
+        alloc: Global,
+        c: &Checked,
+        number: u32,
+        procs: u32,
+        fuel: u32,
+    ) -> Result<Seat, Memory>
+        requires number { number < 2 ^ 31 }
+        requires procs { procs < 2 ^ 31 }
+        ensures stands { IfOk result (λ seat. StandsAt (record { program = c.now.program.parts; procs = procs; fuel = fuel; number = number; told = []; asks = false }) seat) }
+        ensures unended { IfOk result (λ seat. seat.ended ≡ false) }
+    {
+        let mut process = TreeProc::start(alloc, c, number, procs, fuel)?;
+        let next = process.advance(alloc, c)?;
+        Ok(Seat {
+            process,
+            next,
+            ended: false,
+        })
+    }
+
+    // Goes on behind what it has next, which got this answer.
+    fn go_on(&mut self, alloc: Global, c: &Checked, answer: Answer) -> Result<(), Memory>
+        requires program { program_of c.now.program.parts ≡ program_of self.old.process.program }
+        requires asks { is_act self.old.next ≡ true → self.old.process.asks ≡ true }
+        requires form { IsFormedAnswer answer }
+        ensures { OnOk result (Moves self.old answer self.new) }
+    {
+        let Next::Act(_, _) = self.next else {
+            self.ended = true;
+            return Ok(());
+        };
+        self.process.answer(answer);
+        self.next = self.process.advance(alloc, c)?;
+        Ok(())
+    }
+
+    /// Lets the process take its next entry, where there is one that it can take.
+    pub fn take_turn<J: Terms>(
+        &mut self,
+        alloc: Global,
+        c: &Checked,
+        store: &mut Store<J>,
+        number: u32,
+    ) -> Result<bool, Memory>
+        requires program { program_of c.now.program.parts ≡ program_of store.old.program }
+        requires unhalted { store.old.halted ≡ false }
+        requires number { number < store.old.procs }
+        requires seated { Seated (setting_of store.old) store.old.entries number self.old }
+        ensures leaves { IfOk result (λ took. TurnLeaves (setting_of store.old) store.old.entries number self.old store.new.entries self.new took) }
+        ensures store { store.new ≡ record store.old { entries = store.new.entries } }
+    {
+        if self.ended {
+            return Ok(false);
+        }
+        let (place, action) = doing(self.next);
+        match store.act(alloc, number, place, action) {
+            Ok(answer) => {
+                self.go_on(alloc, c, answer)?;
+                Ok(true)
+            }
+            Err(ActErr::Faulted(_)) => Ok(true),
+            Err(ActErr::NotYet) => Ok(false),
+            Err(ActErr::Halted) => Ok(false),
+            Err(ActErr::Memory) => Err(Memory),
+        }
+    }
+}
