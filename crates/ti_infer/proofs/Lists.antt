@@ -1,0 +1,82 @@
+-- Lists of refusals, and what is the same in every marked program.
+use Rattle.std.proofs.Common.{◌≡◌, ℕ, Bool, true, false, ◌||◌, List, [], ◌∷◌, ◌++◌, map, flat_map, Option, refl, ap, ap₂, sym, ◌∙◌}
+use Rattle.ti_base.specs.declared.place.Place.{Place}
+use Rattle.ti_lang.specs.Program.Expressions.{NumberedExp}
+use Rattle.ti_lang.specs.Program.Expressions as e
+use Rattle.ti_lang.specs.Program.Statements.{NumberedStm, numbered_stms}
+use Rattle.ti_lang.specs.Program.Statements as st
+use Rattle.ti_lang.specs.Program.Classes.{NumberedProgram}
+use Rattle.ti_lang.specs.Typing.Effects.{is_collective, is_collective_call}
+use Rattle.ti_rules.specs.declared.rule.Rule.{Rule}
+use Rattle.ti_rules.specs.declared.refusal.Refusal.{Refusal}
+use Rattle.ti_rules.specs.Refusals.{refused_if}
+use Rattle.ti_rules.specs.Standing.{Standing}
+use Rattle.ti_rules.specs.SingleRules.{standing_single_refusals}
+use Rattle.ti_blame.specs.Marks.{Marks}
+use Rattle.ti_infer.specs.Marked.{marked_exp, marked_stm, marked_stms, marked}
+use Rattle.ti_infer.proofs.Same.{language_same}
+
+pub refused_none : (b : Bool) (rule : Rule) (at : Place) → refused_if b rule at ≡ [] → b ≡ false
+refused_none true rule at h = cc
+refused_none false rule at h = refl
+
+pub none_refused : (b : Bool) (rule : Rule) (at : Place) → b ≡ false → refused_if b rule at ≡ []
+none_refused b rule at h = rw h refl
+
+pub none_both : {A : Type 0} → (xs ys : List A) → xs ++ ys ≡ [] → (xs ≡ []) × (ys ≡ [])
+none_both [] ys h = (refl, h)
+none_both (x ∷ xs) ys h = absurd (by h)
+  where
+    by : x ∷ (xs ++ ys) ≡ [] → ⊥
+    by e = cc
+
+pub both_none : {A : Type 0} → (xs ys : List A) → xs ≡ [] → ys ≡ [] → xs ++ ys ≡ []
+both_none xs ys h k = ap₂ (λ a b. a ++ b) h k
+
+pub stms_of_map : (i : ℕ → Bool) (d : Place → Bool) (xs : List NumberedStm) → numbered_stms (map (marked_stm i d) xs) ≡ marked_stms i d (numbered_stms xs)
+stms_of_map i d [] = refl
+stms_of_map i d (x ∷ xs) = ap (st.Cons (marked_stm i d x)) (stms_of_map i d xs)
+
+pub or_same : (a : Bool) → a ≡ (a || a)
+or_same true = refl
+or_same false = refl
+
+pub flat_append : {A B : Type 0} (f : A → List B) (xs ys : List A) → flat_map f (xs ++ ys) ≡ flat_map f xs ++ flat_map f ys
+flat_append f [] ys = refl
+flat_append f (x ∷ xs) ys = ap (λ zs. f x ++ zs) (flat_append f xs ys) ∙ assoc (f x) (flat_map f xs) (flat_map f ys)
+  where
+    assoc : {B : Type 0} (a b d : List B) → a ++ (b ++ d) ≡ (a ++ b) ++ d
+    assoc [] b d = refl
+    assoc (z ∷ a) b d = ap (λ w. z ∷ w) (assoc a b d)
+
+-- what is wrong with statements where they stand
+abbrev pub wrong : NumberedProgram → List Standing → List Refusal
+wrong p xs = flat_map (standing_single_refusals p) xs
+
+pub wrong_both : (p : NumberedProgram) (xs ys : List Standing) → wrong p (xs ++ ys) ≡ [] → (wrong p xs ≡ []) × (wrong p ys ≡ [])
+wrong_both p xs ys h = none_both _ _ (sym (flat_append (standing_single_refusals p) xs ys) ∙ h)
+
+pub both_wrong : (p : NumberedProgram) (xs ys : List Standing) → wrong p xs ≡ [] → wrong p ys ≡ [] → wrong p (xs ++ ys) ≡ []
+both_wrong p xs ys h k = flat_append (standing_single_refusals p) xs ys ∙ both_none _ _ h k
+
+module _ (p : NumberedProgram) (this : Option ℕ) (marks : Marks) (i : ℕ → Bool) where
+  pub collective_same : (x : NumberedExp) → is_collective_call (marked marks p) this (marked_exp i x) ≡ is_collective_call p this x
+  collective_same (e.Member at a name args) = ap is_collective (language_same marks p this i a name)
+  collective_same (e.Int at k) = refl
+  collective_same (e.Long at k) = refl
+  collective_same (e.Truth at b) = refl
+  collective_same (e.Null at) = refl
+  collective_same (e.This at) = refl
+  collective_same (e.Variable at v) = refl
+  collective_same (e.OwnField at field) = refl
+  collective_same (e.Call at method args) = refl
+  collective_same (e.OwnCall at method args) = refl
+  collective_same (e.ThisProc at) = refl
+  collective_same (e.NumProcs at) = refl
+  collective_same (e.Point at parts) = refl
+  collective_same (e.Rect at ranges) = refl
+  collective_same (e.Unary at o x) = refl
+  collective_same (e.Binary at o x y) = refl
+  collective_same (e.Cast at to x) = refl
+  collective_same (e.Select at x name) = refl
+  collective_same (e.Index at x parts) = refl

@@ -1,0 +1,6 @@
+use Rattle.ti_infer.proofs.ProgramEdges.{kept_edges, edges_kept}
+use Rattle.ti_infer.proofs.FitEdges.{edges_fit, fit_edges_kept}
+use Rattle.ti_infer.proofs.laws.edges_are_rules.Goals as goal
+
+pub returns : goal.returns
+returns c = record { kept = kept_edges; keeps = edges_kept; fits = fit_edges_kept; fit = edges_fit }

@@ -1,0 +1,11 @@
+pub mod Marks
+pub mod Marked
+pub mod Stripped
+pub mod Blame
+pub mod Descent
+pub mod Mirrors
+pub mod Reworded
+pub mod Fitting
+pub mod Accepted
+pub mod Collectives
+pub mod Inferred

@@ -1,0 +1,75 @@
+-- Nobody has to believe this: it mirrors code, and only contracts of private functions speak of it.
+-- Marks that can't stand where they do fall, and those of parameters fall with that of their method.
+use Rattle.std.specs.Prelude.{Bool, true, false, if◌then◌else◌, List, [], ◌∷◌, ◌++◌, flat_map, None}
+use Rattle.ti_base.specs.declared.place.Place.{Place}
+use Rattle.ti_syntax.specs.declared.tree.classes.ModifierWord.TheVariants as word
+use Rattle.ti_lang.specs.Program.Types.{NumberedType}
+use Rattle.ti_lang.specs.Program.Statements.{NumberedStm, MaybeNumbered, NumberedStms, numbered_stms}
+use Rattle.ti_lang.specs.Program.Statements as st
+use Rattle.ti_lang.specs.Program.Classes.{NumberedParam, NumberedParams, Words, Params, NumberedResult, NumberedMethod, NumberedProgram}
+use Rattle.ti_lang.specs.Program.Classes as c
+use Rattle.ti_rules.specs.declared.refusal.Refusal.{Refusal}
+use Rattle.ti_lang.specs.Typing.Declared.{is_static_method}
+use Rattle.ti_rules.specs.Broken.Words.{repeated_modifiers, type_word_refusals, method_modifier_refusals}
+use Rattle.ti_blame.specs.declared.blame.Blame.{Blame}
+use Rattle.ti_blame.specs.declared.blame.Blame.TheVariants.{OfMethod, OfResult, OfVariable}
+use Rattle.ti_blame.specs.declared.edge.Then.TheVariants.{One}
+use Rattle.ti_blame.specs.declared.edge.Edge.{Edge}
+use Rattle.ti_infer.specs.Marked.{marked_type}
+use Rattle.ti_infer.specs.Mirrors.Edges.{one_each, own_asks}
+
+abbrev pub is_none : List Refusal → Bool
+is_none [] = true
+is_none (r ∷ rs) = false
+
+-- it falls in any case, where the test fails
+abbrev pub falls_unless : Bool → Blame → List Edge
+falls_unless b x = if b then [] else record { from = None; then = One x } ∷ []
+
+-- the word can stand at the type
+abbrev pub takes_mark : Place → NumberedType → Bool
+takes_mark at t = is_none (type_word_refusals true (marked_type true at t))
+
+abbrev mutual
+  pub declared_edges : NumberedStm → List Edge
+  declared_edges (st.Declare at type variable value) = falls_unless (takes_mark at type) (OfVariable at)
+  declared_edges (st.Block body) = declared_edges_all body
+  declared_edges (st.If at c a) = declared_edges a
+  declared_edges (st.IfElse at c a b) = declared_edges a ++ declared_edges b
+  declared_edges (st.While at c body) = declared_edges body
+  declared_edges (st.For at first c update body) = declared_edges_maybe first ++ (declared_edges_maybe update ++ declared_edges body)
+  declared_edges (st.Foreach at variable domain body) = declared_edges body
+  declared_edges s = []
+
+  pub declared_edges_maybe : MaybeNumbered → List Edge
+  declared_edges_maybe st.NoStm = []
+  declared_edges_maybe (st.SomeStm s) = declared_edges s
+
+  pub declared_edges_all : NumberedStms → List Edge
+  declared_edges_all st.Nil = []
+  declared_edges_all (st.Cons s rest) = declared_edges s ++ declared_edges_all rest
+
+-- the word can stand at the method
+abbrev pub method_takes_mark : NumberedMethod → Bool
+method_takes_mark m =
+    let words = m.modifiers ++ record { word = word.Single; place = m.place } ∷ [] in
+    is_none (repeated_modifiers [] words ++ flat_map (method_modifier_refusals (is_static_method m)) words)
+
+abbrev pub result_edges : NumberedMethod → NumberedResult → List Edge
+result_edges m c.Void = []
+result_edges m (c.Typed t) = falls_unless (takes_mark m.place t) (OfResult m.place)
+
+abbrev pub param_edges : NumberedMethod → List NumberedParam → List Edge
+param_edges m [] = []
+param_edges m (w ∷ ws) = (falls_unless (takes_mark w.place w.ty) (OfVariable w.place) ++ one_each (own_asks m) (One (OfVariable w.place))) ++ param_edges m ws
+
+abbrev pub all_param_edges : NumberedMethod → NumberedParams → List Edge
+all_param_edges m Words = []
+all_param_edges m (Params ws) = param_edges m ws
+
+abbrev pub method_fit_edges : NumberedMethod → List Edge
+method_fit_edges m =
+    ((falls_unless (method_takes_mark m) (OfMethod m.place) ++ result_edges m m.result) ++ all_param_edges m m.params) ++ declared_edges_all (numbered_stms m.body)
+
+abbrev pub fit_edges : NumberedProgram → List Edge
+fit_edges p = flat_map method_fit_edges p.methods

@@ -1,0 +1,73 @@
+// Laws of markings: functions that do nothing, whose contracts are the laws.
+ghost use Rattle.std.specs.Prelude.{◌≡◌, not, Bool, true, false, List, [], ◌++◌, Option};
+ghost use Rattle.std.specs.List.{list_any};
+ghost use Rattle.ti_base.specs.declared.place.Place.{Place};
+ghost use Rattle.ti_lang.specs.Program.Classes.{NumberedProgram};
+ghost use Rattle.ti_rules.specs.TypeRules.{type_refusals};
+ghost use Rattle.ti_rules.specs.SingleRules.{single_refusals};
+ghost use Rattle.ti_infer.specs.Accepted.{IsAccepted};
+ghost use Rattle.ti_infer.specs.Fitting.{MarksFit};
+ghost use Rattle.ti_blame.specs.Marks.{Marks, IsPart, union};
+ghost use Rattle.ti_infer.specs.Marked.{marked};
+ghost use Rattle.ti_infer.specs.Stripped.{stripped, HavePlainResults};
+ghost use Rattle.ti_infer.specs.Blame.{program_blamed, KeepsSingle, every_one};
+ghost use Rattle.ti_infer.specs.Collectives.{is_collective_at, program_reasons};
+ghost use Rattle.ti_infer.specs.Descent.{without, is_fixed, is_always};
+ghost use Rattle.ti_infer.specs.Inferred.{IsInferred};
+ghost use Rattle.ti_infer.specs.Mirrors.Edges.{all_reasons, program_edges};
+ghost use Rattle.ti_infer.specs.Mirrors.Fits.{fit_edges};
+ghost use Rattle.ti_blame.specs.declared.blame.Blame.{Blame};
+ghost use Rattle.ti_blame.specs.declared.mark.Mark.{Mark};
+ghost use Rattle.ti_blame.specs.Falling.{stands, KeepsEdges};
+ghost use Rattle.ti_blame.specs.Settling.{IsSettled};
+
+/// Where a program breaks no rule of single values under two markings, it breaks none under their union, whichever collectives count.
+pub fn union_keeps_single_rules()
+    ensures { (counts : Place → Bool) (p : NumberedProgram) (m n : Marks) → KeepsSingle counts p m → KeepsSingle counts p n → KeepsSingle counts p (union m n) }
+{}
+
+/// Where all collectives count, the rules by reasons are the rules of single values of the marked program.
+pub fn reasons_are_rules()
+    ensures by_rules { (p : NumberedProgram) (m : Marks) → single_refusals (marked m p) ≡ [] → KeepsSingle every_one p m }
+    ensures by_reasons { (p : NumberedProgram) (m : Marks) → HavePlainResults p.methods → KeepsSingle every_one p m → single_refusals (marked m p) ≡ [] }
+    ensures stripped { (p : NumberedProgram) → HavePlainResults (stripped p).methods }
+{}
+
+/// The fewer collectives count, the more markings keep the rules; where all of the program count, the rules are kept as where every one does.
+pub fn fewer_collectives()
+    ensures fewer { (fewer more : Place → Bool) (p : NumberedProgram) (m : Marks) → ((at : Place) → fewer at ≡ true → more at ≡ true) → KeepsSingle more p m → KeepsSingle fewer p m }
+    ensures all { (counts : Place → Bool) (p : NumberedProgram) (m : Marks) → list_any (is_collective_at (λ at. not (counts at))) (program_reasons p) ≡ false → KeepsSingle counts p m → KeepsSingle every_one p m }
+{}
+
+/// Taking away what is to blame loses no part that keeps the rules; where that takes nothing away and nothing fixed is to blame, the
+/// rules are kept; where something fixed is to blame, no part keeps them.
+pub fn greatest_is_found()
+    ensures stays { (counts : Place → Bool) (p : NumberedProgram) (a u : Marks) → IsPart a u → KeepsSingle counts p a → IsPart a (without (program_blamed p u) u) }
+    ensures ends { (counts : Place → Bool) (p : NumberedProgram) (u : Marks) → IsPart u (without (program_blamed p u) u) → list_any (is_fixed counts) (program_blamed p u) ≡ false → KeepsSingle counts p u }
+    ensures none { (counts : Place → Bool) (p : NumberedProgram) (a u : Marks) → IsPart a u → KeepsSingle counts p a → list_any (is_fixed counts) (program_blamed p u) ≡ true → ⊥ }
+{}
+
+/// The marked program breaks no rule of types and qualifiers exactly where the marks can stand where they do.
+pub fn marks_and_types()
+    ensures fits { (p : NumberedProgram) (m : Marks) → type_refusals p ≡ [] → MarksFit m p → type_refusals (marked m p) ≡ [] }
+    ensures fit { (p : NumberedProgram) (m : Marks) → type_refusals (marked m p) ≡ [] → MarksFit m p }
+{}
+
+/// The union of two accepted markings is accepted.
+pub fn union_is_accepted()
+    ensures { (p : NumberedProgram) (m n : Marks) → type_refusals p ≡ [] → HavePlainResults p.methods → IsAccepted p m → IsAccepted p n → IsAccepted p (union m n) }
+{}
+
+/// The edges of a program say what is to blame in it, and which marks can't stand where they do.
+pub fn edges_are_rules()
+    ensures kept { (counts : Place → Bool) (p : NumberedProgram) (m : Marks) → KeepsSingle counts p m → KeepsEdges (stands counts m) (all_reasons p) (program_edges p) }
+    ensures keeps { (counts : Place → Bool) (p : NumberedProgram) (m : Marks) → list_any is_always (program_blamed p m) ≡ false → KeepsEdges (stands counts m) (all_reasons p) (program_edges p) → KeepsSingle counts p m }
+    ensures fits { (counts : Place → Bool) (m : Marks) (items : List Blame) (p : NumberedProgram) → MarksFit m p → KeepsEdges (stands counts m) items (fit_edges p) }
+    ensures fit { (counts : Place → Bool) (m : Marks) (items : List Blame) (p : NumberedProgram) → type_refusals p ≡ [] → KeepsEdges (stands counts m) items (fit_edges p) → MarksFit m p }
+{}
+
+/// What is left once all that falls has fallen is the greatest accepted marking, or tells the first collective that no marking aligns.
+/// Nothing may be to blame in any case, as in the program of a text.
+pub fn settled_is_inferred()
+    ensures { (p : NumberedProgram) (names marks : List Mark) (first : Option Place) → type_refusals p ≡ [] → HavePlainResults p.methods → ((m : Marks) → list_any is_always (program_blamed p m) ≡ false) → IsSettled names (all_reasons p) (program_edges p ++ fit_edges p) marks first → IsInferred p names marks first }
+{}
