@@ -10,9 +10,8 @@ use Rattle.ti_lang.specs.Meaning.Histories.{has_end, has_fault}
 use Rattle.ti_lang.specs.Meaning.Runs.{IsRun, IsSolo, AllEnded}
 use Rattle.ti_lang.specs.Meaning.Runs as run
 use Rattle.ti_align.specs.Alignment.{NoneStuck}
-use Rattle.ti_store.specs.Stores.{StoreState, setting_of}
 use Rattle.ti_code.specs.Programs.{Code}
-use Rattle.ti_machine.specs.Standing.{HasFinished}
+use Rattle.ti_machine.specs.Standing.{Standing, HasFinished}
 use Rattle.ti_runtime.specs.declared.cursor.Cursor.{Cursor}
 use Rattle.ti_runtime.specs.declared.seat.Seat.{Seat}
 use Rattle.ti_runtime.specs.declared.seat.Stop.TheVariants as stop
@@ -20,7 +19,7 @@ use Rattle.ti_runtime.specs.declared.runner.How.TheVariants as how
 use Rattle.ti_runtime.specs.declared.runner.RunEnd.{RunEnd}
 use Rattle.ti_runtime.specs.Ran.{standing_of, IsDone, Ran}
 use Rattle.ti_runtime.specs.MirrorsWaiting.{Waits, Rests}
-use Rattle.ti_runtime.specs.MirrorsTeam.{Seated, AllSeated, IsOpen, Stands, Stopped, CameTo, MayRun}
+use Rattle.ti_runtime.specs.MirrorsTeam.{Seated, AllSeated, IsTold, AllTold, Stands, Stopped, CameTo}
 use Rattle.ti_runtime.proofs.Waiting.{rest_takes_none}
 
 true_false : true ≡ false → ⊥
@@ -64,14 +63,14 @@ starts code s es seats so_far goes_on count seated = record {
 pub begins : (code : Code) (s : Setting) (seats : List Seat) → length seats ≡ s.procs → AllSeated code s [] seats → Stands code s [] seats (record { at = 0; waiting = 0 })
 begins code s seats count seated = starts code s [] seats run.none refl count seated
 
--- a store before the first entry
-pub opens : (code : Code) (s : Setting) (st : StoreState) → setting_of st ≡ s → st.entries ≡ [] → st.halted ≡ false → MayRun code s → IsOpen code st
-opens code s st is none unhalted may = record { unhalted = unhalted; goes_on = ap has_fault none; may = subst (MayRun code) (sym is) may }
-
-pub stands_first : (code : Code) (s : Setting) (st : StoreState) (seats : List Seat) (c : Cursor) → setting_of st ≡ s → st.entries ≡ [] → Stands code s [] seats c → Stands code (setting_of st) st.entries seats c
-stands_first code s st seats c is none x = subst (λ t. Stands code t st.entries seats c) (sym is) (subst (λ es. Stands code s es seats c) (sym none) x)
-
 -- ---- the end
+
+-- a process that stands at what it has next was told all answers
+pub told_seated : (code : Code) (s : Setting) (es : List Entry) (i : ℕ) (seat : Seat) → Seated code s es i seat → IsTold code s es i seat
+told_seated code s es i seat y = ap (λ (t : Standing). record t { asks = false }) y.process
+
+all_told : (code : Code) (s : Setting) (es : List Entry) (seats : List Seat) → AllSeated code s es seats → AllTold code s es seats
+all_told code s es seats seated d i l = told_seated code s es i (get_or seats i d) (seated d i l)
 
 pub faults : (code : Code) (s : Setting) (before es : List Entry) (seats : List Seat) → Stopped code s before es seats stop.Faulted → CameTo code s before es seats how.Faulted
 faults code s before es seats x = record {
@@ -80,7 +79,7 @@ faults code s before es seats x = record {
   ended = (λ e. cc, λ ended. absurd (x.unended ended));
   faulted = (λ e. x.fault.0 refl, λ h. refl);
   count = x.count;
-  seated = λ e. x.seated (λ z. cc);
+  told = λ e. all_told code s es seats (x.seated (λ z. cc));
 }
 
 pub wants : (code : Code) (s : Setting) (before es : List Entry) (seats : List Seat) → Stopped code s before es seats stop.Memory → CameTo code s before es seats how.Memory
@@ -90,7 +89,7 @@ wants code s before es seats x = record {
   ended = (λ e. cc, λ ended. absurd (x.unended ended));
   faulted = (λ e. cc, λ h. let none : stop.Memory ≡ stop.Faulted = x.fault.1 h in cc);
   count = x.count;
-  seated = λ e. absurd (e refl);
+  told = λ e. absurd (e refl);
 }
 
 -- nobody is left to be tried, so nobody can go on, and all have their end
@@ -103,7 +102,7 @@ ends code s before es seats c solo x past unstuck =
       ended = (λ e. all, λ ended. refl);
       faulted = (λ e. cc, λ h. absurd (true_false (sym h ∙ x.goes_on)));
       count = x.count;
-      seated = λ e. x.seated;
+      told = λ e. all_told code s es seats x.seated;
     }
   where
     tried : (i p n m : ℕ) → i < p → n ≡ p → n ≤ m → i < m
@@ -112,10 +111,10 @@ ends code s before es seats c solo x past unstuck =
 -- ---- what came of a run
 
 -- want of memory before the first entry
-pub unbegun : (code : Code) (s : Setting) (end : RunEnd) → 1 ≤ s.procs → end.how ≡ how.Memory → end.history.items ≡ [] → Ran code s end
-unbegun code s end l m e = record {
+pub unbegun : (code : Code) (s : Setting) (workers : ℕ) (end : RunEnd) → 1 ≤ s.procs → end.how ≡ how.Memory → end.history.items ≡ [] → Ran code s workers end
+unbegun code s workers end l m e = record {
   run = subst (IsRun s) (sym e) run.none;
-  solo = subst (IsSolo s) (sym e) run.none;
+  solo = λ _. subst (IsSolo s) (sym e) run.none;
   ended = (λ z. cc, λ ended. absurd (true_false (sym (subst (λ es. has_end 0 es ≡ true) e (ended 0 (some s.procs l))))));
   faulted = (λ z. cc, λ h. absurd (true_false (sym (subst (λ es. has_fault es ≡ true) e h))));
   done = λ z. absurd (z m);
@@ -138,29 +137,29 @@ finished_on seats done n k seat inside even is one before d i l = by (n == i) re
         let apart = eqb-false n i h in
         subst (λ j. HasFinished (get_or seats i d).process j) (sym (get_or-set_other done n i k 0 (λ e. apart (sym e)))) (before d i (omega (arith, apart)))
 
-some_seat : (seats : List Seat) (i : ℕ) → i < length seats → Seat
+pub some_seat : (seats : List Seat) (i : ℕ) → i < length seats → Seat
 some_seat [] i l = absurd (omega arith)
 some_seat (x ∷ xs) i l = x
 
 -- the numbers that the seats tell are those of the answers of the run
-done_is : (code : Code) (s : Setting) (es : List Entry) (seats : List Seat) (done : List ℕ) → length seats ≡ s.procs → AllSeated code s es seats → length done ≡ length seats
+done_is : (code : Code) (s : Setting) (es : List Entry) (seats : List Seat) (done : List ℕ) → length seats ≡ s.procs → AllTold code s es seats → length done ≡ length seats
     → ((d : Seat) (i : ℕ) → i < length seats → HasFinished (get_or seats i d).process (get_or done i 0)) → IsDone code s es done
-done_is code s es seats done count seated even each = record { count = even ∙ count; each = one }
+done_is code s es seats done count told even each = record { count = even ∙ count; each = one }
   where
     one : (i n : ℕ) → slice_get done i ≡ Some n → HasFinished (standing_of code s es i) n
     one i n z =
         let inside : i < length seats = omega (arith, slice_get_within done i n z, even) in
         let d = some_seat seats i inside in
-        subst (λ t. HasFinished t n) (seated d i inside).process (subst (λ k. HasFinished (get_or seats i d).process k) (get_or_from_slice_get done i n 0 z) (each d i inside))
+        subst (λ t. HasFinished t n) (told d i inside) (subst (λ k. HasFinished (get_or seats i d).process k) (get_or_from_slice_get done i n 0 z) (each d i inside))
 
-pub ran : (code : Code) (s : Setting) (end : RunEnd) (es : List Entry) (seats : List Seat) → end.history.items ≡ es → CameTo code s [] es seats end.how → length end.done.items ≡ length seats
-    → ((d : Seat) (i : ℕ) → i < length seats → HasFinished (get_or seats i d).process (get_or end.done.items i 0)) → Ran code s end
-ran code s end es seats is x even each =
-    let y = subst (λ xs. CameTo code s [] xs seats end.how) (sym is) x in
+pub ran : (code : Code) (s : Setting) (workers : ℕ) (end : RunEnd) (before es : List Entry) (seats : List Seat) → end.history.items ≡ es → CameTo code s before es seats end.how → (workers ≡ 1 → before ≡ []) → length end.done.items ≡ length seats
+    → ((d : Seat) (i : ℕ) → i < length seats → HasFinished (get_or seats i d).process (get_or end.done.items i 0)) → Ran code s workers end
+ran code s workers end before es seats is x first even each =
+    let y = subst (λ xs. CameTo code s before xs seats end.how) (sym is) x in
     record {
       run = y.run;
-      solo = y.solo run.none;
+      solo = λ alone. y.solo (subst (IsSolo s) (sym (first alone)) run.none);
       ended = y.ended;
       faulted = y.faulted;
-      done = λ z. done_is code s end.history.items seats end.done.items y.count (y.seated z) even each;
+      done = λ z. done_is code s end.history.items seats end.done.items y.count (y.told z) even each;
     }

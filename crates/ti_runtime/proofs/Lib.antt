@@ -1,5 +1,6 @@
 mod Endings
 mod Entries
+mod Finishing
 mod Following
 mod Seats
 mod Turns

@@ -1,5 +1,5 @@
 -- Processes on workers: what a pass tells of the store's entries, and what a try makes of a process.
-use Rattle.std.proofs.Common.{◌≡◌, ℕ, ◌<◌, ◌==◌, Bool, true, false, cond, ◌||◌, Result, Ok, Err, IfOk, IfErr, List, [], ◌∷◌, ◌++◌, refl, sym, ap, ◌∙◌, subst, append-nil}
+use Rattle.std.proofs.Common.{◌≡◌, ℕ, ◌<◌, ◌==◌, Bool, true, false, cond, ◌||◌, map, filter, Result, Ok, Err, IfOk, IfErr, List, [], ◌∷◌, ◌++◌, refl, sym, ap, ◌∙◌, subst, append-nil}
 use Rattle.std.specs.List.{list_any}
 use Rattle.std.proofs.lemmas.List.{map-append}
 use Rattle.ti_base.specs.declared.place.Place.{Place}
@@ -7,21 +7,23 @@ use Rattle.ti_base.specs.declared.action.Action.{Action}
 use Rattle.ti_base.specs.declared.entry.Answer.{Answer}
 use Rattle.ti_base.specs.declared.entry.Entry.{Entry}
 use Rattle.ti_lang.specs.Meaning.Processes.{Setting}
-use Rattle.ti_lang.specs.Meaning.Histories.{is_end, entries_of, has_end, has_fault}
+use Rattle.ti_lang.specs.Meaning.Histories.{is_end, is_answered, entries_of, has_end, has_fault}
 use Rattle.ti_lang.specs.Meaning.Runs.{IsRun}
 use Rattle.ti_turnstile.specs.Passes.{items_of, GrownBy, IsLegal}
 use Rattle.ti_store.specs.declared.act_err.ActErr.{ActErr}
 use Rattle.ti_store.specs.declared.act_err.ActErr.TheVariants as err
 use Rattle.ti_store.specs.Stores.{StoreState, setting_of, log_of, fault_entry, IsDone, IsRefused}
 use Rattle.ti_code.specs.Programs.{Code}
-use Rattle.ti_machine.specs.Standing.{GoesOn, is_act}
+use Rattle.ti_machine.specs.Standing.{Standing, GoesOn, is_act}
 use Rattle.ti_runtime.specs.declared.cursor.Turn.{Turn}
 use Rattle.ti_runtime.specs.declared.seat.Seat.{Seat}
-use Rattle.ti_runtime.specs.MirrorsTeam.{place_of, action_of, told_more, Seated, Moves, MayRun, IsOpen}
+use Rattle.ti_runtime.specs.MirrorsTeam.{place_of, action_of, told_more, IsTold, Seated, Moves, MayRun, IsOpen}
+use Rattle.ti_runtime.specs.Ran.{standing_of}
 use Rattle.ti_runtime.specs.MirrorsStays.{entries_in, Stays}
+use Rattle.ti_runtime.proofs.Endings.{told_seated}
 use Rattle.ti_runtime.proofs.Entries.{end_more, answers_still}
 use Rattle.ti_runtime.proofs.Following.{OneNext}
-use Rattle.ti_runtime.proofs.Seats.{answered_act, seated_with, goes, went_with}
+use Rattle.ti_runtime.proofs.Seats.{answered_act, seated_with, goes, told_behind, went_with}
 use Rattle.ti_runtime.proofs.Turns.{seated_still}
 
 -- ---- logs of entries
@@ -81,10 +83,6 @@ or_second : (a b : Bool) → (a || b) ≡ false → b ≡ false
 or_second true b h = cc
 or_second false b h = h
 
-or_first : (a b : Bool) → (a || b) ≡ false → a ≡ false
-or_first true b h = h
-or_first false b h = refl
-
 or_neither : (a b : Bool) → a ≡ false → b ≡ false → (a || b) ≡ false
 or_neither a b x y = rw (x, y) refl
 
@@ -98,7 +96,6 @@ module _ (code : Code) (s : Setting) (st : StoreState) (i : ℕ) (old : Seat) (m
   module _ (new : StoreState) (answer : Answer) (d : IsDone st i (place_of old) (action_of old) answer new) where
     opened : IsOpen code st
     opened = record {
-      unhalted = or_first st.halted (has_fault st.entries) d.becomes.goes_on;
       goes_on = or_second st.halted (has_fault st.entries) d.becomes.goes_on;
       may = subst (MayRun code) (sym same) may;
     }
@@ -112,13 +109,14 @@ module _ (code : Code) (s : Setting) (st : StoreState) (i : ℕ) (old : Seat) (m
     seated_gone one seat t m = subst (λ v. Seated code v new.entries i seat) same (went_with code st opened run i inside old here u answer new d one seat t m _ refl).seated
 
     -- it did it, and memory was wanting
-    pub wants_gone : (seat : Seat) → is_act old.next ≡ true → seat.ended ≡ old.ended → Stays code s new.entries i seat true
-    wants_gone seat e kept = record {
+    pub wants_gone : (seat : Seat) → is_act old.next ≡ true → seat.ended ≡ old.ended → seat.process ≡ told_more old.process answer → Stays code s new.entries i seat true
+    wants_gone seat e kept heard = record {
       ended =
           ap (has_end i) (ap (λ (x : StoreState). x.entries) d.after)
           ∙ end_more i st.entries (record { proc = i; place = place_of old; act = action_of old; answer = answer }) refl
           ∙ or_neither (has_end i st.entries) (is_end (action_of old)) (y.ended ∙ u) (answered_act y.there old.next y.is_next e).0
           ∙ sym (kept ∙ u);
+      told = ap (λ (t : Standing). record t { asks = false }) heard ∙ subst (λ v. told_more old.process answer ≡ standing_of code v new.entries i) same (told_behind code st opened run i inside old here u answer new d e);
       seated = λ w. cc;
     }
 
@@ -147,12 +145,17 @@ seated_inside code s es k i seen seat same legal y =
 pub ended_inside : (es : List Entry) (k i : ℕ) (seen : List (ℕ × Entry)) (b : Bool) → k ≡ i → IsLegal (log_of es) k seen → has_end i (entries_in seen) ≡ b → has_end i es ≡ b
 ended_inside es k i seen b same legal h = ap (λ own. list_any (λ (e : Entry). is_end e.act) own) (subst (λ k. entries_of k es ≡ entries_of k (entries_in seen)) same (own_known es k seen legal)) ∙ h
 
+pub told_inside : (code : Code) (s : Setting) (es : List Entry) (k i : ℕ) (seen : List (ℕ × Entry)) (seat : Seat) → k ≡ i → IsLegal (log_of es) k seen → IsTold code s (entries_in seen) i seat → IsTold code s es i seat
+told_inside code s es k i seen seat same legal h =
+    let own : entries_of i es ≡ entries_of i (entries_in seen) = subst (λ k. entries_of k es ≡ entries_of k (entries_in seen)) same (own_known es k seen legal) in
+    h ∙ ap (λ own. record (standing_of code s es i) { told = map (λ (e : Entry). e.answer) (filter is_answered own) }) (sym own)
+
 -- and the other way round, once the pass has seen them all
 pub stays_seen : (code : Code) (s : Setting) (es : List Entry) (i : ℕ) (seen : List (ℕ × Entry)) (seat : Seat) (wants : Bool) → seen ≡ log_of es → Stays code s es i seat wants → Stays code s (entries_in seen) i seat wants
 stays_seen code s es i seen seat wants h y = subst (λ xs. Stays code s xs i seat wants) (sym (ap entries_in h ∙ logged_back es)) y
 
 pub stays_well : (code : Code) (s : Setting) (es : List Entry) (i : ℕ) (seat : Seat) → Seated code s es i seat → Stays code s es i seat false
-stays_well code s es i seat y = record { ended = y.ended; seated = λ w. y }
+stays_well code s es i seat y = record { ended = y.ended; told = told_seated code s es i seat y; seated = λ w. y }
 
-pub stays_wanting : (code : Code) (s : Setting) (es : List Entry) (i : ℕ) (seat : Seat) → has_end i es ≡ seat.ended → Stays code s es i seat true
-stays_wanting code s es i seat h = record { ended = h; seated = λ w. cc }
+pub stays_wanting : (code : Code) (s : Setting) (es : List Entry) (i : ℕ) (seat : Seat) → has_end i es ≡ seat.ended → IsTold code s es i seat → Stays code s es i seat true
+stays_wanting code s es i seat h t = record { ended = h; told = t; seated = λ w. cc }

@@ -175,6 +175,9 @@ module _ (code : Code) (st : StoreState) (o : IsOpen code st) (run : IsRun (sett
     told e =
         ap (λ t. told_more t answer) y.process ∙ ap (λ rs. record (standing_of code s es i) { told = rs }) (sym (answers_more i es here refl (answered e)))
 
+    pub told_behind : is_act old.next ≡ true → told_more old.process answer ≡ standing_of code s new.entries i
+    told_behind e = told e ∙ ap (λ xs. standing_of code s xs i) (sym after)
+
     pub goes : is_act old.next ≡ true → machine.GoesOn (told_more old.process answer)
     goes e =
         let q = world_on e in

@@ -15,7 +15,7 @@ use Rattle.ti_store.specs.Stores.{log_of}
 use Rattle.ti_runtime.specs.declared.seat.Seat.{Seat}
 use Rattle.ti_runtime.specs.MirrorsStays.{entries_in, Stays}
 use Rattle.ti_runtime.specs.MirrorsSettled.{at_place, NoneStands, IsKnown, ArePlaced, IsBack, AreSeated}
-use Rattle.ti_runtime.proofs.Mates.{seated_inside, ended_inside}
+use Rattle.ti_runtime.proofs.Mates.{seated_inside, ended_inside, told_inside}
 
 -- one place more, where nobody stands
 pub none_more : (xs : List (Option Seat)) → NoneStands xs → NoneStands (xs ++ None ∷ [])
@@ -42,7 +42,7 @@ either_second false b c e f = sym e ∙ f
 
 module _ (code : Code) (s : Setting) where
   pub stays_weaker : (es : List Entry) (k : ℕ) (seat : Seat) (a b : Bool) → (b ≡ false → a ≡ false) → Stays code s es k seat a → Stays code s es k seat b
-  stays_weaker es k seat a b f y = record { ended = y.ended; seated = λ e. y.seated (f e) }
+  stays_weaker es k seat a b f y = record { ended = y.ended; told = y.told; seated = λ e. y.seated (f e) }
 
 module _ (s : Setting) (places : List (Option Seat)) (count : length places ≡ s.procs) (number : ℕ) (inside : number < s.procs) (seat : Seat) where
   abbrev after : List (Option Seat)
@@ -102,6 +102,7 @@ module _ {V : Type 0} {g : Ghosts V Entry} (code : Code) (s : Setting) where
   known_whole es k seat b [] legal h = absurd h
   known_whole es k seat b (p ∷ ps) legal (inl h) = record {
     ended = ended_inside es (number_of p) k (seen_by p) seat.ended h.0 legal.0 h.1.ended;
+    told = told_inside code s es (number_of p) k (seen_by p) seat h.0 legal.0 h.1.told;
     seated = λ e. seated_inside code s es (number_of p) k (seen_by p) seat h.0 legal.0 (h.1.seated e);
   }
   known_whole es k seat b (p ∷ ps) legal (inr h) = known_whole es k seat b ps legal.1 h

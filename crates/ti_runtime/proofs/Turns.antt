@@ -43,7 +43,7 @@ same_setting old new is = ap setting_of is
 
 -- a store goes on being open as it grows
 pub open_on : (code : Code) (old new : StoreState) → new ≡ record old { entries = new.entries } → has_fault new.entries ≡ false → IsOpen code old → IsOpen code new
-open_on code old new is f o = subst (IsOpen code) (sym is) (record { unhalted = o.unhalted; goes_on = f; may = o.may })
+open_on code old new is f o = subst (IsOpen code) (sym is) (record { goes_on = f; may = o.may })
 
 -- ---- a run with one entry more
 

@@ -60,6 +60,10 @@ pub record Seated (code : Code) (s : Setting) (es : List Entry) (i : ℕ) (seat 
   pub is_next : IsNext there seat.next
   pub ended : has_end i es ≡ seat.ended
 
+-- the process of the seat was told the answers of its entries, also where memory was wanting behind the last of them
+abbrev pub IsTold : Code → Setting → List Entry → ℕ → Seat → Type 0
+IsTold code s es i seat = record seat.process { asks = false } ≡ standing_of code s es i
+
 -- with one answer more
 abbrev pub told_more : Standing → Answer → Standing
 told_more t answer = record t { told = t.told ++ answer ∷ []; asks = false }
@@ -121,7 +125,6 @@ pub record MayRun (code : Code) (s : Setting) : Type 0 where
 
 -- a store that goes on
 pub record IsOpen (code : Code) (store : StoreState) : Type 0 where
-  pub unhalted : store.halted ≡ false
   pub goes_on : has_fault store.entries ≡ false
   pub may : MayRun code (setting_of store)
 
@@ -145,7 +148,11 @@ pub record Points (s : Setting) (es : List Entry) (c : Cursor) : Type 0 where
 abbrev pub AllSeated : Code → Setting → List Entry → List Seat → Type 0
 AllSeated code s es seats = (d : Seat) (i : ℕ) → i < length seats → Seated code s es i (slice_index_or seats i d)
 
--- so they do after those of a run so far, and the cursor tells which is next
+-- all processes were told the answers of their entries
+abbrev pub AllTold : Code → Setting → List Entry → List Seat → Type 0
+AllTold code s es seats = (d : Seat) (i : ℕ) → i < length seats → IsTold code s es i (slice_index_or seats i d)
+
+-- the seats tell where all processes stand after the entries of a run so far, and the cursor tells which is next
 pub record Stands (code : Code) (s : Setting) (es : List Entry) (seats : List Seat) (c : Cursor) : Type 0 where
   pub run : IsRun s es
   pub goes_on : has_fault es ≡ false
@@ -186,4 +193,4 @@ pub record CameTo (code : Code) (s : Setting) (before es : List Entry) (seats : 
   pub ended : (end ≡ how.Ended) ↔ AllEnded s es
   pub faulted : (end ≡ how.Faulted) ↔ (has_fault es ≡ true)
   pub count : length seats ≡ s.procs
-  pub seated : end ≢ how.Memory → AllSeated code s es seats
+  pub told : end ≢ how.Memory → AllTold code s es seats

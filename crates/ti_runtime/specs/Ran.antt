@@ -18,12 +18,12 @@ pub record IsDone (code : Code) (s : Setting) (es : List Entry) (done : List ℕ
   pub count : length done ≡ s.procs
   pub each : (i n : ℕ) → slice_get done i ≡ Some n → HasFinished (standing_of code s es i) n
 
--- The history is a run, and as far as it goes the one in which each entry is that of the lowest-numbered process that can take one. It
--- ended exactly where all processes have their end, and with a fault exactly where it has one; else memory was wanting. Unless it was, it
--- is told how many instructions are done.
-pub record Ran (code : Code) (s : Setting) (end : RunEnd) : Type 0 where
+-- The history is a run, and with one worker, as far as it goes, the one in which each entry is that of the lowest-numbered process that can
+-- take one. It ended exactly where all processes have their end, and with a fault exactly where it has one; else memory was wanting. Unless
+-- it was, it is told how many instructions are done.
+pub record Ran (code : Code) (s : Setting) (workers : ℕ) (end : RunEnd) : Type 0 where
   pub run : IsRun s end.history.items
-  pub solo : IsSolo s end.history.items
+  pub solo : workers ≡ 1 → IsSolo s end.history.items
   pub ended : (end.how ≡ Ended) ↔ AllEnded s end.history.items
   pub faulted : (end.how ≡ Faulted) ↔ (has_fault end.history.items ≡ true)
   pub done : end.how ≢ Memory → IsDone code s end.history.items end.done.items

@@ -72,23 +72,25 @@ pub fn work<J: Terms + ByCode, R: Wait, G: Gate>(
     let backoff = Backoff::new();
     let mut at = 0;
     let mut ended = 0;
+    let mut went = false;
     let mut seen = turnstile.hint();
     for _ in rt.forever() {
         if at >= mates.len() {
             if ended >= mates.len() {
                 break;
             }
-            look(turnstile, seen, &backoff);
+            if !went {
+                look(turnstile, seen, &backoff);
+            }
             seen = turnstile.hint();
             at = 0;
             ended = 0;
+            went = false;
         }
         match turn(rt, alloc, code, gate, turnstile, &mut mates, at) {
             Tried::Went => {
                 backoff.reset();
-                at = 0;
-                ended = 0;
-                seen = turnstile.hint();
+                went = true;
             }
             Tried::Ended => {
                 at += 1;

@@ -87,6 +87,7 @@ impl Seat {
         ensures moves { IfOk result (λ turn. Moves self.old answer self.new turn) }
         ensures memory { IfErr result (λ _. is_act self.old.next ≡ true) }
         ensures kept { IfErr result (λ _. self.new.ended ≡ self.old.ended) }
+        ensures told { IfErr result (λ _. self.new.process ≡ told_more self.old.process answer) }
     {
         let Next::Act(_, action) = self.next else {
             self.ended = true;

@@ -1,26 +1,28 @@
-use Rattle.std.proofs.Common.{subst}
+use Rattle.std.proofs.Common.{◌≡◌, [], IfOk, sym, subst}
 use Rattle.ti_lang.specs.Program.Views.{program_of}
 use Rattle.ti_lang.specs.Meaning.Processes.{Setting}
-use Rattle.ti_runtime.specs.MirrorsTeam.{CameTo}
-use Rattle.ti_runtime.proofs.Endings.{opens, stands_first, ran}
+use Rattle.ti_runtime.specs.Ran.{Ran}
+use Rattle.ti_runtime.specs.MirrorsTeam.{MayRun}
 use Rattle.ti_runtime.proofs.runner.run_by.Goals as goal
 
-pub play-how-requires-clause-open : goal.play-how-requires-clause-open
-play-how-requires-clause-open g c =
-    opens c.args.code.now (record { program = program_of c.args.c.now.program.parts; procs = c.args.procs; fuel = c.args.fuel }) c.in-Ok.store c.in-Ok.ensures.setting c.in-Ok.ensures.entries c.in-Ok.ensures.halted
-    (record { within = c.requires.within; follows = c.requires.follows; aligned = c.aligned.ensures.aligned; balance = c.rounds_balance.ensures; fit = c.answers_fit.ensures })
-
-pub play-how-requires-clause-stands : goal.play-how-requires-clause-stands
-play-how-requires-clause-stands g c =
-    let program = program_of c.args.c.now.program.parts in
-    stands_first c.args.code.now (record { program = program; procs = c.args.procs; fuel = c.args.fuel }) c.in-Ok.store c.in-Ok-begin.team.seats.items c.in-Ok-begin.team.cursor c.in-Ok.ensures.setting c.in-Ok.ensures.entries
-    (c.in-Ok-begin.ensures program c.requires.follows)
-
-pub returns : goal.returns
-returns g c =
+pub begin-requires-clause-may : goal.begin-requires-clause-may
+begin-requires-clause-may g c = λ _ _.
     let code = c.args.code.now in
     let s : Setting = record { program = program_of c.args.c.now.program.parts; procs = c.args.procs; fuel = c.args.fuel } in
-    let es = c.play-how.new.store.entries in
-    let seats = c.play-how.new.team.seats.items in
-    let came = subst (λ xs. CameTo code s xs es seats c.play-how.result) c.in-Ok.ensures.entries (subst (λ s. CameTo code s c.in-Ok.store.entries es seats c.play-how.result) c.in-Ok.ensures.setting c.play-how.ensures) in
-    ran code s _ es seats c.into_history.ensures.entries came c.finished.ensures.count c.finished.ensures.each
+    let may : MayRun code s = record { within = c.requires.within; follows = c.requires.follows; aligned = c.aligned.ensures.aligned; balance = c.rounds_balance.ensures; fit = c.answers_fit.ensures } in
+    subst (λ code. MayRun code g.J.Terms.setting) c.requires.code (subst (MayRun code) c.requires.terms may)
+
+pub finish-requires-clause-may : goal.finish-requires-clause-may
+finish-requires-clause-may g c =
+    let code = c.args.code.now in
+    let s : Setting = record { program = program_of c.args.c.now.program.parts; procs = c.args.procs; fuel = c.args.fuel } in
+    let may : MayRun code s = record { within = c.requires.within; follows = c.requires.follows; aligned = c.aligned.ensures.aligned; balance = c.rounds_balance.ensures; fit = c.answers_fit.ensures } in
+    subst (λ code. MayRun code g.J.Terms.setting) c.requires.code (subst (MayRun code) c.requires.terms may)
+
+pub returns-in-Ok-begin : goal.returns-in-Ok-begin
+returns-in-Ok-begin g c =
+    let s : Setting = record { program = program_of c.args.c.now.program.parts; procs = c.args.procs; fuel = c.args.fuel } in
+    let workers = c.args.workers in
+    let end = c.finish.result in
+    let first = λ (one : workers ≡ 1). subst (λ r. IfOk r (λ r. r.store.entries ≡ [])) c.in-Ok-begin.is (c.begin.ensures.alone one) in
+    subst (λ code. Ran code s workers end) (sym c.requires.code) (subst (λ s. Ran g.J.ByCode.code s workers end) (sym c.requires.terms) (c.finish.ensures workers first))

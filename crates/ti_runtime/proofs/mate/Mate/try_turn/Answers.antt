@@ -77,7 +77,7 @@ invariant_of-mate-in-Err-go_on g c =
       inv.0,
       c.leave-pass.ensures.number ∙ c.enter-inside.ensures.number ∙ inv.1,
       stays_seen code s behind.entries me.number (seen_by c.leave-pass.result) c.go_on.new.self true c.leave-pass.ensures.seen
-          (wants_gone code s store me.number me.seat c.requires.may c.act-acted.ensures.terms c.act-acted.ensures.run inv.0 c.if-self.false y behind c.in-Ok.answer c.in-Ok.ensures.done c.go_on.new.self c.in-Err-go_on.ensures.memory c.in-Err-go_on.ensures.kept),
+          (wants_gone code s store me.number me.seat c.requires.may c.act-acted.ensures.terms c.act-acted.ensures.run inv.0 c.if-self.false y behind c.in-Ok.answer c.in-Ok.ensures.done c.go_on.new.self c.in-Err-go_on.ensures.memory c.in-Err-go_on.ensures.kept c.in-Err-go_on.ensures.told),
     )
 
 pub invariant_of-mate-in-Err : goal.invariant_of-mate-in-Err
