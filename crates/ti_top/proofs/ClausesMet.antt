@@ -94,7 +94,7 @@ output_nothing c done_of_none not_faulted not_complete x =
 run_nothing : (job : Job) (c : Call) → c.history ≡ [] → KeepsRun job c
 run_nothing job c no_entry = record {
   run = λ program _. subst (IsRun (run_of program job)) (sym no_entry) none;
-  solo = λ program _. subst (IsSolo (run_of program job)) (sym no_entry) none;
+  solo = λ _ program _. subst (IsSolo (run_of program job)) (sym no_entry) none;
   none = λ _. no_entry;
   unrun = λ _. no_entry;
 }
@@ -357,7 +357,7 @@ clauses_ran before job c mode command from whole x =
       };
       run = record {
         run = λ p has. subst (λ q. IsRun (run_of q job) c.history) (sym (only p has)) says.run;
-        solo = λ p has. subst (λ q. IsSolo (run_of q job) c.history) (sym (only p has)) says.solo;
+        solo = λ alone p has. subst (λ q. IsSolo (run_of q job) c.history) (sym (only p has)) (says.solo alone);
         none = λ h. absurd (h x.program x.compiled.has);
         unrun = λ unrun. absurd (unrun mode);
       };

@@ -1,11 +1,13 @@
 -- Two undisturbed calls that ask alike end alike.
 use Rattle.std.proofs.Common.{◌≡◌, ◌⊎◌, inl, inr, ℕ, true, List, [], take, Option, Some, None, refl, sym, ◌∙◌, ap, subst, append-nil}
-use Rattle.ti_base.specs.declared.entry.Entry.{Entry}
+use native.Mathlib.Decide.{ℕ_discrete}
 use Rattle.ti_io.specs.Source.{content_of, IsMissing, Holds}
 use Rattle.ti_io.specs.Sink.{GrewBy}
 use Rattle.ti_syntax.specs.declared.token.Token.{Token}
 use Rattle.ti_syntax.specs.Tokenizing.{IsTokenized}
 use Rattle.ti_lang.specs.Program.Classes.{NumberedProgram}
+use Rattle.ti_lang.specs.Meaning.Histories.{entries_of, has_fault}
+use Rattle.ti_lang.specs.Meaning.Races.{races}
 use Rattle.ti_lower.specs.Programs.{program_code}
 use Rattle.ti_rules.specs.declared.refusal.Refusal.{Refusal}
 use Rattle.ti_rules.specs.RefusalOf.{HasProgram, IsRefusal}
@@ -19,9 +21,11 @@ use Rattle.ti_top.specs.Run.{HasFile, Runs, HasCode, run_of, EndsWithFault}
 use Rattle.ti_top.specs.Reports.{wanted, output}
 use Rattle.ti_top.specs.Call.{most_read, Call, IsCommand, IsNoCommand, SinkRose, Yields, WantsReport}
 use Rattle.ti_top.specs.Clauses.{ReadsText, MakesText, GetsText, WritesAll, NothingFailed, IsComplete, Meets}
-use Rattle.ti_top.specs.Agreement.{IsUndisturbed, AskAlike, BothGrew, EndAlike}
+use Rattle.ti_top.specs.Agreement.{IsUndisturbed, AskAlike, IsBySeveral, BothGrew, EndSame, EachSame, EndAlike}
 use Rattle.ti_top.proofs.ClausesMet.{runs_has}
+use Rattle.ti_top.proofs.EachAlike.{each_same, none_faults}
 use Rattle.ti_top.proofs.EmptyText.{no_program}
+use Rattle.ti_top.proofs.FaultLast.{fault_is_there}
 use Rattle.ti_top.proofs.OneCount.{one_count}
 use Rattle.ti_top.proofs.OneRun.{one_run}
 
@@ -46,17 +50,24 @@ pub record OneAnswer : Type 0 where
   pub one_list : (text : List ℕ) (a b : List Token) → IsTokenized text a → IsTokenized text b → a ≡ b
   pub never_both : (text : List ℕ) (program : NumberedProgram) (refusal : Refusal) → HasProgram text program → IsRefusal text refusal → ⊥
 
+-- two calls that end the same, of the same text and with the same code
+all_alike : (c d : Call) → c.text ≡ d.text → c.code ≡ d.code → EndSame c d → EndAlike c d
+all_alike c d text code same = record {
+  text = text;
+  code = code;
+  same = λ _. same;
+  each = λ _ _. record { status = same.status; entries = λ i. ap (entries_of i) same.history; done = same.done };
+}
+
 -- ---- the words are no command
 
 no_command : (c d : Call) → Meets c → Meets d → IsUndisturbed c → IsUndisturbed d → IsNoCommand c → IsNoCommand d → EndAlike c d
-no_command c d m n u v x y = record {
+no_command c d m n u v x y = all_alike c d (m.beside_err.words.no_text x ∙ sym (n.beside_err.words.no_text y)) (m.beside_err.words.no_code x ∙ sym (n.beside_err.words.no_code y)) (record {
   status = or_not (no_yield c u) (m.beside_err.words.everywhere x) ∙ sym (or_not (no_yield d v) (n.beside_err.words.everywhere y));
-  text = m.beside_err.words.no_text x ∙ sym (n.beside_err.words.no_text y);
-  code = m.beside_err.words.no_code x ∙ sym (n.beside_err.words.no_code y);
   history = m.beside_err.words.no_history x ∙ sym (n.beside_err.words.no_history y);
   done = m.beside_err.words.no_count x ∙ sym (n.beside_err.words.no_count y);
   output = λ watchers told heard. nothing_grew c d (m.beside_err.output.no_command x) (n.beside_err.output.no_command y);
-}
+})
 
 -- ---- the text is missing
 
@@ -66,14 +77,12 @@ nothing_has known c none program has = no_program known.one_list program (subst 
 
 missing_alike : OneAnswer → (job : Job) (c d : Call) → Meets c → Meets d → IsCommand c job → IsCommand d job
     → (c.status ≡ 4) → (d.status ≡ 4) → c.text ≡ [] → d.text ≡ [] → EndAlike c d
-missing_alike known job c d m n x y four fourth none nought = record {
+missing_alike known job c d m n x y four fourth none nought = all_alike c d (none ∙ sym nought) ((m.beside_err.code job x).none (nothing_has known c none) ∙ sym ((n.beside_err.code job y).none (nothing_has known d nought))) (record {
   status = four ∙ sym fourth;
-  text = none ∙ sym nought;
-  code = (m.beside_err.code job x).none (nothing_has known c none) ∙ sym ((n.beside_err.code job y).none (nothing_has known d nought));
   history = (m.beside_err.run job x).none (nothing_has known c none) ∙ sym ((n.beside_err.run job y).none (nothing_has known d nought));
   done = (m.beside_err.count job x).none (nothing_has known c none) ∙ sym ((n.beside_err.count job y).none (nothing_has known d nought));
   output = λ watchers told heard. nothing_grew c d (m.beside_err.output.nothing_at_four four) (n.beside_err.output.nothing_at_four fourth);
-}
+})
 
 -- ---- the text is judged
 
@@ -95,14 +104,12 @@ refused_alike job c d m n x y whole all same refusal is =
     let is_too : IsRefusal d.text refusal = subst (λ text. IsRefusal text refusal) same is in
     let one : c.status ≡ 1 = whole.refused refusal is in
     let first : d.status ≡ 1 = all.refused refusal is_too in
-    record {
+    all_alike c d same ((m.beside_err.refusal job x).no_code refusal is ∙ sym ((n.beside_err.refusal job y).no_code refusal is_too)) (record {
       status = one ∙ sym first;
-      text = same;
-      code = (m.beside_err.refusal job x).no_code refusal is ∙ sym ((n.beside_err.refusal job y).no_code refusal is_too);
       history = (m.beside_err.refusal job x).no_history refusal is ∙ sym ((n.beside_err.refusal job y).no_history refusal is_too);
       done = (m.beside_err.refusal job x).no_count refusal is ∙ sym ((n.beside_err.refusal job y).no_count refusal is_too);
       output = λ watchers told heard. nothing_grew c d (m.beside_err.output.nothing_at_one one) (n.beside_err.output.nothing_at_one first);
-    }
+    })
 
 -- what two calls with the same history write of a program
 wrote_alike : (job : Job) (c d : Call) → IsCommand c job → IsCommand d job → WritesAll c → WritesAll d → c.text ≡ d.text → c.history ≡ d.history → c.watchers ≡ d.watchers
@@ -121,15 +128,13 @@ wrote_alike job c d x y wrote written same one watchers program has = (
 unrun_alike : (job : Job) (c d : Call) → Meets c → Meets d → IsCommand c job → IsCommand d job → c.text ≡ d.text
     → (c.status ≡ 0) ⊎ (c.status ≡ 2) → (d.status ≡ 0) ⊎ (d.status ≡ 2) → (job.mode ≡ Check) ⊎ (job.mode ≡ Code)
     → (program : NumberedProgram) → HasProgram c.text program → EndAlike c d
-unrun_alike job c d m n x y same a b mode program has = record {
+unrun_alike job c d m n x y same a b mode program has = all_alike c d same (codes mode) (record {
   status = done c m x a ∙ sym (done d n y b);
-  text = same;
-  code = codes mode;
   history = histories;
   done = (m.beside_err.count job x).unrun unrun ∙ sym ((n.beside_err.count job y).unrun unrun);
   output = λ watchers told heard.
       wrote_alike job c d x y (m.beside_err.output.done (done c m x a) told) (n.beside_err.output.done (done d n y b) heard) same histories watchers program has;
-}
+})
   where
     unrun : Runs job.mode → ⊥
     unrun runs = elim mode [ inl is ↦ subst Runs is runs | inr is ↦ subst Runs is runs ]
@@ -153,22 +158,17 @@ run_alike : OneAnswer → (job : Job) (c d : Call) → Meets c → Meets d → I
     → c.text ≡ d.text → (c.status ≡ 0) ⊎ (c.status ≡ 2) → (d.status ≡ 0) ⊎ (d.status ≡ 2) → Runs job.mode
     → (program : NumberedProgram) → HasProgram c.text program → EndAlike c d
 run_alike known job c d m n u v x y whole all same a b runs program has = record {
-  status = statuses a b;
   text = same;
   code = codes c m x a program has ∙ sym (codes d n y b program has_too);
-  history = one;
-  done = one_count (program_code program) (run_of program job) c.history c.done d.done (counts c m x a program has)
-      (subst (λ (es : List Entry). IsDone (program_code program) (run_of program job) es d.done) (sym one) (counts d n y b program has_too));
-  output = λ watchers told heard. wrote_alike job c d x y (grew c m a told) (grew d n b heard) same one watchers program has;
+  same = λ alone. ended_same (one_worker alone);
+  each = each;
 }
   where
     has_too : HasProgram d.text program
     has_too = subst (λ text. HasProgram text program) same has
 
-    one : c.history ≡ d.history
-    one =
-        one_run (run_of program job) c.history d.history ((m.beside_err.run job x).solo program has) (whole.ended runs program has) ((n.beside_err.run job y).solo program has_too)
-        (all.ended runs program has_too)
+    one_worker : (IsBySeveral c → ⊥) → job.workers ≡ 1
+    one_worker alone = elim (ℕ_discrete job.workers 1) [ yes one ↦ one | no several ↦ absurd (alone (record { job = job; command = x; runs = runs; several = several })) ]
 
     codes : (e : Call) → Meets e → IsCommand e job → (e.status ≡ 0) ⊎ (e.status ≡ 2) → (p : NumberedProgram) → HasProgram e.text p → e.code ≡ Some (program_code p)
     codes e k z (inl none) p there = (k.beside_err.code job z).there none (runs_has job.mode runs) p there
@@ -187,19 +187,50 @@ run_alike known job c d m n u v x y whole all same a b runs program has = record
         by (inr (inl five)) = absurd (no_yield e w (inr (five.0, five.1)))
         by (inr (inr six)) = absurd (w.memory six.0)
 
-    statuses : (c.status ≡ 0) ⊎ (c.status ≡ 2) → (d.status ≡ 0) ⊎ (d.status ≡ 2) → c.status ≡ d.status
-    statuses (inl p) (inl q) = p ∙ sym q
-    statuses (inr p) (inr q) = p ∙ sym q
-    statuses (inl p) (inr q) =
+    statuses : c.history ≡ d.history → (c.status ≡ 0) ⊎ (c.status ≡ 2) → (d.status ≡ 0) ⊎ (d.status ≡ 2) → c.status ≡ d.status
+    statuses one (inl p) (inl q) = p ∙ sym q
+    statuses one (inr p) (inr q) = p ∙ sym q
+    statuses one (inl p) (inr q) =
         let fault = ((n.beside_err.end job y).fault_only_where q).1 in
         two c m u x fault.0 (subst (λ es. EndsWithFault es fault.0) (sym one) fault.1) ∙ sym q
-    statuses (inr p) (inl q) =
+    statuses one (inr p) (inl q) =
         let fault = ((m.beside_err.end job x).fault_only_where p).1 in
         p ∙ sym (two d n v y fault.0 (subst (λ es. EndsWithFault es fault.0) one fault.1))
 
     grew : (e : Call) → Meets e → (e.status ≡ 0) ⊎ (e.status ≡ 2) → e.out.tells ≡ true → WritesAll e
     grew e k (inl none) told = k.beside_err.output.done none told
     grew e k (inr two) told = k.beside_err.output.faulted two told
+
+    ended_same : job.workers ≡ 1 → EndSame c d
+    ended_same alone =
+        let one : c.history ≡ d.history =
+        one_run (run_of program job) c.history d.history ((m.beside_err.run job x).solo alone program has) (whole.ended runs program has) ((n.beside_err.run job y).solo alone program has_too)
+        (all.ended runs program has_too) in
+        record {
+          status = statuses one a b;
+          history = one;
+          done = one_count (program_code program) (run_of program job) c.history d.history c.done d.done (λ i. ap (entries_of i) one) (counts c m x a program has) (counts d n y b program has_too);
+          output = λ watchers told heard. wrote_alike job c d x y (grew c m a told) (grew d n b heard) same one watchers program has;
+        }
+
+    each : c.status ≡ 0 → races c.history ≡ [] → EachSame c d
+    each zero none =
+        let s = run_of program job in
+        let ended = (m.beside_err.end job x).ended zero runs program has in
+        let other = (n.beside_err.run job y).run program has_too in
+        let front = λ (i : ℕ). (m.beside_err.determinacy job x).followed runs program has ended none d.history i other in
+        let run = (m.beside_err.run job x).run program has in
+        let complete = all.ended runs program has_too in
+        let entries = each_same s c.history d.history run ended other front complete in
+        record {
+          status = zero ∙ sym (zero_too (none_faults s c.history d.history run ended other front complete) b);
+          entries = entries;
+          done = one_count (program_code program) s c.history d.history c.done d.done entries (counts c m x a program has) (counts d n y b program has_too);
+        }
+      where
+        zero_too : (has_fault d.history ≡ true → ⊥) → (d.status ≡ 0) ⊎ (d.status ≡ 2) → d.status ≡ 0
+        zero_too faultless (inl is) = is
+        zero_too faultless (inr is) = let fault = ((n.beside_err.end job y).fault_only_where is).1 in absurd (faultless (fault_is_there d.history fault.0 fault.1))
 
 -- a text that both have read or made whole
 judged_alike : OneAnswer → (job : Job) (c d : Call) → Meets c → Meets d → IsUndisturbed c → IsUndisturbed d → IsCommand c job → IsCommand d job → IsComplete job c → IsComplete job d

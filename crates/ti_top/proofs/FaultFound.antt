@@ -1,5 +1,5 @@
 -- The fault that a run ended with.
-use Rattle.std.proofs.Common.{◌≡◌, Option, Some, None, sym, subst}
+use Rattle.std.proofs.Common.{◌≡◌, ℕ, Option, Some, None, sym, subst}
 use Rattle.std.proofs.lemmas.Option.{same_Some}
 use Rattle.ti_code.specs.Programs.{Code}
 use Rattle.ti_lang.specs.Meaning.Processes.{Setting}
@@ -16,10 +16,10 @@ use Rattle.ti_top.proofs.FaultLast.{fault_is_last}
 abbrev IsAtEnd : RunEnd → Option Fault → Type 0
 IsAtEnd end found = (fault : Fault) → EndsWithFault end.history.items fault → found ≡ Some fault
 
-pub run_faulted : (c : Code) (s : Setting) (end : RunEnd) (fault : Fault) → Ran c s end → end.how ≡ Faulted → IsAtEnd end (Some fault) → RunEnds s end.history.items (ending.Faulted fault)
-run_faulted c s end fault ran is found =
+pub run_faulted : (c : Code) (s : Setting) (workers : ℕ) (end : RunEnd) (fault : Fault) → Ran c s workers end → end.how ≡ Faulted → IsAtEnd end (Some fault) → RunEnds s end.history.items (ending.Faulted fault)
+run_faulted c s workers end fault ran is found =
     let last = fault_is_last s end.history.items ran.run (ran.faulted.0 is) in
     subst (EndsWithFault end.history.items) (sym (same_Some fault last.0 (found last.0 last.1))) last.1
 
-pub fault_found : (c : Code) (s : Setting) (end : RunEnd) → Ran c s end → end.how ≡ Faulted → IsAtEnd end None → ⊥
-fault_found c s end ran is found = let last = fault_is_last s end.history.items ran.run (ran.faulted.0 is) in let e = found last.0 last.1 in cc
+pub fault_found : (c : Code) (s : Setting) (workers : ℕ) (end : RunEnd) → Ran c s workers end → end.how ≡ Faulted → IsAtEnd end None → ⊥
+fault_found c s workers end ran is found = let last = fault_is_last s end.history.items ran.run (ran.faulted.0 is) in let e = found last.0 last.1 in cc

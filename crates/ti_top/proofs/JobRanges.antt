@@ -7,6 +7,7 @@ use Rattle.ti_words.specs.Job.{Values, values_in, mode_of, file_of, seed_of, is_
 use Rattle.ti_words.specs.declared.job.Job.{Job}
 use Rattle.ti_words.specs.declared.job.Mode.{Mode}
 use Rattle.ti_store.specs.Conditions.{IsWithin}
+use Rattle.ti_top.specs.Mirrors.Work.{IsInRanges}
 
 no_some : {A B : Type 0} (b : B) → ◌≡◌ {A = Option B} None (Some b) → A
 no_some {A} {B} b h = absurd (wrong b h)
@@ -81,10 +82,10 @@ seeded values mode file seed = option_and_then (manned values mode file seed) (p
 abbrev named : Values → Mode → Word → Option Job
 named values mode file = option_and_then (seeded values mode file) (seed_of mode values.seed)
 
-within : (values : Values) (mode : Mode) (file : Word) (seed procs workers fuel : ℕ) (job : Job) → job_with values mode file seed procs workers fuel ≡ job → IsWithin procs fuel → IsWithin job.procs job.fuel
-within values mode file seed procs workers fuel job same is = subst (λ (j : Job). IsWithin j.procs j.fuel) same is
+within : (values : Values) (mode : Mode) (file : Word) (seed procs workers fuel : ℕ) (job : Job) → job_with values mode file seed procs workers fuel ≡ job → IsWithin procs fuel → 1 ≤ workers → IsInRanges job
+within values _ file seed procs workers fuel job same is some = subst IsInRanges same (record { within = is; workers = some })
 
-ranges : (values : Values) (job : Job) → job_by values ≡ Some job → IsWithin job.procs job.fuel
+ranges : (values : Values) (job : Job) → job_by values ≡ Some job → IsInRanges job
 ranges values job e =
     let mode = stepped (mode_of values.mode) (λ mode. option_and_then (named values mode) (file_of mode values.file)) job e in
     let file = stepped (file_of mode.first values.file) (named values mode.first) job mode.next in
@@ -93,8 +94,9 @@ ranges values job e =
     let workers = stepped (workers_of procs.first values) (fueled values mode.first file.first seed.first procs.first) job procs.next in
     let fuel = mapped (job_with values mode.first file.first seed.first procs.first workers.first) (fuel_of procs.first values) job workers.next in
     let p = within_range 1 32 1 values.procs procs.first (omega arith) (omega arith) procs.is in
+    let w = within_range 1 procs.first procs.first values.workers workers.first p.0 (omega arith) workers.is in
     let f = fuel_within procs.first values fuel.0 fuel.1 in
-    within values mode.first file.first seed.first procs.first workers.first fuel.0 job fuel.2 (record { some = p.0; few = p.1; fueled = f.0; limited = f.1 })
+    within values mode.first file.first seed.first procs.first workers.first fuel.0 job fuel.2 (record { some = p.0; few = p.1; fueled = f.0; limited = f.1 }) w.0
 
-pub in_ranges : (words : List Word) (job : Job) → job_of words ≡ Some job → IsWithin job.procs job.fuel
+pub in_ranges : (words : List Word) (job : Job) → job_of words ≡ Some job → IsInRanges job
 in_ranges words job e = let k = stepped (values_in words) job_by job e in ranges k.first job k.next

@@ -1,11 +1,12 @@
 -- The instructions that the processes of a run have finished are counted in one way alone.
-use Rattle.std.proofs.Common.{◌≡◌, ◌∙◌, refl, ap, sym, subst, ℕ, ◌+◌, ◌<◌, List, length}
+use Rattle.std.proofs.Common.{◌≡◌, ◌∙◌, refl, ap, sym, subst, ℕ, ◌+◌, ◌<◌, List, length, map, filter}
 use Rattle.std.proofs.Math.ListN.{get_or}
 use Rattle.std.proofs.lemmas.List.{ext_get_or}
 use Rattle.std.proofs.lemmas.Option.{slice_get-get_or}
 use Rattle.ti_base.specs.declared.entry.Answer.{Answer}
 use Rattle.ti_base.specs.declared.entry.Entry.{Entry}
 use Rattle.ti_lang.specs.Meaning.Asking.{Got, Gives}
+use Rattle.ti_lang.specs.Meaning.Histories.{is_answered, entries_of}
 use Rattle.ti_lang.specs.Meaning.Processes.{Setting}
 use Rattle.ti_code.specs.Programs.{Code}
 use Rattle.ti_code.specs.Machine.{Machine, Turn, On}
@@ -30,7 +31,8 @@ finishes_same c (one {n} {rest = rest} {k = j} t f) (one {n = o} {rest = left} {
 finished_same : (s : Standing) (a b : ℕ) → HasFinished s a → HasFinished s b → a ≡ b
 finished_same s a b x y = x.2 ∙ ap counted (finishes_same s.code x.1 y.1) ∙ sym y.2
 
-pub one_count : (c : Code) (s : Setting) (es : List Entry) (xs ys : List ℕ) → IsDone c s es xs → IsDone c s es ys → xs ≡ ys
-one_count c s es xs ys x y = ext_get_or 0 xs ys (x.count ∙ sym y.count) (λ i below.
+pub one_count : (c : Code) (s : Setting) (es ds : List Entry) (xs ys : List ℕ) → ((i : ℕ) → entries_of i es ≡ entries_of i ds) → IsDone c s es xs → IsDone c s ds ys → xs ≡ ys
+one_count c s es ds xs ys same x y = ext_get_or 0 xs ys (x.count ∙ sym y.count) (λ i below.
     let under : i < length ys = subst (λ (n : ℕ). i < n) (x.count ∙ sym y.count) below in
-    finished_same (standing_of c s es i) (get_or xs i 0) (get_or ys i 0) (x.each i (get_or xs i 0) (slice_get-get_or xs i 0 below)) (y.each i (get_or ys i 0) (slice_get-get_or ys i 0 under)))
+    finished_same (standing_of c s es i) (get_or xs i 0) (get_or ys i 0) (x.each i (get_or xs i 0) (slice_get-get_or xs i 0 below))
+    (subst (λ (own : List Entry). HasFinished (record (standing_of c s es i) { told = map (λ (e : Entry). e.answer) (filter is_answered own) }) (get_or ys i 0)) (sym (same i)) (y.each i (get_or ys i 0) (slice_get-get_or ys i 0 under))))

@@ -22,7 +22,7 @@ none_more [] x ys e = cc
 none_more (z ∷ xs) x ys e = cc
 
 -- an entry of a list that has one more at its end is the last, or one of those before
-split : (bs : List Entry) (b : Entry) (xs : List Entry) (d : Entry) (ys : List Entry) → bs ++ b ∷ [] ≡ xs ++ d ∷ ys
+pub split : (bs : List Entry) (b : Entry) (xs : List Entry) (d : Entry) (ys : List Entry) → bs ++ b ∷ [] ≡ xs ++ d ∷ ys
     → ((bs ≡ xs) × (b ≡ d)) ⊎ ((zs : List Entry) × (bs ≡ xs ++ d ∷ zs))
 split [] b [] d ys e = inl (refl, same_head b d [] ys e)
 split [] b (x ∷ xs) d ys e = absurd (none_more xs d ys (same_tail b x [] _ e))

@@ -166,7 +166,7 @@ pub record IsByCode (p : NumberedProgram) (job : Job) (ended : Ending) (k : Kept
   pub counted_at_fault : (fault : Fault) → ended ≡ Faulted fault → IsDone (program_code p) (run_of p job) k.history k.done
 
 -- the run of a program, and what was written of it
-pub run_says : (ended : Ending) (p : NumberedProgram) (job : Job) (ws : List Watcher) (s0 s1 : SinkState) (kept : Kept) (ending : Ending) → Runs job.mode → IsRun (run_of p job) kept.history → IsSolo (run_of p job) kept.history → Determines (run_of p job) kept.history → races_told kept.history ≡ races kept.history → RunEnds (run_of p job) kept.history ended → IsByCode p job ended kept → WroteRun ended (head_after job.mode ended p kept.history) ws kept.history s0 s1 ending → RunSays p job ws s0 s1 kept ending
+pub run_says : (ended : Ending) (p : NumberedProgram) (job : Job) (ws : List Watcher) (s0 s1 : SinkState) (kept : Kept) (ending : Ending) → Runs job.mode → IsRun (run_of p job) kept.history → (job.workers ≡ 1 → IsSolo (run_of p job) kept.history) → Determines (run_of p job) kept.history → races_told kept.history ≡ races kept.history → RunEnds (run_of p job) kept.history ended → IsByCode p job ended kept → WroteRun ended (head_after job.mode ended p kept.history) ws kept.history s0 s1 ending → RunSays p job ws s0 s1 kept ending
 run_says ended p job ws s0 s1 kept ending runs run solo determines told ends by wrote = record {
   run = run;
   solo = solo;

@@ -1,8 +1,12 @@
 -- That the words and what the source tells decide the answer of a call.
-use Rattle.std.specs.Prelude.{◌≡◌, ℕ, true, List}
+use Rattle.std.specs.Prelude.{◌≡◌, ℕ, true, List, []}
 use Rattle.ti_io.specs.Source.{SameFiles}
 use Rattle.ti_io.specs.Sink.{GrewBy}
-use Rattle.ti_top.specs.Call.{Call, SourceRose, OutRose, ErrRose}
+use Rattle.ti_lang.specs.Meaning.Histories.{entries_of}
+use Rattle.ti_lang.specs.Meaning.Races.{races}
+use Rattle.ti_words.specs.declared.job.Job.{Job}
+use Rattle.ti_top.specs.Run.{Runs}
+use Rattle.ti_top.specs.Call.{Call, IsCommand, SourceRose, OutRose, ErrRose}
 use Rattle.ti_top.specs.Clauses.{Meets}
 
 -- the call met no fault of the source or of a sink, and didn't run out of memory
@@ -18,19 +22,39 @@ pub record AskAlike (c d : Call) : Type 0 where
   pub told : c.source.tells ≡ true
   pub files : SameFiles c.source d.source
 
+-- the words ask for a run by several workers
+pub record IsBySeveral (c : Call) : Type 0 where
+  pub job : Job
+  pub command : IsCommand c job
+  pub runs : Runs job.mode
+  pub several : job.workers ≡ 1 → ⊥
+
 -- both outs grew by this
 abbrev pub BothGrew : Call → Call → List ℕ → Type 0
 BothGrew c d text = GrewBy c.out c.out_after text × GrewBy d.out d.out_after text
 
--- Two calls end alike: with the same status, of the same text, and with the same code, the same history and the same counts of instructions; and where the same watchers were
+-- Two calls end the same: with the same status, the same history and the same counts of instructions; and where the same watchers were
 -- handed in and both outs tell what they take, with the same output.
-pub record EndAlike (c d : Call) : Type 0 where
+pub record EndSame (c d : Call) : Type 0 where
   pub status : c.status ≡ d.status
-  pub text : c.text ≡ d.text
-  pub code : c.code ≡ d.code
   pub history : c.history ≡ d.history
   pub done : c.done ≡ d.done
   pub output : c.watchers ≡ d.watchers → c.out.tells ≡ true → d.out.tells ≡ true → (text : List ℕ) × BothGrew c d text
+
+-- Each process did the same in two calls, which ended with the same status: it has the same entries in both histories, and finished as many
+-- instructions.
+pub record EachSame (c d : Call) : Type 0 where
+  pub status : c.status ≡ d.status
+  pub entries : (i : ℕ) → entries_of i c.history ≡ entries_of i d.history
+  pub done : c.done ≡ d.done
+
+-- Two calls end alike: of the same text and with the same code. They end the same unless several workers run the program. Also where these
+-- do, each process did the same in both, if in the first all processes have their end and nothing in its history stands in a race.
+pub record EndAlike (c d : Call) : Type 0 where
+  pub text : c.text ≡ d.text
+  pub code : c.code ≡ d.code
+  pub same : (IsBySeveral c → ⊥) → EndSame c d
+  pub each : c.status ≡ 0 → races c.history ≡ [] → EachSame c d
 
 -- two calls that keep their promises, that ask alike and are undisturbed, end alike
 abbrev pub OneEnding : Type 0

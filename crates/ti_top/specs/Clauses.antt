@@ -107,11 +107,11 @@ pub record RefusesExactly (job : Job) (c : Call) : Type 0 where
   pub accepted_at_zero : c.status ≡ 0 → IsAccepted c.text
   pub accepted_at_two : c.status ≡ 2 → IsAccepted c.text
 
--- The run: whatever the status, the history is a run of the text's program, and as far as it goes the one in which each
--- entry is that of the lowest-numbered process that can take one; where there is no program, or the mode isn't one that runs it, it is empty.
+-- The run: whatever the status, the history is a run of the text's program, by however many workers, and by one worker, as far as it goes, the one in
+-- which each entry is that of the lowest-numbered process that can take one; where there is no program, or the mode isn't one that runs it, it is empty.
 pub record KeepsRun (job : Job) (c : Call) : Type 0 where
   pub run : (program : NumberedProgram) → HasProgram c.text program → IsRun (run_of program job) c.history
-  pub solo : (program : NumberedProgram) → HasProgram c.text program → IsSolo (run_of program job) c.history
+  pub solo : job.workers ≡ 1 → (program : NumberedProgram) → HasProgram c.text program → IsSolo (run_of program job) c.history
   pub none : ((program : NumberedProgram) → HasProgram c.text program → ⊥) → c.history ≡ []
   pub unrun : (Runs job.mode → ⊥) → c.history ≡ []
 

@@ -6,9 +6,11 @@ ghost use Rattle.ti_top.specs.Reports.{Watcher};
 use crate::ending::{Ending, end_with};
 use crate::work::work;
 use std::alloc::{AllocGlobal, Global};
+use std::sync::Wait;
+use std::thread::Threads;
 use ti_base::Entry;
 use ti_code::Code;
-use ti_io::{Sink, Source};
+use ti_io::{Gate, Sink, Source};
 use ti_watch::Watch;
 use ti_words::{WordsErr, read_words};
 
@@ -60,12 +62,13 @@ impl Outcome {
 /// number, and `--trace`, `--stats` and `--races`, each at most once, and a file's name, or in mode gen `--seed` with a
 /// number; `docs/LANGUAGE.md` says their ranges. What the call promises is `Meets`, one record of
 /// `specs/Clauses.antt` for each clause.
-pub fn titan_top<R: AllocGlobal, S: Source, K: Sink>(
+pub fn titan_top<R: AllocGlobal + Threads + Wait + Sync, S: Source, K: Sink, G: Gate + Sync>(
     rt: &R,
     words: &[String],
     source: &mut S,
     out: &mut K,
     err: &mut K,
+    gate: &G,
     watchers: Vec<Box<dyn Watch>>,
 ) -> Outcome
     ensures { Meets (record {
@@ -94,7 +97,7 @@ pub fn titan_top<R: AllocGlobal, S: Source, K: Sink>(
             return Outcome::nothing(alloc, end_with(err, Ending::NoMemory, ""));
         }
     };
-    let worked = work(alloc, &job, source, out, watchers);
+    let worked = work(rt, alloc, &job, source, out, gate, watchers);
     let status = end_with(err, worked.ending, job.file.as_str());
     Outcome {
         status,

@@ -9,11 +9,10 @@ ghost use Rattle.ti_lang.specs.Meaning.Spots.{races_told};
 ghost use Rattle.ti_lang.specs.Program.Views.{program_of};
 ghost use Rattle.ti_lower.specs.Programs.{program_code};
 ghost use Rattle.ti_runtime.specs.Ran.{Ran};
-ghost use Rattle.ti_store.specs.Conditions.{IsWithin};
 ghost use Rattle.ti_top.specs.Mirrors.Compiling.{IsCompiled};
 ghost use Rattle.ti_top.specs.Mirrors.Line.{HasRoom};
 ghost use Rattle.ti_top.specs.Mirrors.RunEnds.{RunEnds};
-ghost use Rattle.ti_top.specs.Mirrors.Work.{kept_of, ending_after as after_spec, ReportsAfter, RunSays, RunTextSays, CodeTextSays, TextSays, SeedSays, FileDone, WorkSays};
+ghost use Rattle.ti_top.specs.Mirrors.Work.{IsInRanges, kept_of, ending_after as after_spec, ReportsAfter, RunSays, RunTextSays, CodeTextSays, TextSays, SeedSays, FileDone, WorkSays};
 ghost use Rattle.ti_top.specs.Reports.{Watcher, wanted};
 ghost use Rattle.ti_top.specs.Run.{Runs, run_of};
 
@@ -27,11 +26,13 @@ use crate::reading::{ReadEnd, read_whole};
 use crate::reports::{ReportEnd, keep_wanted, write_reports};
 use crate::run_line::RunLine;
 use std::alloc::Global;
+use std::sync::Wait;
+use std::thread::Threads;
 use ti_align::actions_formed;
 use ti_base::{Entry, Memory};
 use ti_code::Code;
 use ti_gen::gen_source;
-use ti_io::{Sink, Source};
+use ti_io::{Gate, Sink, Source};
 use ti_lower::lower;
 use ti_race::{determinate, races_are_told};
 use ti_rules::Checked;
@@ -76,8 +77,8 @@ struct Ready {
 
 // How the work ends where all of a run is written.
 fn ending_of(end: &RunEnd, code: &Code) -> Ending
-    requires { (s : Setting) × Ran code.now s end.now }
-    ensures { (s : Setting) → Ran code.now s end.now → RunEnds s end.now.history.items result }
+    requires { (s : Setting) × (workers : ℕ) × Ran code.now s workers end.now }
+    ensures { (s : Setting) (workers : ℕ) → Ran code.now s workers end.now → RunEnds s end.now.history.items result }
 {
     match end.how {
         How::Ended => Ending::Done,
@@ -117,32 +118,50 @@ fn report_after<K: Sink>(
 }
 
 // Runs a program by its code. Where nothing in the run stands in a race, it decides every other run; what does is told by the entries alone.
-fn run_by_code(alloc: Global, job: &Job, checked: &Checked, code: &Code) -> RunEnd
-    requires within { IsWithin job.now.procs job.now.fuel }
+fn run_by_code<R: Threads + Wait + Sync, G: Gate + Sync>(
+    rt: &R,
+    alloc: Global,
+    job: &Job,
+    checked: &Checked,
+    code: &Code,
+    gate: &G,
+) -> RunEnd
+    requires ranges { IsInRanges job.now }
     requires aligned { IsAligned (program_of checked.now.program.parts) }
     requires follows { Follows code.now (program_of checked.now.program.parts) }
-    ensures ran { Ran code.now (run_of (program_of checked.now.program.parts) job.now) result }
+    ensures ran { Ran code.now (run_of (program_of checked.now.program.parts) job.now) job.now.workers result }
     ensures determines { Determines (run_of (program_of checked.now.program.parts) job.now) result.history.items }
     ensures told { races_told result.history.items ≡ races result.history.items }
 {
     actions_formed(checked);
     races_are_told();
-    let end = run(alloc, checked, code, job.procs, job.fuel);
+    let end = run(
+        rt,
+        alloc,
+        checked,
+        code,
+        job.procs,
+        job.workers,
+        job.fuel,
+        gate,
+    );
     determinate(&checked.program, job.procs, job.fuel, &end.history);
     end
 }
 
 // Runs a program by its code, and writes its lines, for which there is room, or its summary, and the reports on it. Where the run runs out
 // of memory, the lines of the entries so far are written.
-fn run_program<K: Sink>(
+fn run_program<R: Threads + Wait + Sync, K: Sink, G: Gate + Sync>(
+    rt: &R,
     alloc: Global,
     job: &Job,
     checked: &Checked,
     ready: Ready,
+    gate: &G,
     watchers: Vec<Box<dyn Watch>>,
     out: &mut K,
 ) -> Written
-    requires within { IsWithin job.now.procs job.now.fuel }
+    requires ranges { IsInRanges job.now }
     requires mode { Runs job.now.mode }
     requires aligned { IsAligned (program_of checked.now.program.parts) }
     requires room { HasRoom checked.now.program.parts.literals.items ready.line }
@@ -151,7 +170,7 @@ fn run_program<K: Sink>(
     ensures { RunSays (program_of checked.now.program.parts) job.now (map {B = Watcher} (λ w. record { kind = kind_of w; told = told w }) watchers.items) (K.state out.old) (K.state out.new) (kept_of result.kept) result.ending }
 {
     let Ready { code, mut line } = ready;
-    let end = run_by_code(alloc, job, checked, &code);
+    let end = run_by_code(rt, alloc, job, checked, &code, gate);
     let ended = ending_of(&end, &code);
     match write_head(
         out,
@@ -195,20 +214,22 @@ fn ready_for(alloc: Global, checked: &Checked) -> Result<Ready, Memory>
 }
 
 // Runs the program of a text. Its code is made and room for its lines is taken before the run.
-fn run_compiled<K: Sink>(
+fn run_compiled<R: Threads + Wait + Sync, K: Sink, G: Gate + Sync>(
+    rt: &R,
     alloc: Global,
     job: &Job,
     checked: &Checked,
+    gate: &G,
     watchers: Vec<Box<dyn Watch>>,
     out: &mut K,
 ) -> Written
-    requires within { IsWithin job.now.procs job.now.fuel }
+    requires ranges { IsInRanges job.now }
     requires mode { Runs job.now.mode }
     requires aligned { IsAligned (program_of checked.now.program.parts) }
     ensures { (text : List ℕ) → IsCompiled text (program_of checked.now.program.parts) → RunTextSays result.ending job.now (map {B = Watcher} (λ w. record { kind = kind_of w; told = told w }) watchers.items) text (K.state out.old) (K.state out.new) (kept_of result.kept) }
 {
     match ready_for(alloc, checked) {
-        Ok(ready) => run_program(alloc, job, checked, ready, watchers, out),
+        Ok(ready) => run_program(rt, alloc, job, checked, ready, gate, watchers, out),
         Err(Memory) => Written::nothing(alloc, Ending::NoMemory),
     }
 }
@@ -229,21 +250,23 @@ fn code_compiled<K: Sink>(alloc: Global, checked: &Checked, out: &mut K) -> Writ
 }
 
 // Checks a whole text, and runs it or writes its code where the job asks for that.
-fn do_text<K: Sink>(
+fn do_text<R: Threads + Wait + Sync, K: Sink, G: Gate + Sync>(
+    rt: &R,
     alloc: Global,
     job: &Job,
     text: &[u8],
+    gate: &G,
     watchers: Vec<Box<dyn Watch>>,
     out: &mut K,
 ) -> Written
-    requires { IsWithin job.now.procs job.now.fuel }
+    requires { IsInRanges job.now }
     ensures { TextSays job.now.mode result.ending job.now (map {B = Watcher} (λ w. record { kind = kind_of w; told = told w }) watchers.items) text.now (K.state out.old) (K.state out.new) (kept_of result.kept) }
 {
     match compile(alloc, text) {
         Ok(checked) => match job.mode {
             Mode::Check => Written::nothing(alloc, Ending::Done),
             Mode::Code => code_compiled(alloc, &checked, out),
-            Mode::Run | Mode::Gen => run_compiled(alloc, job, &checked, watchers, out),
+            Mode::Run | Mode::Gen => run_compiled(rt, alloc, job, &checked, gate, watchers, out),
         },
         Err(CompileErr::Refused(refusal)) => Written::nothing(alloc, Ending::Refused(refusal)),
         Err(CompileErr::Memory) => Written::nothing(alloc, Ending::NoMemory),
@@ -251,14 +274,16 @@ fn do_text<K: Sink>(
 }
 
 // Reads the file of a job and checks the text, and runs it or writes its code where the job asks for that.
-fn work_on_file<S: Source, K: Sink>(
+fn work_on_file<R: Threads + Wait + Sync, S: Source, K: Sink, G: Gate + Sync>(
+    rt: &R,
     alloc: Global,
     job: &Job,
     source: &mut S,
     out: &mut K,
+    gate: &G,
     watchers: Vec<Box<dyn Watch>>,
 ) -> Worked
-    requires { IsWithin job.now.procs job.now.fuel }
+    requires { IsInRanges job.now }
     ensures { FileDone job.now result.ending (record {
       watchers = map {B = Watcher} (λ w. record { kind = kind_of w; told = told w }) watchers.items;
       source = S.state source.old;
@@ -271,7 +296,7 @@ fn work_on_file<S: Source, K: Sink>(
 {
     let mut text = Vec::new(alloc);
     let written = match read_whole(source, job.file.as_str(), &mut text) {
-        ReadEnd::Whole => do_text(alloc, job, &text, watchers, out),
+        ReadEnd::Whole => do_text(rt, alloc, job, &text, gate, watchers, out),
         ReadEnd::CantRead => Written::nothing(alloc, Ending::CantRead),
         ReadEnd::NoMemory => Written::nothing(alloc, Ending::NoMemory),
     };
@@ -283,18 +308,20 @@ fn work_on_file<S: Source, K: Sink>(
 }
 
 // Makes the text of a job's seed and does what is to be done with it.
-fn work_on_seed<K: Sink>(
+fn work_on_seed<R: Threads + Wait + Sync, K: Sink, G: Gate + Sync>(
+    rt: &R,
     alloc: Global,
     job: &Job,
     out: &mut K,
+    gate: &G,
     watchers: Vec<Box<dyn Watch>>,
 ) -> Worked
-    requires { IsWithin job.now.procs job.now.fuel }
+    requires { IsInRanges job.now }
     ensures { SeedSays result.ending job.now (map {B = Watcher} (λ w. record { kind = kind_of w; told = told w }) watchers.items) result.text.items (K.state out.old) (K.state out.new) (kept_of result.kept) }
 {
     match gen_source(alloc, job.seed) {
         Ok(text) => {
-            let written = do_text(alloc, job, &text, watchers, out);
+            let written = do_text(rt, alloc, job, &text, gate, watchers, out);
             Worked {
                 ending: written.ending,
                 text,
@@ -312,14 +339,16 @@ fn work_on_seed<K: Sink>(
 /// Does what a job asks for: reads its file, or in mode gen makes the text of its seed, and checks the text; and where the program is to
 /// be run, runs it and writes the lines of the run or its summary and the reports of the watchers whose flag is given; or writes its code. The
 /// other watchers are dropped first.
-pub fn work<S: Source, K: Sink>(
+pub fn work<R: Threads + Wait + Sync, S: Source, K: Sink, G: Gate + Sync>(
+    rt: &R,
     alloc: Global,
     job: &Job,
     source: &mut S,
     out: &mut K,
+    gate: &G,
     watchers: Vec<Box<dyn Watch>>,
 ) -> Worked
-    requires { IsWithin job.now.procs job.now.fuel }
+    requires ranges { IsInRanges job.now }
     ensures { WorkSays job.now.mode job.now result.ending (record {
       watchers = wanted job.now (map {B = Watcher} (λ w. record { kind = kind_of w; told = told w }) watchers.items);
       source = S.state source.old;
@@ -333,7 +362,9 @@ pub fn work<S: Source, K: Sink>(
     let mut watchers = watchers;
     keep_wanted(&mut watchers, job);
     match job.mode {
-        Mode::Run | Mode::Check | Mode::Code => work_on_file(alloc, job, source, out, watchers),
-        Mode::Gen => work_on_seed(alloc, job, out, watchers),
+        Mode::Run | Mode::Check | Mode::Code => work_on_file(
+            rt, alloc, job, source, out, gate, watchers,
+        ),
+        Mode::Gen => work_on_seed(rt, alloc, job, out, gate, watchers),
     }
 }

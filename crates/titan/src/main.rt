@@ -4,7 +4,9 @@
 use std::env;
 use std::io::{self, ErrorKind};
 use std::process::ExitCode;
-use ti_io::{FileSource, StdSink};
+use std::sync::Wait;
+use std::thread::Threads;
+use ti_io::{FileSource, OpenGate, StdSink};
 use ti_race::RaceWatch;
 use ti_top::titan_top;
 use ti_watch::{StatsWatch, TraceWatch, Watch};
@@ -23,8 +25,9 @@ fn words_of(rt: &HostRuntime) -> io::Result<Vec<String>> {
     Ok(words)
 }
 
-// The status of the command, with a trace, statistics and races as watchers. Where memory is wanting for the words or for these, nothing is written.
-fn run(rt: &HostRuntime) -> io::Result<u8> {
+// The status of the command, with a trace, statistics and races as watchers, by threads of one that can start them. Where memory is wanting
+// for the words or for the watchers, nothing is written.
+fn run<R: AllocGlobal + Threads + Wait + Sync>(rt: &HostRuntime, threads: &R) -> io::Result<u8> {
     let alloc = rt.alloc();
     let words = words_of(rt)?;
     let mut watchers: Vec<Box<dyn Watch>> = Vec::new(alloc);
@@ -34,12 +37,20 @@ fn run(rt: &HostRuntime) -> io::Result<u8> {
     let mut source = FileSource::new(rt);
     let mut out = StdSink::out(rt);
     let mut err = StdSink::err(rt);
-    let outcome = titan_top(rt, &words, &mut source, &mut out, &mut err, watchers);
+    let outcome = titan_top(
+        threads,
+        &words,
+        &mut source,
+        &mut out,
+        &mut err,
+        &OpenGate,
+        watchers,
+    );
     Ok(outcome.status)
 }
 
 fn main(rt: HostRuntime) -> ExitCode {
-    match run(&rt) {
+    match run(&rt, &rt) {
         Ok(status) => ExitCode::from(status),
         Err(_) => ExitCode::from(6),
     }

@@ -25,6 +25,7 @@ use Rattle.ti_code.specs.Follows.{Follows}
 use Rattle.ti_code.specs.Programs as coded
 use Rattle.ti_lower.specs.Programs.{program_code}
 use Rattle.ti_runtime.specs.Ran.{IsDone}
+use Rattle.ti_store.specs.Conditions.{IsWithin}
 use Rattle.ti_rules.specs.declared.refusal.Refusal.{Refusal}
 use Rattle.ti_rules.specs.RefusalOf.{IsRefusal}
 use Rattle.ti_words.specs.declared.job.Job.{Job}
@@ -38,6 +39,11 @@ use Rattle.ti_top.specs.Summary.{summary_line}
 use Rattle.ti_top.specs.Mirrors.Reading.{ReadsWhole}
 use Rattle.ti_top.specs.Mirrors.Reporting.{Reported}
 use Rattle.ti_top.specs.Run.{run_of, EndsWithFault}
+
+-- a run may have so many processes, workers and ticks
+pub record IsInRanges (job : Job) : Type 0 where
+  pub within : IsWithin job.procs job.fuel
+  pub workers : 1 ≤ job.workers
 
 -- what is kept of the work: the code, the entries of the run, and how many instructions each process has finished
 pub record Kept : Type 0 where
@@ -116,7 +122,7 @@ pub record RanNothing (out out_after : SinkState) (kept : Kept) : Type 0 where
 -- the program was run by its code, and what is written of it in the job's mode was written up to the first call that failed
 pub record RunSays (program : NumberedProgram) (job : Job) (watchers : List Watcher) (out out_after : SinkState) (kept : Kept) (ending : Ending) : Type 0 where
   pub run : IsRun (run_of program job) kept.history
-  pub solo : IsSolo (run_of program job) kept.history
+  pub solo : job.workers ≡ 1 → IsSolo (run_of program job) kept.history
   pub determines : Determines (run_of program job) kept.history
   pub told : races_told kept.history ≡ races kept.history
   pub ended : ending ≡ Done → AllEnded (run_of program job) kept.history

@@ -13,14 +13,14 @@ returns-in-Err-Usage g c =
 
 pub returns-in-Err-Memory : goal.returns-in-Err-Memory
 returns-in-Err-Memory g c =
-    meets_unread _ (λ job command. (in_ranges (map (string_bytes {Z = Global}) c.args.words.now) job command).some)
+    meets_unread _ (λ job command. (in_ranges (map (string_bytes {Z = Global}) c.args.words.now) job command).within.some)
     (record { source = refl; text = c.nothing-in-Err-Memory.ensures.text; nothing = record { unwritten = refl; no_entry = c.nothing-in-Err-Memory.ensures.history; no_code = c.nothing-in-Err-Memory.ensures.code; no_count = c.nothing-in-Err-Memory.ensures.done } })
     (subst (λ (s : ℕ). Ended NoMemory [] (g.K.Sink.state c.args.err.now) (g.K.Sink.state c.end_with-in-Err-Memory.new.err) s) (sym c.nothing-in-Err-Memory.ensures.status) c.end_with-in-Err-Memory.ensures)
 
-pub work-worked-requires : goal.work-worked-requires
-work-worked-requires g c = in_ranges (map (string_bytes {Z = Global}) c.args.words.now) c.in-Ok.job c.in-Ok.ensures.job
+pub work-worked-requires-clause-ranges : goal.work-worked-requires-clause-ranges
+work-worked-requires-clause-ranges g c = λ _ _. in_ranges (map (string_bytes {Z = Global}) c.args.words.now) c.in-Ok.job c.in-Ok.ensures.job
 
 pub returns : goal.returns
 returns g c =
-    meets_command c.work-worked.result.ending c.in-Ok.job _ c.in-Ok.ensures.job (in_ranges (map (string_bytes {Z = Global}) c.args.words.now) c.in-Ok.job c.in-Ok.ensures.job).some c.work-worked.ensures
+    meets_command c.work-worked.result.ending c.in-Ok.job _ c.in-Ok.ensures.job (in_ranges (map (string_bytes {Z = Global}) c.args.words.now) c.in-Ok.job c.in-Ok.ensures.job).within.some c.work-worked.ensures
     (subst (λ (file : List ℕ). Ended c.work-worked.result.ending file (g.K.Sink.state c.args.err.now) (g.K.Sink.state c.end_with-status.new.err) c.end_with-status.result) c.as_str.ensures c.end_with-status.ensures)

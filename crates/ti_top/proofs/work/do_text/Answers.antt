@@ -1,8 +1,8 @@
 use Rattle.ti_top.proofs.TextsDone.{run_or_gen, run_in_mode}
 use Rattle.ti_top.proofs.work.do_text.Goals as goal
 
-pub run_compiled-requires : goal.run_compiled-requires
-run_compiled-requires g c = record { within = c.requires; mode = run_or_gen _ c.in-Run.is; aligned = c.in-Ok.ensures.aligned }
+pub run_compiled-requires-clause-mode : goal.run_compiled-requires-clause-mode
+run_compiled-requires-clause-mode g c = λ _ _. run_or_gen _ c.in-Run.is
 
 pub returns-in-Ok : goal.returns-in-Ok
 returns-in-Ok g c = run_in_mode _ _ _ _ _ _ _ _ (run_or_gen _ c.in-Run.is) (c.run_compiled.ensures c.args.text.now c.in-Ok.ensures)

@@ -7,14 +7,14 @@ use Rattle.ti_top.proofs.RunWritten.{wrote_cut, wrote_all, run_says, said_of}
 use Rattle.ti_top.proofs.work.run_program.Goals as goal
 
 pub ending_of-ended-requires : goal.ending_of-ended-requires
-ending_of-ended-requires g c = (run_of (program_of c.args.checked.now.program.parts) c.args.job.now, c.run_by_code-end.ensures.ran)
+ending_of-ended-requires g c = (run_of (program_of c.args.checked.now.program.parts) c.args.job.now, c.args.job.now.workers, c.run_by_code-end.ensures.ran)
 
 pub returns-in-Ok : goal.returns-in-Ok
 returns-in-Ok g c =
     let program = program_of c.args.checked.now.program.parts in
     let job = c.args.job.now in
     let ran = c.run_by_code-end.ensures.ran in
-    let ends = c.ending_of-ended.ensures (run_of program job) ran in
+    let ends = c.ending_of-ended.ensures (run_of program job) job.workers ran in
     let kept : Kept = record { code = Some c.args.ready.code; history = c.run_by_code-end.result.history.items; done = c.run_by_code-end.result.done.items } in
     said_of program job _ _ _ kept _ _ c.kept_of_run.ensures
     (run_says c.ending_of-ended.result program job _ _ _ kept c.report_after.result c.requires.mode ran.run ran.solo c.run_by_code-end.ensures.determines c.run_by_code-end.ensures.told ends
@@ -26,7 +26,7 @@ returns-in-Err g c =
     let program = program_of c.args.checked.now.program.parts in
     let job = c.args.job.now in
     let ran = c.run_by_code-end.ensures.ran in
-    let ends = c.ending_of-ended.ensures (run_of program job) ran in
+    let ends = c.ending_of-ended.ensures (run_of program job) job.workers ran in
     let kept : Kept = record { code = Some c.args.ready.code; history = c.run_by_code-end.result.history.items; done = c.run_by_code-end.result.done.items } in
     said_of program job _ _ _ kept _ _ c.kept_of_run-in-Err.ensures
     (run_says c.ending_of-ended.result program job _ _ _ kept _ c.requires.mode ran.run ran.solo c.run_by_code-end.ensures.determines c.run_by_code-end.ensures.told ends
