@@ -10,8 +10,11 @@ use crate::by_trees::follow;
 use crate::course::{Course, Limits, Stray, is_same, next_in};
 use crate::phases::checked_of;
 use std::alloc::Global;
+use std::sync::Wait;
+use std::thread::Threads;
 use ti_base::{Entry, Next};
 use ti_code::Code;
+use ti_io::OpenGate;
 use ti_lower::lower;
 use ti_rules::Checked;
 use ti_runtime::{How, RunEnd, run};
@@ -59,12 +62,20 @@ fn code_of(alloc: Global, checked: &Checked) -> Option<Code>
     }
 }
 
-fn ran_of(alloc: Global, text: &[u8], limits: Limits) -> Option<Ran>
-    requires { IsWithin limits.procs limits.fuel }
+fn ran_of<R: AllocGlobal + Threads + Wait + Sync>(
+    rt: &R,
+    text: &[u8],
+    limits: Limits,
+    workers: u32,
+) -> Option<Ran>
+    requires limits { IsWithin limits.procs limits.fuel }
+    requires workers { 1 ≤ workers }
 {
+    let alloc = rt.alloc();
     let checked = checked_of(alloc, text)?;
     let code = code_of(alloc, &checked)?;
-    let end = run(alloc, &checked, &code, limits.procs, limits.fuel);
+    let Limits { procs, fuel } = limits;
+    let end = run(rt, alloc, &checked, &code, procs, workers, fuel, &OpenGate);
     Some(Ran { checked, code, end })
 }
 
@@ -145,12 +156,18 @@ fn judged_run(alloc: Global, ran: &Ran, limits: Limits) -> Outcome
     }
 }
 
-/// What comes of the program of a text, with so many processes and ticks.
-pub(crate) fn judged(alloc: Global, text: &[u8], limits: Limits) -> Outcome
-    requires { IsWithin limits.procs limits.fuel }
+/// What comes of the program of a text, with so many processes and ticks, by so many workers.
+pub(crate) fn judged<R: AllocGlobal + Threads + Wait + Sync>(
+    rt: &R,
+    text: &[u8],
+    limits: Limits,
+    workers: u32,
+) -> Outcome
+    requires limits { IsWithin limits.procs limits.fuel }
+    requires workers { 1 ≤ workers }
 {
-    match ran_of(alloc, text, limits) {
-        Some(ran) => judged_run(alloc, &ran, limits),
+    match ran_of(rt, text, limits, workers) {
+        Some(ran) => judged_run(rt.alloc(), &ran, limits),
         None => Outcome::Refused,
     }
 }

@@ -1,5 +1,6 @@
 //! Programs whose code must do what their trees do, from the files that the arguments name. A program whose trees do something else is
-//! printed with the first entry where it does, and at the end how many programs agree and how many entries they have; then comes the text
+//! printed with the first entry where it does, and at the end how many programs agree, how many entries they have, and how many agree where each process
+//! has a worker of its own; then comes the text
 //! of code that is made by hand, and how many instructions a process of it finishes. Nothing of the programs is proved.
 #![tactic(auto)]
 
@@ -21,11 +22,17 @@ fn main(rt: HostRuntime) -> io::Result<()> {
     let mut count = Count {
         programs: 0,
         entries: 0,
+        on_threads: 0,
     };
     for file in env::args(&rt)?.skip(1) {
         count = judge_file(&rt, file.as_str(), count)?;
     }
-    let Count { programs, entries } = count;
+    let Count {
+        programs,
+        entries,
+        on_threads,
+    } = count;
     println!(rt; "{programs} programs agree, {entries} entries")?;
+    println!(rt; "{on_threads} programs agree by as many workers as processes")?;
     tell_made(&rt)
 }

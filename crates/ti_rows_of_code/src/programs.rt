@@ -1,18 +1,22 @@
 // Files of programs.
 
-ghost use Rattle.std.specs.Prelude.{IfSome};
+ghost use Rattle.std.specs.Prelude.{◌≤◌, IfSome};
 ghost use Rattle.ti_store.specs.Conditions.{IsWithin};
 
 use crate::comparison::{Outcome, judged};
 use crate::course::Limits;
 use crate::telling::tell_parting;
+use std::rt::Files;
+use std::sync::Wait;
+use std::thread::Threads;
 use std::{fs, io};
 
-/// How many programs agree, and how many entries they have.
+/// How many programs agree by one worker, how many entries they have, and how many agree by as many workers as processes.
 #[derive(Clone, Copy)]
 pub(crate) struct Count {
     pub programs: u64,
     pub entries: usize,
+    pub on_threads: u64,
 }
 
 /// The limits that two words say, where a run may have them.
@@ -37,9 +41,30 @@ fn heading(line: &str) -> Option<(Limits, &str)>
     Some((limits_of(procs, fuel)?, name))
 }
 
-/// Judges the program of a text, and counts it where it agrees.
-fn judge(
-    rt: &HostRuntime,
+/// How many entries the program of a text has by so many workers, where it agrees; else it is told what comes of it.
+fn agreeing<R: Print + AllocGlobal + Threads + Wait + Sync>(
+    rt: &R,
+    name: &str,
+    text: &str,
+    limits: Limits,
+    workers: u32,
+) -> io::Result<Option<usize>>
+    requires limits { IsWithin limits.procs limits.fuel }
+    requires workers { 1 ≤ workers }
+{
+    match judged(rt, text.as_bytes(), limits, workers) {
+        Outcome::Agrees(entries) => return Ok(Some(entries)),
+        Outcome::Parts(parting) => tell_parting(rt, name, parting)?,
+        Outcome::Refused => println!(rt; "{name}: no program")?,
+        Outcome::Memory => println!(rt; "{name}: the run wants memory")?,
+        Outcome::Stranger => println!(rt; "{name}: an entry is of no process")?,
+    }
+    Ok(None)
+}
+
+/// Judges the program of a text by one worker and by as many as it has processes, and counts it where it agrees.
+fn judge<R: Print + AllocGlobal + Threads + Wait + Sync>(
+    rt: &R,
     name: &str,
     text: &str,
     limits: Limits,
@@ -47,23 +72,23 @@ fn judge(
 ) -> io::Result<Count>
     requires { IsWithin limits.procs limits.fuel }
 {
-    match judged(rt.alloc(), text.as_bytes(), limits) {
-        Outcome::Agrees(entries) => {
-            return Ok(Count {
-                programs: count.programs.wrapping_add(1),
-                entries: count.entries.wrapping_add(entries),
-            });
-        }
-        Outcome::Parts(parting) => tell_parting(rt, name, parting)?,
-        Outcome::Refused => println!(rt; "{name}: no program")?,
-        Outcome::Memory => println!(rt; "{name}: the run wants memory")?,
-        Outcome::Stranger => println!(rt; "{name}: an entry is of no process")?,
+    let mut found = count;
+    if let Some(entries) = agreeing(rt, name, text, limits, 1)? {
+        found.programs = found.programs.wrapping_add(1);
+        found.entries = found.entries.wrapping_add(entries);
     }
-    Ok(count)
+    if agreeing(rt, name, text, limits, limits.procs)?.is_some() {
+        found.on_threads = found.on_threads.wrapping_add(1);
+    }
+    Ok(found)
 }
 
 /// Judges the program that a piece of a file holds behind its heading.
-fn judge_piece(rt: &HostRuntime, piece: &str, count: Count) -> io::Result<Count> {
+fn judge_piece<R: Files + Print + AllocGlobal + Threads + Wait + Sync>(
+    rt: &R,
+    piece: &str,
+    count: Count,
+) -> io::Result<Count> {
     let (line, text) = match piece.split_once('\n') {
         Some(parts) => parts,
         None => (piece, ""),
@@ -78,7 +103,11 @@ fn judge_piece(rt: &HostRuntime, piece: &str, count: Count) -> io::Result<Count>
 }
 
 /// Judges the programs of a text, each of which stands behind a line that begins with two equals signs.
-fn judge_all(rt: &HostRuntime, text: &str, count: Count) -> io::Result<Count> {
+fn judge_all<R: Files + Print + AllocGlobal + Threads + Wait + Sync>(
+    rt: &R,
+    text: &str,
+    count: Count,
+) -> io::Result<Count> {
     let Some((_, behind)) = text.split_once("\n== ") else {
         return Ok(count);
     };
@@ -97,7 +126,11 @@ fn judge_all(rt: &HostRuntime, text: &str, count: Count) -> io::Result<Count> {
 }
 
 /// Judges the programs of a file.
-pub(crate) fn judge_file(rt: &HostRuntime, file: &str, count: Count) -> io::Result<Count> {
+pub(crate) fn judge_file<R: Files + Print + AllocGlobal + Threads + Wait + Sync>(
+    rt: &R,
+    file: &str,
+    count: Count,
+) -> io::Result<Count> {
     match fs::read_to_string(rt, file) {
         Ok(text) => judge_all(rt, text.as_str(), count),
         Err(_) => {

@@ -42,15 +42,15 @@ fn short(line: &str) -> &str {
     }
 }
 
-fn tell_next(rt: &HostRuntime, label: &str, line: &[u8]) -> io::Result<()> {
+fn tell_next<R: Print + AllocGlobal>(rt: &R, label: &str, line: &[u8]) -> io::Result<()> {
     let line = String::from_utf8_lossy(rt.alloc(), line)?;
     let shown = short(line.as_str());
     println!(rt; "  {label} {shown}")
 }
 
 /// Tells what a process has next, behind a label.
-pub(crate) fn tell(
-    rt: &HostRuntime,
+pub(crate) fn tell<R: Print + AllocGlobal>(
+    rt: &R,
     label: &str,
     number: u32,
     next: Option<Next>,
@@ -65,7 +65,11 @@ pub(crate) fn tell(
 }
 
 /// Tells where the code of a program does something else than its trees.
-pub(crate) fn tell_parting(rt: &HostRuntime, name: &str, parting: Parting) -> io::Result<()> {
+pub(crate) fn tell_parting<R: Print + AllocGlobal>(
+    rt: &R,
+    name: &str,
+    parting: Parting,
+) -> io::Result<()> {
     let Parting {
         number,
         entry,

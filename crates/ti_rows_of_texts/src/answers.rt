@@ -8,6 +8,9 @@ use crate::tables::{Table, found_in};
 use crate::texts::{Frame, text_of};
 use crate::walks::walk;
 use std::alloc::{AllocError, AllocFailed, Global};
+use std::rt::Files;
+use std::sync::Wait;
+use std::thread::Threads;
 use ti_base::Memory;
 use ti_rules::Refusal;
 
@@ -34,6 +37,8 @@ pub(crate) enum Asked {
     End,
     /// How many instructions each process has finished.
     Finished,
+    /// The status, how many entries there are, and whether a process that was held gave up.
+    Holding,
 }
 
 /// Why a text has no answer.
@@ -75,8 +80,8 @@ fn parted(row: &str) -> Result<(&str, &str), Stopped> {
 }
 
 /// What is answered to a text behind what is given.
-fn answer_behind(
-    rt: &HostRuntime,
+fn answer_behind<R: Files + AllocGlobal + Threads + Wait + Sync>(
+    rt: &R,
     asked: Asked,
     given: &str,
     text: Vec<u8>,
@@ -85,17 +90,23 @@ fn answer_behind(
         Asked::Value => value(rt.alloc(), given, &text),
         Asked::Walk => walk(rt.alloc(), given, &text),
         Asked::Slice => slice(rt.alloc(), given, &text),
-        Asked::Collectives => collectives(rt.alloc(), given, &text),
+        Asked::Collectives => collectives(rt, given, &text),
         Asked::Command => command(rt, Shown::Ending, given, text),
         Asked::History => command(rt, Shown::History, given, text),
         Asked::End => command(rt, Shown::LastEntry, given, text),
         Asked::Finished => command(rt, Shown::Finished, given, text),
+        Asked::Holding => command(rt, Shown::Holding, given, text),
         _ => Err(Stopped::Row),
     }
 }
 
 /// What is answered to a row.
-fn given(rt: &HostRuntime, asked: Asked, frame: Frame, row: &str) -> Result<Vec<u8>, Stopped> {
+fn given<R: Files + AllocGlobal + Threads + Wait + Sync>(
+    rt: &R,
+    asked: Asked,
+    frame: Frame,
+    row: &str,
+) -> Result<Vec<u8>, Stopped> {
     match asked {
         Asked::Phase(asked) => made_by(rt.alloc(), asked, &text_of(rt, frame, row)?),
         Asked::Table(asked) => found_in(rt.alloc(), asked, row),
@@ -111,8 +122,8 @@ fn shown_refusal(alloc: Global, refusal: Refusal) -> Result<String, AllocError> 
 }
 
 /// What is answered to a row: where its text is refused, the rule that it breaks and its place, such as `X1 1:62`.
-pub(crate) fn answer(
-    rt: &HostRuntime,
+pub(crate) fn answer<R: Files + AllocGlobal + Threads + Wait + Sync>(
+    rt: &R,
     asked: Asked,
     frame: Frame,
     row: &str,

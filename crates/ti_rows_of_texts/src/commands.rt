@@ -1,11 +1,13 @@
 // Runs of the command over memory, with calls that fail where a row says so.
 
 use crate::answers::Stopped;
-use crate::stages::{Stage, staged};
+use crate::stages::{Held, Stage, staged};
 use crate::watchers::{Handed, short_of, told_trace};
 use std::alloc::{AllocError, Global};
+use std::sync::Wait;
+use std::thread::Threads;
 use ti_base::{Entry, Memory};
-use ti_io::{MemSink, MemSource};
+use ti_io::{Gate, HoldGate, MemSink, MemSource};
 use ti_race::RaceWatch;
 use ti_top::{Outcome, titan_top};
 use ti_watch::{StatsWatch, TraceWatch, Watch};
@@ -21,6 +23,40 @@ pub(crate) enum Shown {
     LastEntry,
     /// How many instructions each process has finished.
     Finished,
+    /// The status, how many entries there are, and whether a process that was held gave up.
+    Holding,
+}
+
+/// What the processes pass: nothing, or a gate that holds two of them.
+#[derive(Drop)]
+enum Passage {
+    Open,
+    Held(HoldGate),
+}
+
+impl Gate for Passage {
+    fn pass(&self, p: u32) {
+        if let Passage::Held(gate) = self {
+            gate.pass(p);
+        }
+    }
+}
+
+impl Passage {
+    fn of(held: Option<Held>) -> Passage {
+        match held {
+            Some(held) => Passage::Held(HoldGate::new(held.one, held.other, held.looks)),
+            None => Passage::Open,
+        }
+    }
+
+    /// Whether a process that was held gave up.
+    fn gave_up(&self) -> bool {
+        match self {
+            Passage::Open => false,
+            Passage::Held(gate) => gate.gave_up(),
+        }
+    }
 }
 
 #[derive(Drop)]
@@ -47,6 +83,7 @@ struct Call {
 struct Left {
     outcome: Outcome,
     sinks: Sinks,
+    gave_up: bool,
 }
 
 /// The numbers of the calls that fail.
@@ -107,25 +144,35 @@ fn call_of(alloc: Global, line: &str, stage: Stage, text: Vec<u8>) -> Result<Cal
 }
 
 /// The command. This is the only function that calls it: each further one would be dear to prove.
-fn called(rt: &HostRuntime, call: Call, watchers: Vec<Box<dyn Watch>>) -> Left {
+fn called<R: AllocGlobal + Threads + Wait + Sync>(
+    rt: &R,
+    call: Call,
+    gate: &Passage,
+    watchers: Vec<Box<dyn Watch>>,
+) -> Left {
     let Call { words, streams } = call;
     let Streams { source, sinks } = streams;
     let Sinks { out, err } = sinks;
     let mut source = source;
     let mut out = out;
     let mut err = err;
-    let outcome = titan_top(rt, &words, &mut source, &mut out, &mut err, watchers);
+    let outcome = titan_top(rt, &words, &mut source, &mut out, &mut err, gate, watchers);
     Left {
         outcome,
         sinks: Sinks { out, err },
+        gave_up: gate.gave_up(),
     }
 }
 
 /// The command with watchers, which are made here, since no function may make them and hand them out.
-fn left_by(rt: &HostRuntime, call: Call, all: [Option<Handed>; 3]) -> Result<Left, Memory> {
+fn left_by<R: AllocGlobal + Threads + Wait + Sync>(
+    rt: &R,
+    call: Call,
+    stage: Stage,
+) -> Result<Left, Memory> {
     let alloc = rt.alloc();
     let mut watchers: Vec<Box<dyn Watch>> = Vec::new(alloc);
-    for handed in all {
+    for handed in stage.watchers {
         match handed {
             Some(Handed::Trace) => watchers.push(Box::new(alloc, TraceWatch::new(alloc))?)?,
             Some(Handed::ToldTrace) => watchers.push(Box::new(alloc, told_trace(alloc)?)?)?,
@@ -136,7 +183,8 @@ fn left_by(rt: &HostRuntime, call: Call, all: [Option<Handed>; 3]) -> Result<Lef
             None => {}
         }
     }
-    Ok(called(rt, call, watchers))
+    let gate = Passage::of(stage.held);
+    Ok(called(rt, call, &gate, watchers))
 }
 
 /// Puts bytes behind a text and a word, where there are any.
@@ -192,30 +240,46 @@ fn spaced(alloc: Global, numbers: &[u64]) -> Result<Vec<u8>, Memory> {
     Ok(text)
 }
 
+/// The status, how many entries there are, and whether a process that was held gave up.
+fn shown_holding(alloc: Global, left: &Left) -> Result<Vec<u8>, Memory> {
+    let how = if left.gave_up {
+        "one gave up"
+    } else {
+        "none gave up"
+    };
+    let Outcome {
+        status,
+        history,
+        ..
+    } = &left.outcome;
+    Ok(format!(in alloc; "{status}, {} entries, {how}", history.len())?.into_bytes())
+}
+
 fn part_of(alloc: Global, asked: Shown, left: &Left) -> Result<Vec<u8>, Memory> {
     match asked {
         Shown::Ending => shown_ending(alloc, left.outcome.status, &left.sinks),
         Shown::History => traced(alloc, &left.outcome.history),
         Shown::LastEntry => last_of(alloc, &left.outcome.history),
         Shown::Finished => spaced(alloc, &left.outcome.done),
+        Shown::Holding => shown_holding(alloc, left),
     }
 }
 
-fn done(
-    rt: &HostRuntime,
+fn done<R: AllocGlobal + Threads + Wait + Sync>(
+    rt: &R,
     asked: Shown,
     line: &str,
     stage: Stage,
     text: Vec<u8>,
 ) -> Result<Vec<u8>, Stopped> {
     let call = call_of(rt.alloc(), line, stage, text)?;
-    let left = left_by(rt, call, stage.watchers)?;
+    let left = left_by(rt, call, stage)?;
     Ok(part_of(rt.alloc(), asked, &left)?)
 }
 
 /// What a command leaves over one file `a.ti` that holds a text.
-pub(crate) fn command(
-    rt: &HostRuntime,
+pub(crate) fn command<R: AllocGlobal + Threads + Wait + Sync>(
+    rt: &R,
     asked: Shown,
     given: &str,
     text: Vec<u8>,

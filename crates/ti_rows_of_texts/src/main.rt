@@ -17,10 +17,18 @@ mod walks;
 mod watchers;
 
 use rows::{Asks, Line, heading, judged, read_line};
+use std::rt::Files;
+use std::sync::Wait;
+use std::thread::Threads;
 use std::{env, fs, io};
 
 /// Judges a line of a file, and returns whether it is a row that holds.
-fn judge(rt: &HostRuntime, asks: Option<Asks>, text: &str, expected: &str) -> io::Result<bool> {
+fn judge<R: Files + Print + AllocGlobal + Threads + Wait + Sync>(
+    rt: &R,
+    asks: Option<Asks>,
+    text: &str,
+    expected: &str,
+) -> io::Result<bool> {
     match judged(rt, asks, text, expected)? {
         Some(found) => {
             println!(rt; "{text}\n  expected {expected}\n  found    {found}")?;
@@ -31,7 +39,11 @@ fn judge(rt: &HostRuntime, asks: Option<Asks>, text: &str, expected: &str) -> io
 }
 
 /// Judges the rows of a text.
-fn judge_all(rt: &HostRuntime, file: &str, text: &str) -> io::Result<()> {
+fn judge_all<R: Files + Print + AllocGlobal + Threads + Wait + Sync>(
+    rt: &R,
+    file: &str,
+    text: &str,
+) -> io::Result<()> {
     let mut asks = None;
     let mut holding = 0u64;
     for line in text.lines() {
@@ -55,7 +67,10 @@ fn judge_all(rt: &HostRuntime, file: &str, text: &str) -> io::Result<()> {
 }
 
 /// Judges the rows of a file.
-fn judge_file(rt: &HostRuntime, file: &str) -> io::Result<()> {
+fn judge_file<R: Files + Print + AllocGlobal + Threads + Wait + Sync>(
+    rt: &R,
+    file: &str,
+) -> io::Result<()> {
     match fs::read_to_string(rt, file) {
         Ok(text) => judge_all(rt, file, text.as_str()),
         Err(_) => println!(rt; "{file}: can't be read"),

@@ -5,6 +5,9 @@ use crate::phases::Phase;
 use crate::tables::Table;
 use crate::texts::{Frame, bytes_of, escaped};
 use std::alloc::{AllocError, Global};
+use std::rt::Files;
+use std::sync::Wait;
+use std::thread::Threads;
 use ti_parse_expr::Form;
 
 /// What is asked of the texts of rows, and what they are part of.
@@ -99,6 +102,7 @@ fn asked_of(word: &str) -> Option<Asked> {
         "history" => Some(Asked::History),
         "finished" => Some(Asked::Finished),
         "end" => Some(Asked::End),
+        "holding" => Some(Asked::Holding),
         _ => match table_of(word) {
             Some(table) => Some(Asked::Table(table)),
             None => Some(Asked::Phase(phase_of(word)?)),
@@ -180,8 +184,8 @@ fn holds(alloc: Global, found: &[u8], expected: &str) -> Result<bool, Stopped> {
 }
 
 /// What was found to the text of a row where something else is expected.
-fn differing(
-    rt: &HostRuntime,
+fn differing<R: Files + AllocGlobal + Threads + Wait + Sync>(
+    rt: &R,
     asks: Asks,
     text: &str,
     expected: &str,
@@ -195,8 +199,8 @@ fn differing(
 }
 
 /// What was found to the text of a row where something else is expected, or that the row can't be read.
-pub(crate) fn judged(
-    rt: &HostRuntime,
+pub(crate) fn judged<R: Files + AllocGlobal + Threads + Wait + Sync>(
+    rt: &R,
     asks: Option<Asks>,
     text: &str,
     expected: &str,

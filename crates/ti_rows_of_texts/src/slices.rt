@@ -7,8 +7,11 @@ use crate::phases::checked;
 use crate::things::answer_of;
 use crate::walks::collective;
 use std::alloc::{AllocError, Global};
+use std::sync::Wait;
+use std::thread::Threads;
 use ti_align::SliceStep;
 use ti_base::{Action, Answer, CollKind, Entry, Memory, Place, fault_name};
+use ti_io::OpenGate;
 use ti_lower::lower;
 use ti_rules::Checked;
 use ti_runtime::run;
@@ -148,21 +151,30 @@ fn departures(
     departures_of(alloc, c, procs, history, 0)
 }
 
-fn departures_in(alloc: Global, c: &Checked, procs: u32) -> Result<Option<usize>, Memory>
+fn departures_in<R: AllocGlobal + Threads + Wait + Sync>(
+    rt: &R,
+    c: &Checked,
+    procs: u32,
+) -> Result<Option<usize>, Memory>
     requires some { 1 ≤ procs }
     requires few { procs ≤ 32 }
 {
+    let alloc = rt.alloc();
     let code = lower(alloc, c)?;
-    let ended = run(alloc, c, &code, procs, FUEL);
+    let ended = run(rt, alloc, c, &code, procs, 1, FUEL, &OpenGate);
     departures(alloc, c, procs, &ended.history)
 }
 
-fn departures_of_text(alloc: Global, procs: u32, text: &[u8]) -> Result<Option<usize>, Stopped>
+fn departures_of_text<R: AllocGlobal + Threads + Wait + Sync>(
+    rt: &R,
+    procs: u32,
+    text: &[u8],
+) -> Result<Option<usize>, Stopped>
     requires some { 1 ≤ procs }
     requires few { procs ≤ 32 }
 {
-    let c = checked(alloc, text)?;
-    Ok(departures_in(alloc, &c, procs)?)
+    let c = checked(rt.alloc(), text)?;
+    Ok(departures_in(rt, &c, procs)?)
 }
 
 /// How many processes run.
@@ -177,12 +189,16 @@ fn procs_of(given: &str) -> Option<u32>
 }
 
 /// From how many collectives process 0 of so many departs in the run of a text, where the slice tells those of each process.
-pub(crate) fn collectives(alloc: Global, given: &str, text: &[u8]) -> Result<Vec<u8>, Stopped> {
+pub(crate) fn collectives<R: AllocGlobal + Threads + Wait + Sync>(
+    rt: &R,
+    given: &str,
+    text: &[u8],
+) -> Result<Vec<u8>, Stopped> {
     let Some(procs) = procs_of(given) else {
         return Err(Stopped::Row);
     };
-    match departures_of_text(alloc, procs, text)? {
-        Some(count) => Ok(format!(in alloc; "{count}")?.into_bytes()),
-        None => Ok(b"not told".to_vec(alloc)?),
+    match departures_of_text(rt, procs, text)? {
+        Some(count) => Ok(format!(in rt.alloc(); "{count}")?.into_bytes()),
+        None => Ok(b"not told".to_vec(rt.alloc())?),
     }
 }

@@ -1,14 +1,23 @@
-// What stands around the words of a command: calls that fail, and watchers.
+// What stands around the words of a command: calls that fail, watchers, and processes that a gate holds.
 
 use crate::watchers::Handed;
 
-/// The numbers of the calls of the source, out and err that fail, and the watchers that are handed in.
+/// Two processes, each of which is held at its second act until the other has come to its own, or until it has looked for it so many times.
+#[derive(Clone, Copy)]
+pub(crate) struct Held {
+    pub(crate) one: u32,
+    pub(crate) other: u32,
+    pub(crate) looks: u64,
+}
+
+/// The numbers of the calls of the source, out and err that fail, the watchers that are handed in, and the processes that are held.
 #[derive(Clone, Copy)]
 pub(crate) struct Stage {
     pub(crate) source: Option<u32>,
     pub(crate) out: Option<u32>,
     pub(crate) err: Option<u32>,
     pub(crate) watchers: [Option<Handed>; 3],
+    pub(crate) held: Option<Held>,
 }
 
 /// No call fails, and the watchers are those that `main` hands in.
@@ -21,6 +30,7 @@ const PLAIN: Stage = Stage {
         Some(Handed::Stats),
         Some(Handed::Races),
     ],
+    held: None,
 };
 
 fn handed_of(word: &str) -> Option<Handed> {
@@ -57,11 +67,33 @@ fn with_watchers(stage: Stage, word: &str) -> Option<Stage> {
     Some(Stage { watchers, ..stage })
 }
 
+/// What a word such as `0:1:1000` says: the processes 0 and 1, and so many looks.
+fn held_of(word: &str) -> Option<Held> {
+    let (one, behind) = word.split_once(':')?;
+    let (other, looks) = behind.split_once(':')?;
+    Some(Held {
+        one: one.parse::<u32>().ok()?,
+        other: other.parse::<u32>().ok()?,
+        looks: looks.parse::<u64>().ok()?,
+    })
+}
+
+/// A stage with two processes that are held.
+fn with_held(stage: Stage, word: &str) -> Option<Stage> {
+    let held = held_of(word)?;
+    Some(Stage {
+        held: Some(held),
+        ..stage
+    })
+}
+
 /// A stage with what a word such as `out:4` says.
 fn with(stage: Stage, word: &str) -> Option<Stage> {
     let (part, value) = word.split_once(':')?;
-    if part == "watch" {
-        return with_watchers(stage, value);
+    match part {
+        "watch" => return with_watchers(stage, value),
+        "hold" => return with_held(stage, value),
+        _ => {}
     }
     let call = Some(value.parse::<u32>().ok()?);
     match part {
@@ -75,7 +107,7 @@ fn with(stage: Stage, word: &str) -> Option<Stage> {
     }
 }
 
-/// The stage that words such as `source:0 out:1 watch:stats,trace` describe.
+/// The stage that words such as `source:0 out:1 watch:stats,trace hold:0:1:1000` describe.
 fn stage_of(words: &str) -> Option<Stage> {
     let mut stage = PLAIN;
     for word in words.split_ascii_whitespace() {

@@ -3,6 +3,7 @@
 use crate::answers::Stopped;
 use std::alloc::{AllocError, Global};
 use std::fs;
+use std::rt::Files;
 
 /// What stands in front of each text of a frame, and behind it.
 #[derive(Clone, Copy)]
@@ -215,7 +216,11 @@ fn framed(alloc: Global, frame: Frame, short: &str) -> Result<Vec<u8>, Stopped> 
 }
 
 /// The text that a row asks about.
-pub(crate) fn text_of(rt: &HostRuntime, frame: Frame, short: &str) -> Result<Vec<u8>, Stopped> {
+pub(crate) fn text_of<R: Files + AllocGlobal>(
+    rt: &R,
+    frame: Frame,
+    short: &str,
+) -> Result<Vec<u8>, Stopped> {
     match frame {
         Frame::File => match fs::read(rt, short) {
             Ok(text) => Ok(text),
