@@ -18,8 +18,8 @@ use Rattle.ti_exec.specs.declared.process.Pending.{Pending}
 use Rattle.ti_exec.specs.declared.process.Pending.TheVariants as pend
 use Rattle.ti_exec.specs.States.{process_of, mode_behind, told, Stands}
 use Rattle.ti_exec.specs.Standing.{Standing, setting_of, begun_of, HasNext, IsAnswered, is_act}
-use Rattle.ti_exec.specs.MirrorsGoingOn.{spent_in, asks_in, Rests, GoesOn}
-use Rattle.ti_exec.specs.MirrorsTreeProc.{Follows, Awaits, Agrees}
+use Rattle.ti_exec.specs.Mirrors.GoingOn.{spent_in, asks_in, Rests, GoesOn}
+use Rattle.ti_exec.specs.Mirrors.TreeProc.{Follows, Awaits, Agrees}
 use Rattle.ti_exec.proofs.Advances.{reaches_through, one_more, moved, with_room}
 
 -- ---- the beginning

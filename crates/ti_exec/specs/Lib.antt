@@ -1,7 +1,5 @@
 pub mod Marks
-pub mod MirrorsGoingOn
-pub mod MirrorsStanding
-pub mod MirrorsTreeProc
+pub mod Mirrors
 pub mod Standing
 pub mod States
 pub mod Walking

@@ -10,7 +10,7 @@ ghost use Rattle.ti_moves.specs.Moves.{method_at};
 ghost use Rattle.ti_exec.specs.declared.process.Mode.TheVariants.{Walks, Ended};
 ghost use Rattle.ti_exec.specs.declared.process.Pending.TheVariants.{Pushed};
 ghost use Rattle.ti_exec.specs.States.{process_of, going_on, mode_behind, told};
-ghost use Rattle.ti_exec.specs.MirrorsGoingOn.{fresh_process, spent_in, GoesOn};
+ghost use Rattle.ti_exec.specs.Mirrors.GoingOn.{fresh_process, spent_in, GoesOn};
 
 use crate::process::{Asking, Below, Call, Mode, Pending, Turn, Variables, Walker};
 use std::alloc::Global;

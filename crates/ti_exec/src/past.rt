@@ -5,7 +5,7 @@ ghost use Rattle.std.specs.Borrow.{ftrue};
 ghost use Rattle.ti_base.specs.contracts.entry.Answer as one_answer;
 ghost use Rattle.ti_lang.specs.contracts.program.classes.Parts as parts;
 ghost use Rattle.ti_exec.specs.Standing.{Standing};
-ghost use Rattle.ti_exec.specs.MirrorsStanding.{standing_code};
+ghost use Rattle.ti_exec.specs.Mirrors.Standing.{standing_code};
 
 use std::marker::Model;
 use ti_base::Answer;

@@ -31,13 +31,13 @@ impl Model for TreeProc {
     ghost use Rattle.ti_base.specs.contracts.entry.Answer as one_answer;
     ghost use Rattle.ti_lang.specs.contracts.program.classes.Parts as parts;
     ghost use Rattle.ti_exec.specs.Standing.{Standing};
-    ghost use Rattle.ti_exec.specs.MirrorsStanding.{standing_code};
+    ghost use Rattle.ti_exec.specs.Mirrors.Standing.{standing_code};
 
     ghost Value = { Standing };
 
     ghost coded = { standing_code parts.the_row.coded one_answer.the_row.coded };
 
-    ghost use Rattle.ti_exec.specs.MirrorsTreeProc.{standing_in, IsSound};
+    ghost use Rattle.ti_exec.specs.Mirrors.TreeProc.{standing_in, IsSound};
 
     ghost view = { standing_in };
 

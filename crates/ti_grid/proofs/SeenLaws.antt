@@ -15,7 +15,7 @@ use Rattle.ti_rect.proofs.RectLaws.{low_on, full_of, tidy_first, tidy_second, ti
 use Rattle.ti_rect.proofs.TranslateLaws.{shifted_form, translated_full}
 use Rattle.ti_rect.proofs.TestLaws.{in_tests}
 use Rattle.ti_grid.specs.declared.layout.Layout.{Layout}
-use Rattle.ti_grid.specs.MirrorsNumbers.{steps_to, number_of}
+use Rattle.ti_grid.specs.Mirrors.Numbers.{steps_to, number_of}
 use Rattle.ti_grid.specs.Views.{IsLaid, IsSeen, cell_number, seen_number, DifferInCells, NumbersBelow}
 use Rattle.ti_grid.proofs.ListLaws.{few_points}
 use Rattle.ti_grid.proofs.StepLaws.{moved_steps}

@@ -16,7 +16,7 @@ use Rattle.ti_rect.proofs.PointLists.{first_step, second_step, third_step}
 use Rattle.ti_rect.proofs.RectLaws.{low_on, none_in, none_on, full, full_of, point_in}
 use Rattle.ti_rect.proofs.TestLaws.{any_of}
 use Rattle.ti_grid.specs.declared.layout.Layout.{Layout}
-use Rattle.ti_grid.specs.MirrorsNumbers.{steps_to, number_of}
+use Rattle.ti_grid.specs.Mirrors.Numbers.{steps_to, number_of}
 use Rattle.ti_grid.specs.Views.{SomeHas, IsLaid, IsSeen}
 use Rattle.ti_rect.proofs.ViewLaws.{view_inside}
 use Rattle.ti_grid.proofs.SeenLaws.{is_laid, is_seen}

@@ -6,7 +6,7 @@ use Rattle.std.proofs.lemmas.Bool.{cases_lt}
 use Rattle.std.proofs.lemmas.Int.{ints}
 use Rattle.ti_base.specs.Ranges.{Range, IsOn, IsRange, natural, shifted}
 use Rattle.ti_rect.proofs.RectLaws.{low_on}
-use Rattle.ti_grid.specs.MirrorsNumbers.{steps_to}
+use Rattle.ti_grid.specs.Mirrors.Numbers.{steps_to}
 
 -- the steps to a number that is so many above the low end
 pub steps_are : (r : Range) (x : ℤ) (k : ℕ) → 0 < r.step → x ≡ r.low +ℤ pos (k * r.step) → steps_to r x ≡ k

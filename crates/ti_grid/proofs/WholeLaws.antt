@@ -18,7 +18,7 @@ use Rattle.std.proofs.lemmas.Bool.{true≢false}
 use Rattle.ti_rect.proofs.TestLaws.{in_tests}
 use Rattle.ti_rect.proofs.PointLists.{points_listed, first_step, second_step, third_step}
 use Rattle.ti_grid.specs.declared.layout.Layout.{Layout}
-use Rattle.ti_grid.specs.MirrorsNumbers.{steps_to, number_of}
+use Rattle.ti_grid.specs.Mirrors.Numbers.{steps_to, number_of}
 use Rattle.ti_grid.specs.Views.{IsLaid, IsWhole, NumbersBelow, place_in}
 use Rattle.ti_grid.proofs.ListLaws.{get_flat, get_number, length_numbers, length_flat, place_found, place_missing, place_below}
 use Rattle.ti_grid.proofs.StepLaws.{on_steps}

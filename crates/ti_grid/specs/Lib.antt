@@ -1,2 +1,2 @@
-pub mod MirrorsNumbers
+pub mod Mirrors
 pub mod Views

@@ -8,7 +8,7 @@ use Rattle.ti_base.specs.PointSets.{same_point}
 use Rattle.ti_base.specs.Rects.{IsRect, IsIn, is_in, points_of}
 use Rattle.ti_base.specs.Cells.{view_domain, seen_point}
 use Rattle.ti_grid.specs.declared.layout.Layout.{Layout}
-use Rattle.ti_grid.specs.MirrorsNumbers.{number_of}
+use Rattle.ti_grid.specs.Mirrors.Numbers.{number_of}
 
 -- the number of the cell of a point, where the view has the point
 abbrev pub cell_number : Layout → Point → Option ℕ

@@ -5,7 +5,7 @@ ghost use Rattle.ti_base.specs.declared.point.Point.{Point};
 ghost use Rattle.ti_base.specs.Ranges.{IsOn};
 ghost use Rattle.ti_base.specs.Rects.{IsIn};
 ghost use Rattle.ti_rect.specs.Axes.{range};
-ghost use Rattle.ti_grid.specs.MirrorsNumbers.{steps_to, number_of};
+ghost use Rattle.ti_grid.specs.Mirrors.Numbers.{steps_to, number_of};
 ghost use Rattle.ti_grid.specs.Views.{IsLaid, NumbersBelow, cell_number};
 
 use crate::layout::Layout;

@@ -6,7 +6,7 @@ ghost use Rattle.ti_base.specs.declared.action.ViewHow.TheVariants.{Restrict};
 ghost use Rattle.ti_base.specs.Ranges.{IsOn, IsRange};
 ghost use Rattle.ti_base.specs.Rects.{IsRect, HasPoints, IsIn};
 ghost use Rattle.ti_rect.specs.Axes.{range};
-ghost use Rattle.ti_grid.specs.MirrorsNumbers.{steps_to, number_of};
+ghost use Rattle.ti_grid.specs.Mirrors.Numbers.{steps_to, number_of};
 ghost use Rattle.ti_grid.specs.Views.{IsLaid, IsSeen};
 
 use crate::layout::Layout;

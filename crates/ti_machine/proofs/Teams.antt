@@ -12,7 +12,7 @@ use Rattle.ti_lang.specs.Meaning.Operands.{same_points}
 use Rattle.ti_lang.specs.Meaning.Copies.{element_at}
 use Rattle.ti_lang.specs.Meaning.Collectives.{team}
 use Rattle.ti_eval.proofs.Points.{tells_same}
-use Rattle.ti_machine.specs.MirrorsDomains.{last_of}
+use Rattle.ti_machine.specs.Mirrors.Domains.{last_of}
 
 none_among : (ps : List Point) → ((p : Point) → IsAmong ps p → ⊥) → ps ≡ []
 none_among [] h = refl

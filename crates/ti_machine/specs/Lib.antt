@@ -1,13 +1,4 @@
-pub mod MirrorsConversions
-pub mod MirrorsDesks
-pub mod MirrorsDomains
-pub mod MirrorsGoingOn
-pub mod MirrorsInstrs
-pub mod MirrorsMachines
-pub mod MirrorsOperands
-pub mod MirrorsProc
-pub mod MirrorsStanding
-pub mod MirrorsStrides
+pub mod Mirrors
 pub mod Points
 pub mod Standing
 pub mod Telling

@@ -5,7 +5,7 @@ ghost use Rattle.ti_code.specs.Effects.{Who, process_at};
 ghost use Rattle.ti_code.specs.declared.instr.Instr.TheVariants as i;
 ghost use Rattle.ti_lang.specs.Meaning.Held.{plain_of};
 ghost use Rattle.ti_code.specs.Effects.{top};
-ghost use Rattle.ti_machine.specs.MirrorsDesks.{spot_of, Makes};
+ghost use Rattle.ti_machine.specs.Mirrors.Desks.{spot_of, Makes};
 
 use crate::desk::Desk;
 use ti_base::{Action, FaultKind, Place, Zero};

@@ -10,7 +10,7 @@ ghost use Rattle.ti_lang.specs.Meaning.Copies.{element_at as element_at_spec};
 ghost use Rattle.ti_lang.specs.Meaning.Operands.{same_points};
 ghost use Rattle.ti_eval.specs.Bounds.{bounds_of};
 ghost use Rattle.ti_code.specs.Effects as effects;
-ghost use Rattle.ti_machine.specs.MirrorsDomains.{last_of};
+ghost use Rattle.ti_machine.specs.Mirrors.Domains.{last_of};
 
 use std::alloc::Global;
 use ti_base::{Memory, Point, Rect, Value};

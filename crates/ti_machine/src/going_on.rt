@@ -5,8 +5,8 @@ ghost use Rattle.ti_base.specs.declared.entry.Next.{Next as Shown};
 ghost use Rattle.ti_code.specs.Follows.{HasNext};
 ghost use Rattle.ti_code.specs.Programs.{Code as Methods};
 ghost use Rattle.ti_code.specs.Machine.{first};
-ghost use Rattle.ti_machine.specs.MirrorsMachines.{machine_of};
-ghost use Rattle.ti_machine.specs.MirrorsGoingOn.{IsWay};
+ghost use Rattle.ti_machine.specs.Mirrors.Machines.{machine_of};
+ghost use Rattle.ti_machine.specs.Mirrors.GoingOn.{IsWay};
 
 use crate::desk::{Desk, Hears};
 use crate::machine::{Frame, Machine, Turn};

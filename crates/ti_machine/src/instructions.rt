@@ -5,7 +5,7 @@ ghost use Rattle.ti_base.specs.Points.{IsDim};
 ghost use Rattle.ti_code.specs.Effects.{Who};
 ghost use Rattle.ti_code.specs.Forms.{IsFormedValue};
 ghost use Rattle.ti_code.specs.declared.instr.Instr.TheVariants as i;
-ghost use Rattle.ti_machine.specs.MirrorsDesks.{spot_of, who, Makes};
+ghost use Rattle.ti_machine.specs.Mirrors.Desks.{spot_of, who, Makes};
 
 use crate::desk::Desk;
 use crate::domains::no_points;

@@ -10,9 +10,9 @@ ghost use Rattle.ti_code.specs.declared.instr.Instr.TheVariants as i;
 ghost use Rattle.ti_code.specs.Effects.{Spot};
 ghost use Rattle.ti_code.specs.Forms.{IsFormedInstr};
 ghost use Rattle.ti_code.specs.Machine as seen;
-ghost use Rattle.ti_machine.specs.MirrorsDesks.{spot_of, heard, Made, hears_of};
-ghost use Rattle.ti_machine.specs.MirrorsInstrs.{stays, instrs_at};
-ghost use Rattle.ti_machine.specs.MirrorsMachines.{machine_of, answered, AsksAt, IsTurn, IsDone, IsWithin, IsEntered};
+ghost use Rattle.ti_machine.specs.Mirrors.Desks.{spot_of, heard, Made, hears_of};
+ghost use Rattle.ti_machine.specs.Mirrors.Instrs.{stays, instrs_at};
+ghost use Rattle.ti_machine.specs.Mirrors.Machines.{machine_of, answered, AsksAt, IsTurn, IsDone, IsWithin, IsEntered};
 
 use crate::desk::{Desk, Hears};
 use crate::operand::Operand;

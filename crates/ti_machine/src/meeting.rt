@@ -8,8 +8,8 @@ ghost use Rattle.ti_lang.specs.Meaning.Steps.{lies_in as lies_in_spec};
 ghost use Rattle.ti_code.specs.Programs.{Code as Methods};
 ghost use Rattle.ti_code.specs.declared.instr.Instr.TheVariants as i;
 ghost use Rattle.ti_code.specs.Machine as seen;
-ghost use Rattle.ti_machine.specs.MirrorsDesks.{spot_of};
-ghost use Rattle.ti_machine.specs.MirrorsMachines.{machine_of, IsDone, IsGift, KeepsRest};
+ghost use Rattle.ti_machine.specs.Mirrors.Desks.{spot_of};
+ghost use Rattle.ti_machine.specs.Mirrors.Machines.{machine_of, IsDone, IsGift, KeepsRest};
 
 use crate::desk::{Desk, Hears};
 use crate::machine::{Frame, Machine, Turn};

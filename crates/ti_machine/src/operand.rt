@@ -10,7 +10,7 @@ ghost use Rattle.ti_lang.specs.Meaning.Parts.{coordinate};
 ghost use Rattle.ti_eval.specs.Frames.{points_above};
 ghost use Rattle.ti_eval.specs.Scalars.{held_of_scalar};
 ghost use Rattle.ti_code.specs.Effects.{one_step as one_step_of, ones as ones_of};
-ghost use Rattle.ti_machine.specs.MirrorsOperands.{Took};
+ghost use Rattle.ti_machine.specs.Mirrors.Operands.{Took};
 ghost use Rattle.ti_machine.specs.Points.{from_point};
 
 use crate::ints::{Number, int_in};
@@ -39,7 +39,7 @@ impl Model for Operand {
 
     ghost Value = { Held };
 
-    ghost use Rattle.ti_machine.specs.MirrorsOperands.{operand_of};
+    ghost use Rattle.ti_machine.specs.Mirrors.Operands.{operand_of};
 
     ghost view = { λ o. operand_of o.kept };
 }

@@ -3,7 +3,7 @@
 ghost use Rattle.std.specs.Prelude.{◌≡◌, ◌+◌, ◌<◌, ◌^◌, [], ◌∷◌, reverse, length, IfOk, vec_len, vec_capacity};
 ghost use Rattle.ti_lang.specs.Meaning.Held.{Held as Seen, plain_of, point_of, thing_of};
 ghost use Rattle.ti_code.specs.Effects.{top, below, taken, under, slot, put, trimmed};
-ghost use Rattle.ti_machine.specs.MirrorsDesks.{spot_of};
+ghost use Rattle.ti_machine.specs.Mirrors.Desks.{spot_of};
 
 use crate::desk::Desk;
 use crate::operand::Operand;

@@ -5,7 +5,7 @@ ghost use Rattle.std.specs.Borrow.{ftrue};
 ghost use Rattle.ti_base.specs.contracts.entry.Answer as one_answer;
 ghost use Rattle.ti_code.specs.contracts.code.Code as all_code;
 ghost use Rattle.ti_machine.specs.Standing.{Standing};
-ghost use Rattle.ti_machine.specs.MirrorsStanding.{standing_code};
+ghost use Rattle.ti_machine.specs.Mirrors.Standing.{standing_code};
 
 use std::marker::Model;
 use ti_base::Answer;

@@ -2,8 +2,8 @@
 
 ghost use Rattle.std.specs.Prelude.{◌≡◌, ◌+◌, ℕ, List, Option, true};
 ghost use Rattle.ti_code.specs.Forms.{IsFormedInstr};
-ghost use Rattle.ti_machine.specs.MirrorsDesks.{spot_of, who, Makes};
-ghost use Rattle.ti_machine.specs.MirrorsInstrs.{stays};
+ghost use Rattle.ti_machine.specs.Mirrors.Desks.{spot_of, who, Makes};
+ghost use Rattle.ti_machine.specs.Mirrors.Instrs.{stays};
 
 use crate::desk::Desk;
 use std::alloc::Global;

@@ -42,13 +42,13 @@ impl Model for Proc {
     ghost use Rattle.ti_base.specs.contracts.entry.Answer as one_answer;
     ghost use Rattle.ti_code.specs.contracts.code.Code as all_code;
     ghost use Rattle.ti_machine.specs.Standing.{Standing};
-    ghost use Rattle.ti_machine.specs.MirrorsStanding.{standing_code};
+    ghost use Rattle.ti_machine.specs.Mirrors.Standing.{standing_code};
 
     ghost Value = { Standing };
 
     ghost coded = { standing_code all_code.the_row.coded one_answer.the_row.coded };
 
-    ghost use Rattle.ti_machine.specs.MirrorsProc.{standing_in, IsSound};
+    ghost use Rattle.ti_machine.specs.Mirrors.Proc.{standing_in, IsSound};
 
     ghost view = { standing_in };
 

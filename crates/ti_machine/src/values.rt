@@ -8,7 +8,7 @@ ghost use Rattle.ti_eval.specs.Comes.{Comes};
 ghost use Rattle.ti_code.specs.Effects.{Spot, Who, operator_of, alone_of, member_of, pushing};
 ghost use Rattle.ti_code.specs.declared.instr.Instr.TheVariants as i;
 ghost use Rattle.ti_machine.specs.declared.desk.Hears.TheVariants.{Pushes};
-ghost use Rattle.ti_machine.specs.MirrorsDesks.{spot_of, who, Given, Made, Makes};
+ghost use Rattle.ti_machine.specs.Mirrors.Desks.{spot_of, who, Given, Made, Makes};
 ghost use Rattle.ti_machine.specs.Telling.{Tells};
 
 use crate::desk::Desk;

@@ -16,7 +16,7 @@ use Rattle.ti_race.specs.declared.spots.Spot.TheVariants.{FieldOf, CellOf, Point
 use Rattle.ti_race.specs.contracts.spots.ThingPartialEq.TheImpl as thing_eq
 use Rattle.ti_race.specs.declared.table.Procs.{Procs}
 use Rattle.ti_race.specs.declared.table.Seen.{Seen}
-use Rattle.ti_race.specs.MirrorsTable.{same_spot, clash, others, Key, same_key, key_of, users_in, writers_in, used_by_others, written_by_others, racing_by, Tells}
+use Rattle.ti_race.specs.Mirrors.Table.{same_spot, clash, others, Key, same_key, key_of, users_in, writers_in, used_by_others, written_by_others, racing_by, Tells}
 
 or_none : (a : Bool) → a ≡ (a || false)
 or_none true = refl

@@ -27,8 +27,8 @@ use Rattle.ti_race.specs.declared.spots.Use.{Use}
 use Rattle.ti_race.specs.contracts.spots.NamePartialEq.TheImpl as name_eq
 use Rattle.ti_race.specs.contracts.spots.ThingPartialEq.TheImpl as thing_eq
 use Rattle.ti_race.specs.contracts.spots.AtPartialEq.TheImpl as at_eq
-use Rattle.ti_race.specs.MirrorsTable.{same_spot, clash, racing_in}
-use Rattle.ti_race.specs.MirrorsTold.{name_key, point_key, whole_at, IsThing, IsSpot, IsUse, AreUses, HasUses, IsListed, use_line, report_of}
+use Rattle.ti_race.specs.Mirrors.Table.{same_spot, clash, racing_in}
+use Rattle.ti_race.specs.Mirrors.Told.{name_key, point_key, whole_at, IsThing, IsSpot, IsUse, AreUses, HasUses, IsListed, use_line, report_of}
 use Rattle.ti_race.proofs.Noting.{int_eq-true}
 use Rattle.ti_race.proofs.Seen.{true_false, not_true}
 use Rattle.std.proofs.lemmas.Cmp.{int_eq_equiv}

@@ -14,7 +14,7 @@ use Rattle.ti_grid.specs.declared.layout.Layout.{Layout}
 use Rattle.ti_grid.specs.Views.{IsSeen}
 use Rattle.ti_lang.specs.Meaning.Spots.{Block, no_fault, viewed_told}
 use Rattle.ti_race.specs.declared.lying.Lying.{Lying}
-use Rattle.ti_race.specs.MirrorsLying.{Keeps, KeepsView, SeenIf}
+use Rattle.ti_race.specs.Mirrors.Lying.{Keeps, KeepsView, SeenIf}
 
 pub true_false : true ≡ false → ⊥
 true_false e = cc

@@ -29,8 +29,8 @@ use Rattle.ti_grid.specs.Views.{IsWhole}
 use Rattle.ti_race.specs.declared.lying.Lying.{Lying}
 use Rattle.ti_race.specs.declared.spots.Name.{Name}
 use Rattle.ti_race.specs.contracts.spots.NamePartialEq.TheImpl as name_eq
-use Rattle.ti_race.specs.MirrorsLying.{Keeps, KeepsView}
-use Rattle.ti_race.specs.MirrorsTold.{name_key, block_made, whole_at, Lies, lying_in, phase_in, block_told, view_told, grid_in}
+use Rattle.ti_race.specs.Mirrors.Lying.{Keeps, KeepsView}
+use Rattle.ti_race.specs.Mirrors.Told.{name_key, block_made, whole_at, Lies, lying_in, phase_in, block_told, view_told, grid_in}
 use Rattle.ti_race.proofs.Seen.{true_false, not_true, if_true, if_false}
 use Rattle.ti_race.proofs.Courses.{left_own, left_other}
 use Rattle.ti_race.proofs.Noting as keys

@@ -11,7 +11,7 @@ use Rattle.ti_race.specs.declared.spots.Spot.{Spot}
 use Rattle.ti_race.specs.declared.spots.Spot.TheVariants.{FieldOf, CellOf, PointOf}
 use Rattle.ti_race.specs.declared.spots.Use.{Use}
 use Rattle.ti_race.specs.declared.uses.Uses.{Uses}
-use Rattle.ti_race.specs.MirrorsTold.{Tells, IsSpot, IsUse, IsUseIf, AreUses, HasUses, one_or_none, IsListed, Gathers}
+use Rattle.ti_race.specs.Mirrors.Told.{Tells, IsSpot, IsUse, IsUseIf, AreUses, HasUses, one_or_none, IsListed, Gathers}
 use Rattle.ti_race.proofs.ToldThings.{whole_on}
 
 spot_on : (e : Entry) (h : History) (s : Spot) (t : told.Spot) → IsSpot h s t → IsSpot (e ∷ h) s t

@@ -1,3 +1,1 @@
-pub mod MirrorsLying
-pub mod MirrorsTable
-pub mod MirrorsTold
+pub mod Mirrors

@@ -2,7 +2,7 @@
 ghost use Rattle.ti_base.specs.declared.point.Rect.{Rect as Domain};
 ghost use Rattle.ti_rect.specs.Views.{IsView};
 ghost use Rattle.ti_lang.specs.Meaning.Spots.{Block, viewed_told};
-ghost use Rattle.ti_race.specs.MirrorsLying.{Keeps, KeepsView, SeenIf};
+ghost use Rattle.ti_race.specs.Mirrors.Lying.{Keeps, KeepsView, SeenIf};
 ghost use Rattle.std.specs.Prelude.{Some};
 
 use ti_base::ViewHow;

@@ -1,7 +1,7 @@
 // A table of what is known of each spot in each phase.
 ghost use Rattle.std.specs.Prelude.{◌≡◌, filter, ◌||◌, ◌&&◌, ◌==◌, not, ℕ, if◌then◌else◌, take, OnOk, IfOk};
 ghost use Rattle.std.specs.HashMap.{get};
-ghost use Rattle.ti_race.specs.MirrorsTable.{others, Key, same_key, key_of, users_in, writers_in, used_by_others, written_by_others, racing_by, Tells, racing_in};
+ghost use Rattle.ti_race.specs.Mirrors.Table.{others, Key, same_key, key_of, users_in, writers_in, used_by_others, written_by_others, racing_by, Tells, racing_in};
 
 use crate::spots::{Spot, Use};
 use indexmap::IndexMap;

@@ -6,7 +6,7 @@ ghost use Rattle.ti_lang.specs.Meaning.Races.{is_put};
 ghost use Rattle.ti_lang.specs.Meaning.Spots.{Block, is_block, spot_used, use_of as use_told};
 ghost use Rattle.ti_base.specs.Rects.{IsRect, points_of};
 ghost use Rattle.ti_grid.specs.Views.{cell_number};
-ghost use Rattle.ti_race.specs.MirrorsTold.{name_key, object_in, grid_in, block_made, block_told, view_told, Lies, TellsObjects, TellsGrids, TellsPhases, Tells, IsSpot, IsSpotIf, IsUseIf};
+ghost use Rattle.ti_race.specs.Mirrors.Told.{name_key, object_in, grid_in, block_made, block_told, view_told, Lies, TellsObjects, TellsGrids, TellsPhases, Tells, IsSpot, IsSpotIf, IsUseIf};
 ghost use Rattle.ti_base.specs.declared.value.Zero.{Zero as First};
 ghost use Rattle.ti_base.specs.declared.value.Id.{Id as Named};
 ghost use Rattle.ti_lang.specs.Meaning.Spots as spec;

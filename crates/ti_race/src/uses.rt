@@ -1,7 +1,7 @@
 // The reads and writes of a list of entries.
 ghost use Rattle.std.specs.Prelude.{◌≡◌, [], ◌∷◌, ◌++◌, take, vec_len, IfOk, OnOk, OnErr, List};
 ghost use Rattle.ti_base.specs.declared.entry.Entry.{Entry as Listed};
-ghost use Rattle.ti_race.specs.MirrorsTold.{one_or_none, Gathers};
+ghost use Rattle.ti_race.specs.Mirrors.Told.{one_or_none, Gathers};
 
 use crate::spots::Use;
 use crate::told::Told;

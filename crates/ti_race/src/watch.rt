@@ -1,6 +1,6 @@
 // The report of races: a line for each entry that stands in one.
 ghost use Rattle.std.specs.Prelude.{◌≡◌, [], ◌∷◌, ◌++◌, codes, decimal, flat_map, take, vec_len, OnOk};
-ghost use Rattle.ti_race.specs.MirrorsTold.{use_line, report_of};
+ghost use Rattle.ti_race.specs.Mirrors.Told.{use_line, report_of};
 
 use crate::heard::Heard;
 use crate::spots::Use;
@@ -24,7 +24,7 @@ pub struct RaceWatch {
 impl Model for RaceWatch {
     ghost use Rattle.std.specs.Prelude.{List};
     ghost use Rattle.ti_base.specs.declared.entry.Entry.{Entry};
-    ghost use Rattle.ti_race.specs.MirrorsTold.{Gathers};
+    ghost use Rattle.ti_race.specs.Mirrors.Told.{Gathers};
 
     ghost Value = { List Entry };
 

@@ -8,7 +8,7 @@ use Rattle.ti_machine.specs.Standing.{Standing, GoesOn}
 use Rattle.ti_turnstile.specs.declared.turnstile.Pass.{Pass}
 use Rattle.ti_turnstile.specs.Turnstiles.{turnstile_of, number_of, seen_by, AreNew}
 use Rattle.ti_runtime.specs.declared.seat.Seat.{Seat}
-use Rattle.ti_runtime.specs.MirrorsTeam.{StandsAt, Seated, MayRun}
+use Rattle.ti_runtime.specs.Mirrors.Team.{StandsAt, Seated, MayRun}
 use Rattle.ti_runtime.proofs.Following.{OneNext, begins_on, begins_seated}
 
 -- of new passes the last, and those before it

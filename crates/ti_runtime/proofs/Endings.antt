@@ -18,8 +18,8 @@ use Rattle.ti_runtime.specs.declared.seat.Stop.TheVariants as stop
 use Rattle.ti_runtime.specs.declared.runner.How.TheVariants as how
 use Rattle.ti_runtime.specs.declared.runner.RunEnd.{RunEnd}
 use Rattle.ti_runtime.specs.Ran.{standing_of, IsDone, Ran}
-use Rattle.ti_runtime.specs.MirrorsWaiting.{Waits, Rests}
-use Rattle.ti_runtime.specs.MirrorsTeam.{Seated, AllSeated, IsTold, AllTold, Stands, Stopped, CameTo}
+use Rattle.ti_runtime.specs.Mirrors.Waiting.{Waits, Rests}
+use Rattle.ti_runtime.specs.Mirrors.Team.{Seated, AllSeated, IsTold, AllTold, Stands, Stopped, CameTo}
 use Rattle.ti_runtime.proofs.Waiting.{rest_takes_none}
 
 true_false : true ≡ false → ⊥

@@ -15,8 +15,8 @@ use Rattle.ti_code.specs.Programs.{Code}
 use Rattle.ti_runtime.specs.declared.cursor.Cursor.{Cursor}
 use Rattle.ti_runtime.specs.declared.seat.Seat.{Seat}
 use Rattle.ti_runtime.specs.declared.runner.How.TheVariants as how
-use Rattle.ti_runtime.specs.MirrorsTeam.{Seated, AllTold, Stands, CameTo}
-use Rattle.ti_runtime.specs.MirrorsSettled.{AreSeated}
+use Rattle.ti_runtime.specs.Mirrors.Team.{Seated, AllTold, Stands, CameTo}
+use Rattle.ti_runtime.specs.Mirrors.Settled.{AreSeated}
 use Rattle.ti_runtime.proofs.Entries.{end_more}
 use Rattle.ti_runtime.proofs.Endings.{some_seat, starts}
 use Rattle.ti_runtime.proofs.Mates.{stays_well}

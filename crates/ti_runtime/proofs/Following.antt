@@ -20,7 +20,7 @@ use Rattle.ti_machine.specs.Standing.{Standing, HasNext, GoesOn}
 use Rattle.ti_store.specs.Conditions.{IsWithin}
 use Rattle.ti_runtime.specs.declared.seat.Seat.{Seat}
 use Rattle.ti_runtime.specs.Ran.{standing_of}
-use Rattle.ti_runtime.specs.MirrorsTeam.{StandsAt, Seated}
+use Rattle.ti_runtime.specs.Mirrors.Team.{StandsAt, Seated}
 use Rattle.ti_runtime.proofs.Entries.{answers_more}
 
 -- ---- the answers of a run fit

@@ -17,9 +17,9 @@ use Rattle.ti_code.specs.Programs.{Code}
 use Rattle.ti_machine.specs.Standing.{Standing, GoesOn, is_act}
 use Rattle.ti_runtime.specs.declared.cursor.Turn.{Turn}
 use Rattle.ti_runtime.specs.declared.seat.Seat.{Seat}
-use Rattle.ti_runtime.specs.MirrorsTeam.{place_of, action_of, told_more, IsTold, Seated, Moves, MayRun, IsOpen}
+use Rattle.ti_runtime.specs.Mirrors.Team.{place_of, action_of, told_more, IsTold, Seated, Moves, MayRun, IsOpen}
 use Rattle.ti_runtime.specs.Ran.{standing_of}
-use Rattle.ti_runtime.specs.MirrorsStays.{entries_in, Stays}
+use Rattle.ti_runtime.specs.Mirrors.Stays.{entries_in, Stays}
 use Rattle.ti_runtime.proofs.Endings.{told_seated}
 use Rattle.ti_runtime.proofs.Entries.{end_more, answers_still}
 use Rattle.ti_runtime.proofs.Following.{OneNext}

@@ -31,8 +31,8 @@ use Rattle.ti_runtime.specs.declared.cursor.Turn.TheVariants as turn
 use Rattle.ti_runtime.specs.declared.seat.Seat.{Seat}
 use Rattle.ti_runtime.specs.declared.seat.Stop.TheVariants as stop
 use Rattle.ti_runtime.specs.Ran.{standing_of}
-use Rattle.ti_runtime.specs.MirrorsWaiting.{Waits}
-use Rattle.ti_runtime.specs.MirrorsTeam.{doing_of, place_of, action_of, told_more, StandsAt, Seated, Hears, Moves, IsOpen, steps_left, GoesOn, StopsAt, TurnLeaves}
+use Rattle.ti_runtime.specs.Mirrors.Waiting.{Waits}
+use Rattle.ti_runtime.specs.Mirrors.Team.{doing_of, place_of, action_of, told_more, StandsAt, Seated, Hears, Moves, IsOpen, steps_left, GoesOn, StopsAt, TurnLeaves}
 use Rattle.ti_runtime.proofs.Entries.{end_more, answers_more, answers_still}
 use Rattle.ti_runtime.proofs.Following.{OneNext, world_more, code_goes_on, seated}
 

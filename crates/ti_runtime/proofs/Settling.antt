@@ -13,8 +13,8 @@ use Rattle.ti_turnstile.specs.Parts.{HasNumber}
 use Rattle.ti_turnstile.specs.Turnstiles.{turnstile_of, number_of, seen_by, part_of, AreOf, AreLegal}
 use Rattle.ti_store.specs.Stores.{log_of}
 use Rattle.ti_runtime.specs.declared.seat.Seat.{Seat}
-use Rattle.ti_runtime.specs.MirrorsStays.{entries_in, Stays}
-use Rattle.ti_runtime.specs.MirrorsSettled.{at_place, NoneStands, IsKnown, ArePlaced, IsBack, AreSeated}
+use Rattle.ti_runtime.specs.Mirrors.Stays.{entries_in, Stays}
+use Rattle.ti_runtime.specs.Mirrors.Settled.{at_place, NoneStands, IsKnown, ArePlaced, IsBack, AreSeated}
 use Rattle.ti_runtime.proofs.Mates.{seated_inside, ended_inside, told_inside}
 
 -- one place more, where nobody stands

@@ -23,8 +23,8 @@ use Rattle.ti_runtime.specs.declared.cursor.Turn.TheVariants as turn
 use Rattle.ti_runtime.specs.declared.seat.Seat.{Seat}
 use Rattle.ti_runtime.specs.declared.seat.Stop.{Stop}
 use Rattle.ti_runtime.specs.declared.seat.Stop.TheVariants as stop
-use Rattle.ti_runtime.specs.MirrorsWaiting.{Waits, Rests}
-use Rattle.ti_runtime.specs.MirrorsTeam.{IsOpen, Seated, AllSeated, Takes, steps_left, all_steps_left, GoesOn, StopsAt, TurnLeaves, cursor_after, Points, Stands, StandsOn, Stopped}
+use Rattle.ti_runtime.specs.Mirrors.Waiting.{Waits, Rests}
+use Rattle.ti_runtime.specs.Mirrors.Team.{IsOpen, Seated, AllSeated, Takes, steps_left, all_steps_left, GoesOn, StopsAt, TurnLeaves, cursor_after, Points, Stands, StandsOn, Stopped}
 use Rattle.ti_runtime.proofs.Entries.{end_more, other_more}
 use Rattle.ti_runtime.proofs.Seats.{seated_with}
 use Rattle.ti_runtime.proofs.Waiting.{rest_takes_none, rests_still, wait_together}

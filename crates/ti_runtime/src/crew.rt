@@ -1,8 +1,8 @@
 // The processes of a worker.
 ghost use Rattle.std.specs.Prelude.{◌≡◌, ◌<◌, ◌≤◌, length, All, vec_capacity};
 ghost use Rattle.ti_turnstile.specs.Turnstiles.{identity_of};
-ghost use Rattle.ti_runtime.specs.MirrorsTeam.{MayRun};
-ghost use Rattle.ti_runtime.specs.MirrorsMates.{AllOf};
+ghost use Rattle.ti_runtime.specs.Mirrors.Team.{MayRun};
+ghost use Rattle.ti_runtime.specs.Mirrors.Mates.{AllOf};
 
 use crate::by_code::ByCode;
 use crate::mate::{Mate, Tried};

@@ -5,8 +5,8 @@ ghost use Rattle.ti_eval.specs.Forms.{IsFormedAnswer};
 ghost use Rattle.ti_store.specs.Stores.{setting_of, log_of, IsDone, IsRefused};
 ghost use Rattle.ti_turnstile.specs.Passes.{GrownBy};
 ghost use Rattle.ti_turnstile.specs.Turnstiles.{identity_of, turnstile_of, number_of, seen_by};
-ghost use Rattle.ti_runtime.specs.MirrorsTeam.{place_of, action_of, Seated, MayRun};
-ghost use Rattle.ti_runtime.specs.MirrorsStays.{entries_in, Stays};
+ghost use Rattle.ti_runtime.specs.Mirrors.Team.{place_of, action_of, Seated, MayRun};
+ghost use Rattle.ti_runtime.specs.Mirrors.Stays.{entries_in, Stays};
 
 use crate::by_code::ByCode;
 use crate::seat::{Seat, doing};
@@ -51,7 +51,7 @@ impl<J: Terms + ByCode> Model for Mate<J>
 where
     Store<J>: Kept<Item = Entry>,
 {
-    ghost use Rattle.ti_runtime.specs.MirrorsMates.{Rider, rider_code};
+    ghost use Rattle.ti_runtime.specs.Mirrors.Mates.{Rider, rider_code};
 
     ghost Value = { Rider };
 
@@ -59,7 +59,7 @@ where
 
     ghost use Rattle.std.specs.Prelude.{◌≡◌, ◌<◌};
     ghost use Rattle.ti_turnstile.specs.Turnstiles.{turnstile_of, number_of, seen_by};
-    ghost use Rattle.ti_runtime.specs.MirrorsStays.{entries_in, Stays};
+    ghost use Rattle.ti_runtime.specs.Mirrors.Stays.{entries_in, Stays};
 
     ghost view = { λ m. record { turnstile = turnstile_of m.pass; number = m.number; wants = m.wants } };
 

@@ -12,8 +12,8 @@ ghost use Rattle.ti_store.specs.Conditions.{IsWithin};
 ghost use Rattle.ti_store.specs.Stores.{setting_of};
 ghost use Rattle.ti_runtime.specs.declared.seat.Seat.{Seat as OneSeat};
 ghost use Rattle.ti_runtime.specs.Ran.{Ran};
-ghost use Rattle.ti_runtime.specs.MirrorsSettled.{AreSeated};
-ghost use Rattle.ti_runtime.specs.MirrorsTeam.{MayRun, IsOpen, Stands, CameTo};
+ghost use Rattle.ti_runtime.specs.Mirrors.Settled.{AreSeated};
+ghost use Rattle.ti_runtime.specs.Mirrors.Team.{MayRun, IsOpen, Stands, CameTo};
 
 use crate::by_code::ByCode;
 use crate::cursor::Cursor;

@@ -1,8 +1,8 @@
 // All workers of a run, from the first start to the last join.
 ghost use Rattle.std.specs.Prelude.{◌≡◌, ◌≤◌, ◌<◌, length, All, sum_by, IfOk};
 ghost use Rattle.ti_turnstile.specs.Turnstiles.{identity_of};
-ghost use Rattle.ti_runtime.specs.MirrorsTeam.{MayRun};
-ghost use Rattle.ti_runtime.specs.MirrorsMates.{AllOf};
+ghost use Rattle.ti_runtime.specs.Mirrors.Team.{MayRun};
+ghost use Rattle.ti_runtime.specs.Mirrors.Mates.{AllOf};
 
 use crate::by_code::ByCode;
 use crate::crew::work;

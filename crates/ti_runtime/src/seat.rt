@@ -5,7 +5,7 @@ ghost use Rattle.ti_lang.specs.Meaning.Runs.{IsRun};
 ghost use Rattle.ti_eval.specs.Forms.{IsFormedAnswer};
 ghost use Rattle.ti_machine.specs.Standing.{GoesOn, is_act};
 ghost use Rattle.ti_store.specs.Stores.{setting_of};
-ghost use Rattle.ti_runtime.specs.MirrorsTeam.{doing_of, told_more, StandsAt, Seated, Moves, IsOpen, TurnLeaves};
+ghost use Rattle.ti_runtime.specs.Mirrors.Team.{doing_of, told_more, StandsAt, Seated, Moves, IsOpen, TurnLeaves};
 
 use crate::cursor::Turn;
 use std::alloc::Global;

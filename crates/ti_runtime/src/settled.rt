@@ -2,8 +2,8 @@
 ghost use Rattle.std.specs.Prelude.{◌≡◌, ◌≢◌, ◌<◌, ◌≤◌, ◌-◌, ◌||◌, ℕ, [], length, All, IfOk, Some, None, slice_index_or, vec_len, vec_capacity};
 ghost use Rattle.ti_turnstile.specs.Turnstiles.{identity_of, passes_of, AreOf};
 ghost use Rattle.ti_runtime.specs.declared.seat.Seat.{Seat as OneSeat};
-ghost use Rattle.ti_runtime.specs.MirrorsMates.{AllOf};
-ghost use Rattle.ti_runtime.specs.MirrorsSettled.{NoneStands, IsBack, ArePlaced, AreSeated};
+ghost use Rattle.ti_runtime.specs.Mirrors.Mates.{AllOf};
+ghost use Rattle.ti_runtime.specs.Mirrors.Settled.{NoneStands, IsBack, ArePlaced, AreSeated};
 
 use crate::by_code::ByCode;
 use crate::mate::Mate;

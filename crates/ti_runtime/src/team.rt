@@ -6,7 +6,7 @@ ghost use Rattle.ti_machine.specs.Standing.{HasFinished};
 ghost use Rattle.ti_store.specs.Conditions.{IsWithin};
 ghost use Rattle.ti_store.specs.Stores.{setting_of};
 ghost use Rattle.ti_runtime.specs.declared.seat.Seat.{Seat as OneSeat};
-ghost use Rattle.ti_runtime.specs.MirrorsTeam.{IsOpen, Stands, StepLeaves};
+ghost use Rattle.ti_runtime.specs.Mirrors.Team.{IsOpen, Stands, StepLeaves};
 
 use crate::cursor::Cursor;
 use crate::seat::{Seat, Stop};

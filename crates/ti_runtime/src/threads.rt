@@ -1,8 +1,8 @@
 // Workers on threads of their own.
 ghost use Rattle.std.specs.Prelude.{◌≡◌, ◌<◌, ◌≤◌, ◌+◌, length, All, sum_by, IfOk, IfErr, vec_len, vec_capacity};
 ghost use Rattle.ti_turnstile.specs.Turnstiles.{identity_of};
-ghost use Rattle.ti_runtime.specs.MirrorsTeam.{MayRun};
-ghost use Rattle.ti_runtime.specs.MirrorsMates.{AllOf};
+ghost use Rattle.ti_runtime.specs.Mirrors.Team.{MayRun};
+ghost use Rattle.ti_runtime.specs.Mirrors.Mates.{AllOf};
 
 use crate::by_code::ByCode;
 use crate::crew::work;
@@ -30,7 +30,7 @@ where
 impl<'a, J: Terms + ByCode> Promise<Vec<Mate<J>>> for Back<'a, J> {
     ghost use Rattle.std.specs.Prelude.{◌≡◌, length, All};
     ghost use Rattle.ti_turnstile.specs.Turnstiles.{identity_of};
-    ghost use Rattle.ti_runtime.specs.MirrorsMates.{AllOf};
+    ghost use Rattle.ti_runtime.specs.Mirrors.Mates.{AllOf};
 
     ghost kept_by = { λ p r. All (AllOf (identity_of p.turnstile.now)) r.items × (length r.items ≡ p.count) };
 }

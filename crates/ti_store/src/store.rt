@@ -42,13 +42,13 @@ impl<J: Terms> Model for Store<J> {
     ghost use Rattle.ti_base.specs.contracts.entry.Entry as entry;
     ghost use Rattle.ti_lang.specs.contracts.program.classes.Parts as parts;
     ghost use Rattle.ti_store.specs.Stores.{StoreState};
-    ghost use Rattle.ti_store.specs.MirrorsState.{state_code};
+    ghost use Rattle.ti_store.specs.Mirrors.State.{state_code};
 
     ghost Value = { StoreState };
 
     ghost coded = { state_code parts.the_row.coded entry.the_row.coded };
 
-    ghost use Rattle.ti_store.specs.MirrorsStore.{state_of, IsStore};
+    ghost use Rattle.ti_store.specs.Mirrors.Store.{state_of, IsStore};
 
     ghost view = { λ s. state_of s.ledger s.fuel s.halted };
 

@@ -11,7 +11,7 @@ use Rattle.ti_trace_check.specs.declared.seat.Seat.{Seat}
 use Rattle.ti_trace_check.specs.declared.following.Followed.{Followed}
 use Rattle.ti_trace_check.specs.declared.verdict.Verdict.{Verdict}
 use Rattle.ti_trace_check.specs.declared.verdict.Verdict.TheVariants.{Run, NoRun}
-use Rattle.ti_trace_check.specs.MirrorsSeats.{Stands, CameTo, LeavesText, Gives}
+use Rattle.ti_trace_check.specs.Mirrors.Seats.{Stands, CameTo, LeavesText, Gives}
 use Rattle.ti_trace_check.specs.Verdicts.{IsWrong, Judges, Keeps}
 
 true_false : true ≡ false → ⊥

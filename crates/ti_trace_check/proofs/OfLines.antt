@@ -7,8 +7,8 @@ use Rattle.ti_lang.specs.Meaning.Runs.{IsRun}
 use Rattle.ti_watch.specs.Lines.{line_room}
 use Rattle.ti_watch.specs.Reports.{entry_text, trace_text}
 use Rattle.ti_trace_check.specs.declared.seat.Seat.{Seat}
-use Rattle.ti_trace_check.specs.MirrorsPieces.{TakesLine}
-use Rattle.ti_trace_check.specs.MirrorsSeats.{Stands, GoesOn, IsOff, CameTo, LeavesText}
+use Rattle.ti_trace_check.specs.Mirrors.Pieces.{TakesLine}
+use Rattle.ti_trace_check.specs.Mirrors.Seats.{Stands, GoesOn, IsOff, CameTo, LeavesText}
 use Rattle.ti_trace_check.specs.Lines.{first_line}
 use Rattle.ti_trace_check.specs.Verdicts.{IsTrace}
 use Rattle.ti_trace_check.proofs.FirstLines.{none_more, some_line}

@@ -10,7 +10,7 @@ use Rattle.ti_lang.specs.Meaning.Runs.{CanTake}
 use Rattle.ti_lang.proofs.MeaningLaws.Running.{entry_same}
 use Rattle.ti_watch.specs.Lines.{line_room}
 use Rattle.ti_watch.specs.Reports.{entry_text}
-use Rattle.ti_trace_check.specs.MirrorsSeats.{IsOff}
+use Rattle.ti_trace_check.specs.Mirrors.Seats.{IsOff}
 use Rattle.ti_trace_check.proofs.FirstLines.{same_byte, same_rest}
 use Rattle.ti_trace_check.proofs.Texts.{behind, cut}
 

@@ -26,7 +26,7 @@ use Rattle.ti_store.specs.declared.act_err.ActErr.TheVariants as err
 use Rattle.ti_store.proofs.Running.{next_acts}
 use Rattle.ti_store.proofs.OneMore.{fault_more}
 use Rattle.ti_trace_check.specs.declared.seat.Seat.{Seat}
-use Rattle.ti_trace_check.specs.MirrorsSeats.{doing_of, place_of, action_of, StandsAt, Seated, told_more, Hears, Moves, steps_left, faults_left, TurnLeaves}
+use Rattle.ti_trace_check.specs.Mirrors.Seats.{doing_of, place_of, action_of, StandsAt, Seated, told_more, Hears, Moves, steps_left, faults_left, TurnLeaves}
 use Rattle.ti_trace_check.proofs.Entries.{end_more, answers_more, answers_still}
 
 true_false : true ≡ false → ⊥

@@ -5,7 +5,7 @@ use Rattle.std.proofs.lemmas.List.{take-append-drop, take-take, take_at, drop-dr
 use Rattle.ti_watch.specs.Lines.{line_room}
 use Rattle.ti_trace_check.specs.declared.pieces.Pieces.{Pieces}
 use Rattle.ti_trace_check.specs.Lines.{has_no_end, first_line}
-use Rattle.ti_trace_check.specs.MirrorsPieces.{held, Fills, TakesLine}
+use Rattle.ti_trace_check.specs.Mirrors.Pieces.{held, Fills, TakesLine}
 use Rattle.ti_trace_check.proofs.FirstLines.{past, no_end, plus_none, some_line, line_whole, line_front, none_more}
 
 -- ---- what is held

@@ -12,7 +12,7 @@ use Rattle.ti_lang.specs.Meaning.Runs.{more}
 use Rattle.ti_lang.proofs.MeaningLaws.Running.{taker}
 use Rattle.ti_watch.specs.Reports.{entry_text}
 use Rattle.ti_trace_check.specs.declared.seat.Seat.{Seat}
-use Rattle.ti_trace_check.specs.MirrorsSeats.{Seated, steps_left, faults_left, Takes, AllSeated, Stands, turns_left, GoesOn}
+use Rattle.ti_trace_check.specs.Mirrors.Seats.{Seated, steps_left, faults_left, Takes, AllSeated, Stands, turns_left, GoesOn}
 use Rattle.ti_trace_check.proofs.Entries.{other_more}
 
 -- the seat of a process tells where it stands still, where the run went on elsewhere

@@ -1,4 +1,3 @@
 pub mod Lines
 pub mod Verdicts
-pub mod MirrorsPieces
-pub mod MirrorsSeats
+pub mod Mirrors

@@ -7,7 +7,7 @@ ghost use Rattle.ti_lang.specs.Meaning.Histories.{has_fault as fault_in};
 ghost use Rattle.ti_lang.specs.Program.Views.{program_of};
 ghost use Rattle.ti_store.specs.Conditions.{IsWithin};
 ghost use Rattle.ti_trace_check.specs.declared.error.TraceErr.TheVariants.{Read};
-ghost use Rattle.ti_trace_check.specs.MirrorsSeats.{Stands, Gives};
+ghost use Rattle.ti_trace_check.specs.Mirrors.Seats.{Stands, Gives};
 ghost use Rattle.ti_trace_check.specs.Verdicts.{Keeps, Judges};
 
 use crate::error::TraceErr;

@@ -5,7 +5,7 @@ ghost use Rattle.ti_io.specs.Source.{SameFiles};
 ghost use Rattle.ti_lang.specs.Program.Views.{program_of};
 ghost use Rattle.ti_store.specs.Stores.{setting_of};
 ghost use Rattle.ti_trace_check.specs.declared.error.TraceErr.TheVariants.{Read};
-ghost use Rattle.ti_trace_check.specs.MirrorsSeats.{IsOpen, Stands, Meets, CameTo, LeavesText};
+ghost use Rattle.ti_trace_check.specs.Mirrors.Seats.{IsOpen, Stands, Meets, CameTo, LeavesText};
 
 use crate::error::TraceErr;
 use crate::line::entry_line;

@@ -3,7 +3,7 @@ ghost use Rattle.std.specs.Prelude.{◌≡◌, ◌+◌, ◌≤◌, ◌++◌, not
 ghost use Rattle.ti_io.specs.Faults.{HasCause};
 ghost use Rattle.ti_io.specs.Source.{SameFiles};
 ghost use Rattle.ti_trace_check.specs.Lines.{first_line, has_no_end};
-ghost use Rattle.ti_trace_check.specs.MirrorsPieces.{held, IsRoom, Fills, TakesLine};
+ghost use Rattle.ti_trace_check.specs.Mirrors.Pieces.{held, IsRoom, Fills, TakesLine};
 
 use ti_io::{Failed, Source};
 use ti_watch::Line;

@@ -5,7 +5,7 @@ ghost use Rattle.ti_exec.specs.Standing.{is_act};
 ghost use Rattle.ti_lang.specs.Meaning.Runs.{IsRun};
 ghost use Rattle.ti_lang.specs.Program.Views.{program_of};
 ghost use Rattle.ti_store.specs.Stores.{setting_of};
-ghost use Rattle.ti_trace_check.specs.MirrorsSeats.{doing_of, StandsAt, Seated, Moves, TurnLeaves};
+ghost use Rattle.ti_trace_check.specs.Mirrors.Seats.{doing_of, StandsAt, Seated, Moves, TurnLeaves};
 
 use std::alloc::Global;
 use ti_base::{Action, Answer, Memory, Next, Place};

@@ -8,7 +8,7 @@ use Rattle.atomic_table.specs.Seated.{TableId}
 use Rattle.ti_turnstile.specs.declared.turnstile.Pass.{Pass}
 use Rattle.ti_turnstile.specs.declared.view.View.{View}
 use Rattle.ti_turnstile.specs.Parts.{first_number, number_in, seen_in}
-use Rattle.ti_turnstile.specs.MirrorsViews.{view, fresh, outside, Sound}
+use Rattle.ti_turnstile.specs.Mirrors.Views.{view, fresh, outside, Sound}
 use Rattle.ti_turnstile.specs.Turnstiles.{turnstile_of, number_of, seen_by, part_of, AreNew, AreOf, AreLegal, OneHasSeen, AreAll, AreDistinct}
 use Rattle.ti_turnstile.proofs.Lists.{at_end}
 use Rattle.ti_turnstile.proofs.Steps.{closes_value}

@@ -7,7 +7,7 @@ use Rattle.ti_turnstile.specs.Passes.{items_of, StartsWith, AllOf, GrownBy, IsLe
 use Rattle.ti_turnstile.specs.declared.view.Part.{Part}
 use Rattle.ti_turnstile.specs.declared.view.View.{View}
 use Rattle.ti_turnstile.specs.Parts.{part, AllParts, AnyPart, HasSeen, HasNumber, Distinct}
-use Rattle.ti_turnstile.specs.MirrorsViews.{fresh, SomeSeat, total}
+use Rattle.ti_turnstile.specs.Mirrors.Views.{fresh, SomeSeat, total}
 use Rattle.atomic_table.proofs.Lists.{at_set, set_else, at_longer, at_last}
 use native.Mathlib.Decide.{ℕ_discrete}
 

@@ -13,7 +13,7 @@ use Rattle.ti_turnstile.specs.Passes.{GrownBy, IsLegal}
 use Rattle.ti_turnstile.specs.declared.view.Part.{Part}
 use Rattle.ti_turnstile.specs.declared.view.View.{View}
 use Rattle.ti_turnstile.specs.Parts.{part, first_seen, AllParts, AnyPart, HasSeen, HasNumber, Distinct, number_in, seen_in}
-use Rattle.ti_turnstile.specs.MirrorsViews.{view, outside, inside, fresh, SomeSeat, total, size, Fits, IsPass, NoneInside, OneInside, Free, Held, Sound, Tries, Sees, Goes}
+use Rattle.ti_turnstile.specs.Mirrors.Views.{view, outside, inside, fresh, SomeSeat, total, size, Fits, IsPass, NoneInside, OneInside, Free, Held, Sound, Tries, Sees, Goes}
 use Rattle.ti_turnstile.proofs.Lists.{get_set, at_end, legal_self, legal_grown, all_map, all_both, all_append, total_set, total_two, total_append, fresh_length, fresh_all, fresh_above, fresh_seen, fresh_number, fresh_distinct, distinct_append, after_set, any_left, any_right, any_some, some_set, some_cut, some_join, after_cut, after_join}
 
 module _ {V I : Type 0} (log_of : V → List (ℕ × I)) where

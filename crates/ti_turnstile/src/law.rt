@@ -12,7 +12,7 @@ pub struct Law<V> {
 
 impl<V: Kept> TableRule<Option<V>, View<V::Item>, u32> for Law<V> {
     ghost use Rattle.std.specs.Prelude.{false};
-    ghost use Rattle.ti_turnstile.specs.MirrorsViews.{Sound, view, fresh};
+    ghost use Rattle.ti_turnstile.specs.Mirrors.Views.{Sound, view, fresh};
 
     ghost holds = { λ n. Sound V.log n };
 
@@ -25,7 +25,7 @@ pub struct Enter<V> {
 }
 
 impl<V: Kept> Play<Option<V>, View<V::Item>> for Enter<V> {
-    ghost use Rattle.ti_turnstile.specs.MirrorsViews.{Tries};
+    ghost use Rattle.ti_turnstile.specs.Mirrors.Views.{Tries};
 
     ghost then = { Tries V.log };
 }
@@ -36,7 +36,7 @@ pub struct See<V> {
 }
 
 impl<V: Kept> Play<Option<V>, View<V::Item>> for See<V> {
-    ghost use Rattle.ti_turnstile.specs.MirrorsViews.{Sees};
+    ghost use Rattle.ti_turnstile.specs.Mirrors.Views.{Sees};
 
     ghost then = { Sees V.log };
 }
@@ -47,7 +47,7 @@ pub struct Leave<V> {
 }
 
 impl<V: Kept> Play<Option<V>, View<V::Item>> for Leave<V> {
-    ghost use Rattle.ti_turnstile.specs.MirrorsViews.{Goes};
+    ghost use Rattle.ti_turnstile.specs.Mirrors.Views.{Goes};
 
     ghost then = { Goes V.log };
 }
@@ -57,7 +57,7 @@ pub struct Cut;
 
 impl<I> Split<View<I>> for Cut {
     ghost use Rattle.std.specs.Prelude.{false, take, drop};
-    ghost use Rattle.ti_turnstile.specs.MirrorsViews.{view};
+    ghost use Rattle.ti_turnstile.specs.Mirrors.Views.{view};
 
     ghost left = { λ v. view false (drop 1 v.parts) };
 
@@ -69,7 +69,7 @@ pub struct Both;
 
 impl<I> Join<View<I>> for Both {
     ghost use Rattle.std.specs.Prelude.{false, [], ◌++◌};
-    ghost use Rattle.ti_turnstile.specs.MirrorsViews.{view};
+    ghost use Rattle.ti_turnstile.specs.Mirrors.Views.{view};
 
     ghost both = { λ v w. view false (v.parts ++ w.parts) };
 

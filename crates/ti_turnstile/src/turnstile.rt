@@ -3,7 +3,7 @@
 ghost use Rattle.std.specs.Prelude.{◌≡◌, ℕ, ◌<◌, ◌+◌, [], ◌∷◌, length, drop, IsTrue, false, Some, IfOk};
 ghost use Rattle.ti_turnstile.specs.Passes.{GrownBy, IsLegal};
 ghost use Rattle.ti_turnstile.specs.Parts.{number_in, seen_in};
-ghost use Rattle.ti_turnstile.specs.MirrorsViews.{IsPass, IsInside, Entered, HasValue, carried_log, inside, outside, view, fresh};
+ghost use Rattle.ti_turnstile.specs.Mirrors.Views.{IsPass, IsInside, Entered, HasValue, carried_log, inside, outside, view, fresh};
 
 use crate::kept::Kept;
 use crate::law::{Both, Cut, Enter, Law, Leave, See};

@@ -3,7 +3,7 @@ use Rattle.std.specs.Int.{w32}
 use Rattle.std.proofs.lemmas.Int.{to_z-of_z}
 use Rattle.ti_rect.specs.Axes.{range}
 use Rattle.ti_base.specs.Rects.{first_range, second_range, third_range}
-use Rattle.ti_grid.specs.MirrorsNumbers.{number_of}
+use Rattle.ti_grid.specs.Mirrors.Numbers.{number_of}
 use Rattle.ti_grid.proofs.SeenLaws.{along}
 use Rattle.ti_grid.proofs.numbers.number.Goals as goal
 use Rattle.ti_grid.proofs.numbers.number.Goals.{After-offset-z}

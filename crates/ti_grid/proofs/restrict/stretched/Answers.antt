@@ -1,7 +1,7 @@
 use Rattle.std.proofs.Common.{◌≡◌, ℕ, ◌+◌, ◌*◌, ◌/◌, ◌≤ℤ◌, ◌<ℤ◌, sym, ap, ◌∙◌, arith}
 use Rattle.std.proofs.lemmas.Int.{ints}
 use Rattle.ti_rect.specs.Axes.{range}
-use Rattle.ti_grid.specs.MirrorsNumbers.{steps_to}
+use Rattle.ti_grid.specs.Mirrors.Numbers.{steps_to}
 use Rattle.ti_grid.proofs.StepLaws.{stretched_number, stretched_below, single_number}
 use Rattle.ti_grid.proofs.restrict.stretched.Goals as goal
 

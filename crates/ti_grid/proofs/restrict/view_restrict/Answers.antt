@@ -7,7 +7,7 @@ use Rattle.ti_base.specs.Rects.{IsRect, IsIn, meet}
 use Rattle.ti_rect.proofs.RectLaws.{none_in}
 use Rattle.ti_rect.proofs.ViewLaws.{view_inside}
 use Rattle.ti_grid.specs.declared.layout.Layout.{Layout}
-use Rattle.ti_grid.specs.MirrorsNumbers.{number_of}
+use Rattle.ti_grid.specs.Mirrors.Numbers.{number_of}
 use Rattle.ti_grid.specs.Views.{IsSeen}
 use Rattle.ti_grid.proofs.SeenLaws.{is_laid, is_seen}
 use Rattle.ti_grid.proofs.restrict.view_restrict.Goals as goal

@@ -10,7 +10,7 @@ use Rattle.ti_rect.proofs.RectLaws.{full, none_in}
 use Rattle.ti_rect.proofs.TestLaws.{leaves_tests}
 use Rattle.ti_rect.proofs.ViewLaws.{view_inside}
 use Rattle.ti_grid.specs.declared.layout.Layout.{Layout}
-use Rattle.ti_grid.specs.MirrorsNumbers.{number_of}
+use Rattle.ti_grid.specs.Mirrors.Numbers.{number_of}
 use Rattle.ti_grid.specs.Views.{IsSeen}
 use Rattle.ti_grid.proofs.SeenLaws.{is_laid, is_seen, moved_number, moved_apart}
 use Rattle.ti_grid.proofs.translate.view_translate.Goals as goal

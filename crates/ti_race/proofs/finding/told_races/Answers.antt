@@ -1,6 +1,6 @@
 use Rattle.std.proofs.Common.{map, ap, ◌∙◌}
 use Rattle.ti_race.specs.declared.spots.Use.{Use}
-use Rattle.ti_race.specs.MirrorsTable.{racing_in}
+use Rattle.ti_race.specs.Mirrors.Table.{racing_in}
 use Rattle.ti_race.proofs.SameSpots.{races_like}
 use Rattle.ti_race.proofs.finding.told_races.Goals as goal
 

@@ -2,7 +2,7 @@ use Rattle.std.proofs.lemmas.Int.{to_z-of_z}
 use Rattle.std.proofs.Common.{rules, ap₂, to_z, of_z, w32, ap, ◌∙◌, sym, subst, Some, None, ◌≤◌, ◌<◌}
 use Rattle.ti_base.specs.declared.point.Rect.{Rect}
 use Rattle.ti_base.specs.declared.action.ViewHow.TheVariants.{Translate, Slice}
-use Rattle.ti_race.specs.MirrorsLying.{SeenIf}
+use Rattle.ti_race.specs.Mirrors.Lying.{SeenIf}
 use Rattle.ti_race.proofs.Seen.{unsuited, dims_differ, dims_same, two_dims, one_dim, restricted, by_result}
 use Rattle.ti_race.proofs.lying.view_by.Goals as goal
 

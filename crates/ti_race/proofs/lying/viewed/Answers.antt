@@ -1,5 +1,5 @@
 use Rattle.std.proofs.Common.{subst}
-use Rattle.ti_race.specs.MirrorsLying.{SeenIf}
+use Rattle.ti_race.specs.Mirrors.Lying.{SeenIf}
 use Rattle.ti_race.proofs.Seen.{keeps_some, inside_from}
 use Rattle.ti_race.proofs.lying.viewed.Goals as goal
 

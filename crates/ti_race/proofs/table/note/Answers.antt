@@ -1,5 +1,5 @@
 use Rattle.std.proofs.Common.{◌==◌, not, ◌&&◌, ◌||◌, ap, ◌∙◌}
-use Rattle.ti_race.specs.MirrorsTable.{others, users_in, writers_in}
+use Rattle.ti_race.specs.Mirrors.Table.{others, users_in, writers_in}
 use Rattle.ti_race.proofs.Noting.{updated}
 use Rattle.ti_race.proofs.table.note.Goals as goal
 

@@ -1,6 +1,6 @@
 use Rattle.std.proofs.Common.{◌≡◌, Bool, true, ◌&&◌, ◌∙◌, ap, ap₂, sym, eq-eqb, ◌==◌}
 use Rattle.std.specs.HashMap.{get}
-use Rattle.ti_race.specs.MirrorsTable.{same_spot, same_key, key_of}
+use Rattle.ti_race.specs.Mirrors.Table.{same_spot, same_key, key_of}
 use Rattle.ti_race.proofs.Noting.{key_same}
 use Rattle.ti_race.proofs.table.seen_by.Goals as goal
 

@@ -1,6 +1,6 @@
 use Rattle.std.proofs.Common.{take, sym, subst}
 use Rattle.std.proofs.lemmas.List.{take_more}
-use Rattle.ti_race.specs.MirrorsTable.{Tells}
+use Rattle.ti_race.specs.Mirrors.Table.{Tells}
 use Rattle.ti_race.proofs.Noting.{tells_more}
 use Rattle.ti_race.proofs.table.table_of.Goals as goal
 

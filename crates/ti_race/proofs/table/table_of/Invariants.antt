@@ -1,5 +1,5 @@
 use Rattle.std.proofs.Common.{take}
-use Rattle.ti_race.specs.MirrorsTable.{Tells}
+use Rattle.ti_race.specs.Mirrors.Table.{Tells}
 use Rattle.ti_race.proofs.table.table_of.Given as goal
 
 abbrev pub invariant-loop-u : goal.invariant-loop-u

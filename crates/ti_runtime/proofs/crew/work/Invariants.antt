@@ -2,7 +2,7 @@ use Rattle.std.proofs.Common.{◌≡◌, ◌≤◌, length}
 use Rattle.std.specs.List.{All}
 use Rattle.std.specs.Prelude.{vec_capacity}
 use Rattle.ti_turnstile.specs.Turnstiles.{identity_of}
-use Rattle.ti_runtime.specs.MirrorsMates.{AllOf}
+use Rattle.ti_runtime.specs.Mirrors.Mates.{AllOf}
 use Rattle.ti_runtime.proofs.crew.work.Given as goal
 
 abbrev pub invariant-loop : goal.invariant-loop

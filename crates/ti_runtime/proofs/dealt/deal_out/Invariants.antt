@@ -1,7 +1,7 @@
 use Rattle.std.proofs.Common.{◌≡◌, ◌+◌, length}
 use Rattle.std.specs.List.{All, sum_by}
 use Rattle.ti_turnstile.specs.Turnstiles.{identity_of, AreNew}
-use Rattle.ti_runtime.specs.MirrorsMates.{AllOf}
+use Rattle.ti_runtime.specs.Mirrors.Mates.{AllOf}
 use Rattle.ti_runtime.proofs.dealt.deal_out.Given as goal
 
 abbrev pub invariant-loop-w : goal.invariant-loop-w

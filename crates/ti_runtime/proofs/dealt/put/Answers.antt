@@ -2,7 +2,7 @@ use Rattle.std.proofs.Common.{sym, subst}
 use Rattle.std.specs.List.{All}
 use Rattle.std.proofs.lemmas.List.Elements.{All-get_or, All-set}
 use Rattle.ti_turnstile.specs.Turnstiles.{identity_of}
-use Rattle.ti_runtime.specs.MirrorsMates.{AllOf}
+use Rattle.ti_runtime.specs.Mirrors.Mates.{AllOf}
 use Rattle.ti_runtime.proofs.Fit.{fit_first}
 use Rattle.ti_runtime.proofs.dealt.put.Goals as goal
 

@@ -1,6 +1,6 @@
 use Rattle.std.proofs.Common.{◌<◌, sym, subst}
 use Rattle.ti_lang.specs.Meaning.Processes.{Setting}
-use Rattle.ti_runtime.specs.MirrorsTeam.{place_of, action_of, Seated}
+use Rattle.ti_runtime.specs.Mirrors.Team.{place_of, action_of, Seated}
 use Rattle.ti_runtime.proofs.Seats.{acting}
 use Rattle.ti_runtime.proofs.Mates.{grown_acted}
 use Rattle.ti_runtime.proofs.mate.act.Goals as goal

@@ -2,7 +2,7 @@ use Rattle.std.proofs.Common.{[], ◌∙◌, sym, ap, subst}
 use Rattle.ti_lang.specs.Program.Views.{program_of}
 use Rattle.ti_lang.specs.Meaning.Processes.{Setting}
 use Rattle.ti_code.specs.Follows.{Follows}
-use Rattle.ti_runtime.specs.MirrorsTeam.{Stands}
+use Rattle.ti_runtime.specs.Mirrors.Team.{Stands}
 use Rattle.ti_runtime.proofs.Finishing.{begun_seated}
 use Rattle.ti_runtime.proofs.runner.begin.Goals as goal
 

@@ -3,7 +3,7 @@ use Rattle.ti_lang.specs.Meaning.Runs.{IsSolo}
 use Rattle.ti_align.specs.Alignment.{IsAlignedRun}
 use Rattle.ti_store.specs.Stores.{setting_of}
 use Rattle.ti_runtime.specs.declared.runner.How.TheVariants as how
-use Rattle.ti_runtime.specs.MirrorsTeam.{Stands, CameTo}
+use Rattle.ti_runtime.specs.Mirrors.Team.{Stands, CameTo}
 use Rattle.ti_runtime.proofs.Turns.{law_of, same_setting, open_on}
 use Rattle.ti_runtime.proofs.Endings.{ends}
 use Rattle.ti_runtime.proofs.runner.play.Goals as goal

@@ -1,7 +1,7 @@
 use Rattle.std.proofs.Common.{◌≡◌}
 use Rattle.ti_lang.specs.Meaning.Runs.{IsSolo}
 use Rattle.ti_store.specs.Stores.{setting_of}
-use Rattle.ti_runtime.specs.MirrorsTeam.{IsOpen, Stands, turns_left}
+use Rattle.ti_runtime.specs.Mirrors.Team.{IsOpen, Stands, turns_left}
 use Rattle.ti_runtime.proofs.runner.play.Given as goal
 
 abbrev pub invariant-turns : goal.invariant-turns

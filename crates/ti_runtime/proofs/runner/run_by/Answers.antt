@@ -2,7 +2,7 @@ use Rattle.std.proofs.Common.{◌≡◌, [], IfOk, sym, subst}
 use Rattle.ti_lang.specs.Program.Views.{program_of}
 use Rattle.ti_lang.specs.Meaning.Processes.{Setting}
 use Rattle.ti_runtime.specs.Ran.{Ran}
-use Rattle.ti_runtime.specs.MirrorsTeam.{MayRun}
+use Rattle.ti_runtime.specs.Mirrors.Team.{MayRun}
 use Rattle.ti_runtime.proofs.runner.run_by.Goals as goal
 
 pub begin-requires-clause-may : goal.begin-requires-clause-may

@@ -3,7 +3,7 @@ use Rattle.std.specs.List.{All, sum_by}
 use Rattle.std.proofs.lemmas.List.Sums.{sum_by-append}
 use Rattle.std.proofs.lemmas.List.Elements.{All-nil, All-same}
 use Rattle.ti_turnstile.specs.Turnstiles.{identity_of}
-use Rattle.ti_runtime.specs.MirrorsMates.{AllOf}
+use Rattle.ti_runtime.specs.Mirrors.Mates.{AllOf}
 use Rattle.ti_runtime.proofs.Fit.{all_before, all_last}
 use Rattle.ti_runtime.proofs.scope.in_scope.Goals as goal
 

@@ -1,5 +1,5 @@
 use Rattle.std.proofs.Common.{◌≡◌, length}
-use Rattle.ti_runtime.specs.MirrorsSettled.{NoneStands}
+use Rattle.ti_runtime.specs.Mirrors.Settled.{NoneStands}
 use Rattle.ti_runtime.proofs.settled.free_places.Given as goal
 
 abbrev pub invariant-loop-p : goal.invariant-loop-p

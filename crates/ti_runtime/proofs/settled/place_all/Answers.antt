@@ -1,7 +1,7 @@
 use Rattle.std.proofs.Common.{◌-◌, ◌∙◌, arith, rules, length-set}
 use Rattle.std.specs.Prelude.{Some}
 use Rattle.ti_turnstile.specs.Turnstiles.{identity_of}
-use Rattle.ti_runtime.specs.MirrorsMates.{AllOf}
+use Rattle.ti_runtime.specs.Mirrors.Mates.{AllOf}
 use Rattle.ti_runtime.proofs.Dealing.{one_longer}
 use Rattle.ti_runtime.proofs.Fit.{all_before, all_last}
 use Rattle.ti_runtime.proofs.Settling.{one_back, all_back}

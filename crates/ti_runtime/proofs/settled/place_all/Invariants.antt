@@ -2,8 +2,8 @@ use Rattle.std.proofs.Common.{◌≡◌, ◌+◌, ◌≤◌, length}
 use Rattle.std.specs.List.{All}
 use Rattle.std.specs.Prelude.{vec_len, vec_capacity}
 use Rattle.ti_turnstile.specs.Turnstiles.{identity_of, AreOf}
-use Rattle.ti_runtime.specs.MirrorsMates.{AllOf}
-use Rattle.ti_runtime.specs.MirrorsSettled.{ArePlaced, IsBack}
+use Rattle.ti_runtime.specs.Mirrors.Mates.{AllOf}
+use Rattle.ti_runtime.specs.Mirrors.Settled.{ArePlaced, IsBack}
 use Rattle.ti_runtime.proofs.settled.place_all.Given as goal
 
 abbrev pub invariant-loop-mate : goal.invariant-loop-mate

@@ -2,7 +2,7 @@ use Rattle.std.proofs.Common.{◌≡◌, ◌+◌, ◌≤◌, length}
 use Rattle.std.specs.List.{All, sum_by}
 use Rattle.std.specs.Prelude.{vec_len, vec_capacity}
 use Rattle.ti_turnstile.specs.Turnstiles.{identity_of}
-use Rattle.ti_runtime.specs.MirrorsMates.{AllOf}
+use Rattle.ti_runtime.specs.Mirrors.Mates.{AllOf}
 use Rattle.ti_runtime.proofs.threads.collect.Given as goal
 
 abbrev pub invariant-loop-handle : goal.invariant-loop-handle

@@ -2,7 +2,7 @@ use Rattle.std.proofs.Common.{◌≡◌, ◌∙◌, sym, ap, subst}
 use Rattle.ti_lang.specs.Meaning.Histories.{has_fault}
 use Rattle.ti_lang.specs.Meaning.Processes.{Setting}
 use Rattle.ti_lang.specs.Program.Views.{program_of}
-use Rattle.ti_trace_check.specs.MirrorsSeats.{CameTo, LeavesText, Gives}
+use Rattle.ti_trace_check.specs.Mirrors.Seats.{CameTo, LeavesText, Gives}
 use Rattle.ti_trace_check.proofs.Completing.{all_have, complete, not_complete, keeps, judges}
 use Rattle.ti_trace_check.proofs.checking.check_by.Goals as goal
 

@@ -2,7 +2,7 @@ use Rattle.std.proofs.Common.{◌∙◌, ◌+◌, [], ◌∷◌, length, refl, s
 use Rattle.ti_lang.specs.Program.Views.{program_of}
 use Rattle.ti_lang.specs.Meaning.Processes.{Setting}
 use Rattle.ti_lang.specs.Meaning.Runs.{none}
-use Rattle.ti_trace_check.specs.MirrorsSeats.{Seated, AllSeated}
+use Rattle.ti_trace_check.specs.Mirrors.Seats.{Seated, AllSeated}
 use Rattle.ti_trace_check.proofs.Seats.{seated_at}
 use Rattle.ti_trace_check.proofs.Turns.{seated_more}
 use Rattle.ti_trace_check.proofs.checking.seats_of.Goals as goal

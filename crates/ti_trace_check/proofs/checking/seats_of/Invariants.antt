@@ -1,6 +1,6 @@
 use Rattle.std.proofs.Common.{◌≡◌, length, []}
 use Rattle.ti_lang.specs.Program.Views.{program_of}
-use Rattle.ti_trace_check.specs.MirrorsSeats.{AllSeated}
+use Rattle.ti_trace_check.specs.Mirrors.Seats.{AllSeated}
 use Rattle.ti_trace_check.proofs.checking.seats_of.Given as goal
 
 abbrev pub invariant-loop-number : goal.invariant-loop-number

@@ -1,7 +1,7 @@
 use Rattle.std.proofs.Common.{◌≡◌, ◌∙◌, ◌++◌, [], length, ap, sym, arith, eqb-true}
 use Rattle.std.proofs.lemmas.List.{nil_from_length}
 use Rattle.ti_store.specs.Stores.{StoreState, setting_of}
-use Rattle.ti_trace_check.specs.MirrorsPieces.{held}
+use Rattle.ti_trace_check.specs.Mirrors.Pieces.{held}
 use Rattle.ti_trace_check.proofs.Refusing.{off_of}
 use Rattle.ti_trace_check.proofs.OfLines.{not_empty_line, goes, goes_of, left_whole, left_off}
 use Rattle.ti_trace_check.proofs.following.follow.Goals as goal

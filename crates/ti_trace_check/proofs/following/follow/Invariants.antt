@@ -1,8 +1,8 @@
 use Rattle.std.proofs.Common.{◌≡◌, ◌≤◌, ◌++◌, true, length}
 use Rattle.ti_io.specs.Source.{SameFiles}
 use Rattle.ti_store.specs.Stores.{setting_of}
-use Rattle.ti_trace_check.specs.MirrorsPieces.{held, IsRoom}
-use Rattle.ti_trace_check.specs.MirrorsSeats.{Stands, turns_left}
+use Rattle.ti_trace_check.specs.Mirrors.Pieces.{held, IsRoom}
+use Rattle.ti_trace_check.specs.Mirrors.Seats.{Stands, turns_left}
 use Rattle.ti_trace_check.proofs.OfLines.{Goes}
 use Rattle.ti_trace_check.proofs.following.follow.Given as goal
 

@@ -2,7 +2,7 @@ use Rattle.std.proofs.Common.{◌≡◌, ◌≤◌, ◌∙◌, Bool, true, false
 use Rattle.std.specs.Cmp.Lexicographic.{same_text, other_text}
 use Rattle.ti_store.specs.Stores.{setting_of}
 use Rattle.ti_watch.specs.Reports.{entry_text}
-use Rattle.ti_trace_check.specs.MirrorsSeats.{Takes, Meets}
+use Rattle.ti_trace_check.specs.Mirrors.Seats.{Takes, Meets}
 use Rattle.ti_trace_check.proofs.Turns.{goes_on}
 use Rattle.ti_trace_check.proofs.Refusing.{finds_of, short_of, unnamed, outside, none_taken, other_line, line_is}
 use Rattle.ti_trace_check.proofs.following.meet.Goals as goal

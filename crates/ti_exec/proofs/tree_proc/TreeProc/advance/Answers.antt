@@ -2,8 +2,8 @@ use Rattle.std.proofs.Common.{◌≡◌, ◌∙◌, ◌<◌, sym, ap, subst, vec
 use Rattle.ti_lang.specs.declared.program.numbered.Program.{Program}
 use Rattle.ti_lang.specs.Program.Views.{program_of}
 use Rattle.ti_exec.specs.Standing.{Standing, HasNext}
-use Rattle.ti_exec.specs.MirrorsGoingOn.{GoesOn}
-use Rattle.ti_exec.specs.MirrorsTreeProc.{standing_in, Agrees}
+use Rattle.ti_exec.specs.Mirrors.GoingOn.{GoesOn}
+use Rattle.ti_exec.specs.Mirrors.TreeProc.{standing_in, Agrees}
 use Rattle.ti_exec.proofs.Standings.{unspent, has_next, agrees}
 use Rattle.ti_exec.proofs.tree_proc.TreeProc.advance.Goals as goal
 

@@ -3,8 +3,8 @@ use Rattle.ti_lang.specs.Program.Views.{program_of}
 use Rattle.ti_exec.specs.declared.process.Asking.{Asking}
 use Rattle.ti_exec.specs.States.{process_of, told}
 use Rattle.ti_exec.specs.Standing.{Standing, IsAnswered}
-use Rattle.ti_exec.specs.MirrorsGoingOn.{asks_in}
-use Rattle.ti_exec.specs.MirrorsTreeProc.{standing_in, Follows, Agrees}
+use Rattle.ti_exec.specs.Mirrors.GoingOn.{asks_in}
+use Rattle.ti_exec.specs.Mirrors.TreeProc.{standing_in, Follows, Agrees}
 use Rattle.ti_exec.proofs.Standings.{tick_left, behind, is_answered}
 use Rattle.ti_exec.proofs.tree_proc.TreeProc.answer.Goals as goal
 

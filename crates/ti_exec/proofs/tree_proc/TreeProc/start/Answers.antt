@@ -1,6 +1,6 @@
 use Rattle.std.proofs.Common.{false, refl, sym, subst}
 use Rattle.ti_exec.specs.Standing.{Standing}
-use Rattle.ti_exec.specs.MirrorsTreeProc.{Follows}
+use Rattle.ti_exec.specs.Mirrors.TreeProc.{Follows}
 use Rattle.ti_exec.proofs.Standings.{begins}
 use Rattle.ti_exec.proofs.tree_proc.TreeProc.start.Goals as goal
 

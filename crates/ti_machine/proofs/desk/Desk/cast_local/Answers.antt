@@ -1,7 +1,7 @@
 use Rattle.std.proofs.Common.{subst}
 use Rattle.ti_lang.specs.Program.Types.{Class}
 use Rattle.ti_code.specs.Effects.{top, below}
-use Rattle.ti_machine.specs.MirrorsDesks.{spot_of, Given}
+use Rattle.ti_machine.specs.Mirrors.Desks.{spot_of, Given}
 use Rattle.std.specs.Prelude.{true}
 use Rattle.ti_lang.specs.Meaning.Evaluation.{kept_local}
 use Rattle.ti_lang.proofs.MeaningLaws.Silent.{kept_silent}

@@ -2,7 +2,7 @@ use Rattle.std.proofs.Common.{◌≡◌, ◌∙◌, ap, subst, ℕ, []}
 use Rattle.ti_lang.specs.Program.Types.{Void}
 use Rattle.ti_lang.specs.Meaning.Held.{point_of}
 use Rattle.ti_code.specs.Effects.{Spot, top, below, under, taken, numbers_of}
-use Rattle.ti_machine.specs.MirrorsDesks.{spot_of, Given}
+use Rattle.ti_machine.specs.Mirrors.Desks.{spot_of, Given}
 use Rattle.std.specs.Prelude.{pos, slice_index_or}
 use Rattle.ti_lang.specs.Meaning.Parts.{coordinate}
 use Rattle.ti_lang.proofs.MeaningLaws.Short.{silent_coordinate}

@@ -1,6 +1,6 @@
 use Rattle.std.proofs.Common.{◌≡◌, ◌∙◌, ap, subst, ℕ, [], ◌*◌}
 use Rattle.ti_code.specs.Effects.{under, taken, bounds_of}
-use Rattle.ti_machine.specs.MirrorsDesks.{spot_of, Given}
+use Rattle.ti_machine.specs.Mirrors.Desks.{spot_of, Given}
 use Rattle.std.specs.Prelude.{refl}
 use Rattle.ti_lang.specs.Meaning.Asking.{Gives}
 use Rattle.ti_lang.specs.Meaning.Literals as literal

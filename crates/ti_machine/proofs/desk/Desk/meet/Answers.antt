@@ -1,7 +1,7 @@
 use Rattle.std.proofs.Common.{◌≡◌, ◌∙◌, ◌∷◌, ◌+◌, ap, sym, ℕ}
 use Rattle.ti_lang.specs.Meaning.Held.{rect_of}
 use Rattle.ti_code.specs.Effects.{Spot, top, below, on_with, common_domain}
-use Rattle.ti_machine.specs.MirrorsDesks.{spot_of}
+use Rattle.ti_machine.specs.Mirrors.Desks.{spot_of}
 use Rattle.ti_lang.specs.Meaning.Asking.{Gives}
 use Rattle.ti_machine.proofs.desk.Desk.meet.Goals as goal
 

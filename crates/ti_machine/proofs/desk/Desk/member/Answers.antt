@@ -1,7 +1,7 @@
 use Rattle.std.proofs.Common.{◌≡◌, ◌∙◌, ap, subst, ℕ, []}
 use Rattle.ti_lang.specs.Program.Types.{Void}
 use Rattle.ti_code.specs.Effects.{Spot, top, below, under, taken, member_of}
-use Rattle.ti_machine.specs.MirrorsDesks.{spot_of, Given}
+use Rattle.ti_machine.specs.Mirrors.Desks.{spot_of, Given}
 use Rattle.std.specs.Prelude.{Some}
 use Rattle.ti_lang.specs.Typing.Seen.{built_in_of}
 use Rattle.ti_lang.specs.Meaning.MemberForms.{member}

@@ -1,5 +1,5 @@
 use Rattle.std.proofs.Common.{sym, subst}
-use Rattle.ti_machine.specs.MirrorsDesks.{spot_of, who, Makes}
+use Rattle.ti_machine.specs.Mirrors.Desks.{spot_of, who, Makes}
 use Rattle.ti_machine.proofs.desk.Desk.perform.Goals as goal
 
 pub returns-in-Const : goal.returns-in-Const

@@ -1,6 +1,6 @@
 use Rattle.std.proofs.Common.{◌≡◌, ◌∙◌, ap, sym, ℕ, suc, ◌+◌, ◌-◌, ◌∷◌, reverse, arith}
 use Rattle.ti_code.specs.Effects.{Spot, top, below, taken, under}
-use Rattle.ti_machine.specs.MirrorsDesks.{spot_of}
+use Rattle.ti_machine.specs.Mirrors.Desks.{spot_of}
 use Rattle.ti_machine.proofs.Reversed.{reverse_push}
 use Rattle.ti_machine.proofs.desk.Desk.take_args_into.Goals as goal
 

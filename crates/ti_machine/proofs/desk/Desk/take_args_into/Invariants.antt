@@ -1,6 +1,6 @@
 use Rattle.std.proofs.Common.{◌≡◌, ◌-◌, [], reverse}
 use Rattle.ti_code.specs.Effects.{taken, under}
-use Rattle.ti_machine.specs.MirrorsDesks.{spot_of}
+use Rattle.ti_machine.specs.Mirrors.Desks.{spot_of}
 use Rattle.ti_machine.proofs.desk.Desk.take_args_into.Given as goal
 
 abbrev pub invariant-loop-k : goal.invariant-loop-k

@@ -3,8 +3,8 @@ use Rattle.ti_code.specs.declared.instr.Instr.{Instr}
 use Rattle.ti_code.specs.declared.instr.Instr.TheVariants as i
 use Rattle.ti_code.specs.Programs.{Code}
 use Rattle.ti_code.specs.Machine as seen
-use Rattle.ti_machine.specs.MirrorsDesks.{spot_of}
-use Rattle.ti_machine.specs.MirrorsMachines.{machine_of, frame_at, below_of, IsTurn}
+use Rattle.ti_machine.specs.Mirrors.Desks.{spot_of}
+use Rattle.ti_machine.specs.Mirrors.Machines.{machine_of, frame_at, below_of, IsTurn}
 use Rattle.ti_machine.specs.declared.machine.Turn.{Turn}
 use Rattle.ti_machine.proofs.Withins.{ok_at}
 use Rattle.ti_machine.proofs.machine.Machine.act.Goals as goal

@@ -1,5 +1,5 @@
 use Rattle.std.proofs.Common.{◌≡◌, length, [], arith}
-use Rattle.ti_machine.specs.MirrorsMachines.{machine_of}
+use Rattle.ti_machine.specs.Mirrors.Machines.{machine_of}
 use Rattle.ti_machine.proofs.Withins.{back_stuck, empty_list}
 use Rattle.ti_machine.proofs.machine.Machine.back.Goals as goal
 

@@ -1,7 +1,7 @@
 use Rattle.std.proofs.Common.{◌≡◌, length, [], ◌∷◌, arith}
 use Rattle.ti_code.specs.Effects.{top}
-use Rattle.ti_machine.specs.MirrorsDesks.{spot_of}
-use Rattle.ti_machine.specs.MirrorsMachines.{machine_of}
+use Rattle.ti_machine.specs.Mirrors.Desks.{spot_of}
+use Rattle.ti_machine.specs.Mirrors.Machines.{machine_of}
 use Rattle.ti_machine.proofs.Withins.{back_stuck, empty_list}
 use Rattle.ti_machine.proofs.machine.Machine.back_with.Goals as goal
 

@@ -12,9 +12,9 @@ use Rattle.ti_code.specs.Machine as seen
 use Rattle.ti_code.specs.Machine.{turn, first}
 use Rattle.ti_machine.specs.declared.machine.Turn.{Turn}
 use Rattle.ti_machine.specs.declared.machine.Turn.TheVariants as turns
-use Rattle.ti_machine.specs.MirrorsDesks.{spot_of}
-use Rattle.ti_machine.specs.MirrorsInstrs.{instrs_at}
-use Rattle.ti_machine.specs.MirrorsMachines.{machine_of, machine_at, frame_at, below_of, IsTurn}
+use Rattle.ti_machine.specs.Mirrors.Desks.{spot_of}
+use Rattle.ti_machine.specs.Mirrors.Instrs.{instrs_at}
+use Rattle.ti_machine.specs.Mirrors.Machines.{machine_of, machine_at, frame_at, below_of, IsTurn}
 use Rattle.std.proofs.lemmas.List.{append-nil}
 use Rattle.ti_machine.proofs.Reversed.{reverse_front}
 use Rattle.ti_machine.proofs.Withins.{there, gone, instrs_there, call_stuck, call_is, call_on, call_on_null, none_there, fault_stood, ok_map}

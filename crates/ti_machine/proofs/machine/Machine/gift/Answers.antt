@@ -1,7 +1,7 @@
 use Rattle.std.proofs.Common.{sym, subst, IfOk}
 use Rattle.ti_base.specs.declared.action.CollKind.{CollKind}
 use Rattle.ti_code.specs.Programs.{Code}
-use Rattle.ti_machine.specs.MirrorsMachines.{IsGift}
+use Rattle.ti_machine.specs.Mirrors.Machines.{IsGift}
 use Rattle.ti_machine.proofs.machine.Machine.gift.Goals as goal
 
 pub returns-in-Broadcast-clause-gift : goal.returns-in-Broadcast-clause-gift

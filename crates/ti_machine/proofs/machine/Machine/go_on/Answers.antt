@@ -2,7 +2,7 @@ use Rattle.std.proofs.Common.{◌<◌, ◌≤◌, subst, List, [], IsTrue, arith
 use Rattle.ti_code.specs.declared.code.MethodCode.{MethodCode}
 use Rattle.ti_code.specs.Machine.{turn}
 use Rattle.ti_machine.specs.declared.machine.Turn.{Turn}
-use Rattle.ti_machine.specs.MirrorsMachines.{machine_of, IsTurn}
+use Rattle.ti_machine.specs.Mirrors.Machines.{machine_of, IsTurn}
 use Rattle.ti_code.specs.JumpRule.{keep_jump_rule}
 use Rattle.ti_machine.proofs.Paths.{passes_then, passes_none, passes_one, next_on, next_silently}
 use Rattle.ti_machine.proofs.Weights.{turn_falls, silently_lighter, known, weight}

@@ -1,7 +1,7 @@
 use Rattle.std.proofs.Common.{[]}
 use Rattle.ti_base.specs.declared.entry.Next.{Next}
 use Rattle.ti_code.specs.Follows.{HasNext}
-use Rattle.ti_machine.specs.MirrorsMachines.{machine_of, Passes}
+use Rattle.ti_machine.specs.Mirrors.Machines.{machine_of, Passes}
 use Rattle.ti_machine.proofs.Weights.{weight}
 use Rattle.ti_machine.proofs.machine.Machine.go_on.Given as goal
 

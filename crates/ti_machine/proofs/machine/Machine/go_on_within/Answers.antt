@@ -1,7 +1,7 @@
 use Rattle.std.proofs.Common.{subst}
 use Rattle.ti_code.specs.Machine.{turn}
 use Rattle.ti_machine.specs.declared.machine.Turn.{Turn}
-use Rattle.ti_machine.specs.MirrorsMachines.{machine_of, IsTurn}
+use Rattle.ti_machine.specs.Mirrors.Machines.{machine_of, IsTurn}
 use Rattle.ti_machine.proofs.Paths.{passes_then, passes_none, passes_one}
 use Rattle.ti_machine.proofs.Weights.{known}
 use Rattle.ti_machine.proofs.machine.Machine.go_on_within.Goals as goal

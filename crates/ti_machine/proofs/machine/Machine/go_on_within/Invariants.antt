@@ -1,4 +1,4 @@
-use Rattle.ti_machine.specs.MirrorsMachines.{machine_of, Passes}
+use Rattle.ti_machine.specs.Mirrors.Machines.{machine_of, Passes}
 use Rattle.ti_machine.proofs.machine.Machine.go_on_within.Given as goal
 
 abbrev pub invariant-loop : goal.invariant-loop

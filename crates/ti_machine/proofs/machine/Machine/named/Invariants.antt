@@ -3,8 +3,8 @@ use Rattle.ti_lang.specs.Meaning.Held.{Held, thing_of}
 use Rattle.ti_lang.specs.Meaning.Steps.{lies_in}
 use Rattle.ti_code.specs.Programs.{Code}
 use Rattle.ti_code.specs.Machine.{named_in}
-use Rattle.ti_machine.specs.MirrorsDesks.{spot_of}
-use Rattle.ti_machine.specs.MirrorsMachines.{frame_of}
+use Rattle.ti_machine.specs.Mirrors.Desks.{spot_of}
+use Rattle.ti_machine.specs.Mirrors.Machines.{frame_of}
 use Rattle.ti_machine.proofs.machine.Machine.named.Given as goal
 
 abbrev pub invariant-loop-f : goal.invariant-loop-f

@@ -6,9 +6,9 @@ use Rattle.ti_code.specs.declared.code.MethodCode.{MethodCode}
 use Rattle.ti_code.specs.Forms.{IsFormedInstr, IsFormedMethod}
 use Rattle.ti_code.specs.Machine as seen
 use Rattle.ti_code.specs.Machine.{turn, first}
-use Rattle.ti_machine.specs.MirrorsDesks.{spot_of}
-use Rattle.ti_machine.specs.MirrorsInstrs.{instrs_at}
-use Rattle.ti_machine.specs.MirrorsMachines.{machine_of, frame_at, below_of, IsTurn}
+use Rattle.ti_machine.specs.Mirrors.Desks.{spot_of}
+use Rattle.ti_machine.specs.Mirrors.Instrs.{instrs_at}
+use Rattle.ti_machine.specs.Mirrors.Machines.{machine_of, frame_at, below_of, IsTurn}
 use Rattle.std.specs.Prelude.{pos, All}
 use Rattle.std.proofs.Common.{get_or}
 use Rattle.ti_machine.proofs.Withins.{there, there_or, gone, instrs_there, stuck_method, stuck_turn}

@@ -2,8 +2,8 @@ use Rattle.std.proofs.Common.{subst, Err}
 use Rattle.ti_code.specs.Machine as seen
 use Rattle.ti_code.specs.Machine.{turn, first}
 use Rattle.ti_eval.specs.declared.stop.Stop.{Stop}
-use Rattle.ti_machine.specs.MirrorsDesks.{spot_of, Made}
-use Rattle.ti_machine.specs.MirrorsMachines.{machine_at, frame_at, below_of}
+use Rattle.ti_machine.specs.Mirrors.Desks.{spot_of, Made}
+use Rattle.ti_machine.specs.Mirrors.Machines.{machine_at, frame_at, below_of}
 use Rattle.ti_machine.proofs.Withins.{within_asks}
 use Rattle.ti_machine.proofs.machine.Machine.stopped.Goals as goal
 

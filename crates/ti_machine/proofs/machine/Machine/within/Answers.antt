@@ -5,8 +5,8 @@ use Rattle.ti_code.specs.Effects.{Spot, effect}
 use Rattle.ti_code.specs.Machine as seen
 use Rattle.ti_code.specs.Machine.{turn, first}
 use Rattle.ti_machine.specs.declared.machine.Turn.{Turn}
-use Rattle.ti_machine.specs.MirrorsDesks.{spot_of, Made}
-use Rattle.ti_machine.specs.MirrorsMachines.{machine_of, machine_at, frame_at, below_of, IsTurn}
+use Rattle.ti_machine.specs.Mirrors.Desks.{spot_of, Made}
+use Rattle.ti_machine.specs.Mirrors.Machines.{machine_of, machine_at, frame_at, below_of, IsTurn}
 use Rattle.ti_machine.proofs.Withins.{done_stays, within_went, ok_map}
 use Rattle.ti_machine.proofs.machine.Machine.within.Goals as goal
 

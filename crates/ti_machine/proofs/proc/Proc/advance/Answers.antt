@@ -4,9 +4,9 @@ use Rattle.ti_code.specs.Programs.{Code}
 use Rattle.ti_code.specs.Machine.{turn}
 use Rattle.ti_code.specs.Follows.{all}
 use Rattle.ti_code.specs.Follows as code
-use Rattle.ti_machine.specs.MirrorsMachines.{machine_of, Stood}
-use Rattle.ti_machine.specs.MirrorsGoingOn.{IsWay}
-use Rattle.ti_machine.specs.MirrorsProc.{standing_in, Agrees}
+use Rattle.ti_machine.specs.Mirrors.Machines.{machine_of, Stood}
+use Rattle.ti_machine.specs.Mirrors.GoingOn.{IsWay}
+use Rattle.ti_machine.specs.Mirrors.Proc.{standing_in, Agrees}
 use Rattle.ti_machine.specs.Standing.{Standing, is_act, HasNext, GoesOn}
 use Rattle.ti_machine.proofs.Paths.{goes_from, stood_next, reached_on, reached_asks}
 use Rattle.ti_machine.proofs.proc.Proc.advance.Goals as goal

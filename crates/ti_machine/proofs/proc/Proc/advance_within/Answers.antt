@@ -1,10 +1,10 @@
 use Rattle.std.proofs.Common.{◌≡◌, ◌∙◌, sym, ap, subst, Option, IfSome}
 use Rattle.ti_code.specs.Programs.{Code}
 use Rattle.ti_code.specs.Machine.{turn}
-use Rattle.ti_machine.specs.MirrorsMachines.{machine_of, Stood}
+use Rattle.ti_machine.specs.Mirrors.Machines.{machine_of, Stood}
 use Rattle.ti_machine.specs.declared.going_on.Way.{Way}
-use Rattle.ti_machine.specs.MirrorsGoingOn.{IsWay}
-use Rattle.ti_machine.specs.MirrorsProc.{standing_in, Agrees}
+use Rattle.ti_machine.specs.Mirrors.GoingOn.{IsWay}
+use Rattle.ti_machine.specs.Mirrors.Proc.{standing_in, Agrees}
 use Rattle.ti_machine.specs.Standing.{Standing, is_act, HasNext}
 use Rattle.ti_machine.proofs.Paths.{stood_next, reached_on, reached_asks}
 use Rattle.ti_machine.proofs.proc.Proc.advance_within.Goals as goal

@@ -1,6 +1,6 @@
 use Rattle.std.proofs.Common.{◌≡◌, ◌∙◌, sym, ap, subst, true, false, [], ◌∷◌, ◌++◌}
-use Rattle.ti_machine.specs.MirrorsMachines.{machine_of}
-use Rattle.ti_machine.specs.MirrorsProc.{standing_in, asks_in, Agrees, Reached}
+use Rattle.ti_machine.specs.Mirrors.Machines.{machine_of}
+use Rattle.ti_machine.specs.Mirrors.Proc.{standing_in, asks_in, Agrees, Reached}
 use Rattle.ti_machine.specs.Standing.{Standing, is_act, HasFinished}
 use Rattle.ti_machine.proofs.Paths.{reached_answer, finished_answer}
 use Rattle.ti_machine.proofs.proc.Proc.answer.Goals as goal

@@ -1,7 +1,7 @@
 use Rattle.std.proofs.Common.{sym, subst, refl, false, []}
 use Rattle.ti_code.specs.Follows.{all}
-use Rattle.ti_machine.specs.MirrorsMachines.{machine_of}
-use Rattle.ti_machine.specs.MirrorsProc.{Reached}
+use Rattle.ti_machine.specs.Mirrors.Machines.{machine_of}
+use Rattle.ti_machine.specs.Mirrors.Proc.{Reached}
 use Rattle.ti_machine.specs.Standing.{Standing, HasFinished}
 use Rattle.ti_machine.proofs.Paths.{begun}
 use Rattle.ti_machine.proofs.proc.Proc.start_there.Goals as goal

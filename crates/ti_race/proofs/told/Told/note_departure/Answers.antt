@@ -1,5 +1,5 @@
 use Rattle.std.proofs.Common.{rules, ◌∙◌, ◌==◌, ap, sym}
-use Rattle.ti_race.specs.MirrorsTold.{phase_in}
+use Rattle.ti_race.specs.Mirrors.Told.{phase_in}
 use Rattle.ti_race.proofs.ToldThings.{phases_more, same_at, on_err}
 use Rattle.ti_race.proofs.told.Told.note_departure.Goals as goal
 

@@ -1,6 +1,6 @@
 use Rattle.std.proofs.Common.{◌∙◌}
 use Rattle.ti_race.specs.contracts.spots.NamePartialEq.TheImpl as name_eq
-use Rattle.ti_race.specs.MirrorsTold.{name_key}
+use Rattle.ti_race.specs.Mirrors.Told.{name_key}
 use Rattle.ti_race.proofs.ToldThings.{same_at, on_err}
 use Rattle.ti_race.proofs.told.Told.note_object.Goals as goal
 

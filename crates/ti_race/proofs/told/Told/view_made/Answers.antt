@@ -3,7 +3,7 @@ use Rattle.ti_lang.specs.Meaning.Spots as spec
 use Rattle.std.specs.HashMap.{get}
 use Rattle.ti_race.specs.declared.spots.Name.{Name}
 use Rattle.ti_race.specs.contracts.spots.NamePartialEq.TheImpl as name_eq
-use Rattle.ti_race.specs.MirrorsTold.{Lies, lying_in}
+use Rattle.ti_race.specs.Mirrors.Told.{Lies, lying_in}
 use Rattle.ti_race.proofs.Seen.{true_false}
 use Rattle.ti_race.proofs.ToldThings.{view_tested, formless_view, told_view}
 use Rattle.ti_race.proofs.told.Told.view_made.Goals as goal

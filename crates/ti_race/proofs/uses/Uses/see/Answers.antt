@@ -1,6 +1,6 @@
 use Rattle.std.proofs.Common.{◌∙◌, ap, sym, take}
 use Rattle.std.proofs.lemmas.List.{take_at}
-use Rattle.ti_race.specs.MirrorsTold.{one_or_none}
+use Rattle.ti_race.specs.Mirrors.Told.{one_or_none}
 use Rattle.ti_race.proofs.ToldThings.{on_err}
 use Rattle.ti_race.proofs.ToldUses.{gathers_more, gathers_still}
 use Rattle.ti_race.proofs.uses.Uses.see.Goals as goal

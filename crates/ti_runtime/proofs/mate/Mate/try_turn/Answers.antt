@@ -1,7 +1,7 @@
 use Rattle.std.proofs.Common.{◌∙◌, ap, sym, subst, true, false}
 use Rattle.ti_store.specs.Stores.{StoreState}
 use Rattle.ti_turnstile.specs.Turnstiles.{seen_by}
-use Rattle.ti_runtime.specs.MirrorsTeam.{Seated}
+use Rattle.ti_runtime.specs.Mirrors.Team.{Seated}
 use Rattle.ti_runtime.proofs.Mates.{seated_inside, goes_gone, seated_gone, wants_gone, seated_refused, stays_seen, stays_well}
 use Rattle.ti_runtime.proofs.mate.Mate.try_turn.Goals as goal
 

@@ -1,7 +1,7 @@
 use Rattle.std.proofs.Common.{sym, subst, slice_set}
 use Rattle.ti_align.specs.Stopping.{RoundsBalance}
 use Rattle.ti_store.specs.Stores.{setting_of}
-use Rattle.ti_runtime.specs.MirrorsTeam.{StandsOn}
+use Rattle.ti_runtime.specs.Mirrors.Team.{StandsOn}
 use Rattle.ti_runtime.proofs.Turns.{law_of, turned, stopped}
 use Rattle.ti_runtime.proofs.team.Team.step.Goals as goal
 

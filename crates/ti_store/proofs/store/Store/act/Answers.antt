@@ -3,8 +3,8 @@ use Rattle.ti_lang.specs.Meaning.Histories.{entries_of}
 use Rattle.ti_store.specs.declared.ledger.Reply.TheVariants.{Answered, Faulted}
 use Rattle.ti_store.specs.Conditions.{HasNext}
 use Rattle.ti_store.specs.Stores.{StoreState, setting_of, next_of}
-use Rattle.ti_store.specs.MirrorsParts.{Steps}
-use Rattle.ti_store.specs.MirrorsStore.{IsLedger}
+use Rattle.ti_store.specs.Mirrors.Parts.{Steps}
+use Rattle.ti_store.specs.Mirrors.Store.{IsLedger}
 use Rattle.ti_store.proofs.Stepping.{waits_before, may_act, ledger_steps, same_terms, form_answered}
 use Rattle.ti_store.proofs.store.Store.act.Goals as goal
 

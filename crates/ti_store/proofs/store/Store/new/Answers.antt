@@ -4,8 +4,8 @@ use Rattle.ti_lang.specs.Program.Views.{program_of}
 use Rattle.ti_lang.specs.Meaning.Histories.{history_of, has_fault}
 use Rattle.ti_lang.specs.Meaning.Processes.{Setting}
 use Rattle.ti_lang.specs.Meaning.Runs.{IsRun, none}
-use Rattle.ti_store.specs.MirrorsParts.{KeepsParts}
-use Rattle.ti_store.specs.MirrorsStore.{KeepsLaws}
+use Rattle.ti_store.specs.Mirrors.Parts.{KeepsParts}
+use Rattle.ti_store.specs.Mirrors.Store.{KeepsLaws}
 use Rattle.ti_store.proofs.Beginning.{new_parts, terms_begin}
 use Rattle.ti_store.proofs.store.Store.new.Goals as goal
 

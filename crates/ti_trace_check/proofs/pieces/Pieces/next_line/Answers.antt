@@ -1,6 +1,6 @@
 use Rattle.std.proofs.Common.{◌∙◌, length, not, ap, sym, arith, eqb-true}
 use Rattle.std.proofs.lemmas.List.{nil_from_length}
-use Rattle.ti_trace_check.specs.MirrorsPieces.{held}
+use Rattle.ti_trace_check.specs.Mirrors.Pieces.{held}
 use Rattle.ti_trace_check.proofs.Taking.{filled, taken_all, taken_end, taken_on, taken_full, front_short, held_on}
 use Rattle.ti_trace_check.proofs.pieces.Pieces.next_line.Goals as goal
 

@@ -1,6 +1,6 @@
 use Rattle.std.proofs.Common.{◌≡◌, ◌≤◌, ◌-◌, ◌++◌, true, length}
 use Rattle.ti_io.specs.Source.{SameFiles}
-use Rattle.ti_trace_check.specs.MirrorsPieces.{held, IsRoom}
+use Rattle.ti_trace_check.specs.Mirrors.Pieces.{held, IsRoom}
 use Rattle.ti_trace_check.proofs.Taking.{Taken}
 use Rattle.ti_trace_check.proofs.pieces.Pieces.next_line.Given as goal
 

@@ -1,6 +1,6 @@
 use Rattle.std.proofs.Common.{◌∷◌, [], ◌++◌, ap, sym, ◌∙◌, false, append_assoc}
 use mathlib.Core.Option.{some, some-injective}
-use Rattle.ti_turnstile.specs.MirrorsViews.{view}
+use Rattle.ti_turnstile.specs.Mirrors.Views.{view}
 use Rattle.ti_turnstile.specs.Turnstiles.{identity_of, part_of}
 use Rattle.ti_turnstile.proofs.Closing.{of_last, closing, closed}
 use Rattle.ti_turnstile.proofs.turnstile.Turnstile.close.Goals as goal

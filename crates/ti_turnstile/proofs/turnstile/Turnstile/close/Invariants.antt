@@ -1,5 +1,5 @@
 use Rattle.std.proofs.Common.{◌≡◌, ◌++◌, [], false, List, map, length}
-use Rattle.ti_turnstile.specs.MirrorsViews.{view}
+use Rattle.ti_turnstile.specs.Mirrors.Views.{view}
 use Rattle.ti_turnstile.specs.Turnstiles.{identity_of, AreOf, part_of}
 use Rattle.ti_turnstile.proofs.turnstile.Turnstile.close.Given as goal
 

@@ -1,6 +1,6 @@
 use Rattle.std.proofs.Common.{◌≡◌, ◌+◌, ◌-◌, ◌∷◌, [], ◌++◌, ap, sym, ◌∙◌, subst, false, arith, drop}
 use Rattle.ti_turnstile.specs.Parts.{first_number}
-use Rattle.ti_turnstile.specs.MirrorsViews.{view, fresh, outside}
+use Rattle.ti_turnstile.specs.Mirrors.Views.{view, fresh, outside}
 use Rattle.ti_turnstile.specs.declared.view.View.{View}
 use Rattle.ti_turnstile.specs.Turnstiles.{AreNew}
 use Rattle.ti_turnstile.proofs.Closing.{one_more, cut_left, cut_number}

@@ -1,5 +1,5 @@
 use Rattle.std.proofs.Common.{◌≡◌, ◌-◌, length, [], false}
-use Rattle.ti_turnstile.specs.MirrorsViews.{view, fresh}
+use Rattle.ti_turnstile.specs.Mirrors.Views.{view, fresh}
 use Rattle.ti_turnstile.specs.Turnstiles.{identity_of, AreNew}
 use Rattle.ti_turnstile.proofs.turnstile.Turnstile.cut_passes.Given as goal
 

@@ -1,6 +1,6 @@
 use Rattle.std.proofs.Common.{arith, ap, sym, ◌∙◌, false}
 use Rattle.ti_turnstile.specs.declared.view.View.{View}
-use Rattle.ti_turnstile.specs.MirrorsViews.{view}
+use Rattle.ti_turnstile.specs.Mirrors.Views.{view}
 use Rattle.ti_turnstile.proofs.Steps.{joins_from}
 use Rattle.ti_turnstile.proofs.turnstile.Turnstile.joined.Goals as goal
 

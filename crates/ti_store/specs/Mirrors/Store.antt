@@ -13,7 +13,7 @@ use Rattle.ti_align.specs.Dangling.{NothingDangles}
 use Rattle.ti_store.specs.declared.ledger.Ledger.{Ledger}
 use Rattle.ti_store.specs.Conditions.{IsWithin}
 use Rattle.ti_store.specs.Stores.{StoreState}
-use Rattle.ti_store.specs.MirrorsParts.{program_in, history_in, IsKept}
+use Rattle.ti_store.specs.Mirrors.Parts.{program_in, history_in, IsKept}
 
 -- what is known of a program that is checked, and of its runs
 pub record KeepsLaws (program : NumberedProgram) : Type 0 where

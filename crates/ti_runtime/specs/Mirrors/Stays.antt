@@ -6,7 +6,7 @@ use Rattle.ti_lang.specs.Meaning.Processes.{Setting}
 use Rattle.ti_lang.specs.Meaning.Histories.{has_end}
 use Rattle.ti_code.specs.Programs.{Code}
 use Rattle.ti_runtime.specs.declared.seat.Seat.{Seat}
-use Rattle.ti_runtime.specs.MirrorsTeam.{IsTold, Seated}
+use Rattle.ti_runtime.specs.Mirrors.Team.{IsTold, Seated}
 
 -- the entries of a log
 abbrev pub entries_in : List (ℕ × Entry) → List Entry

@@ -32,8 +32,8 @@ use Rattle.ti_race.specs.declared.spots.Use.{Use}
 use Rattle.ti_race.specs.declared.told.Told.{Told}
 use Rattle.ti_race.specs.declared.uses.Uses.{Uses}
 use Rattle.ti_race.specs.contracts.spots.NamePartialEq.TheImpl as name_eq
-use Rattle.ti_race.specs.MirrorsLying.{Keeps}
-use Rattle.ti_race.specs.MirrorsTable.{racing_in}
+use Rattle.ti_race.specs.Mirrors.Lying.{Keeps}
+use Rattle.ti_race.specs.Mirrors.Table.{racing_in}
 
 -- names and points as parts of keys
 abbrev pub name_key : Id → Name

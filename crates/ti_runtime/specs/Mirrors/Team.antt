@@ -29,7 +29,7 @@ use Rattle.ti_runtime.specs.declared.seat.Stop.TheVariants as stop
 use Rattle.ti_runtime.specs.declared.team.Team.{Team}
 use Rattle.ti_runtime.specs.declared.runner.How.{How}
 use Rattle.ti_runtime.specs.declared.runner.How.TheVariants as how
-use Rattle.ti_runtime.specs.MirrorsWaiting.{Waits, Rests}
+use Rattle.ti_runtime.specs.Mirrors.Waiting.{Waits, Rests}
 use Rattle.ti_runtime.specs.Ran.{standing_of}
 
 -- ---- seats

@@ -7,7 +7,7 @@ use Rattle.ti_code.specs.Programs.{Code}
 use Rattle.ti_turnstile.specs.declared.turnstile.Pass.{Pass}
 use Rattle.ti_turnstile.specs.Turnstiles.{number_of, seen_by}
 use Rattle.ti_runtime.specs.declared.seat.Seat.{Seat}
-use Rattle.ti_runtime.specs.MirrorsStays.{entries_in, Stays}
+use Rattle.ti_runtime.specs.Mirrors.Stays.{entries_in, Stays}
 
 -- process k stands at this place, which counts from the last one
 abbrev pub at_place : ℕ → List (Option Seat) → ℕ → Option Seat

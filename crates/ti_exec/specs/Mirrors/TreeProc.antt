@@ -13,7 +13,7 @@ use Rattle.ti_exec.specs.declared.going_on.State.TheVariants as state
 use Rattle.ti_exec.specs.declared.tree_proc.TreeProc.TheInside.{Inside}
 use Rattle.ti_exec.specs.States.{process_of, told, Stands}
 use Rattle.ti_exec.specs.Standing.{Standing, IsProcess}
-use Rattle.ti_exec.specs.MirrorsGoingOn.{asks_in}
+use Rattle.ti_exec.specs.Mirrors.GoingOn.{asks_in}
 
 -- what contracts see
 abbrev pub standing_in : Inside → Standing

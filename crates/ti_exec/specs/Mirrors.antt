@@ -1,0 +1,4 @@
+-- Definitions that mirror code, as its private contracts speak of it: nobody has to believe them.
+pub mod GoingOn
+pub mod Standing
+pub mod TreeProc
