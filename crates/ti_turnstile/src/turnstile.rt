@@ -12,7 +12,14 @@ use atomic_table::{Seat, Table};
 use crossbeam_utils::Backoff;
 use std::alloc::Global;
 use std::sync::Wait;
+use std::time::Duration;
 use ti_base::Memory;
+
+// How often a pass tries to go in before it sleeps, with a longer pause after each try.
+const TRIES: u32 = 5;
+
+// How long a sleep is, in microseconds. Nobody ends it sooner.
+const NAP: u64 = 50;
 
 /// Keeps one value, with which one pass at a time is inside.
 ///
@@ -130,10 +137,31 @@ impl<V: Kept> Turnstile<V> {
         found == 0
     }
 
+    // Tries to go in for about as long as another pass is inside.
+    fn try_for_a_while(&self, seat: &mut Seat<Option<V>, View<V::Item>>) -> bool
+        requires table { seat.old.table_id ≡ identity_of self.now }
+        requires pass { IsPass seat.old.me }
+        ensures table { seat.new.table_id ≡ seat.old.table_id }
+        ensures entered { IsTrue result → Entered V.log seat.old.me seat.new.me }
+        ensures same { result ≡ false → seat.new.me ≡ seat.old.me }
+    {
+        let backoff = Backoff::new();
+        for _ in 0..TRIES {
+            if self.try_in(seat) {
+                return true;
+            }
+            backoff.spin();
+        }
+        false
+    }
+
     /// Goes in, once nobody else is inside. So it may wait.
     ///
     /// The value's log begins with all that the pass had seen, and what it holds of the pass's number are the
     /// items that this pass added.
+    ///
+    /// Where it finds others inside for a while, it sleeps for a moment and tries again: so one thread goes in and
+    /// out many times in a row, rather than all in turn, with the value going from processor to processor.
     pub fn enter<R: Wait>(&self, rt: &R, pass: Pass<V>) -> Inside<V>
         requires turnstile { turnstile_of pass ≡ identity_of self.now }
         ensures turnstile { turnstile_around result ≡ turnstile_of pass }
@@ -142,12 +170,11 @@ impl<V: Kept> Turnstile<V> {
         ensures legal { IsLegal (V.log (value_inside result)) (number_of pass) (seen_by pass) }
     {
         let Pass { mut seat } = pass;
-        let backoff = Backoff::new();
         for _ in rt.forever() {
-            if self.try_in(&mut seat) {
+            if self.try_for_a_while(&mut seat) {
                 break;
             }
-            backoff.snooze();
+            self.sleep(rt, 0, 1);
         }
         self.take_value(seat)
     }
@@ -266,5 +293,18 @@ impl<V: Kept> Turnstile<V> {
     /// A number that changes where the log has grown. It decides nothing.
     pub fn hint(&self) -> u64 {
         self.table.shared.peek(1)
+    }
+
+    /// Sleeps for a moment, unless the hint is another number by now.
+    pub fn nap<R: Wait>(&self, rt: &R, hint: u64) {
+        self.sleep(rt, 1, (hint & 0xffff_ffff) as u32);
+    }
+
+    // Sleeps for a moment, unless the word has another number by now.
+    fn sleep<R: Wait>(&self, rt: &R, word: usize, number: u32)
+        requires { word < 2 }
+    {
+        let moment = Duration::from_micros(NAP);
+        self.table.shared.park_timeout(rt, word, number, moment);
     }
 }
