@@ -17,7 +17,33 @@ use ti_turnstile::Turnstile;
 // How often a worker whose processes all wait looks for news before it tries them again.
 const LOOKS: u32 = 64;
 
-// One try of the process at a place in the list, where it then stands again.
+// A process goes on until it can't. It is told, too, whether it did anything.
+fn go_on<J: Terms + ByCode, R: Wait, G: Gate>(
+    rt: &R,
+    alloc: Global,
+    code: &Code,
+    gate: &G,
+    turnstile: &Turnstile<Store<J>>,
+    mut mate: Mate<J>,
+) -> (Mate<J>, Tried, bool)
+    requires code { code.now ≡ J.code }
+    requires may { MayRun J.code J.setting }
+    requires mate { AllOf (identity_of turnstile.now) mate }
+    ensures { AllOf (identity_of turnstile.now) result.0 }
+{
+    let mut went = false;
+    for _ in rt.forever() {
+        let (after, tried) = mate.try_turn(rt, alloc, code, gate, turnstile);
+        mate = after;
+        if tried != Tried::Went {
+            return (mate, tried, went);
+        }
+        went = true;
+    }
+    unreachable!()
+}
+
+// The process at a place in the list goes on until it can't, and stands there again.
 fn turn<J: Terms + ByCode, R: Wait, G: Gate>(
     rt: &R,
     alloc: Global,
@@ -26,7 +52,7 @@ fn turn<J: Terms + ByCode, R: Wait, G: Gate>(
     turnstile: &Turnstile<Store<J>>,
     mates: &mut Vec<Mate<J>>,
     at: usize,
-) -> Tried
+) -> (Tried, bool)
     requires code { code.now ≡ J.code }
     requires may { MayRun J.code J.setting }
     requires at { at < length mates.old.items }
@@ -36,20 +62,29 @@ fn turn<J: Terms + ByCode, R: Wait, G: Gate>(
     ensures room { vec_capacity mates.old ≤ vec_capacity mates.new }
 {
     let mate = mates.remove(at);
-    let (mate, tried) = mate.try_turn(rt, alloc, code, gate, turnstile);
+    let (mate, tried, went) = go_on(rt, alloc, code, gate, turnstile, mate);
     match mates.insert(at, mate) {
-        Ok(()) => tried,
+        Ok(()) => (tried, went),
         Err(_) => unreachable!(),
     }
 }
 
-// Looks for news for a while: an entry more.
-fn look<J: Terms + ByCode>(turnstile: &Turnstile<Store<J>>, seen: u64, backoff: &Backoff) {
+// Looks for news for a while: an entry more. It sleeps between looks, once it has spun for long enough.
+fn look<J: Terms + ByCode, R: Wait>(
+    rt: &R,
+    turnstile: &Turnstile<Store<J>>,
+    seen: u64,
+    backoff: &Backoff,
+) {
     for _ in 0..LOOKS {
         if turnstile.hint() != seen {
             return;
         }
-        backoff.snooze();
+        if backoff.is_completed() {
+            turnstile.nap(rt, seen);
+        } else {
+            backoff.snooze();
+        }
     }
 }
 
@@ -80,18 +115,20 @@ pub fn work<J: Terms + ByCode, R: Wait, G: Gate>(
                 break;
             }
             if !went {
-                look(turnstile, seen, &backoff);
+                look(rt, turnstile, seen, &backoff);
             }
             seen = turnstile.hint();
             at = 0;
             ended = 0;
             went = false;
         }
-        match turn(rt, alloc, code, gate, turnstile, &mut mates, at) {
-            Tried::Went => {
-                backoff.reset();
-                went = true;
-            }
+        let (tried, has_gone) = turn(rt, alloc, code, gate, turnstile, &mut mates, at);
+        if has_gone {
+            backoff.reset();
+            went = true;
+        }
+        match tried {
+            Tried::Went => {}
             Tried::Ended => {
                 at += 1;
                 ended += 1;
