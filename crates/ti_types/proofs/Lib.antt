@@ -1,4 +1,5 @@
 pub mod Forms
+pub mod Ints
 pub mod Rows
 pub mod Loops
 pub mod Parameters

@@ -1,6 +1,7 @@
 // What is known of an expression.
-ghost use Rattle.std.specs.Prelude.{◌≡◌, [], ◌++◌, is_some, false};
+ghost use Rattle.std.specs.Prelude.{◌≡◌, [], ◌++◌, is_some, false, Some, None, IsTrue};
 ghost use Rattle.std.specs.Option.{option_map, option_and_then};
+ghost use Rattle.ti_lang.specs.Program.Types.{Int};
 ghost use Rattle.ti_lang.specs.Program.Views.{value_type_of, type_use_of};
 ghost use Rattle.ti_lang.specs.Typing.Kinds.{where_true};
 ghost use Rattle.ti_lang.specs.Typing.Fits.{casts as casts_to};
@@ -33,6 +34,37 @@ pub struct Judged<'a> {
     pub is_call: bool,
     /// What counts of the rules of types that are broken in it.
     pub first: Option<Refusal>,
+}
+
+// Whether an operator gives an int of two ints.
+fn is_of_ints(op: BinaryOperator) -> bool
+    ensures { IsTrue result → binary_type op Int Int ≡ Some Int }
+{
+    match op {
+        BinaryOperator::Add
+        | BinaryOperator::Subtract
+        | BinaryOperator::Multiply
+        | BinaryOperator::Divide
+        | BinaryOperator::Remainder
+        | BinaryOperator::And
+        | BinaryOperator::Or
+        | BinaryOperator::Xor
+        | BinaryOperator::ShiftLeft
+        | BinaryOperator::ShiftRight
+        | BinaryOperator::UnsignedShiftRight => true,
+        _ => false,
+    }
+}
+
+// Whether both are ints, no calls, and break no rule, and the operator gives an int of them.
+fn are_sound_ints(op: BinaryOperator, x: &Judged, y: &Judged) -> bool
+    ensures operator { IsTrue result → binary_type op Int Int ≡ Some Int }
+    ensures left { IsTrue result → typed_of x.now ≡ plain (Some Int) }
+    ensures right { IsTrue result → typed_of y.now ≡ plain (Some Int) }
+    ensures left_first { IsTrue result → x.now.first ≡ None }
+    ensures right_first { IsTrue result → y.now.first ≡ None }
+{
+    is_of_ints(op) && x.is_sound_int() && y.is_sound_int()
 }
 
 impl<'a> Judged<'a> {
@@ -108,9 +140,40 @@ impl<'a> Judged<'a> {
         Judged::plain(ty, sooner(self.first, own))
     }
 
-    /// An operator at a place, between two operands at theirs.
-    #[tactic(auto, using(ti_rules::proofs::First::firsts))]
+    // Whether it is an int, no call, and breaks no rule.
+    fn is_sound_int(&self) -> bool
+        ensures known { IsTrue result → typed_of self.now ≡ plain (Some Int) }
+        ensures first { IsTrue result → self.now.first ≡ None }
+    {
+        match self.ty {
+            Some(Seen::Int) => !self.is_call && self.first.is_none(),
+            _ => false,
+        }
+    }
+
+    /// An operator at a place, between two operands at theirs. Those of ints, the commonest, need not pay for what the others want.
     pub(crate) fn binary(
+        self,
+        inner: Place,
+        other: Judged<'a>,
+        other_inner: Place,
+        place: Place,
+        op: BinaryOperator,
+    ) -> Judged<'a>
+        ensures known { typed_of result ≡ plain (both (operand (typed_of self.entry)) (operand (typed_of other.entry)) (binary_type op)) }
+        ensures first { result.first ≡ sooner_of (sooner_of self.entry.first other.entry.first) (first_of ((misplaced_at inner (typed_of self.entry) ++ misplaced_at other_inner (typed_of other.entry)) ++ both_judged (operand (typed_of self.entry)) (operand (typed_of other.entry)) (λ t u. mistaken_at place (is_some (binary_type op t u)) (is_some (binary_type op (one_dim t) (one_dim u)))))) }
+    {
+        if are_sound_ints(op, &self, &other) {
+            Judged::plain(Some(Seen::Int), None)
+        } else {
+            self.any_binary(inner, other, other_inner, place, op)
+        }
+    }
+
+    /// The same for operands of any type.
+    #[inline(never)]
+    #[tactic(auto, using(ti_rules::proofs::First::firsts))]
+    fn any_binary(
         self,
         inner: Place,
         other: Judged<'a>,
