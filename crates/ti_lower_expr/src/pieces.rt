@@ -150,13 +150,16 @@ pub fn declared_zero(declared: &Declared) -> Instr
     }
 }
 
-/// Pushes what a variable holds.
-pub fn variable(slots: &Slots, v: &Variable) -> Result<Instr, Memory>
-    ensures { IfOk result (λ i. i ≡ coding.loaded (find_slot (variable_of v.now) (names_in slots.now)) (variable_of v.now)) }
+/// Adds the push of what a variable holds.
+pub fn add_variable(slots: &Slots, v: &Variable, out: &mut Vec<Instr>) -> Result<(), Memory>
+    ensures { OnOk result (out.new.items ≡ out.old.items ++ coding.loaded (find_slot (variable_of v.now) (names_in slots.now)) (variable_of v.now) ∷ []) }
 {
     match slots.find(v) {
-        Some(k) => Ok(Instr::Load(counted(k)?)),
-        None => Ok(declared_zero(&v.declared)),
+        Some(k) => {
+            let k = counted(k)?;
+            add(Instr::Load(k), out)
+        }
+        None => add(declared_zero(&v.declared), out),
     }
 }
 

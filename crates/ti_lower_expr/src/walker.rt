@@ -1,39 +1,53 @@
 // The code of an expression, part by part. What the text tells of its value is handed up, so that each part is read once.
 
 ghost use Rattle.std.specs.Prelude.{◌≡◌, ◌∷◌, ◌++◌, [], OnOk, IfOk, map, option_map, option_and_then, unwrap_or};
+ghost use Rattle.ti_base.specs.declared.value.Value.TheVariants as v;
 ghost use Rattle.ti_code.specs.declared.instr.Instr.TheVariants as i;
 ghost use Rattle.ti_lang.specs.Program.Expressions.{numbered_exps, numbered_ranges};
 ghost use Rattle.ti_lang.specs.Program.Expressions as x;
-ghost use Rattle.ti_lang.specs.Typing.TextTypes.{how_many, field_seen as field_spec, member_seen as member_spec, element_seen as element_spec};
-ghost use Rattle.ti_lang.specs.Program.Views.{program_of, expression_of, bound_of};
+ghost use Rattle.ti_lang.specs.Program.Types.{Int as IntType};
+ghost use Rattle.ti_lang.specs.Typing.TextTypes.{how_many, used_type as used_spec, field_seen as field_spec, member_seen as member_spec, element_seen as element_spec};
+ghost use Rattle.ti_lang.specs.Program.Views.{program_of, expression_of, bound_of, variable_of};
 ghost use Rattle.ti_lang.specs.Typing.Seen.{seen, built_in_of};
 ghost use Rattle.ti_lang.specs.Typing.Declared.{field_numbered};
 ghost use Rattle.ti_lang.specs.Typing.Kinds.{is_point as is_point_spec, class_of_type};
 ghost use Rattle.ti_lower_expr.specs.declared.kinds.Known.TheVariants as known;
 ghost use Rattle.ti_lower_expr.specs.Knowing as knowing;
 ghost use Rattle.ti_lower_expr.specs.Coding as coding;
+ghost use Rattle.ti_lower_expr.specs.Contents.{names_in};
+ghost use Rattle.ti_lower_expr.specs.Slots.{find_slot};
 ghost use Rattle.ti_lower_expr.specs.Mirrors.Walking.{around, operated};
 ghost use Rattle.ti_lower_expr.specs.Mirrors.Sites.{type_in, known_in, called_behind, walked_in, all_in, range_in, ranges_in};
 
 use crate::fields::field_behind;
 use crate::kinds::{
-    Kind, Known, Laziness, is_point, kind_in, kind_of_seen, known_alone, known_indexed,
-    known_member, known_of, known_operated, laziness_of, operation_of, shown_member,
+    Kind, Known, Laziness, is_point, kind_in, kind_of_seen, known_alone, known_declared,
+    known_indexed, known_member, known_of, known_operated, laziness_of, operation_of, shown_member,
 };
 use crate::pieces::{
-    add, add_alone, add_cast, add_index, add_member, add_point, jump_where, number_behind, own,
-    rect_instr, variable,
+    add, add_alone, add_cast, add_index, add_member, add_point, add_variable, jump_where,
+    number_behind, own, rect_instr,
 };
 use crate::site::{Site, Told};
 use ti_base::{Memory, Place, Value};
 use ti_code::Instr;
-use ti_lang::program::{Expr, Range};
+use ti_lang::program::{Declared, Expr, Range, Variable};
 use ti_lang::tree::BinaryOperator;
 use ti_lang::typing::{
     BuiltIn, Seen, built_in, element_seen, field_seen, member_seen, operator_type, type_in_text,
 };
 
 // ---- what the text tells
+
+// The declared type of a variable; that of a foreach, of which the text tells no dimensions, is a point of one.
+fn used_type<'a>(v: &'a Variable) -> Seen<'a>
+    ensures { seen result ≡ used_spec (λ _. 1) (variable_of v.now).number (variable_of v.now).declared }
+{
+    match &v.declared {
+        Declared::Typed { single: _, ty } => Seen::of(ty, false),
+        Declared::Foreach => Seen::Pt(1),
+    }
+}
 
 // Of an expression that has its type of itself.
 fn told<'s, 'a>(s: &Site<'s, 'a>, e: &'a Expr) -> Told<'a>
@@ -266,7 +280,33 @@ fn index<'a>(
     })
 }
 
-/// An expression. What the text tells of its value comes out.
+// A whole number of 32 bits.
+fn number<'a>(n: i32, out: &mut Vec<Instr>) -> Result<Told<'a>, Memory>
+    ensures code { OnOk result (out.new.items ≡ out.old.items ++ i.Const (v.Int n) ∷ []) }
+    ensures ty { IfOk result (λ t. seen t.ty ≡ IntType) }
+    ensures known { IfOk result (λ t. t.known ≡ known.Int) }
+{
+    add(Instr::Const(Value::Int(n)), out)?;
+    Ok(Told {
+        ty: Seen::Int,
+        known: Known::Int,
+    })
+}
+
+// A variable.
+fn load<'s, 'a>(s: &Site<'s, 'a>, v: &'a Variable, out: &mut Vec<Instr>) -> Result<Told<'a>, Memory>
+    ensures code { OnOk result (out.new.items ≡ out.old.items ++ coding.loaded (find_slot (variable_of v.now) (names_in s.now.slots.now)) (variable_of v.now) ∷ []) }
+    ensures ty { IfOk result (λ t. seen t.ty ≡ used_spec (λ _. 1) (variable_of v.now).number (variable_of v.now).declared) }
+    ensures known { IfOk result (λ t. t.known ≡ knowing.known_declared (variable_of v.now).declared) }
+{
+    add_variable(s.slots, v, out)?;
+    Ok(Told {
+        ty: used_type(v),
+        known: known_declared(&v.declared),
+    })
+}
+
+/// An expression. What the text tells of its value comes out. The commonest need not pay for what the others want.
 #[cycle(walk)]
 #[tactic(auto, using(ti_lang::proofs::ProgramBridges::program_bridges))]
 pub fn walk<'s, 'a>(s: &Site<'s, 'a>, e: &'a Expr, out: &mut Vec<Instr>) -> Result<Told<'a>, Memory>
@@ -275,12 +315,41 @@ pub fn walk<'s, 'a>(s: &Site<'s, 'a>, e: &'a Expr, out: &mut Vec<Instr>) -> Resu
     ensures known { IfOk result (λ t. t.known ≡ known_in s.now (expression_of e.now)) }
 {
     match e {
-        Expr::Int(_, n) => leaf(s, e, Instr::Const(Value::Int(*n)), out),
+        Expr::Variable(_, v) => load(s, v, out),
+        Expr::Int(_, n) => number(*n, out),
+        Expr::Binary {
+            place,
+            operator,
+            left,
+            right,
+        } => {
+            let first = walk(s, left, out)?;
+            let second = operated(s, *operator, *place, first.ty, right, out)?;
+            Ok(Told {
+                ty: operator_type(*operator, first.ty, second.ty),
+                known: known_operated(*operator, first.known, second.known),
+            })
+        }
+        _ => form(s, e, out),
+    }
+}
+
+// An expression of any form.
+#[cycle(walk)]
+#[inline(never)]
+#[tactic(auto, using(ti_lang::proofs::ProgramBridges::program_bridges))]
+fn form<'s, 'a>(s: &Site<'s, 'a>, e: &'a Expr, out: &mut Vec<Instr>) -> Result<Told<'a>, Memory>
+    ensures code { OnOk result (out.new.items ≡ walked_in s.now (expression_of e.now) out.old.items) }
+    ensures ty { IfOk result (λ t. seen t.ty ≡ type_in s.now (expression_of e.now)) }
+    ensures known { IfOk result (λ t. t.known ≡ known_in s.now (expression_of e.now)) }
+{
+    match e {
+        Expr::Int(_, n) => number(*n, out),
         Expr::Long(_, n) => leaf(s, e, Instr::Const(Value::Long(*n)), out),
         Expr::Truth(_, b) => leaf(s, e, Instr::Const(Value::Bool(*b)), out),
         Expr::Null(_) => leaf(s, e, Instr::Const(Value::Obj(None)), out),
         Expr::This(_) => leaf(s, e, own(s.slots), out),
-        Expr::Variable(_, v) => leaf(s, e, variable(s.slots, v)?, out),
+        Expr::Variable(_, v) => load(s, v, out),
         Expr::OwnField(place, field) => {
             own_field(s, *place, *field, out)?;
             Ok(told(s, e))

@@ -14,8 +14,8 @@ use Rattle.ti_lower_expr.specs.Mirrors.Sites.{type_in, called_behind, walked_in,
 use Rattle.ti_lower_expr.proofs.Growing.{exps_at, ranges_at}
 use Rattle.ti_lower_expr.proofs.walker.+walk.Goals as goal
 
-pub walk-returns-in_ok-add_rect-in-Rect-clause-code : goal.walk-returns-in_ok-add_rect-in-Rect-clause-code
-walk-returns-in_ok-add_rect-in-Rect-clause-code t c =
+pub form-returns-in_ok-add_rect-in-Rect-clause-code : goal.form-returns-in_ok-add_rect-in-Rect-clause-code
+form-returns-in_ok-add_rect-in-Rect-clause-code t c =
     let s = c.args.s.now in
     let o = c.args.out.now.items in
     let m = c.walk_ranges.new.out.items in
@@ -27,8 +27,8 @@ walk-returns-in_ok-add_rect-in-Rect-clause-code t c =
     ∙ ap (λ z. z ++ last c.in-Rect.ranges.items)
     (subst (λ (ys : List Range). m ≡ ranges_in s (numbered_ranges (map bound_of ys)) o) c.deref-in-Rect.ensures.value c.in_ok-walk_ranges-in-Rect.ensures))
 
-pub walk-returns-in_ok-walk_all-in-Member-clause-code : goal.walk-returns-in_ok-walk_all-in-Member-clause-code
-walk-returns-in_ok-walk_all-in-Member-clause-code t c =
+pub form-returns-in_ok-walk_all-in-Member-clause-code : goal.form-returns-in_ok-walk_all-in-Member-clause-code
+form-returns-in_ok-walk_all-in-Member-clause-code t c =
     let s = c.args.s.now in
     let o = c.args.out.now.items in
     let m = c.walk-in-Member.new.out.items in
@@ -49,8 +49,8 @@ walk-returns-in_ok-walk_all-in-Member-clause-code t c =
     (on_ok_weaker r (λ (h : n ≡ k ++ code told xs). h ∙ ap (λ u. k ++ code u xs) type ∙ ap (λ z. z ++ code (type_in s a) xs) (rest ∙ ap (all_in s (exps xs)) first))
     (subst (λ (ys : List Expr). OnOk r (n ≡ k ++ code told ys)) c.deref-in-Member-3.ensures.value c.member.ensures.code))
 
-pub walk-returns-in_ok-walk_all-in-Index-clause-code : goal.walk-returns-in_ok-walk_all-in-Index-clause-code
-walk-returns-in_ok-walk_all-in-Index-clause-code t c =
+pub form-returns-in_ok-walk_all-in-Index-clause-code : goal.form-returns-in_ok-walk_all-in-Index-clause-code
+form-returns-in_ok-walk_all-in-Index-clause-code t c =
     let s = c.args.s.now in
     let o = c.args.out.now.items in
     let m = c.walk-in-Index.new.out.items in
