@@ -10,25 +10,24 @@ use Rattle.ti_lang.specs.Program.Expressions as e
 use Rattle.ti_lang.specs.Program.Statements.{NumberedInit, NumberedStm, MaybeNumbered, NumberedStms, numbered_stms}
 use Rattle.ti_lang.specs.Program.Statements as st
 use Rattle.ti_lang.specs.Program.Classes.{NumberedParam, NumberedParams, Words, Params, NumberedMethod, NumberedProgram}
-use Rattle.ti_lang.specs.Program.Scope.{ScopeVariable, ScopeContents, parameters_from, parameters, this_of}
+use Rattle.ti_lang.specs.Program.Scope.{ScopeVariable, parameters_from, parameters, this_of}
 use Rattle.ti_lang.specs.Typing.Kinds.{domain_dim}
-use Rattle.ti_lang.specs.Typing.Expressions.{operand_type}
 use Rattle.ti_lang.specs.Typing.Called.{called_method, member_called}
 use Rattle.ti_lang.specs.Typing.Effects.{doings, doings_of_maybe}
 use Rattle.ti_rules.specs.Standing.{scope_of, singles_in, with_point, variables_inside}
-use Rattle.ti_rules.specs.SingleRules.{is_plain_part, is_plain, is_plain_initial, is_delete}
+use Rattle.ti_rules.specs.SingleRules.{is_delete}
 use Rattle.ti_blame.specs.declared.blame.Blame.{Blame}
 use Rattle.ti_blame.specs.declared.blame.Blame.TheVariants.{OfVariable, OfCollective, Always}
 use Rattle.ti_blame.specs.declared.mark.Mark.{Mark}
 use Rattle.ti_blame.specs.declared.edge.Then.{Then}
 use Rattle.ti_blame.specs.declared.edge.Then.TheVariants.{One, Between}
 use Rattle.ti_blame.specs.declared.edge.Edge.{Edge}
-use Rattle.ti_blame.specs.Marks.{Marks, is_mark}
+use Rattle.ti_blame.specs.Marks.{Marks}
 use Rattle.ti_blame.specs.Falling.{stands, meaning, starts}
 use Rattle.ti_infer.specs.Marks.{marks_variable}
-use Rattle.ti_infer.specs.Marked.{marked_exp, marked_init, marked_param, marked_params, marked_method, marked}
-use Rattle.ti_infer.specs.Blame.{guarded, target_reasons, reasons, reasons_of_maybe, reasons_of_all, result_reasons, return_reasons, loop_reasons, effect_reasons, blame_around, plain_here, arguments_blamed, params_blamed, call_blamed, whole_blamed, initial_blamed, condition_plain, returned_blamed, own_blamed, blamed, blamed_of_maybe, blamed_of_all, method_blamed, program_blamed}
-use Rattle.ti_infer.specs.Mirrors.Asks.{variable_mark, asks, whole_asks, initial_asks}
+use Rattle.ti_infer.specs.Marked.{marked_exp, marked_param, marked_params, marked}
+use Rattle.ti_infer.specs.Blame.{guarded, target_reasons, reasons, reasons_of_maybe, reasons_of_all, result_reasons, return_reasons, loop_reasons, effect_reasons, blame_around, plain_here, arguments_blamed, params_blamed, call_blamed, whole_blamed, initial_blamed, condition_plain, returned_blamed, own_blamed, blamed, blamed_of_maybe, blamed_of_all}
+use Rattle.ti_infer.specs.Mirrors.Asks.{asks, whole_asks, initial_asks}
 use Rattle.ti_infer.specs.Mirrors.Edges.{inside_at, same_ask, with_new, params_inside, first_inside, one_each, each, ones, then_if, loop_targets, effect_targets, arguments_edges, params_edges, call_edges, whole_edges, initial_edges, condition_edges, own_edges, inside_foreach, variables_foreach, edges, edges_of_maybe, edges_all}
 use Rattle.ti_infer.proofs.Knowing.{SameTypes, operand_same}
 use Rattle.ti_infer.proofs.Same.{this_same}

@@ -1,30 +1,30 @@
 -- Marks can stand where they do exactly where no edge of those that can't is broken.
-use Rattle.std.proofs.Common.{◌≡◌, ℕ, Bool, true, false, not, ◌&&◌, ◌||◌, if◌then◌else◌, List, [], ◌∷◌, ◌++◌, map, flat_map, Option, Some, None, refl, ap, ap₂, sym, ◌∙◌, append-nil}
+use Rattle.std.proofs.Common.{◌≡◌, Bool, true, false, not, ◌&&◌, ◌||◌, if◌then◌else◌, List, [], ◌∷◌, ◌++◌, map, flat_map, Some, refl, ap, ap₂, sym, ◌∙◌, append-nil}
 use Rattle.std.specs.List.{list_any}
 use Rattle.std.proofs.lemmas.List.Folds.{list_any-append}
 use Rattle.ti_base.specs.declared.place.Place.{Place}
 use Rattle.ti_syntax.specs.declared.tree.types.Qualifier.{Qualifier}
 use Rattle.ti_syntax.specs.declared.tree.types.QualifierWord.TheVariants.{Single}
 use Rattle.ti_syntax.specs.declared.tree.classes.Modifier.{Modifier}
+use Rattle.ti_syntax.specs.declared.tree.classes.ModifierWord.{ModifierWord}
 use Rattle.ti_syntax.specs.declared.tree.classes.ModifierWord.TheVariants as word
-use Rattle.ti_lang.specs.Program.Types.{ValueType, NumberedType}
+use Rattle.ti_lang.specs.Members.{is_single_word, is_single}
+use Rattle.ti_lang.specs.Program.Types.{NumberedType}
 use Rattle.ti_lang.specs.Program.Statements.{NumberedStm, MaybeNumbered, NumberedStms, numbered_stms}
 use Rattle.ti_lang.specs.Program.Statements as st
 use Rattle.ti_lang.specs.Program.Classes.{NumberedParam, NumberedParams, Words, Params, NumberedResult, NumberedMethod, NumberedProgram}
 use Rattle.ti_lang.specs.Program.Classes as c
-use Rattle.ti_lang.specs.Program.Scope.{ScopeVariable, parameters}
 use Rattle.ti_lang.specs.Typing.Kinds.{is_object}
 use Rattle.ti_lang.specs.Typing.Declared.{is_static_method}
 use Rattle.ti_rules.specs.declared.refusal.Refusal.{Refusal}
 use Rattle.ti_rules.specs.declared.rule.Rule.TheVariants.{Y7}
 use Rattle.ti_rules.specs.Refusals.{refused_if}
-use Rattle.ti_rules.specs.Broken.Words.{base_of, is_grid, repeated_qualifiers, repeated_modifiers, base_word_refusals, grid_refusals, type_word_refusals, method_modifier_refusals}
+use Rattle.ti_rules.specs.Broken.Words.{base_of, is_grid, repeated_qualifiers, same_word, repeated_modifiers, base_word_refusals, grid_refusals, type_word_refusals, method_modifier_refusals}
 use Rattle.ti_rules.specs.Broken.Statements.{standing_refusals}
-use Rattle.ti_rules.specs.Standing.{Around, Standing, loop_acts, in_loop, in_foreach, inside, inside_maybe, inside_all, around_method}
+use Rattle.ti_rules.specs.Standing.{Around, Standing, in_loop, in_foreach, inside, inside_maybe, inside_all, around_method}
 use Rattle.ti_rules.specs.TypeRules.{result_refusals, params_refusals, head_refusals, method_refusals, class_refusals, type_refusals}
 use Rattle.ti_blame.specs.declared.blame.Blame.{Blame}
 use Rattle.ti_blame.specs.declared.blame.Blame.TheVariants.{OfMethod, OfResult, OfVariable}
-use Rattle.ti_blame.specs.declared.mark.Mark.{Mark}
 use Rattle.ti_blame.specs.declared.edge.Then.TheVariants.{One}
 use Rattle.ti_blame.specs.declared.edge.Edge.{Edge}
 use Rattle.ti_blame.specs.Marks.{Marks}
@@ -36,7 +36,7 @@ use Rattle.ti_infer.specs.Mirrors.Edges.{one_each, own_asks}
 use Rattle.ti_infer.specs.Mirrors.Fits.{is_none, falls_unless, takes_mark, declared_edges, declared_edges_maybe, declared_edges_all, method_takes_mark, result_edges, param_edges, all_param_edges, method_fit_edges, fit_edges}
 use Rattle.ti_infer.proofs.Truths.{true_false}
 use Rattle.ti_infer.proofs.Same.{static_same}
-use Rattle.ti_infer.proofs.Lists.{none_both, both_none, refused_none, flat_append}
+use Rattle.ti_infer.proofs.Lists.{none_both, both_none, refused_none, none_refused, flat_append}
 use Rattle.ti_infer.proofs.FittingTogether.{type_more}
 use Rattle.ti_infer.proofs.EdgesMeant.{fired_one}
 
@@ -104,6 +104,44 @@ module _ (p : NumberedProgram) where
     plain_stms (st.Cons x rest) a h =
         let g = ill_both p (inside p a x) (inside_all p a rest) h in
         (plain_stm x a g.0, plain_stms rest a g.1)
+
+-- ---- a word that stands once
+
+isnt_not : (b : Bool) → not b ≡ false → b ≡ true
+isnt_not true h = refl
+isnt_not false h = absurd (true_false h)
+
+takes_both : (s b : Bool) → (s && not b) ≡ true → (s ≡ true) × (b ≡ false)
+takes_both true true h = absurd (true_false (sym h))
+takes_both true false h = (refl, refl)
+takes_both false b h = absurd (true_false (sym h))
+
+same_single : (w : ModifierWord) → same_word word.Single w ≡ is_single_word w
+same_single word.Public = refl
+same_single word.Private = refl
+same_single word.Protected = refl
+same_single word.Static = refl
+same_single word.Final = refl
+same_single word.Single = refl
+
+-- the word behind words that break no rule
+one_single : (at : Place) (before ws : List Modifier) → repeated_modifiers before ws ≡ [] → list_any (λ (other : Modifier). same_word word.Single other.word) before ≡ false → is_single ws ≡ false
+    → repeated_modifiers before (ws ++ record { word = word.Single; place = at } ∷ []) ≡ []
+one_single at before [] h b k = both_none _ _ (none_refused _ Y7 at b) refl
+one_single at before (m ∷ ws) h b k =
+    let n = none_both _ _ h in
+    let l = or_both (is_single_word m.word) (is_single ws) k in
+    both_none _ _ n.0 (one_single at (m ∷ before) ws n.1 (ap₂ (λ s t. s || t) (same_single m.word ∙ l.0) b) l.1)
+
+not_before : (at : Place) (before ws : List Modifier) → repeated_modifiers before (ws ++ record { word = word.Single; place = at } ∷ []) ≡ [] → list_any (λ (other : Modifier). same_word word.Single other.word) before ≡ false
+not_before at before [] h = refused_none _ Y7 at (none_both _ _ h).0
+not_before at before (m ∷ ws) h = (or_both (same_word word.Single m.word) _ (not_before at (m ∷ before) ws (none_both _ _ h).1)).1
+
+single_once : (at : Place) (before ws : List Modifier) → repeated_modifiers before (ws ++ record { word = word.Single; place = at } ∷ []) ≡ [] → is_single ws ≡ false
+single_once at before [] h = refl
+single_once at before (m ∷ ws) h =
+    let n = none_both _ _ h in
+    ap₂ (λ s t. s || t) (sym (same_single m.word) ∙ (or_both (same_word word.Single m.word) _ (not_before at (m ∷ before) ws n.1)).0) (single_once at (m ∷ before) ws n.1)
 
 -- ---- one edge
 
@@ -280,13 +318,21 @@ module _ (counts : Place → Bool) (marks : Marks) (items : List Blame) where
   abbrev words_refused : Bool → List Modifier → List Refusal
   words_refused s ws = repeated_modifiers [] ws ++ flat_map (method_modifier_refusals s) ws
 
-  words_fit : (b s t : Bool) (at : Place) (ws : List Modifier) → t ≡ s → words_refused s ws ≡ [] → (b ≡ true → is_none (words_refused s (ws ++ record { word = word.Single; place = at } ∷ [])) ≡ true)
+  words_fit : (b s t : Bool) (at : Place) (ws : List Modifier) → t ≡ s → words_refused s ws ≡ [] → (b ≡ true → (s && not (is_single ws)) ≡ true)
       → words_refused t (ws ++ (if b then record { word = word.Single; place = at } ∷ [] else [])) ≡ []
-  words_fit true s t at ws e h f = ap (λ z. words_refused z (ws ++ record { word = word.Single; place = at } ∷ [])) e ∙ none_is _ (f refl)
+  words_fit true s t at ws e h f =
+      let n = none_both _ _ h in
+      let l = takes_both s (is_single ws) (f refl) in
+      ap (λ z. words_refused z (ws ++ record { word = word.Single; place = at } ∷ [])) e
+      ∙ both_none _ _ (one_single at [] ws n.0 refl l.1)
+      (flat_append (method_modifier_refusals s) ws (record { word = word.Single; place = at } ∷ []) ∙ both_none _ _ n.1 (both_none (refused_if (not s) Y7 at) [] (none_refused (not s) Y7 at (ap not l.0)) refl))
   words_fit false s t at ws e h f = ap₂ (λ z qs. words_refused z qs) e (append-nil ws) ∙ h
 
-  fit_words : (b s t : Bool) (at : Place) (ws : List Modifier) → t ≡ s → words_refused t (ws ++ (if b then record { word = word.Single; place = at } ∷ [] else [])) ≡ [] → b ≡ true → is_none (words_refused s (ws ++ record { word = word.Single; place = at } ∷ [])) ≡ true
-  fit_words true s t at ws e h k = is_no _ (ap (λ z. words_refused z (ws ++ record { word = word.Single; place = at } ∷ [])) (sym e) ∙ h)
+  fit_words : (b s t : Bool) (at : Place) (ws : List Modifier) → t ≡ s → words_refused t (ws ++ (if b then record { word = word.Single; place = at } ∷ [] else [])) ≡ [] → b ≡ true → (s && not (is_single ws)) ≡ true
+  fit_words true s t at ws e h k =
+      let n = none_both _ _ (ap (λ z. words_refused z (ws ++ record { word = word.Single; place = at } ∷ [])) (sym e) ∙ h) in
+      let last = (none_both (flat_map (method_modifier_refusals s) ws) _ (sym (flat_append (method_modifier_refusals s) ws (record { word = word.Single; place = at } ∷ [])) ∙ n.1)).1 in
+      ap₂ (λ a b. a && not b) (isnt_not s (refused_none (not s) Y7 at (none_both _ _ last).0)) (single_once at [] ws n.0)
   fit_words false s t at ws e h k = absurd (true_false (sym k))
 
   -- ---- methods

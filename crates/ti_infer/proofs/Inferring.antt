@@ -1,5 +1,5 @@
 -- What is left once all that falls has fallen is the greatest accepted marking.
-use Rattle.std.proofs.Common.{◌≡◌, ◌==◌, Bool, true, false, ◌&&◌, ◌||◌, List, [], ◌∷◌, ◌++◌, Option, Some, None, IfSome, refl, ap, ap₂, sym, subst, ◌∙◌, arith, nat_lt}
+use Rattle.std.proofs.Common.{◌≡◌, Bool, true, false, ◌&&◌, ◌||◌, List, [], ◌∷◌, ◌++◌, Option, Some, None, IfSome, refl, ap₂, sym, subst, ◌∙◌, arith}
 use Rattle.std.specs.List.{list_any}
 use Rattle.std.proofs.lemmas.Bool.Decides.{nat_tests}
 use Rattle.std.proofs.lemmas.Bool.{eq-eqb}
@@ -11,7 +11,6 @@ use Rattle.ti_rules.specs.TypeRules.{type_refusals}
 use Rattle.ti_blame.specs.declared.blame.Blame.{Blame}
 use Rattle.ti_blame.specs.declared.blame.Blame.TheVariants.{OfMethod, OfResult, OfVariable, OfCollective, Always}
 use Rattle.ti_blame.specs.declared.mark.Mark.{Mark}
-use Rattle.ti_blame.specs.declared.edge.Edge.{Edge}
 use Rattle.ti_blame.specs.Marks.{Marks, IsPart, marks_of}
 use Rattle.ti_blame.specs.Falling.{stands, is_broken, KeepsEdges, before}
 use Rattle.ti_blame.specs.Settling.{IsSettled}
@@ -25,7 +24,7 @@ use Rattle.ti_infer.specs.Descent.{is_always}
 use Rattle.ti_infer.specs.Inferred.{IsAcceptedTo, IsInferred}
 use Rattle.ti_infer.specs.Mirrors.Edges.{all_reasons, program_edges}
 use Rattle.ti_infer.specs.Mirrors.Fits.{fit_edges}
-use Rattle.ti_infer.proofs.Truths.{Grows, true_false, grows_left, grows_right}
+use Rattle.ti_infer.proofs.Truths.{Grows, true_false, grows_right}
 use Rattle.ti_infer.proofs.Descending.{by_rules, by_reasons, fewer_keep}
 use Rattle.ti_infer.proofs.ErasingPrograms.{marks_fit_types, types_fit_marks}
 use Rattle.ti_infer.proofs.Within.{collectives_within}

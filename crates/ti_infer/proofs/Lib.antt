@@ -25,3 +25,13 @@ pub mod ProgramEdges
 pub mod FitEdges
 pub mod Inferring
 pub mod StrippedResults
+pub mod LocalsTold
+pub mod TextKnown
+pub mod OnlyChanges
+pub mod NoMainCalls
+pub mod Answering
+pub mod Placing
+pub mod Telling
+pub mod FirstNone
+pub mod Stripping
+pub mod Walking

@@ -1,7 +1,6 @@
 -- What is to blame in a program under a marking is what its edges that start under it mean.
-use Rattle.std.proofs.Common.{◌≡◌, ℕ, ◌+◌, ◌==◌, Bool, true, false, not, ◌&&◌, ◌||◌, if◌then◌else◌, List, [], ◌∷◌, ◌++◌, length, map, flat_map, Option, Some, None, is_some, refl, ap, ap₂, sym, subst, ◌∙◌, append-nil}
+use Rattle.std.proofs.Common.{◌≡◌, ℕ, ◌+◌, ◌==◌, Bool, true, false, not, ◌&&◌, ◌||◌, if◌then◌else◌, List, [], ◌∷◌, ◌++◌, length, flat_map, Option, Some, None, refl, ap, ap₂, sym, ◌∙◌, append-nil}
 use Rattle.std.specs.List.{list_any}
-use Rattle.std.specs.Option.{option_map_or}
 use Rattle.std.proofs.lemmas.Bool.{eqb-true}
 use Rattle.std.proofs.lemmas.List.Folds.{list_any-append}
 use Rattle.ti_base.specs.declared.place.Place.{Place}
@@ -16,20 +15,17 @@ use Rattle.ti_blame.specs.declared.blame.Blame.TheVariants.{OfMethod, OfResult, 
 use Rattle.ti_blame.specs.declared.mark.MarkKind.{MarkKind}
 use Rattle.ti_blame.specs.declared.mark.MarkKind.TheVariants as kind
 use Rattle.ti_blame.specs.declared.mark.Mark.{Mark}
-use Rattle.ti_blame.specs.declared.edge.Then.{Then}
-use Rattle.ti_blame.specs.declared.edge.Then.TheVariants.{Between}
-use Rattle.ti_blame.specs.declared.edge.Edge.{Edge}
 use Rattle.ti_blame.specs.Marks.{Marks, same_kind, is_mark, holds}
 use Rattle.ti_blame.specs.Falling.{stands, meaning, starts, KeepsEdges}
 use Rattle.ti_infer.specs.Marked.{marked_params, marked_method}
-use Rattle.ti_infer.specs.Blame.{guarded, reasons_of_all, result_reasons, return_reasons, effect_reasons, method_blamed, blamed_of_all, program_blamed, KeepsSingle}
+use Rattle.ti_infer.specs.Blame.{guarded, reasons_of_all, result_reasons, return_reasons, effect_reasons, method_blamed, program_blamed, KeepsSingle}
 use Rattle.ti_infer.specs.Descent.{is_always}
 use Rattle.ti_infer.specs.Mirrors.Asks.{method_mark}
-use Rattle.ti_infer.specs.Mirrors.Edges.{same_ask, one_each, own_asks, whole_of, first_inside, edges_all, method_edges, methods_edges, all_reasons, program_edges}
+use Rattle.ti_infer.specs.Mirrors.Edges.{same_ask, one_each, own_asks, whole_of, first_inside, method_edges, methods_edges, all_reasons, program_edges}
 use Rattle.ti_infer.proofs.Truths.{Grows, true_false}
 use Rattle.ti_infer.proofs.Descending.{any_grows}
 use Rattle.ti_infer.proofs.ErasingPrograms.{types_parameters}
-use Rattle.ti_infer.proofs.EdgesMeant.{PartAt, part_first, part_second, part_meaning, fires, fired, fired_one, any_guarded, all_meant, alike_first, or_none, and_none}
+use Rattle.ti_infer.proofs.EdgesMeant.{PartAt, part_first, part_second, part_meaning, fires, fired, fired_one, any_guarded, all_meant, alike_first, or_none}
 
 -- ---- what is asked for once more
 

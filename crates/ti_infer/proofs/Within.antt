@@ -1,4 +1,4 @@
--- The collectives that are to blame are collectives of the program.
+-- The collectives that are to blame are collectives of the program, and nothing is to blame in any case where no statement acts in any case and no update jumps.
 use Rattle.std.proofs.Common.{◌≡◌, Bool, true, false, not, ◌||◌, List, [], ◌∷◌, ◌++◌, flat_map, Option, Some, None, refl, ap₂, sym, ◌∙◌}
 use Rattle.std.specs.List.{list_any}
 use Rattle.std.proofs.lemmas.List.Folds.{list_any-append}
@@ -25,31 +25,73 @@ use Rattle.ti_infer.specs.Marked.{marked_exp, marked_params, marked_method, mark
 use Rattle.ti_blame.specs.Marks.{holds}
 use Rattle.ti_infer.specs.Blame.{guarded, method_reasons, acts_reasons, initial_reasons, place_reasons, declared_reasons, target_reasons, reasons, reasons_of_maybe, reasons_of_all, result_reasons, return_reasons, loop_reasons, effect_reasons, blame_around, plain_here, arguments_blamed, params_blamed, call_blamed, whole_blamed, initial_blamed, condition_plain, own_blamed, blamed, blamed_of_maybe, blamed_of_all, method_blamed, program_blamed, every_one, KeepsSingle}
 use Rattle.ti_infer.specs.Collectives.{is_collective_at, program_reasons}
+use Rattle.ti_infer.specs.Descent.{is_always}
 use Rattle.ti_infer.proofs.Truths.{Grows, true_false, grows_left, grows_right}
 
-module _ (test : Place → Bool) where
+-- a collective that passes a test, or what is there in any case, where that counts
+abbrev hits : (Place → Bool) → Bool → Blame → Bool
+hits test always (OfMethod at) = false
+hits test always (OfResult at) = false
+hits test always (OfVariable at) = false
+hits test always (OfCollective at) = test at
+hits test always Always = always
+
+-- no update in a statement has a jump in it
+module _ (p : NumberedProgram) (m : NumberedMethod) where
+  abbrev mutual
+    pub Still : NumberedStm → Type 0
+    Still (st.Block body) = StillAll body
+    Still (st.If at c a) = Still a
+    Still (st.IfElse at c a b) = Still a × Still b
+    Still (st.While at c body) = Still body
+    Still (st.For at first c update body) = ((doings_of_maybe p (this_of m) update).jumps ≡ false) × StillMaybe first × StillMaybe update × Still body
+    Still (st.Foreach at variable domain body) = Still body
+    Still s = Unit {0}
+
+    pub StillMaybe : MaybeNumbered → Type 0
+    StillMaybe st.NoStm = Unit {0}
+    StillMaybe (st.SomeStm s) = Still s
+
+    pub StillAll : NumberedStms → Type 0
+    StillAll st.Nil = Unit {0}
+    StillAll (st.Cons s rest) = Still s × StillAll rest
+
+abbrev pub MethodsStill : NumberedProgram → List NumberedMethod → Type 0
+MethodsStill p [] = Unit {0}
+MethodsStill p (m ∷ ms) = StillAll p m (numbered_stms m.body) × MethodsStill p ms
+
+module _ (test : Place → Bool) (always : Bool) where
   abbrev found : List Blame → Bool
-  found xs = list_any (is_collective_at test) xs
+  found xs = list_any (hits test always) xs
 
   none : (xs ys : List Blame) → found xs ≡ false → Grows (found xs) (found ys)
   none xs ys h = λ k. absurd (true_false (sym k ∙ h))
 
   first : (xs ys : List Blame) → Grows (found xs) (found (xs ++ ys))
-  first xs ys k = list_any-append (is_collective_at test) xs ys ∙ grows_left _ _ k
+  first xs ys k = list_any-append (hits test always) xs ys ∙ grows_left _ _ k
 
   second : (xs ys : List Blame) → Grows (found ys) (found (xs ++ ys))
-  second xs ys k = list_any-append (is_collective_at test) xs ys ∙ grows_right _ _ k
+  second xs ys k = list_any-append (hits test always) xs ys ∙ grows_right _ _ k
 
   either : (a b d : Bool) → (a || b) ≡ true → Grows a d → Grows b d → d ≡ true
   either true b d h f g = f refl
   either false b d h f g = g h
 
   both : (xs ys : List Blame) (d : Bool) → Grows (found xs) d → Grows (found ys) d → Grows (found (xs ++ ys)) d
-  both xs ys d f g k = either _ _ d (sym (list_any-append (is_collective_at test) xs ys) ∙ k) f g
+  both xs ys d f g k = either _ _ d (sym (list_any-append (hits test always) xs ys) ∙ k) f g
 
   behind : (t : Bool) (xs : List Blame) (d : Bool) → Grows (found xs) d → Grows (found (guarded t xs)) d
   behind true xs d f = f
   behind false xs d f = λ k. absurd (true_false (sym k))
+
+  -- a jump in an update
+  jumping_within : (b : Bool) (d : Bool) → (always ≡ true → b ≡ false) → Grows (found (guarded b (Always ∷ []))) d
+  jumping_within true d f = λ k. absurd (true_false (f (plain always k)))
+    where
+      plain : (a : Bool) → (a || false) ≡ true → a ≡ true
+      plain true k = refl
+      plain false k = k
+  jumping_within false d f = λ k. absurd (true_false (sym k))
 
   module _ (p : NumberedProgram) (m : NumberedMethod) (marks : Marks) (all : Bool) (returns : Grows (found (return_reasons p m)) all) where
     loop_within : (update : MaybeNumbered) (body : NumberedStm) → Grows (found (reasons_of_maybe p m update)) all → Grows (found (reasons p m body)) all → Grows (found (loop_reasons p m update body)) all
@@ -155,74 +197,74 @@ module _ (test : Place → Bool) where
     initial_within vs (st.NewObject at region class) f = λ k. absurd (true_false (sym k))
     initial_within vs (st.NewGrid at region element dims_at dims) f = λ k. absurd (true_false (sym k))
 
-    own_within : (vs : List ScopeVariable) (jumping : List Blame) (s : NumberedStm) → Grows (found jumping) all → Grows (found (reasons p m s)) all → Grows (found (own_blamed p m marks vs jumping s)) all
-    own_within vs jumping (st.Declare at type variable value) f g = both (initial_blamed p m marks vs value) _ all (initial_within vs value (λ k. g k)) (behind _ (OfVariable at ∷ []) all (λ k. absurd (true_false (sym k))))
-    own_within vs jumping (st.Assign at target value) f g = both (initial_blamed p m marks vs value) _ all (initial_within vs value (λ k. g (second (target_reasons p m target) (initial_reasons p m value) k))) (behind _ (target_reasons p m target) all (λ k. absurd (true_false (sym k ∙ no_target target))))
-    own_within vs jumping (st.Update at op target x) f g = both (whole_blamed p m marks vs x) _ all (whole_within vs x (λ k. g (second (target_reasons p m target) (acts_reasons p m x) k))) (behind _ (target_reasons p m target) all (λ k. absurd (true_false (sym k ∙ no_target target))))
-    own_within vs jumping (st.Call x) f g = whole_within vs x g
-    own_within vs jumping (st.If at c a) f g = behind _ (effect_reasons p m jumping (st.If at c a)) all (effect_within jumping (st.If at c a) f g)
-    own_within vs jumping (st.IfElse at c a b) f g = behind _ (effect_reasons p m jumping (st.IfElse at c a b)) all (effect_within jumping (st.IfElse at c a b) f g)
-    own_within vs jumping (st.While at c body) f g = behind _ (loop_reasons p m st.NoStm body) all (loop_within st.NoStm body (λ k. absurd (true_false (sym k))) g)
-    own_within vs jumping (st.For at initial c update body) f g =
+    own_within : (vs : List ScopeVariable) (jumping : List Blame) (s : NumberedStm) → (always ≡ true → Still p m s) → Grows (found jumping) all → Grows (found (reasons p m s)) all → Grows (found (own_blamed p m marks vs jumping s)) all
+    own_within vs jumping (st.Declare at type variable value) h f g = both (initial_blamed p m marks vs value) _ all (initial_within vs value (λ k. g k)) (behind _ (OfVariable at ∷ []) all (λ k. absurd (true_false (sym k))))
+    own_within vs jumping (st.Assign at target value) h f g = both (initial_blamed p m marks vs value) _ all (initial_within vs value (λ k. g (second (target_reasons p m target) (initial_reasons p m value) k))) (behind _ (target_reasons p m target) all (λ k. absurd (true_false (sym k ∙ no_target target))))
+    own_within vs jumping (st.Update at op target x) h f g = both (whole_blamed p m marks vs x) _ all (whole_within vs x (λ k. g (second (target_reasons p m target) (acts_reasons p m x) k))) (behind _ (target_reasons p m target) all (λ k. absurd (true_false (sym k ∙ no_target target))))
+    own_within vs jumping (st.Call x) h f g = whole_within vs x g
+    own_within vs jumping (st.If at c a) h f g = behind _ (effect_reasons p m jumping (st.If at c a)) all (effect_within jumping (st.If at c a) f g)
+    own_within vs jumping (st.IfElse at c a b) h f g = behind _ (effect_reasons p m jumping (st.IfElse at c a b)) all (effect_within jumping (st.IfElse at c a b) f g)
+    own_within vs jumping (st.While at c body) h f g = behind _ (loop_reasons p m st.NoStm body) all (loop_within st.NoStm body (λ k. absurd (true_false (sym k))) g)
+    own_within vs jumping (st.For at initial c update body) h f g =
         both (guarded (condition_plain p m marks vs c) (loop_reasons p m update body)) _ all
         (behind _ (loop_reasons p m update body) all (loop_within update body (λ k. g (second (reasons_of_maybe p m initial) _ (first (reasons_of_maybe p m update) (reasons p m body) k))) (λ k. g (second (reasons_of_maybe p m initial) _ (second (reasons_of_maybe p m update) (reasons p m body) k)))))
-        (behind _ (Always ∷ []) all (λ k. absurd (true_false (sym k))))
-    own_within vs jumping (st.Foreach at variable domain body) f g = behind _ (loop_reasons p m st.NoStm body) all (loop_within st.NoStm body (λ k. absurd (true_false (sym k))) g)
-    own_within vs jumping (st.Return at None) f g = λ k. absurd (true_false (sym k))
-    own_within vs jumping (st.Return at (Some x)) f g = behind _ (result_reasons p m m.result) all (λ k. absurd (true_false (sym k ∙ no_result m.result)))
-    own_within vs jumping st.Empty f g = λ k. absurd (true_false (sym k))
-    own_within vs jumping (st.Step at op target) f g = λ k. absurd (true_false (sym k))
-    own_within vs jumping (st.Print at what) f g = λ k. absurd (true_false (sym k))
-    own_within vs jumping (st.Barrier at) f g = λ k. absurd (true_false (sym k))
-    own_within vs jumping (st.Break at) f g = λ k. absurd (true_false (sym k))
-    own_within vs jumping (st.Continue at) f g = λ k. absurd (true_false (sym k))
-    own_within vs jumping (st.Block body) f g = λ k. absurd (true_false (sym k))
+        (jumping_within _ all (λ k. (h k).0))
+    own_within vs jumping (st.Foreach at variable domain body) h f g = behind _ (loop_reasons p m st.NoStm body) all (loop_within st.NoStm body (λ k. absurd (true_false (sym k))) g)
+    own_within vs jumping (st.Return at None) h f g = λ k. absurd (true_false (sym k))
+    own_within vs jumping (st.Return at (Some x)) h f g = behind _ (result_reasons p m m.result) all (λ k. absurd (true_false (sym k ∙ no_result m.result)))
+    own_within vs jumping st.Empty h f g = λ k. absurd (true_false (sym k))
+    own_within vs jumping (st.Step at op target) h f g = λ k. absurd (true_false (sym k))
+    own_within vs jumping (st.Print at what) h f g = λ k. absurd (true_false (sym k))
+    own_within vs jumping (st.Barrier at) h f g = λ k. absurd (true_false (sym k))
+    own_within vs jumping (st.Break at) h f g = λ k. absurd (true_false (sym k))
+    own_within vs jumping (st.Continue at) h f g = λ k. absurd (true_false (sym k))
+    own_within vs jumping (st.Block body) h f g = λ k. absurd (true_false (sym k))
 
     mutual
-      within : (s : NumberedStm) (vs : List ScopeVariable) (jumping : List Blame) → Grows (found jumping) all → Grows (found (reasons p m s)) all → Grows (found (blamed p m marks vs jumping s)) all
-      within (st.Block body) vs jumping f g = within_all body vs jumping f g
-      within (st.If at c a) vs jumping f g = both (own_blamed p m marks vs jumping (st.If at c a)) (blamed p m marks vs jumping a) all (own_within vs jumping (st.If at c a) f g) (within a vs jumping f g)
-      within (st.IfElse at c a d) vs jumping f g =
-          both (own_blamed p m marks vs jumping (st.IfElse at c a d)) (blamed p m marks vs jumping a ++ blamed p m marks vs jumping d) all (own_within vs jumping (st.IfElse at c a d) f g)
-          (both (blamed p m marks vs jumping a) (blamed p m marks vs jumping d) all (within a vs jumping f (λ k. g (first (reasons p m a) (reasons p m d) k))) (within d vs jumping f (λ k. g (second (reasons p m a) (reasons p m d) k))))
-      within (st.While at c body) vs jumping f g =
-          both (own_blamed p m marks vs jumping (st.While at c body)) (blamed p m marks vs (loop_reasons p m st.NoStm body) body) all (own_within vs jumping (st.While at c body) f g)
-          (within body vs (loop_reasons p m st.NoStm body) (loop_within st.NoStm body (λ k. absurd (true_false (sym k))) g) g)
-      within (st.For at initial c update body) vs jumping f g =
+      within : (s : NumberedStm) (vs : List ScopeVariable) (jumping : List Blame) → (always ≡ true → Still p m s) → Grows (found jumping) all → Grows (found (reasons p m s)) all → Grows (found (blamed p m marks vs jumping s)) all
+      within (st.Block body) vs jumping h f g = within_all body vs jumping h f g
+      within (st.If at c a) vs jumping h f g = both (own_blamed p m marks vs jumping (st.If at c a)) (blamed p m marks vs jumping a) all (own_within vs jumping (st.If at c a) h f g) (within a vs jumping h f g)
+      within (st.IfElse at c a d) vs jumping h f g =
+          both (own_blamed p m marks vs jumping (st.IfElse at c a d)) (blamed p m marks vs jumping a ++ blamed p m marks vs jumping d) all (own_within vs jumping (st.IfElse at c a d) h f g)
+          (both (blamed p m marks vs jumping a) (blamed p m marks vs jumping d) all (within a vs jumping (λ k. (h k).0) f (λ k. g (first (reasons p m a) (reasons p m d) k))) (within d vs jumping (λ k. (h k).1) f (λ k. g (second (reasons p m a) (reasons p m d) k))))
+      within (st.While at c body) vs jumping h f g =
+          both (own_blamed p m marks vs jumping (st.While at c body)) (blamed p m marks vs (loop_reasons p m st.NoStm body) body) all (own_within vs jumping (st.While at c body) h f g)
+          (within body vs (loop_reasons p m st.NoStm body) h (loop_within st.NoStm body (λ k. absurd (true_false (sym k))) g) g)
+      within (st.For at initial c update body) vs jumping h f g =
           let up : Grows (found (reasons_of_maybe p m update)) all = λ k. g (second (reasons_of_maybe p m initial) _ (first (reasons_of_maybe p m update) (reasons p m body) k)) in
           let inner : Grows (found (reasons p m body)) all = λ k. g (second (reasons_of_maybe p m initial) _ (second (reasons_of_maybe p m update) (reasons p m body) k)) in
           both (own_blamed p m marks vs jumping (st.For at initial c update body)) (blamed_of_maybe p m marks vs jumping initial ++ (blamed_of_maybe p m marks vs jumping update ++ blamed p m marks vs (loop_reasons p m update body) body)) all
-          (own_within vs jumping (st.For at initial c update body) f g)
-          (both (blamed_of_maybe p m marks vs jumping initial) (blamed_of_maybe p m marks vs jumping update ++ blamed p m marks vs (loop_reasons p m update body) body) all (within_maybe initial vs jumping f (λ k. g (first (reasons_of_maybe p m initial) _ k)))
-          (both (blamed_of_maybe p m marks vs jumping update) (blamed p m marks vs (loop_reasons p m update body) body) all (within_maybe update vs jumping f up)
-          (within body vs (loop_reasons p m update body) (loop_within update body up inner) inner)))
-      within (st.Foreach at variable domain body) vs jumping f g =
+          (own_within vs jumping (st.For at initial c update body) h f g)
+          (both (blamed_of_maybe p m marks vs jumping initial) (blamed_of_maybe p m marks vs jumping update ++ blamed p m marks vs (loop_reasons p m update body) body) all (within_maybe initial vs jumping (λ k. (h k).1) f (λ k. g (first (reasons_of_maybe p m initial) _ k)))
+          (both (blamed_of_maybe p m marks vs jumping update) (blamed p m marks vs (loop_reasons p m update body) body) all (within_maybe update vs jumping (λ k. (h k).2) f up)
+          (within body vs (loop_reasons p m update body) (λ k. (h k).3) (loop_within update body up inner) inner)))
+      within (st.Foreach at variable domain body) vs jumping h f g =
           both (own_blamed p m marks vs jumping (st.Foreach at variable domain body)) (blamed p m marks (variables_inside (marked marks p) (scope_of (blame_around p m marks vs)) variable (marked_exp (marks_variable marks m) domain)) (loop_reasons p m st.NoStm body) body) all
-          (own_within vs jumping (st.Foreach at variable domain body) f g)
-          (within body _ (loop_reasons p m st.NoStm body) (loop_within st.NoStm body (λ k. absurd (true_false (sym k))) g) g)
-      within (st.Declare at type variable value) vs jumping f g = own_within vs jumping (st.Declare at type variable value) f g
-      within (st.Assign at target value) vs jumping f g = own_within vs jumping (st.Assign at target value) f g
-      within (st.Update at op target x) vs jumping f g = own_within vs jumping (st.Update at op target x) f g
-      within (st.Call x) vs jumping f g = own_within vs jumping (st.Call x) f g
-      within (st.Return at value) vs jumping f g = own_within vs jumping (st.Return at value) f g
-      within st.Empty vs jumping f g = λ k. absurd (true_false (sym k))
-      within (st.Step at op target) vs jumping f g = λ k. absurd (true_false (sym k))
-      within (st.Print at what) vs jumping f g = λ k. absurd (true_false (sym k))
-      within (st.Barrier at) vs jumping f g = λ k. absurd (true_false (sym k))
-      within (st.Break at) vs jumping f g = λ k. absurd (true_false (sym k))
-      within (st.Continue at) vs jumping f g = λ k. absurd (true_false (sym k))
+          (own_within vs jumping (st.Foreach at variable domain body) h f g)
+          (within body _ (loop_reasons p m st.NoStm body) h (loop_within st.NoStm body (λ k. absurd (true_false (sym k))) g) g)
+      within (st.Declare at type variable value) vs jumping h f g = own_within vs jumping (st.Declare at type variable value) h f g
+      within (st.Assign at target value) vs jumping h f g = own_within vs jumping (st.Assign at target value) h f g
+      within (st.Update at op target x) vs jumping h f g = own_within vs jumping (st.Update at op target x) h f g
+      within (st.Call x) vs jumping h f g = own_within vs jumping (st.Call x) h f g
+      within (st.Return at value) vs jumping h f g = own_within vs jumping (st.Return at value) h f g
+      within st.Empty vs jumping h f g = λ k. absurd (true_false (sym k))
+      within (st.Step at op target) vs jumping h f g = λ k. absurd (true_false (sym k))
+      within (st.Print at what) vs jumping h f g = λ k. absurd (true_false (sym k))
+      within (st.Barrier at) vs jumping h f g = λ k. absurd (true_false (sym k))
+      within (st.Break at) vs jumping h f g = λ k. absurd (true_false (sym k))
+      within (st.Continue at) vs jumping h f g = λ k. absurd (true_false (sym k))
 
-      within_maybe : (s : MaybeNumbered) (vs : List ScopeVariable) (jumping : List Blame) → Grows (found jumping) all → Grows (found (reasons_of_maybe p m s)) all → Grows (found (blamed_of_maybe p m marks vs jumping s)) all
-      within_maybe st.NoStm vs jumping f g = λ k. absurd (true_false (sym k))
-      within_maybe (st.SomeStm s) vs jumping f g = within s vs jumping f g
+      within_maybe : (s : MaybeNumbered) (vs : List ScopeVariable) (jumping : List Blame) → (always ≡ true → StillMaybe p m s) → Grows (found jumping) all → Grows (found (reasons_of_maybe p m s)) all → Grows (found (blamed_of_maybe p m marks vs jumping s)) all
+      within_maybe st.NoStm vs jumping h f g = λ k. absurd (true_false (sym k))
+      within_maybe (st.SomeStm s) vs jumping h f g = within s vs jumping h f g
 
-      within_all : (ss : NumberedStms) (vs : List ScopeVariable) (jumping : List Blame) → Grows (found jumping) all → Grows (found (reasons_of_all p m ss)) all → Grows (found (blamed_of_all p m marks vs jumping ss)) all
-      within_all st.Nil vs jumping f g = λ k. absurd (true_false (sym k))
-      within_all (st.Cons s rest) vs jumping f g =
-          both (blamed p m marks vs jumping s) (blamed_of_all p m marks vs jumping rest) all (within s vs jumping f (λ k. g (first (reasons p m s) (reasons_of_all p m rest) k))) (within_all rest vs jumping f (λ k. g (second (reasons p m s) (reasons_of_all p m rest) k)))
+      within_all : (ss : NumberedStms) (vs : List ScopeVariable) (jumping : List Blame) → (always ≡ true → StillAll p m ss) → Grows (found jumping) all → Grows (found (reasons_of_all p m ss)) all → Grows (found (blamed_of_all p m marks vs jumping ss)) all
+      within_all st.Nil vs jumping h f g = λ k. absurd (true_false (sym k))
+      within_all (st.Cons s rest) vs jumping h f g =
+          both (blamed p m marks vs jumping s) (blamed_of_all p m marks vs jumping rest) all (within s vs jumping (λ k. (h k).0) f (λ k. g (first (reasons p m s) (reasons_of_all p m rest) k))) (within_all rest vs jumping (λ k. (h k).1) f (λ k. g (second (reasons p m s) (reasons_of_all p m rest) k)))
 
-  method_within : (p : NumberedProgram) (m : NumberedMethod) (marks : Marks) → Grows (found (method_blamed p m marks)) (found (reasons_of_all p m (numbered_stms m.body)))
-  method_within p m marks =
+  method_within : (p : NumberedProgram) (m : NumberedMethod) (marks : Marks) → (always ≡ true → StillAll p m (numbered_stms m.body)) → Grows (found (method_blamed p m marks)) (found (reasons_of_all p m (numbered_stms m.body)))
+  method_within p m marks h =
       let all = found (reasons_of_all p m (numbered_stms m.body)) in
       let returns : Grows (found (return_reasons p m)) all = both (result_reasons p m m.result) (reasons_of_all p m (numbered_stms m.body)) all (λ k. absurd (true_false (sym k ∙ by m.result))) (λ k. k) in
       let plain = not (marked_method marks m).is_single in
@@ -232,20 +274,52 @@ module _ (test : Place → Bool) where
       (both (guarded plain effects) (guarded plain result) all
       (behind plain effects all (effect_within p m marks all returns [] (st.Block (numbered_stms m.body)) (λ k. absurd (true_false (sym k))) (λ k. k)))
       (behind plain result all (λ k. absurd (true_false (sym k ∙ by m.result)))))
-      (within_all p m marks all returns (numbered_stms m.body) _ [] (λ k. absurd (true_false (sym k))) (λ k. k))
+      (within_all p m marks all returns (numbered_stms m.body) _ [] h (λ k. absurd (true_false (sym k))) (λ k. k))
     where
       by : (r : NumberedResult) → found (result_reasons p m r) ≡ false
       by c.Void = refl
       by (c.Typed type) = refl
 
-  methods_within : (p : NumberedProgram) (marks : Marks) (ms : List NumberedMethod) → Grows (found (flat_map (λ m. method_blamed p m marks) ms)) (found (flat_map (λ m. reasons_of_all p m (numbered_stms m.body)) ms))
-  methods_within p marks [] = λ k. k
-  methods_within p marks (m ∷ ms) =
+  methods_within : (p : NumberedProgram) (marks : Marks) (ms : List NumberedMethod) → (always ≡ true → MethodsStill p ms) → Grows (found (flat_map (λ m. method_blamed p m marks) ms)) (found (flat_map (λ m. reasons_of_all p m (numbered_stms m.body)) ms))
+  methods_within p marks [] h = λ k. k
+  methods_within p marks (m ∷ ms) h =
       both (method_blamed p m marks) (flat_map (λ m. method_blamed p m marks) ms) _
-      (λ k. first (reasons_of_all p m (numbered_stms m.body)) _ (method_within p m marks k)) (λ k. second (reasons_of_all p m (numbered_stms m.body)) _ (methods_within p marks ms k))
+      (λ k. first (reasons_of_all p m (numbered_stms m.body)) _ (method_within p m marks (λ z. (h z).0) k)) (λ k. second (reasons_of_all p m (numbered_stms m.body)) _ (methods_within p marks ms (λ z. (h z).1) k))
 
-  pub collectives_within : (p : NumberedProgram) (marks : Marks) → Grows (found (program_blamed p marks)) (found (program_reasons p))
-  collectives_within p marks = methods_within p marks p.methods
+is_hit : (test : Place → Bool) (xs : List Blame) → list_any (is_collective_at test) xs ≡ list_any (hits test false) xs
+is_hit test [] = refl
+is_hit test (x ∷ xs) = ap₂ (λ a b. a || b) (one x) (is_hit test xs)
+  where
+    one : (b : Blame) → is_collective_at test b ≡ hits test false b
+    one (OfMethod at) = refl
+    one (OfResult at) = refl
+    one (OfVariable at) = refl
+    one (OfCollective at) = refl
+    one Always = refl
+
+is_hit_always : (xs : List Blame) → list_any is_always xs ≡ list_any (hits (λ at. false) true) xs
+is_hit_always [] = refl
+is_hit_always (x ∷ xs) = ap₂ (λ a b. a || b) (one x) (is_hit_always xs)
+  where
+    one : (b : Blame) → is_always b ≡ hits (λ at. false) true b
+    one (OfMethod at) = refl
+    one (OfResult at) = refl
+    one (OfVariable at) = refl
+    one (OfCollective at) = refl
+    one Always = refl
+
+pub collectives_within : (test : Place → Bool) (p : NumberedProgram) (marks : Marks) → Grows (list_any (is_collective_at test) (program_blamed p marks)) (list_any (is_collective_at test) (program_reasons p))
+collectives_within test p marks k =
+    is_hit test (program_reasons p) ∙ methods_within test false p marks p.methods (λ z. absurd (true_false (sym z))) (sym (is_hit test (program_blamed p marks)) ∙ k)
+
+-- where no statement acts in any case, and no update jumps, nothing is to blame in any case
+pub never_blamed : (p : NumberedProgram) (marks : Marks) → MethodsStill p p.methods → list_any is_always (program_reasons p) ≡ false → list_any is_always (program_blamed p marks) ≡ false
+never_blamed p marks still none = by (list_any is_always (program_blamed p marks)) refl
+  where
+    by : (b : Bool) → list_any is_always (program_blamed p marks) ≡ b → b ≡ false
+    by true e =
+        absurd (true_false (sym (is_hit_always (program_reasons p) ∙ methods_within (λ at. false) true p marks p.methods (λ z. still) (sym (is_hit_always (program_blamed p marks)) ∙ e)) ∙ none))
+    by false e = refl
 
 -- ---- up to the last collective
 

@@ -1,5 +1,5 @@
 -- The greatest marking of a program, and the first collective that no marking aligns.
-use Rattle.std.specs.Prelude.{◌≡◌, Bool, true, List, [], Option, Some, None, IfSome}
+use Rattle.std.specs.Prelude.{◌≡◌, true, List, [], Option, Some, None, IfSome}
 use Rattle.std.specs.List.{list_any}
 use Rattle.ti_base.specs.declared.place.Place.{Place}
 use Rattle.ti_base.specs.Places.{place_before, same_place}

@@ -9,3 +9,5 @@ pub mod Fitting
 pub mod Accepted
 pub mod Collectives
 pub mod Inferred
+pub mod Names
+pub mod Answer

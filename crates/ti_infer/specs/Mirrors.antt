@@ -7,3 +7,5 @@ pub mod Places
 pub mod Sites
 pub mod Listed
 pub mod Arounds
+pub mod Locals
+pub mod Settled

@@ -96,7 +96,8 @@ fn result_ask(site: Site, inside: &[Inside], place: Place, t: &ResultType) -> Op
     }
 }
 
-fn one_ask(alloc: Global, ask: Option<Mark>) -> Result<Vec<Option<Mark>>, Memory>
+/// One that is asked for.
+pub fn one_ask(alloc: Global, ask: Option<Mark>) -> Result<Vec<Option<Mark>>, Memory>
     ensures { IfOk result (λ v. v.items ≡ ask ∷ []) }
 {
     let mut found = Vec::new(alloc);

@@ -3,6 +3,7 @@ ghost use Rattle.std.specs.Prelude.{◌≡◌, not, Bool, true, false, List, [],
 ghost use Rattle.std.specs.List.{list_any};
 ghost use Rattle.ti_base.specs.declared.place.Place.{Place};
 ghost use Rattle.ti_lang.specs.Program.Classes.{NumberedProgram};
+ghost use Rattle.ti_lang.specs.Numbering.{IsNumbered};
 ghost use Rattle.ti_rules.specs.TypeRules.{type_refusals};
 ghost use Rattle.ti_rules.specs.SingleRules.{single_refusals};
 ghost use Rattle.ti_infer.specs.Accepted.{IsAccepted};
@@ -70,4 +71,14 @@ pub fn edges_are_rules()
 /// Nothing may be to blame in any case, as in the program of a text.
 pub fn settled_is_inferred()
     ensures { (p : NumberedProgram) (names marks : List Mark) (first : Option Place) → type_refusals p ≡ [] → HavePlainResults p.methods → ((m : Marks) → list_any is_always (program_blamed p m) ≡ false) → IsSettled names (all_reasons p) (program_edges p ++ fit_edges p) marks first → IsInferred p names marks first }
+{}
+
+/// The stripped program of a text is the program of a text.
+pub fn stripped_is_numbered()
+    ensures { (p : NumberedProgram) → ∥ IsNumbered p ∥₁ → ∥ IsNumbered (stripped p) ∥₁ }
+{}
+
+/// In the stripped program of a text nothing is to blame in any case, whatever is marked: no statement calls `main`, and no update jumps.
+pub fn nothing_blamed_in_any_case()
+    ensures { (p : NumberedProgram) (m : Marks) → ∥ IsNumbered p ∥₁ → type_refusals p ≡ [] → stripped p ≡ p → list_any is_always (program_blamed p m) ≡ false }
 {}

@@ -1,6 +1,6 @@
 -- Nobody has to believe this: it mirrors code, and only contracts of private functions speak of it.
 -- What falls with what by a statement with this around it.
-use Rattle.std.specs.Prelude.{ℕ, Bool, if◌then◌else◌, List, [], ◌∷◌, ◌++◌, Option, None}
+use Rattle.std.specs.Prelude.{ℕ, Bool, if◌then◌else◌, List, [], ◌∷◌, Option, None}
 use Rattle.ti_lang.specs.Program.Expressions.{NumberedExp}
 use Rattle.ti_lang.specs.Program.Statements.{NumberedStm, MaybeNumbered, NumberedStms}
 use Rattle.ti_lang.specs.Program.Scope.{ScopeVariable, contents_of}
@@ -9,6 +9,7 @@ use Rattle.ti_blame.specs.declared.mark.Mark.{Mark}
 use Rattle.ti_blame.specs.declared.edge.Then.{Then}
 use Rattle.ti_blame.specs.declared.edge.Then.TheVariants.{One}
 use Rattle.ti_blame.specs.declared.edge.Edge.{Edge}
+use Rattle.ti_infer.specs.declared.site.Site.{Site}
 use Rattle.ti_infer.specs.declared.site.Around.{Around}
 use Rattle.ti_infer.specs.Mirrors.Edges.{own_edges, edges, edges_of_maybe, edges_all, inside_foreach, variables_foreach}
 use Rattle.ti_infer.specs.Mirrors.Sites.{program_at, method_at, inside_of}
@@ -18,6 +19,10 @@ variables_at a = (contents_of a.scope.now).variables
 
 abbrev pub own_around : Around → ℕ → List Then → NumberedStm → List Edge
 own_around a i jump s = own_edges (program_at a.site) (method_at a.site) a.whole (inside_of a.inside.now) i jump s
+
+-- with these variables in scope, and what those of foreach loops ask for
+abbrev pub edges_with : Site → Then → List ScopeVariable → List (ℕ × List (Option Mark)) → ℕ → List Then → NumberedStm → List Edge
+edges_with s whole ws inside i jump x = edges (program_at s) (method_at s) whole ws inside i jump x
 
 abbrev pub edges_around : Around → ℕ → List Then → NumberedStm → List Edge
 edges_around a i jump s = edges (program_at a.site) (method_at a.site) a.whole (variables_at a) (inside_of a.inside.now) i jump s

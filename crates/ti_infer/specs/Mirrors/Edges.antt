@@ -22,7 +22,7 @@ use Rattle.ti_blame.specs.declared.edge.Then.{Then}
 use Rattle.ti_blame.specs.declared.edge.Then.TheVariants.{One, Between}
 use Rattle.ti_blame.specs.declared.edge.Edge.{Edge}
 use Rattle.ti_blame.specs.Marks.{is_mark}
-use Rattle.ti_infer.specs.Blame.{target_reasons, reasons, reasons_of_maybe, reasons_of_all, result_reasons, return_reasons}
+use Rattle.ti_infer.specs.Blame.{target_reasons, reasons, reasons_of_maybe, result_reasons, return_reasons}
 use Rattle.ti_infer.specs.Mirrors.Asks.{variable_mark, method_mark, asks, whole_asks, initial_asks}
 
 -- ---- what foreach variables ask for

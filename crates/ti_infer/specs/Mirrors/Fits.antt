@@ -1,8 +1,8 @@
 -- Nobody has to believe this: it mirrors code, and only contracts of private functions speak of it.
 -- Marks that can't stand where they do fall, and those of parameters fall with that of their method.
-use Rattle.std.specs.Prelude.{Bool, true, false, if◌then◌else◌, List, [], ◌∷◌, ◌++◌, flat_map, None}
+use Rattle.std.specs.Prelude.{Bool, true, false, not, ◌&&◌, if◌then◌else◌, List, [], ◌∷◌, ◌++◌, flat_map, None}
 use Rattle.ti_base.specs.declared.place.Place.{Place}
-use Rattle.ti_syntax.specs.declared.tree.classes.ModifierWord.TheVariants as word
+use Rattle.ti_lang.specs.Members.{is_single}
 use Rattle.ti_lang.specs.Program.Types.{NumberedType}
 use Rattle.ti_lang.specs.Program.Statements.{NumberedStm, MaybeNumbered, NumberedStms, numbered_stms}
 use Rattle.ti_lang.specs.Program.Statements as st
@@ -10,7 +10,7 @@ use Rattle.ti_lang.specs.Program.Classes.{NumberedParam, NumberedParams, Words, 
 use Rattle.ti_lang.specs.Program.Classes as c
 use Rattle.ti_rules.specs.declared.refusal.Refusal.{Refusal}
 use Rattle.ti_lang.specs.Typing.Declared.{is_static_method}
-use Rattle.ti_rules.specs.Broken.Words.{repeated_modifiers, type_word_refusals, method_modifier_refusals}
+use Rattle.ti_rules.specs.Broken.Words.{type_word_refusals}
 use Rattle.ti_blame.specs.declared.blame.Blame.{Blame}
 use Rattle.ti_blame.specs.declared.blame.Blame.TheVariants.{OfMethod, OfResult, OfVariable}
 use Rattle.ti_blame.specs.declared.edge.Then.TheVariants.{One}
@@ -49,11 +49,9 @@ abbrev mutual
   declared_edges_all st.Nil = []
   declared_edges_all (st.Cons s rest) = declared_edges s ++ declared_edges_all rest
 
--- the word can stand at the method
+-- the word can stand at the method: it is static, and the word isn't there
 abbrev pub method_takes_mark : NumberedMethod → Bool
-method_takes_mark m =
-    let words = m.modifiers ++ record { word = word.Single; place = m.place } ∷ [] in
-    is_none (repeated_modifiers [] words ++ flat_map (method_modifier_refusals (is_static_method m)) words)
+method_takes_mark m = is_static_method m && not (is_single m.modifiers)
 
 abbrev pub result_edges : NumberedMethod → NumberedResult → List Edge
 result_edges m c.Void = []

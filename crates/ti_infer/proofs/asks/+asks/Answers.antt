@@ -1,4 +1,4 @@
-use Rattle.std.proofs.Common.{◌≡◌, Bool, not, List, ◌++◌, map, ap, ap₂, sym, ◌∙◌}
+use Rattle.std.proofs.Common.{Bool, not, List, ◌++◌, map, ap, ap₂, sym, ◌∙◌}
 use Rattle.ti_lang.specs.declared.program.exprs.Expr.{Expr}
 use Rattle.ti_lang.specs.declared.program.exprs.Range.{Range}
 use Rattle.ti_lang.specs.Program.Expressions.{numbered_exps, numbered_ranges}

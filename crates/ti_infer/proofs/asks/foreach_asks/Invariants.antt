@@ -1,4 +1,4 @@
-use Rattle.std.proofs.Common.{◌≡◌, ◌++◌, drop}
+use Rattle.std.proofs.Common.{◌≡◌, drop}
 use Rattle.ti_infer.specs.Mirrors.Edges.{inside_at}
 use Rattle.ti_infer.specs.Mirrors.Sites.{inside_of}
 use Rattle.ti_infer.proofs.asks.foreach_asks.Given as goal

@@ -1,4 +1,4 @@
-use Rattle.std.proofs.Common.{◌≡◌, ◌≤◌, length, arith}
+use Rattle.std.proofs.Common.{◌≤◌, length, arith}
 use Rattle.ti_infer.specs.Mirrors.Sites.{program_at, method_at, inside_of}
 use Rattle.ti_infer.proofs.ArgumentsLeft.{args_end}
 use Rattle.ti_infer.proofs.edges.arguments.Goals as goal

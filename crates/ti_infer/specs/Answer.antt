@@ -1,0 +1,42 @@
+-- What inference answers.
+use Rattle.std.specs.Prelude.{◌≡◌, true, List, map, Some, Result, Ok, Err}
+use Rattle.std.specs.List.{list_any}
+use Rattle.std.specs.List.Sorted.{IsStrictlySortedBy}
+use Rattle.ti_base.specs.declared.place.Place.{Place}
+use Rattle.ti_base.specs.Places.{place_before, same_place}
+use Rattle.ti_lang.specs.Program.Classes.{NumberedProgram}
+use Rattle.ti_blame.specs.declared.mark.Mark.{Mark}
+use Rattle.ti_blame.specs.Names.{name_of, name_cmp}
+use Rattle.ti_blame.specs.Marks.{Marks, IsPart, marks_of}
+use Rattle.ti_infer.specs.declared.inference.InferErr.{InferErr}
+use Rattle.ti_infer.specs.declared.inference.InferErr.TheVariants.{NoMarking, Memory}
+use Rattle.ti_infer.specs.Names.{names_of}
+use Rattle.ti_infer.specs.Accepted.{IsAccepted}
+use Rattle.ti_infer.specs.Collectives.{is_collective_at, program_reasons}
+use Rattle.ti_infer.specs.Inferred.{IsAcceptedTo}
+
+-- a marking of names of a program
+abbrev pub MarksNames : NumberedProgram → Marks → Type 0
+MarksNames p a = IsPart a (marks_of (names_of p))
+
+-- the greatest accepted marking of a program, its marks rising by place, a method before its result
+pub record IsGreatest (p : NumberedProgram) (marks : List Mark) : Type 0 where
+  pub names : MarksNames p (marks_of marks)
+  pub accepted : IsAccepted p (marks_of marks)
+  -- each accepted marking is a part of it
+  pub greatest : (a : Marks) → MarksNames p a → IsAccepted p a → IsPart a (marks_of marks)
+  pub rises : IsStrictlySortedBy name_cmp (map name_of marks)
+
+-- no marking of a program is accepted, and up to the collective at the place, which is the first such, none is
+pub record IsFirstUnaligned (p : NumberedProgram) (at : Place) : Type 0 where
+  pub never : (a : Marks) → MarksNames p a → IsAccepted p a → ⊥
+  pub collective : list_any (is_collective_at (same_place at)) (program_reasons p) ≡ true
+  pub none : (a : Marks) → MarksNames p a → IsAcceptedTo (Some at) p a → ⊥
+  -- up to each one before it, one is
+  pub sooner : (c : Place) → place_before c at ≡ true → (a : Marks) × MarksNames p a × IsAcceptedTo (Some c) p a
+
+-- want of memory alone is free
+abbrev pub GivesInferred : NumberedProgram → Result (List Mark) InferErr → Type 0
+GivesInferred p (Ok marks) = IsGreatest p marks
+GivesInferred p (Err (NoMarking at)) = IsFirstUnaligned p at
+GivesInferred p (Err Memory) = Unit {0}

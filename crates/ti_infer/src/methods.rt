@@ -1,0 +1,175 @@
+// What falls with what in methods and programs.
+ghost use Rattle.std.specs.Prelude.{◌≡◌, ◌<◌, ◌+◌, ◌++◌, [], map, flat_map, length, slice_get, Some, OnOk, IfOk};
+ghost use Rattle.ti_lang.specs.Program.Scope.{parameters};
+ghost use Rattle.ti_lang.specs.Program.Statements.{numbered_stms};
+ghost use Rattle.ti_lang.specs.Program.Views.{program_of, numbered_param_of, numbered_method_of};
+ghost use Rattle.ti_infer.specs.Blame.{result_reasons, return_reasons};
+ghost use Rattle.ti_infer.specs.Mirrors.Edges.{params_inside, first_inside, whole_of, edges_all, method_edges, all_reasons, program_edges};
+ghost use Rattle.ti_infer.specs.Mirrors.Sites.{program_at, method_at, inside_of};
+
+use crate::edges::{further, one_ask};
+use crate::fits::own_edge;
+use crate::places::{listed_params, places};
+use crate::reasons::{result, returning};
+use crate::site::{Around, Inside, Site};
+use crate::walk::statements;
+use std::alloc::Global;
+use ti_base::Memory;
+use ti_blame::{Blame, Edge, Mark, MarkKind, Then};
+use ti_lang::program::{Method, Param, Program, Scope};
+use ti_single::listed_statements;
+
+// ---- the statements of a method
+
+fn inside_params(alloc: Global, ws: &[Param]) -> Result<Vec<Inside>, Memory>
+    ensures { IfOk result (λ v. inside_of v.items ≡ params_inside 0 (map numbered_param_of ws.now)) }
+{
+    let mut found = Vec::new(alloc);
+    let mut number = 0;
+    for w in ws {
+        let mark = Mark {
+            place: w.place,
+            kind: MarkKind::Variable,
+        };
+        let asks = one_ask(alloc, Some(mark))?;
+        found.push(Inside { number, asks })?;
+        let Some(next) = number.checked_add(1) else {
+            return Err(Memory);
+        };
+        number = next;
+    }
+    Ok(found)
+}
+
+fn result_size(site: Site) -> usize
+    ensures { result ≡ length (result_reasons (program_at site.entry) (method_at site.entry) (method_at site.entry).result) }
+{
+    match result(site, &site.method.result) {
+        Some(_) => 1,
+        None => 0,
+    }
+}
+
+// The reasons of the method of the number stand from a place on, and those of its statements behind that of its result.
+fn body_edges(
+    alloc: Global,
+    site: Site,
+    number: u32,
+    whole: Then,
+    i: usize,
+    out: &mut Vec<Edge>,
+) -> Result<(), Memory>
+    requires within { number < length (program_of site.program.now.parts).methods }
+    requires is_method { slice_get (program_of site.program.now.parts).methods number ≡ Some (numbered_method_of site.method.now) }
+    ensures { OnOk result (out.new.items ≡ out.old.items ++ edges_all (program_at site.entry) (method_at site.entry) whole (parameters (method_at site.entry).params) (first_inside (method_at site.entry).params) (i + length (result_reasons (program_at site.entry) (method_at site.entry) (method_at site.entry).result)) [] (numbered_stms (method_at site.entry).body)) }
+{
+    let scope = Scope::begin(alloc, site.program, number)?;
+    let inside = inside_params(alloc, listed_params(&site.method.params))?;
+    let a = Around {
+        site,
+        whole,
+        scope: &scope,
+        inside: &inside,
+    };
+    let first = further(i, result_size(site))?;
+    statements(
+        alloc,
+        a,
+        first,
+        &[],
+        listed_statements(&site.method.body),
+        out,
+    )
+}
+
+// ---- methods
+
+fn count(items: &Vec<Blame>) -> usize
+    ensures { result ≡ length items.now.items }
+{
+    items.len()
+}
+
+// The reasons of the whole of a method.
+fn whole_reasons(site: Site, items: &mut Vec<Blame>) -> Result<Then, Memory>
+    ensures items { OnOk result (items.new.items ≡ items.old.items ++ return_reasons (program_at site.entry) (method_at site.entry)) }
+    ensures whole { IfOk result (λ w. w ≡ whole_of (program_at site.entry) (method_at site.entry) (length items.old.items)) }
+{
+    let i = count(items);
+    returning(site, items)?;
+    Ok(Then::Between(i, count(items)))
+}
+
+// The reasons of the method of the number, and what falls with what in it.
+fn method_edges(
+    alloc: Global,
+    p: &Program,
+    number: u32,
+    m: &Method,
+    items: &mut Vec<Blame>,
+    out: &mut Vec<Edge>,
+) -> Result<(), Memory>
+    requires within { number < length (program_of p.now.parts).methods }
+    requires is_method { slice_get (program_of p.now.parts).methods number ≡ Some (numbered_method_of m.now) }
+    ensures items { OnOk result (items.new.items ≡ items.old.items ++ return_reasons (program_of p.now.parts) (numbered_method_of m.now)) }
+    ensures edges { OnOk result (out.new.items ≡ out.old.items ++ method_edges (program_of p.now.parts) (numbered_method_of m.now) (length items.old.items)) }
+{
+    let places = places(alloc, m)?;
+    let site = Site {
+        program: p,
+        method: m,
+        places: &places,
+    };
+    let i = count(items);
+    let whole = whole_reasons(site, items)?;
+    own_edge(m, whole, out)?;
+    body_edges(alloc, site, number, whole, i, out)
+}
+
+// ---- programs
+
+fn numbered(i: usize) -> Result<u32, Memory>
+    ensures { IfOk result (λ n. n ≡ i) }
+{
+    match u32::try_from(i) {
+        Ok(number) => Ok(number),
+        Err(_) => Err(Memory),
+    }
+}
+
+/// The reasons of a program, and what falls with what in it.
+#[derive(Drop)]
+pub struct Found {
+    pub items: Vec<Blame>,
+    pub edges: Vec<Edge>,
+}
+
+/// Those of a program.
+pub fn program_edges(alloc: Global, p: &Program) -> Result<Found, Memory>
+    ensures items { IfOk result (λ f. f.items.items ≡ all_reasons (program_of p.now.parts)) }
+    ensures edges { IfOk result (λ f. f.edges.items ≡ program_edges (program_of p.now.parts)) }
+{
+    let mut items = Vec::new(alloc);
+    let mut edges = Vec::new(alloc);
+    for i in 0..p.parts.methods.len() {
+        let number = numbered(i)?;
+        let m = method_at(p, i);
+        method_edges(alloc, p, number, m, &mut items, &mut edges)?;
+    }
+    Ok(Found { items, edges })
+}
+
+fn method_of(methods: &[Method], i: usize) -> &Method
+    requires { i < length methods.now }
+    ensures { slice_get (map numbered_method_of methods.now) i ≡ Some (numbered_method_of result.now) }
+{
+    &methods[i]
+}
+
+// The method of a number.
+fn method_at(p: &Program, i: usize) -> &Method
+    requires { i < length p.now.parts.methods.items }
+    ensures { slice_get (program_of p.now.parts).methods i ≡ Some (numbered_method_of result.now) }
+{
+    method_of(&p.parts.methods, i)
+}

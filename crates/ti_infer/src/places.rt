@@ -1,0 +1,86 @@
+// The places of the variables of a method, by their numbers.
+ghost use Rattle.std.specs.Prelude.{◌≡◌, ◌<◌, ℕ, map, length, get_or, slice_set, is_none, Some, None, OnOk, IfOk};
+ghost use Rattle.ti_lang.specs.Program.Views.{numbered_param_of, numbered_params_of, numbered_method_of};
+ghost use Rattle.ti_infer.specs.Marks.{variable_place};
+ghost use Rattle.ti_infer.specs.Mirrors.Locals.{place_among, params_of};
+ghost use Rattle.ti_infer.specs.Mirrors.Places.{place_in, places_of_params, place_if, AreAdded};
+
+use crate::local::{Local, locals};
+use std::alloc::Global;
+use ti_base::{Memory, Place};
+use ti_lang::program::{Method, Param, Params};
+
+/// The parameters of a method, which are none where it takes its words.
+pub fn listed_params(params: &Params) -> &[Param]
+    ensures { map numbered_param_of result.now ≡ params_of (numbered_params_of params.now) }
+{
+    match params {
+        Params::Words => &[],
+        Params::Typed(params) => params,
+    }
+}
+
+// Makes room for the place of a number.
+fn make_room(places: &mut Vec<Option<Place>>, number: usize) -> Result<(), Memory>
+    ensures same { (n : ℕ) → get_or places.new.items n None ≡ get_or places.old.items n None }
+    ensures room { OnOk result (number < length places.new.items) }
+{
+    while places.len() <= number {
+        places.push(None)?;
+    }
+    Ok(())
+}
+
+fn is_empty_at(places: &Vec<Option<Place>>, number: usize) -> bool
+    requires { number < length places.now.items }
+    ensures { result ≡ is_none (get_or places.now.items number None) }
+{
+    places[number].is_none()
+}
+
+fn set_at(places: &mut Vec<Option<Place>>, number: usize, at: Place)
+    requires { number < length places.old.items }
+    ensures { places.new.items ≡ slice_set places.old.items number (Some at) }
+{
+    places[number] = Some(at);
+}
+
+// Notes a place where there is none yet.
+fn note(places: &mut Vec<Option<Place>>, number: usize, at: Place) -> Result<(), Memory>
+    ensures { OnOk result (AreAdded places.old.items places.new.items (place_if number at)) }
+{
+    make_room(places, number)?;
+    if is_empty_at(places, number) {
+        set_at(places, number, at);
+    }
+    Ok(())
+}
+
+fn note_all(places: &mut Vec<Option<Place>>, found: &[Local]) -> Result<(), Memory>
+    ensures { OnOk result (AreAdded places.old.items places.new.items (place_among found.now)) }
+{
+    for l in found {
+        note(places, l.number as usize, l.place)?;
+    }
+    Ok(())
+}
+
+fn of_params(alloc: Global, params: &[Param]) -> Result<Vec<Option<Place>>, Memory>
+    ensures { IfOk result (λ v. v.items ≡ places_of_params (map numbered_param_of params.now)) }
+{
+    let mut found = Vec::new(alloc);
+    for param in params {
+        found.push(Some(param.place))?;
+    }
+    Ok(found)
+}
+
+/// The places of the variables of a method.
+pub fn places(alloc: Global, m: &Method) -> Result<Vec<Option<Place>>, Memory>
+    ensures { IfOk result (λ v. (number : ℕ) → place_in v.items number ≡ variable_place (numbered_method_of m.now) number) }
+{
+    let mut found = of_params(alloc, listed_params(&m.params))?;
+    let declared = locals(alloc, m)?;
+    note_all(&mut found, &declared)?;
+    Ok(found)
+}
