@@ -42,16 +42,17 @@ report_stands name word piece = go (bytes_eq word (dashed name))
     go false = refl
 
 -- the same tests, taken together from the left
-from_left : (a b c d e f g h : Bool) → (a || (b || (c || (d || (e || (f || (g || (h || false)))))))) ≡ (((((((a || b) || c) || d) || e) || f) || g) || h)
-from_left true b c d e f g h = refl
-from_left false true c d e f g h = refl
-from_left false false true d e f g h = refl
-from_left false false false true e f g h = refl
-from_left false false false false true f g h = refl
-from_left false false false false false true g h = refl
-from_left false false false false false false true h = refl
-from_left false false false false false false false true = refl
-from_left false false false false false false false false = refl
+from_left : (a b c d e f g h i : Bool) → (a || (b || (c || (d || (e || (f || (g || (h || (i || false))))))))) ≡ ((((((((a || b) || c) || d) || e) || f) || g) || h) || i)
+from_left true b c d e f g h i = refl
+from_left false true c d e f g h i = refl
+from_left false false true d e f g h i = refl
+from_left false false false true e f g h i = refl
+from_left false false false false true f g h i = refl
+from_left false false false false false true g h i = refl
+from_left false false false false false false true h i = refl
+from_left false false false false false false false true i = refl
+from_left false false false false false false false false true = refl
+from_left false false false false false false false false false = refl
 
 -- the tests of a word, each with those before it
 abbrev setting_of : Word → Word → Bool
@@ -66,8 +67,11 @@ first_three word = first_two word || setting_of (codes "workers") word
 abbrev pub first_four : Word → Bool
 first_four word = first_three word || setting_of (codes "fuel") word
 
+abbrev pub first_five : Word → Bool
+first_five word = first_four word || setting_of (codes "seed") word
+
 abbrev pub all_settings : Word → Bool
-all_settings word = first_four word || setting_of (codes "seed") word
+all_settings word = first_five word || setting_of (codes "against") word
 
 abbrev pub and_trace : Word → Bool
 and_trace word = all_settings word || bytes_eq word (codes "--trace")
@@ -83,11 +87,12 @@ argument_stands word =
     ∙ ap (λ b. setting_of (codes "procs") word || b) (setting_stands (codes "workers") word _
     ∙ ap (λ b. setting_of (codes "workers") word || b) (setting_stands (codes "fuel") word _
     ∙ ap (λ b. setting_of (codes "fuel") word || b) (setting_stands (codes "seed") word _
-    ∙ ap (λ b. setting_of (codes "seed") word || b) (report_stands (codes "trace") word _
+    ∙ ap (λ b. setting_of (codes "seed") word || b) (setting_stands (codes "against") word _
+    ∙ ap (λ b. setting_of (codes "against") word || b) (report_stands (codes "trace") word _
     ∙ ap (λ b. bytes_eq word (codes "--trace") || b) (report_stands (codes "stats") word _
-    ∙ ap (λ b. bytes_eq word (codes "--stats") || b) (report_stands (codes "races") word wrong)))))))
+    ∙ ap (λ b. bytes_eq word (codes "--stats") || b) (report_stands (codes "races") word wrong))))))))
     ∙ from_left (setting_of (codes "mode") word) (setting_of (codes "procs") word) (setting_of (codes "workers") word)
-    (setting_of (codes "fuel") word) (setting_of (codes "seed") word) (bytes_eq word (codes "--trace")) (bytes_eq word (codes "--stats")) (bytes_eq word (codes "--races")))
+    (setting_of (codes "fuel") word) (setting_of (codes "seed") word) (setting_of (codes "against") word) (bytes_eq word (codes "--trace")) (bytes_eq word (codes "--stats")) (bytes_eq word (codes "--races")))
 
 -- the first test holds and is the answer, or the second is
 pub or_first : (a b v : Bool) → a ≡ true → v ≡ a → v ≡ (a || b)

@@ -81,6 +81,7 @@ pub record Reads (f : Found) (g : Given) : Type 0 where
   pub workers : option_map (λ s. s.now) g.workers ≡ first_value f (codes "workers")
   pub fuel : option_map (λ s. s.now) g.fuel ≡ first_value f (codes "fuel")
   pub seed : option_map (λ s. s.now) g.seed ≡ first_value f (codes "seed")
+  pub against : option_map (λ s. s.now) g.against ≡ first_value f (codes "against")
   pub trace : g.trace ≡ is_from_words (option_and_then (λ a. a.source) (matched_of f (codes "trace")))
   pub stats : g.stats ≡ is_from_words (option_and_then (λ a. a.source) (matched_of f (codes "stats")))
   pub races : g.races ≡ is_from_words (option_and_then (λ a. a.source) (matched_of f (codes "races")))
@@ -100,6 +101,7 @@ seen f g us rows reads = λ i. record {
   workers = sym (reads.workers ∙ value (codes "workers") refl refl refl) i;
   fuel = sym (reads.fuel ∙ value (codes "fuel") refl refl refl) i;
   seed = sym (reads.seed ∙ value (codes "seed") refl refl refl) i;
+  against = sym (reads.against ∙ value (codes "against") refl refl refl) i;
   trace = sym (reads.trace ∙ (ap is_from_words (source_rows f (codes "trace") ∙ ap (source_in (codes "trace")) rows) ∙ report_found trace us)) i;
   stats = sym (reads.stats ∙ (ap is_from_words (source_rows f (codes "stats") ∙ ap (source_in (codes "stats")) rows) ∙ report_found stats us)) i;
   races = sym (reads.races ∙ (ap is_from_words (source_rows f (codes "races") ∙ ap (source_in (codes "races")) rows) ∙ report_found races us)) i;

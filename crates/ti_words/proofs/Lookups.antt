@@ -39,7 +39,7 @@ file_at = with_index 1 (filled file_rule)
 
 -- the arguments that have a value
 abbrev settings : List Rule
-settings = setting_at (codes "mode") ∷ setting_at (codes "procs") ∷ setting_at (codes "workers") ∷ setting_at (codes "fuel") ∷ setting_at (codes "seed") ∷ []
+settings = setting_at (codes "mode") ∷ setting_at (codes "procs") ∷ setting_at (codes "workers") ∷ setting_at (codes "fuel") ∷ setting_at (codes "seed") ∷ setting_at (codes "against") ∷ []
 
 abbrev has_default : List Text → Bool
 has_default [] = false

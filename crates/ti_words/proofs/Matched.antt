@@ -10,7 +10,7 @@ use Rattle.clap.specs.Walk.{Held, Row, Walk, has_row, idle, nothing_held, option
 use Rattle.clap.proofs.FaultLemmas.{leaf_fault}
 use Rattle.ti_words.specs.Uses.{Piece, Use, Word, awaits, dashed, dashed_piece, gives, is_used, piece_of, plain}
 use Rattle.ti_words.specs.Mirrors.Command.{all_stand, can_stand, titan}
-use Rattle.ti_words.proofs.Views.{IsReport, IsSetting, View, alone, front, fuel, joined, mode, none, other, procs, races, report, seed, stats, trace, view, workers}
+use Rattle.ti_words.proofs.Views.{IsReport, IsSetting, View, against, alone, front, fuel, joined, mode, none, other, procs, races, report, seed, stats, trace, view, workers}
 use Rattle.ti_words.proofs.Turns.{alone_turn, alone_walk, at, file_settled, file_settles, file_turn, file_walk, guard, held_for, held_with, joined_turn, joined_walk, new_row, no, outcome, outcome-end, outcome-more, report_turn, report_walk, rest_fault, row_of_use, rules, settles, shape, stray_turn, used_rows, value_settled, value_settles, value_turn, value_walk, waits_in_vain, whole}
 
 -- the use of FILE
@@ -82,6 +82,7 @@ alone_piece procs = refl
 alone_piece workers = refl
 alone_piece fuel = refl
 alone_piece seed = refl
+alone_piece against = refl
 
 joined_piece : {name : Word} → IsSetting name → (x : ℕ) (xs : Word) → piece_of (front name ++ x ∷ xs) ≡ gives (record { name = name; value = x ∷ xs })
 joined_piece mode x xs = refl
@@ -89,6 +90,7 @@ joined_piece procs x xs = refl
 joined_piece workers x xs = refl
 joined_piece fuel x xs = refl
 joined_piece seed x xs = refl
+joined_piece against x xs = refl
 
 report_piece : {name : Word} → IsReport name → piece_of (dashed name) ≡ gives (record { name = name; value = codes "true" })
 report_piece trace = refl
@@ -104,6 +106,7 @@ setting_no_file procs = refl
 setting_no_file workers = refl
 setting_no_file fuel = refl
 setting_no_file seed = refl
+setting_no_file against = refl
 
 report_no_file : {name : Word} → IsReport name → bytes_eq name (codes "FILE") ≡ false
 report_no_file trace = refl

@@ -14,7 +14,7 @@ use Rattle.clap.specs.declared.error.kind.ErrorKind.TheVariants as kind
 use Rattle.clap.specs.declared.parser.matches.ValueSource.TheVariants.{CommandLine}
 use Rattle.ti_words.specs.Uses.{Use, Word, dashed}
 use Rattle.ti_words.specs.Mirrors.Command.{file_rule, titan}
-use Rattle.ti_words.proofs.Views.{IsReport, IsSetting, front, fuel, mode, procs, races, seed, stats, trace, workers}
+use Rattle.ti_words.proofs.Views.{IsReport, IsSetting, against, front, fuel, mode, procs, races, seed, stats, trace, workers}
 
 -- the command as it is built
 abbrev pub shape : Shape
@@ -131,6 +131,8 @@ alone_turn fuel None h p = then_none (settle_fault rules false h)
 alone_turn fuel (Some setting) h p = then_none (settle_fault rules false h)
 alone_turn seed None h p = then_none (settle_fault rules false h)
 alone_turn seed (Some setting) h p = then_none (settle_fault rules false h)
+alone_turn against None h p = then_none (settle_fault rules false h)
+alone_turn against (Some setting) h p = then_none (settle_fault rules false h)
 
 pub alone_walk : {name : Word} → IsSetting name → (h : Held) (p : ℕ)
     → walked rules [] (at idle h p) (dashed name) ≡ at (option name) (held_for name h) p
@@ -140,6 +142,7 @@ alone_walk procs h p = refl
 alone_walk workers h p = refl
 alone_walk fuel h p = refl
 alone_walk seed h p = refl
+alone_walk against h p = refl
 
 -- ---- `--NAME=VALUE`, and `--NAME` of a report
 
@@ -180,6 +183,8 @@ joined_turn fuel x xs None h p = no_set (settle_fault rules false h) (has_row (c
 joined_turn fuel x xs (Some setting) h p = no_set (settle_fault rules false h) (has_row (codes "fuel") (settled rules h).rows)
 joined_turn seed x xs None h p = no_set (settle_fault rules false h) (has_row (codes "seed") (settled rules h).rows)
 joined_turn seed x xs (Some setting) h p = no_set (settle_fault rules false h) (has_row (codes "seed") (settled rules h).rows)
+joined_turn against x xs None h p = no_set (settle_fault rules false h) (has_row (codes "against") (settled rules h).rows)
+joined_turn against x xs (Some setting) h p = no_set (settle_fault rules false h) (has_row (codes "against") (settled rules h).rows)
 
 pub joined_walk : {name : Word} → IsSetting name → (x : ℕ) (xs : Word) (h : Held) (p : ℕ)
     → walked rules [] (at idle h p) (front name ++ x ∷ xs) ≡ at idle (whole name (x ∷ xs) h) p
@@ -189,6 +194,7 @@ joined_walk procs x xs h p = refl
 joined_walk workers x xs h p = refl
 joined_walk fuel x xs h p = refl
 joined_walk seed x xs h p = refl
+joined_walk against x xs h p = refl
 
 pub report_turn : {name : Word} → IsReport name → (waits : Option Word) (h : Held) (p : ℕ)
     → no (turn_fault shape [] (at (waiting_for waits) h p) (dashed name)) ≡ (settles h && not (has_row name (settled rules h).rows))
@@ -263,6 +269,7 @@ value_turn procs x xs e h p = ap no (plain_turn (option (codes "procs")) x xs e 
 value_turn workers x xs e h p = ap no (plain_turn (option (codes "workers")) x xs e (held_for (codes "workers") h) p)
 value_turn fuel x xs e h p = ap no (plain_turn (option (codes "fuel")) x xs e (held_for (codes "fuel") h) p)
 value_turn seed x xs e h p = ap no (plain_turn (option (codes "seed")) x xs e (held_for (codes "seed") h) p)
+value_turn against x xs e h p = ap no (plain_turn (option (codes "against")) x xs e (held_for (codes "against") h) p)
 
 pub value_walk : {name : Word} → IsSetting name → (x : ℕ) (xs : Word) → (x == 45) ≡ false → (h : Held) (p : ℕ)
     → walked rules [] (at (option name) (held_for name h) p) (x ∷ xs) ≡ at idle (held_with name (x ∷ xs) h) p
@@ -271,6 +278,7 @@ value_walk procs x xs e h p = plain_walk (option (codes "procs")) x xs e (held_f
 value_walk workers x xs e h p = plain_walk (option (codes "workers")) x xs e (held_for (codes "workers") h) p
 value_walk fuel x xs e h p = plain_walk (option (codes "fuel")) x xs e (held_for (codes "fuel") h) p
 value_walk seed x xs e h p = plain_walk (option (codes "seed")) x xs e (held_for (codes "seed") h) p
+value_walk against x xs e h p = plain_walk (option (codes "against")) x xs e (held_for (codes "against") h) p
 
 -- an option that waits for its value doesn't pass without one
 pub waits_in_vain : {name : Word} → IsSetting name → (h : Held) → settles (held_for name h) ≡ false
@@ -279,6 +287,7 @@ waits_in_vain procs h = refl
 waits_in_vain workers h = refl
 waits_in_vain fuel h = refl
 waits_in_vain seed h = refl
+waits_in_vain against h = refl
 
 file_kinds : (b : Bool) (k : Kinds) → no (cond (b && false) [] k) ≡ no k
 file_kinds true k = refl
@@ -317,6 +326,7 @@ value_settles procs value h = no_pending (has_row (codes "procs") (settled rules
 value_settles workers value h = no_pending (has_row (codes "workers") (settled rules h).rows)
 value_settles fuel value h = no_pending (has_row (codes "fuel") (settled rules h).rows)
 value_settles seed value h = no_pending (has_row (codes "seed") (settled rules h).rows)
+value_settles against value h = no_pending (has_row (codes "against") (settled rules h).rows)
 
 pub value_settled : {name : Word} → IsSetting name → (value : Word) (h : Held)
     → (settled rules (held_with name value h)).rows ≡ used_rows (record { name = name; value = value }) (settled rules h).rows
@@ -325,6 +335,7 @@ value_settled procs value h = refl
 value_settled workers value h = refl
 value_settled fuel value h = refl
 value_settled seed value h = refl
+value_settled against value h = refl
 
 pub file_settles : (value : Word) (h : Held) → settles (held_with (codes "FILE") value h) ≡ not (has_row (codes "FILE") (settled rules h).rows)
 file_settles value h = no_pending (has_row (codes "FILE") (settled rules h).rows)

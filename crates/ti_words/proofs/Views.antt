@@ -13,6 +13,7 @@ pub data IsSetting : Word → Type 0 where
   workers : IsSetting (codes "workers")
   fuel : IsSetting (codes "fuel")
   seed : IsSetting (codes "seed")
+  against : IsSetting (codes "against")
 
 -- the names of the reports
 pub data IsReport : Word → Type 0 where
@@ -68,8 +69,8 @@ report_view {name} is word piece rest = go (bytes_eq word (dashed name)) refl
 dashed_view : (word : Word) → can_stand (piece_of word) ≡ can_stand (dashed_piece word) → View word
 dashed_view word start =
     setting_view mode word _ (λ p. setting_view procs word _ (λ q. setting_view workers word _ (λ r. setting_view fuel word _ (λ s.
-    setting_view seed word _ (λ t. report_view trace word _ (λ u. report_view stats word _ (λ v.
-    report_view races word wrong (λ w. none word (start ∙ (p ∙ (q ∙ (r ∙ (s ∙ (t ∙ (u ∙ (v ∙ w))))))))))))))))
+    setting_view seed word _ (λ t. setting_view against word _ (λ u. report_view trace word _ (λ v. report_view stats word _ (λ w.
+    report_view races word wrong (λ x. none word (start ∙ (p ∙ (q ∙ (r ∙ (s ∙ (t ∙ (u ∙ (v ∙ (w ∙ x))))))))))))))))))
 
 -- the form of a word
 pub view : (word : Word) → View word

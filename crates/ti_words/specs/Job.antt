@@ -8,7 +8,7 @@ use Rattle.std.specs.Str.Parse.{digits_value}
 use Rattle.ti_words.specs.Uses.{Word, Use, is_each_once, is_used, piece_of, uses_of, value_of}
 use Rattle.ti_words.specs.declared.job.Job.{Job}
 use Rattle.ti_words.specs.declared.job.Mode.{Mode}
-use Rattle.ti_words.specs.declared.job.Mode.TheVariants.{Run, Check, Code, Gen}
+use Rattle.ti_words.specs.declared.job.Mode.TheVariants.{Run, Check, Code, Gen, Verify}
 
 -- what the words give each argument
 pub record Values : Type 0 where
@@ -17,6 +17,7 @@ pub record Values : Type 0 where
   pub workers : Option Word
   pub fuel : Option Word
   pub seed : Option Word
+  pub against : Option Word
   pub trace : Bool
   pub stats : Bool
   pub races : Bool
@@ -30,6 +31,7 @@ values_of uses = record {
   workers = value_of (codes "workers") uses;
   fuel = value_of (codes "fuel") uses;
   seed = value_of (codes "seed") uses;
+  against = value_of (codes "against") uses;
   trace = is_used (codes "trace") uses;
   stats = is_used (codes "stats") uses;
   races = is_used (codes "races") uses;
@@ -52,6 +54,7 @@ mode_of (Some word) =
     else if bytes_eq word (codes "check") then Some Check
     else if bytes_eq word (codes "code") then Some Code
     else if bytes_eq word (codes "gen") then Some Gen
+    else if bytes_eq word (codes "verify") then Some Verify
     else None
 
 -- a word that is a number has 1 to 10 decimal digits and nothing else
@@ -108,6 +111,7 @@ seed_of Gen word = number_within 0 most_seed 1 word
 seed_of Run word = unsaid 1 word
 seed_of Check word = unsaid 1 word
 seed_of Code word = unsaid 1 word
+seed_of Verify word = unsaid 1 word
 
 -- the name of the file, which is there in every mode but gen, and empty in that
 abbrev pub file_of : Mode → Option Word → Option Word
@@ -115,11 +119,20 @@ file_of Gen word = unsaid [] word
 file_of Run word = word
 file_of Check word = word
 file_of Code word = word
+file_of Verify word = word
+
+-- the name of the trace that is held against the program, which is there in mode verify alone, and empty in every other
+abbrev pub against_of : Mode → Option Word → Option Word
+against_of Verify word = word
+against_of Run word = unsaid [] word
+against_of Check word = unsaid [] word
+against_of Code word = unsaid [] word
+against_of Gen word = unsaid [] word
 
 -- the job of these values, of which each has to be one that its argument may have
 abbrev pub job_by : Values → Option Job
 job_by values =
-    option_and_then (λ mode. option_and_then (λ file. option_and_then (λ seed. option_and_then (λ procs. option_and_then (λ workers. option_map (λ fuel. record {
+    option_and_then (λ mode. option_and_then (λ file. option_and_then (λ against. option_and_then (λ seed. option_and_then (λ procs. option_and_then (λ workers. option_map (λ fuel. record {
       mode = mode;
       procs = procs;
       workers = workers;
@@ -129,7 +142,9 @@ job_by values =
       stats = values.stats;
       races = values.races;
       file = file;
-    }) (fuel_of procs values)) (workers_of procs values)) (procs_of values)) (seed_of mode values.seed)) (file_of mode values.file)) (mode_of values.mode)
+      against = against;
+    }) (fuel_of procs values)) (workers_of procs values)) (procs_of values)) (seed_of mode values.seed)) (against_of mode values.against)) (file_of mode values.file))
+    (mode_of values.mode)
 
 -- the job that the words ask for, or nothing where they are no command
 abbrev pub job_of : List Word → Option Job

@@ -51,8 +51,8 @@ as_report name word other =
 abbrev pub dashed_piece : Word → Piece
 dashed_piece word =
     as_setting (codes "mode") word (as_setting (codes "procs") word (as_setting (codes "workers") word (as_setting (codes "fuel") word
-    (as_setting (codes "seed") word (as_report (codes "trace") word (as_report (codes "stats") word
-    (as_report (codes "races") word wrong)))))))
+    (as_setting (codes "seed") word (as_setting (codes "against") word (as_report (codes "trace") word (as_report (codes "stats") word
+    (as_report (codes "races") word wrong))))))))
 
 -- what a word is
 abbrev pub piece_of : Word → Piece

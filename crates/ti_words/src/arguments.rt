@@ -21,6 +21,7 @@ pub struct Given<'a> {
     pub workers: Option<&'a str>,
     pub fuel: Option<&'a str>,
     pub seed: Option<&'a str>,
+    pub against: Option<&'a str>,
     pub trace: bool,
     pub stats: bool,
     pub races: bool,
@@ -77,7 +78,7 @@ fn bare<'a>(alloc: Global) -> Command<'a>
 fn command<'a>(alloc: Global) -> Result<Command<'a>, AllocError>
     ensures { IfOk result (λ c. app_of c ≡ titan) }
 {
-    let settings = ["mode", "procs", "workers", "fuel", "seed"];
+    let settings = ["mode", "procs", "workers", "fuel", "seed", "against"];
     let command = with_flags(alloc, bare(alloc), true, &settings)?;
     with_flags(alloc, command, false, &["trace", "stats", "races"])?.arg(file(alloc))
 }
@@ -100,6 +101,7 @@ fn given_in<'a>(matches: &ArgMatches<'a>) -> Given<'a>
     ensures workers { option_map (λ s. s.now) result.workers ≡ first_value (found_of matches.now) (codes "workers") }
     ensures fuel { option_map (λ s. s.now) result.fuel ≡ first_value (found_of matches.now) (codes "fuel") }
     ensures seed { option_map (λ s. s.now) result.seed ≡ first_value (found_of matches.now) (codes "seed") }
+    ensures against { option_map (λ s. s.now) result.against ≡ first_value (found_of matches.now) (codes "against") }
     ensures trace { result.trace ≡ is_from_words (option_and_then (λ a. a.source) (matched_of (found_of matches.now) (codes "trace"))) }
     ensures stats { result.stats ≡ is_from_words (option_and_then (λ a. a.source) (matched_of (found_of matches.now) (codes "stats"))) }
     ensures races { result.races ≡ is_from_words (option_and_then (λ a. a.source) (matched_of (found_of matches.now) (codes "races"))) }
@@ -111,6 +113,7 @@ fn given_in<'a>(matches: &ArgMatches<'a>) -> Given<'a>
         workers: matches.get_str("workers"),
         fuel: matches.get_str("fuel"),
         seed: matches.get_str("seed"),
+        against: matches.get_str("against"),
         trace: is_from_words(matches, "trace"),
         stats: is_from_words(matches, "stats"),
         races: is_from_words(matches, "races"),

@@ -15,6 +15,8 @@ pub enum Mode {
     Code,
     /// A program is generated and run.
     Gen,
+    /// A trace is held against the program of the file.
+    Verify,
 }
 
 /// The name of a file. Contracts see it as the list of its bytes.
@@ -69,4 +71,6 @@ pub struct Job {
     pub races: bool,
     /// The file that is named, and in mode `Gen` the empty name.
     pub file: FileName,
+    /// The trace that is named in mode `Verify`, and in every other mode the empty name.
+    pub against: FileName,
 }

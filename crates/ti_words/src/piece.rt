@@ -32,6 +32,7 @@ fn is_argument(word: &str) -> bool
         || is_setting(word, "--workers", "--workers=")
         || is_setting(word, "--fuel", "--fuel=")
         || is_setting(word, "--seed", "--seed=")
+        || is_setting(word, "--against", "--against=")
         || word == "--trace"
         || word == "--stats"
         || word == "--races"

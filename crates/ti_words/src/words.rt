@@ -1,6 +1,6 @@
 // The words of the command line, read.
 ghost use Rattle.std.specs.Prelude.{◌≡◌, map, option_map, string_bytes, None, Some, IfErr, IfOk, MatchOption};
-ghost use Rattle.ti_words.specs.Job.{file_of, job_by, job_of, mode_of, seed_of};
+ghost use Rattle.ti_words.specs.Job.{against_of, file_of, job_by, job_of, mode_of, seed_of};
 ghost use Rattle.ti_words.specs.Mirrors.Seen.{job_asked, values_seen};
 ghost use Rattle.ti_words.specs.declared.error.WordsErr.TheVariants.{Usage};
 
@@ -34,6 +34,7 @@ pub struct Asked<'a> {
     stats: bool,
     races: bool,
     file: &'a str,
+    against: &'a str,
 }
 
 // The mode that a word names, and without a word the run.
@@ -46,6 +47,7 @@ fn mode_of(word: Option<&str>) -> Option<Mode>
         Some("check") => Some(Mode::Check),
         Some("code") => Some(Mode::Code),
         Some("gen") => Some(Mode::Gen),
+        Some("verify") => Some(Mode::Verify),
         Some(_) => None,
     }
 }
@@ -72,12 +74,24 @@ fn file_of<'a>(mode: Mode, word: Option<&'a str>) -> Option<&'a str>
     }
 }
 
+// The name of the trace in this mode: it is written where a trace is held against a program, and is empty everywhere else.
+fn against_of<'a>(mode: Mode, word: Option<&'a str>) -> Option<&'a str>
+    ensures { option_map (λ s. s.now) result ≡ against_of mode (option_map (λ s. s.now) word.entry) }
+{
+    match (mode, word) {
+        (Mode::Verify, word) => word,
+        (_, None) => Some(""),
+        (_, Some(_)) => None,
+    }
+}
+
 // What the values ask for, where each is one that its argument may have.
 fn job_by<'a>(given: Given<'a>) -> Option<Asked<'a>>
     ensures { MatchOption result (job_by (values_seen given.entry) ≡ None) (λ a. job_by (values_seen given.entry) ≡ Some (job_asked a)) }
 {
     let mode = mode_of(given.mode)?;
     let file = file_of(mode, given.file)?;
+    let against = against_of(mode, given.against)?;
     let seed = seed_of(mode, given.seed)?;
     let procs = number_within(1, MOST_PROCS, 1, given.procs)?;
     let workers = number_within(1, procs, procs, given.workers)?;
@@ -95,6 +109,7 @@ fn job_by<'a>(given: Given<'a>) -> Option<Asked<'a>>
         stats: given.stats,
         races: given.races,
         file,
+        against,
     })
 }
 
@@ -108,6 +123,7 @@ pub fn read_words(alloc: Global, words: &[String]) -> Result<Job, WordsErr>
         return Err(WordsErr::Usage);
     };
     let file = FileName::copy_of(alloc, asked.file)?;
+    let against = FileName::copy_of(alloc, asked.against)?;
     Ok(Job {
         mode: asked.mode,
         procs: asked.procs,
@@ -118,5 +134,6 @@ pub fn read_words(alloc: Global, words: &[String]) -> Result<Job, WordsErr>
         stats: asked.stats,
         races: asked.races,
         file,
+        against,
     })
 }

@@ -13,6 +13,7 @@ values_seen g = record {
   workers = option_map (λ s. s.now) g.workers;
   fuel = option_map (λ s. s.now) g.fuel;
   seed = option_map (λ s. s.now) g.seed;
+  against = option_map (λ s. s.now) g.against;
   trace = g.trace;
   stats = g.stats;
   races = g.races;
@@ -31,4 +32,5 @@ job_asked a = record {
   stats = a.stats;
   races = a.races;
   file = a.file.now;
+  against = a.against.now;
 }

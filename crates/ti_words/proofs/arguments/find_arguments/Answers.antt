@@ -30,6 +30,7 @@ returns-in-Ok-clause-given c =
       workers = c.given_in.ensures.workers;
       fuel = c.given_in.ensures.fuel;
       seed = c.given_in.ensures.seed;
+      against = c.given_in.ensures.against;
       trace = c.given_in.ensures.trace;
       stats = c.given_in.ensures.stats;
       races = c.given_in.ensures.races;
