@@ -2,7 +2,7 @@
 use Rattle.std.proofs.Common.{◌≡◌, ◌⊎◌, inl, inr, ℕ, ◌≤◌, true, List, [], ◌∷◌, ◌++◌, length, Option, None, Some, refl, sym, ◌∙◌, ap, subst, arith, append-nil}
 use Rattle.std.proofs.lemmas.Option.{same_Some}
 use Rattle.ti_base.specs.declared.entry.Entry.{Entry}
-use Rattle.ti_io.specs.Source.{IsMissing, SameFiles}
+use Rattle.ti_io.specs.Source.{SourceState, SameFiles}
 use Rattle.ti_io.specs.Sink.{SinkState, GrewBy, GrewByFront}
 use Rattle.ti_lang.specs.Program.Classes.{NumberedProgram}
 use Rattle.ti_lang.specs.Meaning.Determinacy.{Determines}
@@ -22,24 +22,30 @@ use Rattle.ti_top.specs.declared.fault.Fault.{Fault}
 use Rattle.ti_top.specs.declared.reading.ReadEnd.{ReadEnd}
 use Rattle.ti_top.specs.declared.reading.ReadEnd.TheVariants as Read
 use Rattle.ti_top.specs.declared.ending.Ending.{Ending}
-use Rattle.ti_top.specs.declared.ending.Ending.TheVariants.{Done, Refused, Faulted, NoCommand, CantRead, CantWrite, NoMemory}
+use Rattle.ti_top.specs.declared.ending.Ending.TheVariants.{Done, Refused, Faulted, NoCommand, CantRead, CantWrite, NoMemory, NoRun}
 use Rattle.ti_words.specs.declared.job.Job.{Job}
 use Rattle.ti_words.specs.declared.job.Mode.{Mode}
-use Rattle.ti_words.specs.declared.job.Mode.TheVariants.{Run, Check, Code, Gen}
+use Rattle.ti_words.specs.declared.job.Mode.TheVariants.{Run, Check, Code, Gen, Verify}
 use Rattle.ti_top.specs.Reports.{wanted, output_in, output, WroteFew}
 use Rattle.ti_top.specs.Mirrors.Reading.{ReadsWhole}
 use Rattle.ti_top.specs.Ending.{status_of}
 use Rattle.ti_top.specs.Summary.{summary}
 use Rattle.ti_top.specs.Mirrors.Ended.{Ended}
-use Rattle.ti_top.specs.Run.{HasFile, Runs, HasCode, run_of, fault_entry, EndsWithFault}
-use Rattle.ti_top.specs.Mirrors.Work.{kept_in, RanNothing, Ran, WasRefused, WasChecked, WasCoded, RunTextSays, CodeTextSays, TextSays, FileSays, FileDone, SeedDone, WorkSays, work_of, DidNothing}
-use Rattle.ti_top.specs.Call.{most_read, Call, IsCommand, IsNoCommand, file_in, file_of, SourceRose, SinkRose, ErrRose, Yields, WantsReport}
+use Rattle.ti_top.specs.Mirrors.Leaving.{LeavesOut}
+use Rattle.ti_top.specs.Run.{HasFile, Runs, HasCode, Verifies, HasHistory, run_of, fault_entry, EndsWithFault}
+use Rattle.ti_top.specs.Mirrors.Work.{kept_in, RanNothing, Ran, WasRefused, WasChecked, WasCoded, RunTextSays, CheckTextSays, CodeTextSays, TextSays, FileSays, FileDone, SeedDone, TraceDone, WorkSays, work_of, DidNothing}
+use Rattle.ti_top.specs.Call.{most_read, Call, IsCommand, IsNoCommand, file_in, file_of, SinkRose, ErrRose, Yields, WantsReport}
 use Rattle.ti_top.specs.Clauses.{IsAccepted, IsReadWhole, IsWholeIn, HasText, ReadsText, MakesText, GetsText, RefusesExactly, KeepsRun, RunsCode, CountsInstructions, WhereAccepted, WhereRun, WritesAll, WritesOutput, IsAlignedRun, IsDeterminate, EndsRun, NothingFailed, IsComplete, MeetsBesideErr, Says, before_err, Meets}
-use Rattle.ti_top.proofs.StatusFrom.{StatusFrom, status_from, not_five, is_done, is_faulted, is_no_memory}
+use Rattle.ti_top.specs.Traces.{IsWrongTrace, VerifiesTrace, TraceDecides}
+use Rattle.ti_top.specs.Mirrors.Verifying.{WasRead, HeldSays, ReadSays}
+use Rattle.ti_top.proofs.StatusFrom.{StatusFrom, status_from, not_five, is_done, is_no_command, is_cant_read, is_faulted, is_no_memory, is_no_run}
+use Rattle.ti_top.proofs.TraceFound.{Verdict, verdict_run, verdict_wrong, decides}
+use Rattle.ti_top.proofs.TraceRead.{Cause, LacksBehind, unreadable, cause_of, cause_of_read, commanded, whole_of, reads_traced}
 use Rattle.ti_top.proofs.WordsAnswered.{known, not_both, no_command_answers, command_answers}
 use Rattle.ti_top.proofs.TextRead.{EndsAs, read_whole, reads_text}
 use Rattle.ti_top.proofs.TextMade.{makes_text}
 use Rattle.ti_top.proofs.ErrWritten.{writes_err}
+use Rattle.ti_top.proofs.FlushesMet.{flushes_out, flushes_err}
 use Rattle.ti_top.proofs.FaultLast.{true_false, fault_is_there, unbegun}
 use Rattle.ti_top.proofs.HaveEnded.{no_summary}
 
@@ -63,6 +69,7 @@ nothing_of_unbegun Run run runs cut = refl
 nothing_of_unbegun Check run runs cut = absurd runs
 nothing_of_unbegun Code run runs cut = absurd runs
 nothing_of_unbegun Gen run runs cut = append-nil (summary run []) ∙ no_summary run [] (λ ended. cut (inr ended))
+nothing_of_unbegun Verify run runs cut = absurd runs
 
 -- where nothing was written, the status owes nothing, and an empty history isn't complete
 output_nothing : (c : Call) → (c.status ≡ 0 → WhereAccepted c (λ job program. output job program c.history (wanted job c.watchers) ≡ [])) → (c.status ≡ 2 → WhereAccepted c (λ job program. ⊥)) → (c.status ≡ 6 → WhereRun c (λ job program. IsCompleteRun (run_of program job) [] → ⊥)) → RanNothing c.out c.out_after (kept_in c) → WritesOutput c
@@ -94,7 +101,7 @@ output_nothing c done_of_none not_faulted not_complete x =
 run_nothing : (job : Job) (c : Call) → c.history ≡ [] → KeepsRun job c
 run_nothing job c no_entry = record {
   run = λ program _. subst (IsRun (run_of program job)) (sym no_entry) none;
-  solo = λ _ program _. subst (IsSolo (run_of program job)) (sym no_entry) none;
+  solo = λ _ _ program _. subst (IsSolo (run_of program job)) (sym no_entry) none;
   none = λ _. no_entry;
   unrun = λ _. no_entry;
 }
@@ -108,6 +115,35 @@ runs_has Run runs = tt
 runs_has Check runs = runs
 runs_has Code runs = absurd runs
 runs_has Gen runs = tt
+runs_has Verify runs = absurd runs
+
+-- no mode both runs a program and holds a trace against it
+pub runs_unverified : (mode : Mode) → Runs mode → Verifies mode → ⊥
+runs_unverified Run runs verifies = verifies
+runs_unverified Check runs verifies = verifies
+runs_unverified Code runs verifies = verifies
+runs_unverified Gen runs verifies = verifies
+runs_unverified Verify runs verifies = runs
+
+-- no trace is held against the program
+no_trace : (job : Job) (c : Call) → (Verifies job.mode → ⊥) → (c.status ≡ 7 → ⊥) → VerifiesTrace job c
+no_trace job c unverified not_wrong = record {
+  traced = λ _ mode. absurd (unverified mode);
+  wrong = λ is. absurd (not_wrong is);
+  seven_only_where = λ is. absurd (not_wrong is);
+  unjudged = λ mode. absurd (unverified mode);
+  unwritten = λ mode. absurd (unverified mode);
+}
+
+-- there is no verdict
+no_verdict : (job : Job) (c : Call) → (c.status ≡ 0 → ⊥) → (c.status ≡ 7 → ⊥) → RanNothing c.out c.out_after (kept_in c) → VerifiesTrace job c
+no_verdict job c not_done not_wrong x = record {
+  traced = λ is. absurd (not_done is);
+  wrong = λ is. absurd (not_wrong is);
+  seven_only_where = λ is. absurd (not_wrong is);
+  unjudged = λ _ _ _. inl x.no_entry;
+  unwritten = λ _. ap (λ s. s.taken) x.unwritten;
+}
 
 -- there is no code, and none is owed
 no_code : (job : Job) (c : Call) → c.code ≡ None → (c.status ≡ 0 → HasCode job.mode → (program : NumberedProgram) → HasProgram c.text program → ⊥)
@@ -161,18 +197,22 @@ beside_no_command c no_job x from = record {
   code = λ job some. absurd (not_both c job some no_job);
   count = λ job some. absurd (not_both c job some no_job);
   output = output_nothing c (λ _ job some. absurd (not_both c job some no_job)) (λ _ job some. absurd (not_both c job some no_job)) (λ _ job some. absurd (not_both c job some no_job)) x.nothing;
+  flushes = flushes_out c NoCommand from (inr (inl x.nothing.unwritten));
   alignment = record {
     done = λ is. absurd (never NoCommand c 0 from (λ e. omega arith) (λ e. omega arith) is);
     faulted = λ is. absurd (never NoCommand c 2 from (λ e. omega arith) (λ e. omega arith) is);
+    wrong = λ is. absurd (never NoCommand c 7 from (λ e. omega arith) (λ e. omega arith) is);
   };
   determinacy = λ job some. absurd (not_both c job some no_job);
   end = λ job some. absurd (not_both c job some no_job);
+  trace = λ job some. absurd (not_both c job some no_job);
 }
 
 pub meets_no_command : (c : Call) → IsNoCommand c → DidNothing c → Ended NoCommand [] c.err c.err_after c.status → Meets c
 meets_no_command c no_job x told = let ended = subst (λ file. Ended NoCommand file c.err c.err_after c.status) (sym (ap file_in no_job)) told in record {
   beside_err = beside_no_command c no_job x (status_from NoCommand c ended);
   err = writes_err c NoCommand no_job (beside_no_command (before_err c NoCommand) no_job (record { source = x.source; text = x.text; nothing = x.nothing }) (inl refl)) ended;
+  flushes = flushes_err c NoCommand ended;
   completeness = λ job some. absurd (not_both c job some no_job);
 }
 
@@ -186,6 +226,7 @@ pub record Clauses (job : Job) (c : Call) : Type 0 where
   pub alignment : IsAlignedRun c
   pub determinacy : IsDeterminate job c
   pub end : EndsRun job c
+  pub trace : VerifiesTrace job c
   pub completeness : NothingFailed job c → IsComplete job c
 
 job_same : (c : Call) (a b : Job) → IsCommand c a → IsCommand c b → a ≡ b
@@ -208,6 +249,7 @@ clauses_refused refusal job c from whole refused = let x = refused.nothing in re
     no_output = λ _ _. ap (λ s. s.taken) x.unwritten;
     accepted_at_zero = λ is. absurd (never (Refused refusal) c 0 from (λ e. omega arith) (λ e. omega arith) is);
     accepted_at_two = λ is. absurd (never (Refused refusal) c 2 from (λ e. omega arith) (λ e. omega arith) is);
+    accepted_at_seven = λ is. absurd (never (Refused refusal) c 7 from (λ e. omega arith) (λ e. omega arith) is);
   };
   run = run_nothing job c x.no_entry;
   code = no_code job c x.no_code (λ _ _ program has. refused.no_program program has) (λ _ program has. refused.no_program program has);
@@ -216,36 +258,67 @@ clauses_refused refusal job c from whole refused = let x = refused.nothing in re
   alignment = record {
     done = λ _ program has. absurd (refused.no_program program has);
     faulted = λ _ program has. absurd (refused.no_program program has);
+    wrong = λ _ program has. absurd (refused.no_program program has);
   };
   determinacy = record { followed = λ _ program has. absurd (refused.no_program program has); told = no_races c x.no_entry };
   end = record {
     ended = λ _ _ program has. absurd (refused.no_program program has);
     fault_only_where = λ is. absurd (never (Refused refusal) c 2 from (λ e. omega arith) (λ e. omega arith) is);
-    fault_everywhere = λ fault e. absurd (no_fault_of_nothing c fault x.no_entry e);
+    fault_everywhere = λ _ fault e. absurd (no_fault_of_nothing c fault x.no_entry e);
     unfinished = λ _ program has. absurd (refused.no_program program has);
   };
+  trace = no_verdict job c (never (Refused refusal) c 0 from (λ e. omega arith) (λ e. omega arith)) (never (Refused refusal) c 7 from (λ e. omega arith) (λ e. omega arith)) x;
   completeness = λ nothing. record {
+    whole = whole;
     refused = λ _ _. calm (Refused refusal) c from nothing.err;
     accepted = λ unrefused. absurd (unrefused refusal refused.is);
     program = λ unrefused. absurd (unrefused refusal refused.is);
     ended = λ _ program has. absurd (refused.no_program program has);
+    verified = λ _ program has. absurd (refused.no_program program has);
   };
 }
 
 -- where a file is named, the whole text is there only if it was read whole
-was_read : (mode : Mode) (job : Job) (c : Call) → HasFile mode → IsWholeIn mode job c → IsReadWhole job c
+pub was_read : (mode : Mode) (job : Job) (c : Call) → HasFile mode → IsWholeIn mode job c → IsReadWhole job c
 was_read Run job c named whole = whole
 was_read Check job c named whole = whole
 was_read Code job c named whole = whole
 was_read Gen job c named whole = absurd named
+was_read Verify job c named whole = whole
 
--- the file can't be read
-clauses_cant_read : (job : Job) (c : Call) → 1 ≤ job.procs → HasFile job.mode → StatusFrom CantRead c → IsMissing c.source job.file ⊎ SourceRose c → RanNothing c.out c.out_after (kept_in c) → Clauses job c
+-- where a file is named, a text that was read whole is whole
+whole_read : (mode : Mode) (job : Job) (c : Call) → HasFile mode → IsReadWhole job c → IsWholeIn mode job c
+whole_read Run job c named whole = whole
+whole_read Check job c named whole = whole
+whole_read Code job c named whole = whole
+whole_read Gen job c named whole = absurd named
+whole_read Verify job c named whole = whole
+
+-- behind a text without a refusal the trace is missing
+complete_behind : (job : Job) (c : Call) → HasFile job.mode → StatusFrom CantRead c → NothingFailed job c → LacksBehind job c → IsComplete job c
+complete_behind job c named from nothing behind = record {
+  whole = whole_read job.mode job c named (behind.whole (never CantRead c 3 from (λ e. omega arith) (λ e. omega arith)));
+  refused = λ refusal is. absurd (behind.lack.unrefused refusal is);
+  accepted = λ _. inr (inr (inr (calm CantRead c from nothing.err, behind.lack)));
+  program = λ _. behind.accepted;
+  ended = λ runs. absurd (runs_unverified job.mode runs behind.lack.mode);
+  verified = λ _ program has bytes holds. absurd (none_held bytes (sym behind.lack.missing.none ∙ holds.some));
+}
+  where
+    none_held : (bytes : List ℕ) → ◌≡◌ {A = Option (List ℕ)} None (Some bytes) → ⊥
+    none_held bytes e = cc
+
+-- the file or the trace can't be read
+clauses_cant_read : (job : Job) (c : Call) → 1 ≤ job.procs → HasFile job.mode → StatusFrom CantRead c → Cause job c → RanNothing c.out c.out_after (kept_in c) → Clauses job c
 clauses_cant_read job c some named from cause x = record {
   refusal = record {
     only_where = λ is. absurd (never CantRead c 1 from (λ e. omega arith) (λ e. omega arith) is);
     everywhere = λ refusal refused. yields CantRead c from
-        (λ same. elim cause [ inl missing ↦ absurd ((was_read job.mode job c named refused.whole).there missing) | inr rose ↦ inr (inr (same, rose)) ])
+        (λ same. elim cause [
+          | inl missing ↦ absurd ((was_read job.mode job c named refused.whole).there missing)
+          | inr (inl behind) ↦ absurd (behind.lack.unrefused refusal refused.refused)
+          | inr (inr rose) ↦ inr (inr (same, rose))
+        ])
         (λ y. inr (inl y));
     no_code = λ _ _. x.no_code;
     no_history = λ _ _. x.no_entry;
@@ -253,6 +326,7 @@ clauses_cant_read job c some named from cause x = record {
     no_output = λ _ _. ap (λ s. s.taken) x.unwritten;
     accepted_at_zero = λ is. absurd (never CantRead c 0 from (λ e. omega arith) (λ e. omega arith) is);
     accepted_at_two = λ is. absurd (never CantRead c 2 from (λ e. omega arith) (λ e. omega arith) is);
+    accepted_at_seven = λ is. absurd (never CantRead c 7 from (λ e. omega arith) (λ e. omega arith) is);
   };
   run = run_nothing job c x.no_entry;
   code = no_code job c x.no_code (λ is. absurd (never CantRead c 0 from (λ e. omega arith) (λ e. omega arith) is)) (λ is. absurd (never CantRead c 2 from (λ e. omega arith) (λ e. omega arith) is));
@@ -261,15 +335,21 @@ clauses_cant_read job c some named from cause x = record {
   alignment = record {
     done = λ is. absurd (never CantRead c 0 from (λ e. omega arith) (λ e. omega arith) is);
     faulted = λ is. absurd (never CantRead c 2 from (λ e. omega arith) (λ e. omega arith) is);
+    wrong = λ is. absurd (never CantRead c 7 from (λ e. omega arith) (λ e. omega arith) is);
   };
   determinacy = nothing_determined job c some x.no_entry;
   end = record {
     ended = λ is. absurd (never CantRead c 0 from (λ e. omega arith) (λ e. omega arith) is);
     fault_only_where = λ is. absurd (never CantRead c 2 from (λ e. omega arith) (λ e. omega arith) is);
-    fault_everywhere = λ fault e. absurd (no_fault_of_nothing c fault x.no_entry e);
+    fault_everywhere = λ _ fault e. absurd (no_fault_of_nothing c fault x.no_entry e);
     unfinished = λ is. absurd (never CantRead c 6 from (λ e. omega arith) (λ e. omega arith) is);
   };
-  completeness = λ nothing. elim cause [ inl missing ↦ absurd (nothing.there named missing) | inr rose ↦ absurd (nothing.source rose) ];
+  trace = no_verdict job c (never CantRead c 0 from (λ e. omega arith) (λ e. omega arith)) (never CantRead c 7 from (λ e. omega arith) (λ e. omega arith)) x;
+  completeness = λ nothing. elim cause [
+    | inl missing ↦ absurd (nothing.there named missing)
+    | inr (inl behind) ↦ complete_behind job c named from nothing behind
+    | inr (inr rose) ↦ absurd (nothing.source rose)
+  ];
 }
 
 -- out of memory before the run
@@ -284,6 +364,7 @@ clauses_no_memory job c command some from x = record {
     no_output = λ _ _. ap (λ s. s.taken) x.unwritten;
     accepted_at_zero = λ is. absurd (never NoMemory c 0 from (λ e. omega arith) (λ e. omega arith) is);
     accepted_at_two = λ is. absurd (never NoMemory c 2 from (λ e. omega arith) (λ e. omega arith) is);
+    accepted_at_seven = λ is. absurd (never NoMemory c 7 from (λ e. omega arith) (λ e. omega arith) is);
   };
   run = run_nothing job c x.no_entry;
   code = no_code job c x.no_code (λ is. absurd (never NoMemory c 0 from (λ e. omega arith) (λ e. omega arith) is)) (λ is. absurd (never NoMemory c 2 from (λ e. omega arith) (λ e. omega arith) is));
@@ -292,14 +373,16 @@ clauses_no_memory job c command some from x = record {
   alignment = record {
     done = λ is. absurd (never NoMemory c 0 from (λ e. omega arith) (λ e. omega arith) is);
     faulted = λ is. absurd (never NoMemory c 2 from (λ e. omega arith) (λ e. omega arith) is);
+    wrong = λ is. absurd (never NoMemory c 7 from (λ e. omega arith) (λ e. omega arith) is);
   };
   determinacy = nothing_determined job c (some job command) x.no_entry;
   end = record {
     ended = λ is. absurd (never NoMemory c 0 from (λ e. omega arith) (λ e. omega arith) is);
     fault_only_where = λ is. absurd (never NoMemory c 2 from (λ e. omega arith) (λ e. omega arith) is);
-    fault_everywhere = λ fault e. absurd (no_fault_of_nothing c fault x.no_entry e);
+    fault_everywhere = λ _ fault e. absurd (no_fault_of_nothing c fault x.no_entry e);
     unfinished = λ _ program _ complete. absurd (unbegun (run_of program job) (some job command) (subst (λ h. IsCompleteRun (run_of program job) h) x.no_entry complete));
   };
+  trace = no_verdict job c (never NoMemory c 0 from (λ e. omega arith) (λ e. omega arith)) (never NoMemory c 7 from (λ e. omega arith) (λ e. omega arith)) x;
   completeness = λ nothing. absurd (nothing.memory (calm NoMemory c from nothing.err));
 }
 
@@ -328,6 +411,13 @@ done_not_memory before x y = let e = sym x ∙ y in cc
 faulted_not_memory : (before : Ending) (fault : Fault) → before ≡ Faulted fault → before ≡ NoMemory → ⊥
 faulted_not_memory before fault x y = let e = sym x ∙ y in cc
 
+runs_history : (mode : Mode) → Runs mode → HasHistory mode
+runs_history Run runs = tt
+runs_history Check runs = runs
+runs_history Code runs = runs
+runs_history Gen runs = tt
+runs_history Verify runs = absurd runs
+
 run_or_check : (mode : Mode) → Runs mode → mode ≡ Check → ⊥
 run_or_check m runs check = subst Runs check runs
 
@@ -354,12 +444,13 @@ clauses_ran before job c mode command from whole x =
         no_output = λ refusal refused. absurd (unrefused refusal refused);
         accepted_at_zero = λ _. accepted;
         accepted_at_two = λ _. accepted;
+        accepted_at_seven = λ _. accepted;
       };
       run = record {
         run = λ p has. subst (λ q. IsRun (run_of q job) c.history) (sym (only p has)) says.run;
-        solo = λ alone p has. subst (λ q. IsSolo (run_of q job) c.history) (sym (only p has)) (says.solo alone);
+        solo = λ _ alone p has. subst (λ q. IsSolo (run_of q job) c.history) (sym (only p has)) (says.solo alone);
         none = λ h. absurd (h x.program x.compiled.has);
-        unrun = λ unrun. absurd (unrun mode);
+        unrun = λ unrun. absurd (unrun (runs_history job.mode mode));
       };
       code = record {
         there = λ _ _ p has. says.code ∙ ap (λ (q : NumberedProgram). Some (program_code q)) (sym (only p has));
@@ -393,6 +484,7 @@ clauses_ran before job c mode command from whole x =
       alignment = record {
         done = λ _ p has. subst IsAligned (sym (only p has)) x.compiled.aligned;
         faulted = λ _ p has. subst IsAligned (sym (only p has)) x.compiled.aligned;
+        wrong = λ _ p has. subst IsAligned (sym (only p has)) x.compiled.aligned;
       };
       determinacy = record {
         followed = λ _ p has. subst (λ (q : NumberedProgram). Determines (run_of q job) c.history) (sym (only p has)) says.determines;
@@ -401,7 +493,7 @@ clauses_ran before job c mode command from whole x =
       end = record {
         ended = λ is _ p has. subst (λ q. AllEnded (run_of q job) c.history) (sym (only p has)) (says.ended (done_at before c from is));
         fault_only_where = λ is. let f = faulted_at before c from is in (mode, (f.0, says.faulted f.0 f.1));
-        fault_everywhere = λ fault last. by_end
+        fault_everywhere = λ _ fault last. by_end
             (λ e. absurd (true_false (sym (fault_is_there c.history fault last) ∙ says.no_fault e)))
             (λ f. yields before c from (λ same. inl (same ∙ ap status_of f.1)) (λ y. elim y [
               | inl six ↦ absurd (faulted_not_memory before f.0 f.1 (no_memory_at before c from six))
@@ -421,20 +513,25 @@ clauses_ran before job c mode command from whole x =
             ]));
         unfinished = λ is p has complete. says.unfinished (no_memory_at before c from is) (subst (λ q. IsCompleteRun (run_of q job) c.history) (only p has) complete);
       };
+      trace = no_trace job c (runs_unverified job.mode mode) (other 7 (λ e. omega arith) (λ e. omega arith) (λ e. omega arith) (λ e. omega arith));
       completeness = λ nothing.
           let is = calm before c from nothing.err in
           by_end
           (λ e. record {
+            whole = whole;
             refused = λ refusal refused. absurd (unrefused refusal refused);
             accepted = λ _. inl (is ∙ ap status_of e);
             program = λ _. accepted;
             ended = λ _ p has. inr (subst (λ q. AllEnded (run_of q job) c.history) (sym (only p has)) (says.ended e));
+            verified = λ verifies. absurd (runs_unverified job.mode mode verifies);
           })
           (λ f. record {
+            whole = whole;
             refused = λ refusal refused. absurd (unrefused refusal refused);
-            accepted = λ _. inr (is ∙ ap status_of f.1);
+            accepted = λ _. inr (inl (is ∙ ap status_of f.1));
             program = λ _. accepted;
             ended = λ _ p has. inl (fault_is_there c.history f.0 (says.faulted f.0 f.1));
+            verified = λ verifies. absurd (runs_unverified job.mode mode verifies);
           })
           (λ e. absurd (nothing.memory (is ∙ ap status_of e)))
           (λ e. absurd (nothing.out (says.rose e)));
@@ -451,7 +548,7 @@ clauses_ran before job c mode command from whole x =
     same : (code : coded.Code) → c.code ≡ Some code → program_code x.program ≡ code
     same code some = same_Some (program_code x.program) code (sym x.says.code ∙ some)
 
-    cut : (c.status ≡ 5) × ErrRose c → (c.status ≡ 0) ⊎ ((c.status ≡ 2) ⊎ (((c.status ≡ 5) × SinkRose c) ⊎ ((c.status ≡ 6) × Runs job.mode)))
+    cut : (c.status ≡ 5) × ErrRose c × (before ≡ Done → ⊥) → (c.status ≡ 0) ⊎ ((c.status ≡ 2) ⊎ (((c.status ≡ 5) × SinkRose c) ⊎ ((c.status ≡ 6) × Runs job.mode)))
     cut five = inr (inr (inl (five.0, inr five.1)))
 
     ended : (c.status ≡ 0) ⊎ ((c.status ≡ 2) ⊎ (((c.status ≡ 5) × SinkRose c) ⊎ ((c.status ≡ 6) × Runs job.mode)))
@@ -489,6 +586,7 @@ clauses_checked job c command mode from whole x =
         no_output = λ _ _. ap (λ s. s.taken) x.nothing.unwritten;
         accepted_at_zero = λ _. accepted;
         accepted_at_two = λ _. accepted;
+        accepted_at_seven = λ _. accepted;
       };
       run = run_nothing job c x.nothing.no_entry;
       code = no_code job c x.nothing.no_code (λ _ has _ _. subst HasCode mode has) (λ is. absurd (never Done c 2 from (λ e. omega arith) (λ e. omega arith) is));
@@ -497,19 +595,22 @@ clauses_checked job c command mode from whole x =
           (λ _ other is program _. ap (λ (m : Mode). output_in m (run_of program other) c.history (wanted other c.watchers)) (checks other is))
           (λ is. absurd (never Done c 2 from (λ e. omega arith) (λ e. omega arith) is))
           (λ is. absurd (never Done c 6 from (λ e. omega arith) (λ e. omega arith) is)) x.nothing;
-      alignment = record { done = λ _. aligned; faulted = λ _. aligned };
+      alignment = record { done = λ _. aligned; faulted = λ _. aligned; wrong = λ _. aligned };
       determinacy = record { followed = λ run. absurd (run_or_check job.mode run mode); told = no_races c x.nothing.no_entry };
       end = record {
         ended = λ _ run. absurd (run_or_check job.mode run mode);
         fault_only_where = λ is. absurd (never Done c 2 from (λ e. omega arith) (λ e. omega arith) is);
-        fault_everywhere = λ fault e. absurd (no_fault_of_nothing c fault x.nothing.no_entry e);
+        fault_everywhere = λ _ fault e. absurd (no_fault_of_nothing c fault x.nothing.no_entry e);
         unfinished = λ is. absurd (never Done c 6 from (λ e. omega arith) (λ e. omega arith) is);
       };
+      trace = no_trace job c (λ verifies. subst Verifies mode verifies) (never Done c 7 from (λ e. omega arith) (λ e. omega arith));
       completeness = λ nothing. record {
+        whole = whole;
         refused = λ refusal is. absurd (unrefused refusal is);
         accepted = λ _. inl (calm Done c from nothing.err);
         program = λ _. accepted;
         ended = λ run. absurd (run_or_check job.mode run mode);
+        verified = λ verifies. absurd (subst Verifies mode verifies);
       };
     }
 
@@ -530,6 +631,7 @@ clauses_coded before job c command mode either from whole x =
         no_output = λ refusal refused. absurd (unrefused refusal refused);
         accepted_at_zero = λ _. accepted;
         accepted_at_two = λ _. accepted;
+        accepted_at_seven = λ _. accepted;
       };
       run = run_nothing job c x.no_entry;
       code = record {
@@ -556,19 +658,22 @@ clauses_coded before job c command mode either from whole x =
         failed = λ _ told. alone (λ j q. GrewByFront c.out c.out_after (output j q c.history (wanted j c.watchers))) (subst (λ t. GrewByFront c.out c.out_after t) (sym text_is) (x.wrote.part told));
         no_memory = λ is. absurd (other 6 (λ e. omega arith) (λ e. omega arith) is);
       };
-      alignment = record { done = λ _. aligned; faulted = λ _. aligned };
+      alignment = record { done = λ _. aligned; faulted = λ _. aligned; wrong = λ _. aligned };
       determinacy = record { followed = λ run. absurd (run_or_code job.mode run mode); told = no_races c x.no_entry };
       end = record {
         ended = λ _ run. absurd (run_or_code job.mode run mode);
         fault_only_where = λ is. absurd (other 2 (λ e. omega arith) (λ e. omega arith) is);
-        fault_everywhere = λ fault e. absurd (no_fault_of_nothing c fault x.no_entry e);
+        fault_everywhere = λ _ fault e. absurd (no_fault_of_nothing c fault x.no_entry e);
         unfinished = λ is. absurd (other 6 (λ e. omega arith) (λ e. omega arith) is);
       };
+      trace = no_trace job c (λ verifies. subst Verifies mode verifies) (other 7 (λ e. omega arith) (λ e. omega arith));
       completeness = λ nothing. record {
+        whole = whole;
         refused = λ refusal is. absurd (unrefused refusal is);
         accepted = λ _. inl (by_end (λ e. calm before c from nothing.err ∙ ap status_of e) (λ e. absurd (nothing.out (x.wrote.rose e))));
         program = λ _. accepted;
         ended = λ run. absurd (run_or_code job.mode run mode);
+        verified = λ verifies. absurd (subst Verifies mode verifies);
       };
     }
   where
@@ -594,6 +699,98 @@ clauses_coded before job c command mode either from whole x =
     alone : (P : Job → NumberedProgram → Type 0) → P job x.program → WhereAccepted c P
     alone P it j some p has = subst (λ k. P k p) (job_same c job j command some) (subst (P job) (sym (x.compiled.only p has)) it)
 
+-- a trace was held against the program of the text, and there is a verdict
+clauses_verified : (before : Ending) (job : Job) (c : Call) → job.mode ≡ Verify → IsCommand c job → StatusFrom before c → HasText job c → Verdict before job c
+    → c.out_after ≡ c.out → c.code ≡ None → c.done ≡ [] → Clauses job c
+clauses_verified before job c mode command from whole x unwritten gone uncounted =
+    let unrefused = x.compiled.unrefused in
+    let accepted : IsAccepted c.text = (x.program, x.compiled.has) in
+    let aligned : (p : NumberedProgram) → HasProgram c.text p → IsAligned p = λ p has. subst IsAligned (sym (x.compiled.only p has)) x.compiled.aligned in
+    let same : c.out_after.taken ≡ c.out.taken = ap (λ s. s.taken) unwritten in
+    let verifies : Verifies job.mode = subst Verifies (sym mode) tt in
+    record {
+      refusal = record {
+        only_where = λ is. absurd (other 1 (λ e. omega arith) (λ e. omega arith) (λ e. omega arith) is);
+        everywhere = λ refusal refused. absurd (unrefused refusal refused.refused);
+        no_code = λ refusal refused. absurd (unrefused refusal refused);
+        no_history = λ refusal refused. absurd (unrefused refusal refused);
+        no_count = λ refusal refused. absurd (unrefused refusal refused);
+        no_output = λ _ _. same;
+        accepted_at_zero = λ _. accepted;
+        accepted_at_two = λ _. accepted;
+        accepted_at_seven = λ _. accepted;
+      };
+      run = record {
+        run = λ p has. subst (λ q. IsRun (run_of q job) c.history) (sym (x.compiled.only p has)) x.run;
+        solo = λ runs. absurd (unrun runs);
+        none = λ h. absurd (h x.program x.compiled.has);
+        unrun = λ h. absurd (h (subst HasHistory (sym mode) tt));
+      };
+      code = no_code job c gone (λ _ has _ _. subst HasCode mode has) (λ is. absurd (other 2 (λ e. omega arith) (λ e. omega arith) (λ e. omega arith) is));
+      count = no_count job c uncounted (λ _ runs _ _. unrun runs) (λ is. absurd (other 2 (λ e. omega arith) (λ e. omega arith) (λ e. omega arith) is));
+      output = record {
+        done = λ _ _ j some program _. nothing_of j some program same;
+        faulted = λ is. absurd (other 2 (λ e. omega arith) (λ e. omega arith) (λ e. omega arith) is);
+        nothing_at_one = λ _. same;
+        nothing_at_three = λ _. same;
+        nothing_at_four = λ _. same;
+        no_command = λ _. same;
+        not_whole = λ _ _ _. same;
+        no_program = λ _. same;
+        checked = λ _ _ _. same;
+        uncoded = λ _ _ _ _. same;
+        failed = λ _ _ j some program _. ([], (output j program c.history (wanted j c.watchers), refl), same ∙ sym (append-nil c.out.taken));
+        no_memory = λ is. absurd (other 6 (λ e. omega arith) (λ e. omega arith) (λ e. omega arith) is);
+      };
+      alignment = record { done = λ _. aligned; faulted = λ _. aligned; wrong = λ _. aligned };
+      determinacy = record { followed = λ runs. absurd (unrun runs); told = x.listed };
+      end = record {
+        ended = λ _ runs. absurd (unrun runs);
+        fault_only_where = λ is. absurd (other 2 (λ e. omega arith) (λ e. omega arith) (λ e. omega arith) is);
+        fault_everywhere = λ runs. absurd (unrun runs);
+        unfinished = λ is. absurd (other 6 (λ e. omega arith) (λ e. omega arith) (λ e. omega arith) is);
+      };
+      trace = record {
+        traced = λ is _. x.traced (done_at before c from is);
+        wrong = λ is. let k = is_no_run before (not_five before 7 c from is (λ e. omega arith)) in (k.0, x.wrong k.0 k.1);
+        seven_only_where = λ _. verifies;
+        unjudged = λ _ not_done not_wrong. inr (cut not_done not_wrong);
+        unwritten = λ _. same;
+      };
+      completeness = λ nothing. record {
+        whole = whole;
+        refused = λ refusal is. absurd (unrefused refusal is);
+        accepted = λ _. by_end (λ e. inl (calm before c from nothing.err ∙ ap status_of e)) (λ k. inr (inr (inl (calm before c from nothing.err ∙ ap status_of k.1))));
+        program = λ _. accepted;
+        ended = λ runs. absurd (unrun runs);
+        verified = λ _ p has bytes holds.
+            subst (λ q. TraceDecides (run_of q job) bytes c) (sym (x.compiled.only p has)) (decides before job c x (calm before c from nothing.err) bytes holds);
+      };
+    }
+  where
+    unrun : Runs job.mode → ⊥
+    unrun runs = subst Runs mode runs
+
+    by_end : {P : Type 0} → (before ≡ Done → P) → ((line : ℕ) × (before ≡ NoRun line) → P) → P
+    by_end f g = elim x.known [ inl e ↦ f e | inr e ↦ g e ]
+
+    -- a status that none of the two endings has
+    other : (n : ℕ) → (0 ≡ n → ⊥) → (7 ≡ n → ⊥) → (5 ≡ n → ⊥) → c.status ≡ n → ⊥
+    other n a b d is = never before c n from (λ s. by_end (λ k. a (sym (ap status_of k) ∙ s)) (λ k. b (sym (ap status_of k.1) ∙ s))) d is
+
+    -- nothing is to be written
+    nothing_of : (j : Job) → IsCommand c j → (program : NumberedProgram) → c.out_after.taken ≡ c.out.taken → GrewBy c.out c.out_after (output j program c.history (wanted j c.watchers))
+    nothing_of j some program same =
+        let verify : j.mode ≡ Verify = subst (λ (k : Job). k.mode ≡ Verify) (job_same c job j command some) mode in
+        same ∙ sym (append-nil c.out.taken) ∙ ap (λ t. c.out.taken ++ t) (sym (ap (λ (m : Mode). output_in m (run_of program j) c.history (wanted j c.watchers)) verify))
+
+    -- the line on err of a wrong trace wasn't written
+    cut : (c.status ≡ 0 → ⊥) → (c.status ≡ 7 → ⊥) → (c.status ≡ 5) × ErrRose c × ((line : ℕ) × IsWrongTrace job c line)
+    cut not_done not_wrong = elim from [
+      | inl is ↦ absurd (by_end (λ e. not_done (is ∙ ap status_of e)) (λ k. not_wrong (is ∙ ap status_of k.1)))
+      | inr five ↦ by_end (λ e. absurd (five.2 e)) (λ k. (five.0, five.1, (k.0, x.wrong k.0 k.1)))
+    ]
+
 -- ---- a call whose words are a command
 
 -- what was done in it
@@ -610,6 +807,7 @@ ends_run NoCommand job c says = absurd says
 ends_run CantRead job c says = absurd says
 ends_run CantWrite job c says = (λ e. let x = e in cc, λ e. let x = e in cc)
 ends_run NoMemory job c says = (λ e. let x = e in cc, λ e. let x = e in cc)
+ends_run (NoRun line) job c says = absurd says
 
 ends_code : (before : Ending) (c : Call) → CodeTextSays before c.text c.out c.out_after (kept_in c) → EndsAs Read.Whole before
 ends_code Done c says = (λ e. let x = e in cc, λ e. let x = e in cc)
@@ -619,18 +817,24 @@ ends_code NoCommand c says = absurd says
 ends_code CantRead c says = absurd says
 ends_code CantWrite c says = (λ e. let x = e in cc, λ e. let x = e in cc)
 ends_code NoMemory c says = (λ e. let x = e in cc, λ e. let x = e in cc)
+ends_code (NoRun line) c says = absurd says
+
+ends_check : (before : Ending) (c : Call) → CheckTextSays before c.text c.out c.out_after (kept_in c) → EndsAs Read.Whole before
+ends_check Done c says = (λ e. let x = e in cc, λ e. let x = e in cc)
+ends_check (Refused refusal) c says = (λ e. let x = e in cc, λ e. let x = e in cc)
+ends_check (Faulted fault) c says = absurd says
+ends_check NoCommand c says = absurd says
+ends_check CantRead c says = absurd says
+ends_check CantWrite c says = absurd says
+ends_check NoMemory c says = (λ e. let x = e in cc, λ e. let x = e in cc)
+ends_check (NoRun line) c says = absurd says
 
 ends_text : (mode : Mode) (before : Ending) (job : Job) (c : Call) → TextSays mode before job (wanted job c.watchers) c.text c.out c.out_after (kept_in c) → EndsAs Read.Whole before
 ends_text Run before job c says = ends_run before job c says
 ends_text Gen before job c says = ends_run before job c says
 ends_text Code before job c says = ends_code before c says
-ends_text Check Done job c says = (λ e. let x = e in cc, λ e. let x = e in cc)
-ends_text Check (Refused refusal) job c says = (λ e. let x = e in cc, λ e. let x = e in cc)
-ends_text Check (Faulted fault) job c says = absurd says
-ends_text Check NoCommand job c says = absurd says
-ends_text Check CantRead job c says = absurd says
-ends_text Check CantWrite job c says = absurd says
-ends_text Check NoMemory job c says = (λ e. let x = e in cc, λ e. let x = e in cc)
+ends_text Check before job c says = ends_check before c says
+ends_text Verify before job c says = ends_check before c says
 
 ends_as : (end : ReadEnd) (before : Ending) (job : Job) (c : Call) → FileSays end before job (work_of job c) → EndsAs end before
 ends_as Read.Whole before job c says = ends_text job.mode before job c says
@@ -668,47 +872,44 @@ told_run (Refused refusal) job c runs command some whole says from = told_refuse
 told_run (Faulted fault) job c runs command some whole says from = record { clauses = clauses_ran (Faulted fault) job c runs command from whole says; says = (job, command, says.says.faulted fault refl) }
 told_run NoCommand job c runs command some whole says from = absurd says
 told_run CantRead job c runs command some whole says from = absurd says
+told_run (NoRun line) job c runs command some whole says from = absurd says
 told_run CantWrite job c runs command some whole says from = record { clauses = clauses_ran CantWrite job c runs command from whole says; says = (job, command, says.says.rose refl) }
 told_run NoMemory job c runs command some whole says from =
     elim says [ inl nothing ↦ told_unrun job c command some nothing from | inr ran ↦ record { clauses = clauses_ran NoMemory job c runs command from whole ran; says = tt } ]
 
-told_text : (mode : Mode) (before : Ending) (job : Job) (c : Call) → job.mode ≡ mode → IsCommand c job → 1 ≤ job.procs → HasText job c
+told_text : (mode : Mode) (before : Ending) (job : Job) (c : Call) → (Verifies mode → ⊥) → job.mode ≡ mode → IsCommand c job → 1 ≤ job.procs → HasText job c
     → TextSays mode before job (wanted job c.watchers) c.text c.out c.out_after (kept_in c) → StatusFrom before c → ToldOf before job c
-told_text Run before job c mode command some whole says from = told_run before job c (subst Runs (sym mode) tt) command some whole says from
-told_text Gen before job c mode command some whole says from = told_run before job c (subst Runs (sym mode) tt) command some whole says from
-told_text Check Done job c mode command some whole says from =
+told_text Run before job c unverified mode command some whole says from = told_run before job c (subst Runs (sym mode) tt) command some whole says from
+told_text Gen before job c unverified mode command some whole says from = told_run before job c (subst Runs (sym mode) tt) command some whole says from
+told_text Check Done job c unverified mode command some whole says from =
     record { clauses = clauses_checked job c command mode from whole says; says = (job, command, (says.program, says.compiled.has)) }
-told_text Check (Refused refusal) job c mode command some whole says from = told_refused refusal job c command from whole says
-told_text Check (Faulted fault) job c mode command some whole says from = absurd says
-told_text Check NoCommand job c mode command some whole says from = absurd says
-told_text Check CantRead job c mode command some whole says from = absurd says
-told_text Check CantWrite job c mode command some whole says from = absurd says
-told_text Check NoMemory job c mode command some whole says from = told_unrun job c command some says from
-told_text Code Done job c mode command some whole says from =
+told_text Check (Refused refusal) job c unverified mode command some whole says from = told_refused refusal job c command from whole says
+told_text Check (Faulted fault) job c unverified mode command some whole says from = absurd says
+told_text Check NoCommand job c unverified mode command some whole says from = absurd says
+told_text Check CantRead job c unverified mode command some whole says from = absurd says
+told_text Check CantWrite job c unverified mode command some whole says from = absurd says
+told_text Check NoMemory job c unverified mode command some whole says from = told_unrun job c command some says from
+told_text Check (NoRun line) job c unverified mode command some whole says from = absurd says
+told_text Code Done job c unverified mode command some whole says from =
     record { clauses = clauses_coded Done job c command mode (inl refl) from whole says; says = (job, command, (says.program, says.compiled.has)) }
-told_text Code (Refused refusal) job c mode command some whole says from = told_refused refusal job c command from whole says
-told_text Code (Faulted fault) job c mode command some whole says from = absurd says
-told_text Code NoCommand job c mode command some whole says from = absurd says
-told_text Code CantRead job c mode command some whole says from = absurd says
-told_text Code CantWrite job c mode command some whole says from =
+told_text Code (Refused refusal) job c unverified mode command some whole says from = told_refused refusal job c command from whole says
+told_text Code (Faulted fault) job c unverified mode command some whole says from = absurd says
+told_text Code NoCommand job c unverified mode command some whole says from = absurd says
+told_text Code CantRead job c unverified mode command some whole says from = absurd says
+told_text Code CantWrite job c unverified mode command some whole says from =
     record { clauses = clauses_coded CantWrite job c command mode (inr refl) from whole says; says = (job, command, says.wrote.rose refl) }
-told_text Code NoMemory job c mode command some whole says from = told_unrun job c command some says from
+told_text Code NoMemory job c unverified mode command some whole says from = told_unrun job c command some says from
+told_text Code (NoRun line) job c unverified mode command some whole says from = absurd says
+told_text Verify before job c unverified mode command some whole says from = absurd (unverified tt)
 
--- where a file is named, a text that was read whole is whole
-whole_read : (mode : Mode) (job : Job) (c : Call) → HasFile mode → IsReadWhole job c → IsWholeIn mode job c
-whole_read Run job c named whole = whole
-whole_read Check job c named whole = whole
-whole_read Code job c named whole = whole
-whole_read Gen job c named whole = absurd named
-
-told_file : (before : Ending) (end : ReadEnd) (job : Job) (c : Call) → HasFile job.mode → IsCommand c job → 1 ≤ job.procs → ReadsWhole job.file c.source c.source_after c.text end → FileSays end before job (work_of job c) → StatusFrom before c → ToldOf before job c
-told_file before Read.Whole job c named command some read says from =
-    told_text job.mode before job c refl command some (whole_read job.mode job c named (read_whole before job c read (ends_as Read.Whole before job c says) from)) says from
-told_file before Read.CantRead job c named command some read says from =
-    let cause = read.cause refl in
+told_file : (before : Ending) (end : ReadEnd) (job : Job) (c : Call) → HasFile job.mode → (Verifies job.mode → ⊥) → IsCommand c job → 1 ≤ job.procs → ReadsWhole job.file c.source c.source_after c.text end → FileSays end before job (work_of job c) → StatusFrom before c → ToldOf before job c
+told_file before Read.Whole job c named unverified command some read says from =
+    told_text job.mode before job c unverified refl command some (whole_read job.mode job c named (read_whole before job c read (ends_as Read.Whole before job c says) from)) says from
+told_file before Read.CantRead job c named unverified command some read says from =
+    let cause : Cause job c = elim (read.cause refl) [ inl missing ↦ inl missing | inr rose ↦ inr (inr rose) ] in
     let from' = subst (λ b. StatusFrom b c) says.0 from in
-    subst (λ b. ToldOf b job c) (sym says.0) (record { clauses = clauses_cant_read job c some named from' cause says.1; says = (job, command, cause) })
-told_file before Read.NoMemory job c named command some read says from =
+    subst (λ b. ToldOf b job c) (sym says.0) (record { clauses = clauses_cant_read job c some named from' cause says.1; says = (job, command, unreadable job c cause) })
+told_file before Read.NoMemory job c named unverified command some read says from =
     subst (λ b. ToldOf b job c) (sym says.0) (told_unrun job c command some says.1 (subst (λ b. StatusFrom b c) says.0 from))
 
 -- the clause on the text where a file is named
@@ -717,23 +918,76 @@ gets_read Run job c named reads = reads
 gets_read Check job c named reads = reads
 gets_read Code job c named reads = reads
 gets_read Gen job c named reads = absurd named
+gets_read Verify job c named reads = reads
 
-told_read : (before : Ending) (job : Job) (c : Call) → HasFile job.mode → IsCommand c job → 1 ≤ job.procs → FileDone job before (work_of job c) → StatusFrom before c → Told before job c
-told_read before job c named command some work from =
+told_read : (before : Ending) (job : Job) (c : Call) → HasFile job.mode → (Verifies job.mode → ⊥) → IsCommand c job → 1 ≤ job.procs → FileDone job before (work_of job c) → StatusFrom before c → Told before job c
+told_read before job c named unverified command some work from =
     let fits = ends_as work.end before job c work.says in
-    let k = told_file before work.end job c named command some work.read work.says from in
+    let k = told_file before work.end job c named unverified command some work.read work.says from in
     record {
-      text = gets_read job.mode job c named (reads_text work.end before job c work.read fits from);
+      text = gets_read job.mode job c named (reads_text work.end before job c unverified work.read fits from);
       clauses = k.clauses;
       says = k.says;
       commanded = not_no_command work.end before fits;
+    }
+
+-- the text was read whole, where the call doesn't end as one that can't read
+whole_text : (before : Ending) (job : Job) (c : Call) (mid : SourceState) → job.mode ≡ Verify → ReadsWhole job.file c.source mid c.text Read.Whole → StatusFrom before c
+    → (before ≡ NoCommand → ⊥) → (before ≡ CantRead → ⊥) → HasText job c
+whole_text before job c mid mode read from commanded readable =
+    whole_read job.mode job c (subst HasFile (sym mode) tt)
+    (whole_of job c mid read (λ is. commanded (is_no_command before (not_five before 3 c from is (λ e. omega arith)))) (λ _ is. readable (is_cant_read before (not_five before 4 c from is (λ e. omega arith)))))
+
+-- a trace was held against the text, which was read
+told_held : (before : Ending) (job : Job) (c : Call) (mid : SourceState) → job.mode ≡ Verify → IsCommand c job → 1 ≤ job.procs → TraceDone job before (work_of job c)
+    → ReadsWhole job.file c.source mid c.text Read.Whole → WasRead mid c.source_after → HeldSays before job c.text mid c.source_after c.history → StatusFrom before c → ToldOf before job c
+told_held Done job c mid mode command some work read later says from =
+    let k = verdict_run job c mid (record { never_falls = read.never_falls; same = read.same }) says in
+    record { clauses = clauses_verified Done job c mode command from (whole_text Done job c mid mode read from (λ e. let x = e in cc) (λ e. let x = e in cc)) k work.unwritten work.no_code work.no_count; says = (job, command, (k.program, k.compiled.has)) }
+told_held (NoRun line) job c mid mode command some work read later says from =
+    let k = verdict_wrong line job c mid (record { never_falls = read.never_falls; same = read.same }) says in
+    record { clauses = clauses_verified (NoRun line) job c mode command from (whole_text (NoRun line) job c mid mode read from (λ e. let x = e in cc) (λ e. let x = e in cc)) k work.unwritten work.no_code work.no_count; says = (job, command, k.wrong line refl) }
+told_held CantRead job c mid mode command some work read later says from =
+    let cause = cause_of job c mid (subst Verifies (sym mode) tt) read says in
+    let nothing : RanNothing c.out c.out_after (kept_in c) = record { unwritten = work.unwritten; no_entry = says.says.1; no_code = work.no_code; no_count = work.no_count } in
+    record { clauses = clauses_cant_read job c some (subst HasFile (sym mode) tt) from cause nothing; says = (job, command, unreadable job c cause) }
+told_held NoMemory job c mid mode command some work read later says from =
+    told_unrun job c command some (record { unwritten = work.unwritten; no_entry = says; no_code = work.no_code; no_count = work.no_count }) from
+told_held (Refused refusal) job c mid mode command some work read later says from =
+    told_refused refusal job c command from (whole_text (Refused refusal) job c mid mode read from (λ e. let x = e in cc) (λ e. let x = e in cc))
+    (record { is = says.0; no_program = says.1; nothing = record { unwritten = work.unwritten; no_entry = says.2; no_code = work.no_code; no_count = work.no_count } })
+told_held (Faulted fault) job c mid mode command some work read later says from = absurd says
+told_held NoCommand job c mid mode command some work read later says from = absurd says
+told_held CantWrite job c mid mode command some work read later says from = absurd says
+
+told_verified : (before : Ending) (end : ReadEnd) (job : Job) (c : Call) (mid : SourceState) → job.mode ≡ Verify → IsCommand c job → 1 ≤ job.procs → TraceDone job before (work_of job c)
+    → ReadsWhole job.file c.source mid c.text end → WasRead mid c.source_after → ReadSays end before job c.text mid c.source_after c.history → StatusFrom before c → ToldOf before job c
+told_verified before Read.Whole job c mid mode command some work read later says from = told_held before job c mid mode command some work read later says from
+told_verified before Read.CantRead job c mid mode command some work read later says from =
+    let cause = cause_of_read job c mid read says.1 in
+    let from' = subst (λ b. StatusFrom b c) says.0 from in
+    let nothing : RanNothing c.out c.out_after (kept_in c) = record { unwritten = work.unwritten; no_entry = says.2; no_code = work.no_code; no_count = work.no_count } in
+    subst (λ b. ToldOf b job c) (sym says.0) (record { clauses = clauses_cant_read job c some (subst HasFile (sym mode) tt) from' cause nothing; says = (job, command, unreadable job c cause) })
+told_verified before Read.NoMemory job c mid mode command some work read later says from =
+    subst (λ b. ToldOf b job c) (sym says.0)
+    (told_unrun job c command some (record { unwritten = work.unwritten; no_entry = says.1; no_code = work.no_code; no_count = work.no_count }) (subst (λ b. StatusFrom b c) says.0 from))
+
+told_traced : (before : Ending) (job : Job) (c : Call) → job.mode ≡ Verify → IsCommand c job → 1 ≤ job.procs → TraceDone job before (work_of job c) → StatusFrom before c → Told before job c
+told_traced before job c mode command some work from =
+    let v = work.verified in
+    let k = told_verified before v.end job c v.middle mode command some work v.read v.later v.says from in
+    record {
+      text = subst (λ m. GetsText m job c) (sym mode) (reads_traced before job c (subst Verifies (sym mode) tt) v from);
+      clauses = k.clauses;
+      says = k.says;
+      commanded = commanded v.end before job c.text v.middle c.source_after c.history v.says;
     }
 
 told_made : (before : Ending) (job : Job) (c : Call) → job.mode ≡ Gen → IsCommand c job → 1 ≤ job.procs → SeedDone job before (work_of job c) → StatusFrom before c → Told before job c
 told_made before job c gen command some work from = elim work.says [
   | inl made ↦
       let fits = ends_text job.mode before job c made.1 in
-      let k = told_text job.mode before job c refl command some (subst (λ m. IsWholeIn m job c) (sym gen) made.0) made.1 from in
+      let k = told_text job.mode before job c (λ verifies. subst Verifies gen verifies) refl command some (subst (λ m. IsWholeIn m job c) (sym gen) made.0) made.1 from in
       record {
         text = subst (λ m. GetsText m job c) (sym gen) (makes_text before job c work.unread (inl made.0) fits.1 from);
         clauses = k.clauses;
@@ -751,16 +1005,17 @@ told_made before job c gen command some work from = elim work.says [
 ]
 
 told_in : (mode : Mode) (before : Ending) (job : Job) (c : Call) → job.mode ≡ mode → IsCommand c job → 1 ≤ job.procs → WorkSays mode job before (work_of job c) → StatusFrom before c → Told before job c
-told_in Run before job c mode command some work from = told_read before job c (subst HasFile (sym mode) tt) command some work from
-told_in Check before job c mode command some work from = told_read before job c (subst HasFile (sym mode) tt) command some work from
-told_in Code before job c mode command some work from = told_read before job c (subst HasFile (sym mode) tt) command some work from
+told_in Run before job c mode command some work from = told_read before job c (subst HasFile (sym mode) tt) (λ verifies. subst Verifies mode verifies) command some work from
+told_in Check before job c mode command some work from = told_read before job c (subst HasFile (sym mode) tt) (λ verifies. subst Verifies mode verifies) command some work from
+told_in Code before job c mode command some work from = told_read before job c (subst HasFile (sym mode) tt) (λ verifies. subst Verifies mode verifies) command some work from
 told_in Gen before job c mode command some work from = told_made before job c mode command some work from
+told_in Verify before job c mode command some work from = told_traced before job c mode command some work from
 
 told : (before : Ending) (job : Job) (c : Call) → Commanded before job c → StatusFrom before c → Told before job c
 told before job c x from = told_in job.mode before job c refl x.command x.some x.work from
 
-beside_command : (before : Ending) (job : Job) (c : Call) → Commanded before job c → StatusFrom before c → MeetsBesideErr c
-beside_command before job c x from =
+beside_command : (before : Ending) (job : Job) (c : Call) → Commanded before job c → LeavesOut before c.out c.out_after → StatusFrom before c → MeetsBesideErr c
+beside_command before job c x leaves from =
     let t = told before job c x from in
     let k = t.clauses in
     record {
@@ -771,22 +1026,25 @@ beside_command before job c x from =
       code = λ other some. subst (λ j. RunsCode j c) (job_same c job other x.command some) k.code;
       count = λ other some. subst (λ j. CountsInstructions j c) (job_same c job other x.command some) k.count;
       output = k.output;
+      flushes = flushes_out c before from leaves;
       alignment = k.alignment;
       determinacy = λ other some. subst (λ j. IsDeterminate j c) (job_same c job other x.command some) k.determinacy;
       end = λ other some. subst (λ j. EndsRun j c) (job_same c job other x.command some) k.end;
+      trace = λ other some. subst (λ j. VerifiesTrace j c) (job_same c job other x.command some) k.trace;
     }
 
 -- what was done, and how the line on err was written, meet the clauses
-pub meets_command : (before : Ending) (job : Job) (c : Call) → IsCommand c job → 1 ≤ job.procs → WorkSays job.mode job before (work_of job c) → Ended before job.file c.err c.err_after c.status → Meets c
-meets_command before job c command some work written =
+pub meets_command : (before : Ending) (job : Job) (c : Call) → IsCommand c job → 1 ≤ job.procs → WorkSays job.mode job before (work_of job c) → LeavesOut before c.out c.out_after → Ended before job.file c.err c.err_after c.status → Meets c
+meets_command before job c command some work leaves written =
     let ended = subst (λ file. Ended before file c.err c.err_after c.status) (sym (ap file_in command)) written in
     let x : Commanded before job c = record { command = command; some = some; work = work } in
     let from = status_from before c ended in
     let all = told before job c x from in
     let earlier : Commanded before job (before_err c before) = record { command = command; some = some; work = work } in
     record {
-      beside_err = beside_command before job c x from;
-      err = writes_err c before all.says (beside_command before job (before_err c before) earlier (inl refl)) ended;
+      beside_err = beside_command before job c x leaves from;
+      err = writes_err c before all.says (beside_command before job (before_err c before) earlier leaves (inl refl)) ended;
+      flushes = flushes_err c before ended;
       completeness = λ other some. subst (λ j. NothingFailed j c → IsComplete j c) (job_same c job other command some) all.clauses.completeness;
     }
 
@@ -799,9 +1057,11 @@ reads_nothing job c x from = record {
   whole_at_zero = λ is. absurd (never NoMemory c 0 from (λ e. omega arith) (λ e. omega arith) is);
   whole_at_one = λ is. absurd (never NoMemory c 1 from (λ e. omega arith) (λ e. omega arith) is);
   whole_at_two = λ is. absurd (never NoMemory c 2 from (λ e. omega arith) (λ e. omega arith) is);
+  whole_at_seven = λ is. absurd (never NoMemory c 7 from (λ e. omega arith) (λ e. omega arith) is);
   nothing_of_missing = λ _. x.text;
   four_only_where = λ is. absurd (never NoMemory c 4 from (λ e. omega arith) (λ e. omega arith) is);
   missing = λ _. yields NoMemory c from (λ same. inr (inl same)) inr;
+  lacking = λ _. yields NoMemory c from (λ same. inr (inl same)) inr;
   same_files = subst (λ s. SameFiles c.source s) (sym x.source) (record { tells = refl; files = refl });
 }
 
@@ -813,6 +1073,7 @@ gets_nothing Run job c x from = reads_nothing job c x from
 gets_nothing Check job c x from = reads_nothing job c x from
 gets_nothing Code job c x from = reads_nothing job c x from
 gets_nothing Gen job c x from = makes_nothing job c x from
+gets_nothing Verify job c x from = reads_nothing job c x from
 
 -- it answers as one whose words are a command, and as one whose words are none
 beside_unread : (c : Call) → ((job : Job) → IsCommand c job → 1 ≤ job.procs) → DidNothing c → StatusFrom NoMemory c → MeetsBesideErr c
@@ -833,12 +1094,15 @@ beside_unread c some x from = record {
   code = λ job command. (clauses_no_memory job c command some from x.nothing).code;
   count = λ job command. (clauses_no_memory job c command some from x.nothing).count;
   output = output_nothing c (λ is. absurd (never NoMemory c 0 from (λ e. omega arith) (λ e. omega arith) is)) (λ is. absurd (never NoMemory c 2 from (λ e. omega arith) (λ e. omega arith) is)) (λ _ other is _ program _. unbegun (run_of program other) (some other is)) x.nothing;
+  flushes = flushes_out c NoMemory from (inr (inl x.nothing.unwritten));
   alignment = record {
     done = λ is. absurd (never NoMemory c 0 from (λ e. omega arith) (λ e. omega arith) is);
     faulted = λ is. absurd (never NoMemory c 2 from (λ e. omega arith) (λ e. omega arith) is);
+    wrong = λ is. absurd (never NoMemory c 7 from (λ e. omega arith) (λ e. omega arith) is);
   };
   determinacy = λ job command. (clauses_no_memory job c command some from x.nothing).determinacy;
   end = λ job command. (clauses_no_memory job c command some from x.nothing).end;
+  trace = λ job command. (clauses_no_memory job c command some from x.nothing).trace;
 }
 
 -- the line of want of memory names no file
@@ -847,7 +1111,7 @@ any_file file old new status told = record {
   never_falls = told.never_falls;
   tells = told.tells;
   written = elim told.written [
-    | inl whole ↦ inl (record { same = whole.same; nothing = whole.nothing; grew = whole.grew })
+    | inl whole ↦ inl (record { same = whole.same; nothing = whole.nothing; grew = whole.grew; unfailed = whole.unfailed })
     | inr cut ↦ inr (record { five = cut.five; not_done = cut.not_done; rose = cut.rose; grew = cut.grew })
   ];
 }
@@ -859,5 +1123,6 @@ meets_unread c some x told =
     record {
       beside_err = beside_unread c some x from;
       err = writes_err c NoMemory tt (beside_unread (before_err c NoMemory) some (record { source = x.source; text = x.text; nothing = x.nothing }) (inl refl)) ended;
+      flushes = flushes_err c NoMemory ended;
       completeness = λ job command. λ nothing. absurd (nothing.memory (calm NoMemory c from nothing.err));
     }

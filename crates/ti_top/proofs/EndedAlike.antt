@@ -1,5 +1,5 @@
 -- Two undisturbed calls that ask alike end alike.
-use Rattle.std.proofs.Common.{◌≡◌, ◌⊎◌, inl, inr, ℕ, true, List, [], take, Option, Some, None, refl, sym, ◌∙◌, ap, subst, append-nil}
+use Rattle.std.proofs.Common.{◌≡◌, ◌⊎◌, inl, inr, ℕ, true, List, [], take, Option, Some, None, refl, sym, ◌∙◌, ap, subst, arith, append-nil}
 use native.Mathlib.Decide.{ℕ_discrete}
 use Rattle.ti_io.specs.Source.{content_of, IsMissing, Holds}
 use Rattle.ti_io.specs.Sink.{GrewBy}
@@ -14,15 +14,16 @@ use Rattle.ti_rules.specs.RefusalOf.{HasProgram, IsRefusal}
 use Rattle.ti_runtime.specs.Ran.{IsDone}
 use Rattle.ti_words.specs.declared.job.Job.{Job}
 use Rattle.ti_words.specs.declared.job.Mode.{Mode}
-use Rattle.ti_words.specs.declared.job.Mode.TheVariants.{Run, Check, Code, Gen}
+use Rattle.ti_words.specs.declared.job.Mode.TheVariants.{Run, Check, Code, Gen, Verify}
 use Rattle.ti_words.specs.Job.{job_of}
 use Rattle.ti_top.specs.declared.fault.Fault.{Fault}
-use Rattle.ti_top.specs.Run.{HasFile, Runs, HasCode, run_of, EndsWithFault}
+use Rattle.ti_top.specs.Run.{HasFile, Runs, HasCode, Verifies, HasHistory, run_of, EndsWithFault}
 use Rattle.ti_top.specs.Reports.{wanted, output}
 use Rattle.ti_top.specs.Call.{most_read, Call, IsCommand, IsNoCommand, SinkRose, Yields, WantsReport}
 use Rattle.ti_top.specs.Clauses.{ReadsText, MakesText, GetsText, WritesAll, NothingFailed, IsComplete, Meets}
+use Rattle.ti_top.specs.Traces.{LacksTrace, TraceDecides}
 use Rattle.ti_top.specs.Agreement.{IsUndisturbed, AskAlike, IsBySeveral, BothGrew, EndSame, EachSame, EndAlike}
-use Rattle.ti_top.proofs.ClausesMet.{runs_has}
+use Rattle.ti_top.proofs.ClausesMet.{runs_has, runs_unverified, was_read}
 use Rattle.ti_top.proofs.EachAlike.{each_same, none_faults}
 use Rattle.ti_top.proofs.EmptyText.{no_program}
 use Rattle.ti_top.proofs.FaultLast.{fault_is_there}
@@ -86,16 +87,16 @@ missing_alike known job c d m n x y four fourth none nought = all_alike c d (non
 
 -- ---- the text is judged
 
--- a call on a text that is there ends with status 0, 1 or 2
-abbrev Ends : Call → Type 0
-Ends c = (c.status ≡ 1) ⊎ ((c.status ≡ 0) ⊎ (c.status ≡ 2))
+-- how a call ends on a text without a refusal
+abbrev Accepts : Job → Call → Type 0
+Accepts job c = (c.status ≡ 0) ⊎ (c.status ≡ 2) ⊎ (c.status ≡ 7) ⊎ ((c.status ≡ 4) × LacksTrace job c)
 
-ends : OneAnswer → (job : Job) (c : Call) → IsComplete job c → Ends c
-ends known job c whole = by (known.some c.text)
-  where
-    by : ((program : NumberedProgram) × HasProgram c.text program) ⊎ ((refusal : Refusal) × IsRefusal c.text refusal) → Ends c
-    by (inl found) = inr (whole.accepted (λ refusal is. known.never_both c.text found.0 refusal found.1 is))
-    by (inr found) = inl (whole.refused found.0 found.1)
+-- in a mode that holds no trace against it
+of_run : (job : Job) (c : Call) → Meets c → IsCommand c job → (Verifies job.mode → ⊥) → Accepts job c → (c.status ≡ 0) ⊎ (c.status ≡ 2)
+of_run job c m x unverified (inl zero) = inl zero
+of_run job c m x unverified (inr (inl two)) = inr two
+of_run job c m x unverified (inr (inr (inl seven))) = absurd (unverified ((m.beside_err.trace job x).seven_only_where seven))
+of_run job c m x unverified (inr (inr (inr four))) = absurd (unverified four.1.mode)
 
 -- a text is refused
 refused_alike : (job : Job) (c d : Call) → Meets c → Meets d → IsCommand c job → IsCommand d job → IsComplete job c → IsComplete job d
@@ -139,12 +140,15 @@ unrun_alike job c d m n x y same a b mode program has = all_alike c d same (code
     unrun : Runs job.mode → ⊥
     unrun runs = elim mode [ inl is ↦ subst Runs is runs | inr is ↦ subst Runs is runs ]
 
+    untold : HasHistory job.mode → ⊥
+    untold has = elim mode [ inl is ↦ subst HasHistory is has | inr is ↦ subst HasHistory is has ]
+
     done : (e : Call) → Meets e → IsCommand e job → (e.status ≡ 0) ⊎ (e.status ≡ 2) → e.status ≡ 0
     done e k z (inl none) = none
     done e k z (inr two) = absurd (unrun ((k.beside_err.end job z).fault_only_where two).0)
 
     histories : c.history ≡ d.history
-    histories = (m.beside_err.run job x).unrun unrun ∙ sym ((n.beside_err.run job y).unrun unrun)
+    histories = (m.beside_err.run job x).unrun untold ∙ sym ((n.beside_err.run job y).unrun untold)
 
     codes : (job.mode ≡ Check) ⊎ (job.mode ≡ Code) → c.code ≡ d.code
     codes (inl is) = (m.beside_err.code job x).unlowered (subst HasCode is) ∙ sym ((n.beside_err.code job y).unlowered (subst HasCode is))
@@ -180,7 +184,7 @@ run_alike known job c d m n u v x y whole all same a b runs program has = record
 
     -- a history that ends with a fault tells the status
     two : (e : Call) → Meets e → IsUndisturbed e → IsCommand e job → (fault : Fault) → EndsWithFault e.history fault → e.status ≡ 2
-    two e k w z fault is = by ((k.beside_err.end job z).fault_everywhere fault is)
+    two e k w z fault is = by ((k.beside_err.end job z).fault_everywhere runs fault is)
       where
         by : (e.status ≡ 2) ⊎ (((e.status ≡ 5) × SinkRose e) ⊎ ((e.status ≡ 6) × WantsReport job e)) → e.status ≡ 2
         by (inl is) = is
@@ -204,7 +208,7 @@ run_alike known job c d m n u v x y whole all same a b runs program has = record
     ended_same : job.workers ≡ 1 → EndSame c d
     ended_same alone =
         let one : c.history ≡ d.history =
-        one_run (run_of program job) c.history d.history ((m.beside_err.run job x).solo alone program has) (whole.ended runs program has) ((n.beside_err.run job y).solo alone program has_too)
+        one_run (run_of program job) c.history d.history ((m.beside_err.run job x).solo runs alone program has) (whole.ended runs program has) ((n.beside_err.run job y).solo runs alone program has_too)
         (all.ended runs program has_too) in
         record {
           status = statuses one a b;
@@ -232,16 +236,93 @@ run_alike known job c d m n u v x y whole all same a b runs program has = record
         zero_too faultless (inl is) = is
         zero_too faultless (inr is) = let fault = ((n.beside_err.end job y).fault_only_where is).1 in absurd (faultless (fault_is_there d.history fault.0 fault.1))
 
--- a text that both have read or made whole
-judged_alike : OneAnswer → (job : Job) (c d : Call) → Meets c → Meets d → IsUndisturbed c → IsUndisturbed d → IsCommand c job → IsCommand d job → IsComplete job c → IsComplete job d
-    → c.text ≡ d.text → EndAlike c d
-judged_alike known job c d m n u v x y whole all same = by (known.some c.text)
+none_some : (bytes : List ℕ) → ◌≡◌ {A = Option (List ℕ)} None (Some bytes) → ⊥
+none_some bytes e = cc
+
+-- a trace is held against a text with a program
+verified_alike : (job : Job) (c d : Call) → Meets c → Meets d → AskAlike c d → IsUndisturbed c → IsUndisturbed d → IsCommand c job → IsCommand d job → IsComplete job c → IsComplete job d
+    → c.text ≡ d.text → Verifies job.mode → Accepts job c → Accepts job d → (program : NumberedProgram) → HasProgram c.text program → EndAlike c d
+verified_alike job c d m n ask u v x y whole all same verifies a b program has = by (content_of c.source.files job.against) refl
   where
-    by_mode : (mode : Mode) → job.mode ≡ mode → (c.status ≡ 0) ⊎ (c.status ≡ 2) → (d.status ≡ 0) ⊎ (d.status ≡ 2) → (program : NumberedProgram) → HasProgram c.text program → EndAlike c d
-    by_mode Run e a b program has = run_alike known job c d m n u v x y whole all same a b (subst Runs (sym e) tt) program has
-    by_mode Check e a b program has = unrun_alike job c d m n x y same a b (inl e) program has
-    by_mode Code e a b program has = unrun_alike job c d m n x y same a b (inr e) program has
-    by_mode Gen e a b program has = run_alike known job c d m n u v x y whole all same a b (subst Runs (sym e) tt) program has
+    unrun : Runs job.mode → ⊥
+    unrun runs = runs_unverified job.mode runs verifies
+
+    has_too : HasProgram d.text program
+    has_too = subst (λ text. HasProgram text program) same has
+
+    told : d.source.tells ≡ true
+    told = ask.files.tells ∙ ask.told
+
+    alike : c.status ≡ d.status → c.history ≡ d.history → EndAlike c d
+    alike status history = all_alike c d same ((m.beside_err.code job x).unlowered (uncoded job.mode verifies) ∙ sym ((n.beside_err.code job y).unlowered (uncoded job.mode verifies))) (record {
+      status = status;
+      history = history;
+      done = (m.beside_err.count job x).unrun unrun ∙ sym ((n.beside_err.count job y).unrun unrun);
+      output = λ _ _ _. nothing_grew c d ((m.beside_err.trace job x).unwritten verifies) ((n.beside_err.trace job y).unwritten verifies);
+    })
+      where
+        uncoded : (mode : Mode) → Verifies mode → HasCode mode → ⊥
+        uncoded Run verifies has = verifies
+        uncoded Check verifies has = verifies
+        uncoded Code verifies has = verifies
+        uncoded Gen verifies has = verifies
+        uncoded Verify verifies has = has
+
+    -- the trace is missing
+    four : (e : Call) → Meets e → IsUndisturbed e → IsCommand e job → Accepts job e → IsMissing e.source job.against → (e.status ≡ 4) × (e.history ≡ [])
+    four e k w z (inl zero) gone = absurd (((k.beside_err.trace job z).traced zero verifies).there gone)
+    four e k w z (inr (inl two)) gone = absurd (unrun ((k.beside_err.end job z).fault_only_where two).0)
+    four e k w z (inr (inr (inl seven))) gone = absurd (((k.beside_err.trace job z).wrong seven).1.there gone)
+    four e k w z (inr (inr (inr lacks))) gone = (
+      lacks.0,
+      elim ((k.beside_err.trace job z).unjudged verifies (λ is. omega (arith, is, lacks.0)) (λ is. omega (arith, is, lacks.0))) [
+        | inl none ↦ none
+        | inr five ↦ absurd (omega (arith, five.0, lacks.0))
+      ],
+    )
+
+    -- the bytes of the trace decide
+    decided : (bytes : List ℕ) → Holds c.source job.against bytes → TraceDecides (run_of program job) bytes d → Accepts job c → EndAlike c d
+    decided bytes holds decides (inl zero) =
+        let k = decides.run c.history (((m.beside_err.trace job x).traced zero verifies).told program has bytes holds) in
+        alike (zero ∙ sym k.0) (sym k.1)
+    decided bytes holds decides (inr (inl two)) = absurd (unrun ((m.beside_err.end job x).fault_only_where two).0)
+    decided bytes holds decides (inr (inr (inl seven))) =
+        let wrong = (m.beside_err.trace job x).wrong seven in
+        let k = decides.wrong wrong.0 c.history (wrong.1.told program has bytes holds) in
+        alike (seven ∙ sym k.0) (sym k.1)
+    decided bytes holds decides (inr (inr (inr lacks))) = absurd (none_some bytes (sym lacks.1.missing.none ∙ holds.some))
+
+    by : (o : Option (List ℕ)) → content_of c.source.files job.against ≡ o → EndAlike c d
+    by None e =
+        let gone : IsMissing c.source job.against = record { tells = ask.told; none = e } in
+        let away : IsMissing d.source job.against = record { tells = told; none = ap (λ files. content_of files job.against) ask.files.files ∙ e } in
+        let first = four c m u x a gone in
+        let second = four d n v y b away in
+        alike (first.0 ∙ sym second.0) (first.1 ∙ sym second.1)
+    by (Some bytes) e =
+        let f : content_of d.source.files job.against ≡ Some bytes = ap (λ files. content_of files job.against) ask.files.files ∙ e in
+        decided bytes (record { tells = ask.told; some = e }) (all.verified verifies program has_too bytes (record { tells = told; some = f })) a
+
+-- a text that both have read or made whole
+judged_alike : OneAnswer → (job : Job) (c d : Call) → Meets c → Meets d → AskAlike c d → IsUndisturbed c → IsUndisturbed d → IsCommand c job → IsCommand d job → IsComplete job c → IsComplete job d
+    → c.text ≡ d.text → EndAlike c d
+judged_alike known job c d m n ask u v x y whole all same = by (known.some c.text)
+  where
+    run_of_both : (unverified : Verifies job.mode → ⊥) → Runs job.mode → Accepts job c → Accepts job d → (program : NumberedProgram) → HasProgram c.text program → EndAlike c d
+    run_of_both unverified runs a b program has =
+        run_alike known job c d m n u v x y whole all same (of_run job c m x unverified a) (of_run job d n y unverified b) runs program has
+
+    unrun_of_both : (unverified : Verifies job.mode → ⊥) → (job.mode ≡ Check) ⊎ (job.mode ≡ Code) → Accepts job c → Accepts job d → (program : NumberedProgram) → HasProgram c.text program → EndAlike c d
+    unrun_of_both unverified mode a b program has =
+        unrun_alike job c d m n x y same (of_run job c m x unverified a) (of_run job d n y unverified b) mode program has
+
+    by_mode : (mode : Mode) → job.mode ≡ mode → Accepts job c → Accepts job d → (program : NumberedProgram) → HasProgram c.text program → EndAlike c d
+    by_mode Run e a b program has = run_of_both (λ verifies. subst Verifies e verifies) (subst Runs (sym e) tt) a b program has
+    by_mode Check e a b program has = unrun_of_both (λ verifies. subst Verifies e verifies) (inl e) a b program has
+    by_mode Code e a b program has = unrun_of_both (λ verifies. subst Verifies e verifies) (inr e) a b program has
+    by_mode Gen e a b program has = run_of_both (λ verifies. subst Verifies e verifies) (subst Runs (sym e) tt) a b program has
+    by_mode Verify e a b program has = verified_alike job c d m n ask u v x y whole all same (subst Verifies (sym e) tt) a b program has
 
     by : ((program : NumberedProgram) × HasProgram c.text program) ⊎ ((refusal : Refusal) × IsRefusal c.text refusal) → EndAlike c d
     by (inl found) =
@@ -258,15 +339,13 @@ some_none l e = cc
 nothing_failed : (job : Job) (c : Call) → IsUndisturbed c → (HasFile job.mode → IsMissing c.source job.file → ⊥) → NothingFailed job c
 nothing_failed job c u there = record { source = u.source; out = u.out; err = u.err; there = there; memory = u.memory }
 
--- a text that ends so was read whole
-read_text : (job : Job) (c : Call) (bytes : List ℕ) → ReadsText job c → Holds c.source job.file bytes → Ends c → c.text ≡ take most_read bytes
-read_text job c bytes read holds (inl one) = (read.whole_at_one one).told bytes holds
-read_text job c bytes read holds (inr (inl none)) = (read.whole_at_zero none).told bytes holds
-read_text job c bytes read holds (inr (inr two)) = (read.whole_at_two two).told bytes holds
+-- where nothing failed the text was read whole
+read_text : (job : Job) (c : Call) (bytes : List ℕ) → HasFile job.mode → Holds c.source job.file bytes → IsComplete job c → c.text ≡ take most_read bytes
+read_text job c bytes named holds whole = (was_read job.mode job c named whole.whole).told bytes holds
 
 read_alike : OneAnswer → (job : Job) (c d : Call) → Meets c → Meets d → AskAlike c d → IsUndisturbed c → IsUndisturbed d → IsCommand c job → IsCommand d job
-    → ReadsText job c → ReadsText job d → EndAlike c d
-read_alike known job c d m n ask u v x y read again = by (content_of c.source.files job.file) refl
+    → HasFile job.mode → ReadsText job c → ReadsText job d → EndAlike c d
+read_alike known job c d m n ask u v x y named read again = by (content_of c.source.files job.file) refl
   where
     told : d.source.tells ≡ true
     told = ask.files.tells ∙ ask.told
@@ -280,19 +359,19 @@ read_alike known job c d m n ask u v x y read again = by (content_of c.source.fi
         let f : content_of d.source.files job.file ≡ Some bytes = ap (λ files. content_of files job.file) ask.files.files ∙ e in
         let whole = m.completeness job x (nothing_failed job c u (λ has gone. some_none bytes (sym e ∙ gone.none))) in
         let all = n.completeness job y (nothing_failed job d v (λ has gone. some_none bytes (sym f ∙ gone.none))) in
-        let first = read_text job c bytes read (record { tells = ask.told; some = e }) (ends known job c whole) in
-        let second = read_text job d bytes again (record { tells = told; some = f }) (ends known job d all) in
-        judged_alike known job c d m n u v x y whole all (first ∙ sym second)
+        let first = read_text job c bytes named (record { tells = ask.told; some = e }) whole in
+        let second = read_text job d bytes named (record { tells = told; some = f }) all in
+        judged_alike known job c d m n ask u v x y whole all (first ∙ sym second)
 
 -- ---- the text is made
 
-made_alike : OneAnswer → (job : Job) (c d : Call) → Meets c → Meets d → IsUndisturbed c → IsUndisturbed d → IsCommand c job → IsCommand d job
+made_alike : OneAnswer → (job : Job) (c d : Call) → Meets c → Meets d → AskAlike c d → IsUndisturbed c → IsUndisturbed d → IsCommand c job → IsCommand d job
     → job.mode ≡ Gen → MakesText job c → MakesText job d → EndAlike c d
-made_alike known job c d m n u v x y e made again =
+made_alike known job c d m n ask u v x y e made again =
     let no_file : HasFile job.mode → ⊥ = λ has. subst HasFile e has in
     let whole = m.completeness job x (nothing_failed job c u (λ has. absurd (no_file has))) in
     let all = n.completeness job y (nothing_failed job d v (λ has. absurd (no_file has))) in
-    judged_alike known job c d m n u v x y whole all (or_not (λ k. no_yield c u k.1) made.made ∙ sym (or_not (λ k. no_yield d v k.1) again.made))
+    judged_alike known job c d m n ask u v x y whole all (or_not (λ k. no_yield c u k.1) made.made ∙ sym (or_not (λ k. no_yield d v k.1) again.made))
 
 -- ---- all calls
 
@@ -300,10 +379,11 @@ pub ended_alike : OneAnswer → (c d : Call) → Meets c → Meets d → AskAlik
 ended_alike known c d m n ask u v = by (job_of c.words) refl
   where
     by_mode : (job : Job) (mode : Mode) → job.mode ≡ mode → IsCommand c job → IsCommand d job → GetsText mode job c → GetsText mode job d → EndAlike c d
-    by_mode job Run e x y a b = read_alike known job c d m n ask u v x y a b
-    by_mode job Check e x y a b = read_alike known job c d m n ask u v x y a b
-    by_mode job Code e x y a b = read_alike known job c d m n ask u v x y a b
-    by_mode job Gen e x y a b = made_alike known job c d m n u v x y e a b
+    by_mode job Run e x y a b = read_alike known job c d m n ask u v x y (subst HasFile (sym e) tt) a b
+    by_mode job Check e x y a b = read_alike known job c d m n ask u v x y (subst HasFile (sym e) tt) a b
+    by_mode job Code e x y a b = read_alike known job c d m n ask u v x y (subst HasFile (sym e) tt) a b
+    by_mode job Gen e x y a b = made_alike known job c d m n ask u v x y e a b
+    by_mode job Verify e x y a b = read_alike known job c d m n ask u v x y (subst HasFile (sym e) tt) a b
 
     by : (o : Option Job) → job_of c.words ≡ o → EndAlike c d
     by None e = no_command c d m n u v e (ap job_of (sym ask.words) ∙ e)

@@ -2,7 +2,7 @@
 use Rattle.std.proofs.Common.{◌≡◌, inl, inr, [], arith, sym, ◌∙◌, ap}
 use Rattle.std.proofs.lemmas.List.{append-nil}
 use Rattle.ti_top.specs.declared.ending.Ending.{Ending}
-use Rattle.ti_top.specs.declared.ending.Ending.TheVariants.{Done, Refused, Faulted, NoCommand, CantRead, CantWrite, NoMemory}
+use Rattle.ti_top.specs.declared.ending.Ending.TheVariants.{Done, Refused, Faulted, NoCommand, CantRead, CantWrite, NoMemory, NoRun}
 use Rattle.ti_top.specs.Mirrors.Ended.{Ended, EndedWhole, EndedCut}
 use Rattle.ti_top.specs.Call.{Call, file_of, SinkRose}
 use Rattle.ti_top.proofs.StatusFrom.{is_done, is_cant_write}
@@ -17,6 +17,7 @@ out_rose c (Faulted fault) is says = absurd (let x = is in cc)
 out_rose c NoCommand is says = absurd (let x = is in cc)
 out_rose c CantRead is says = absurd (let x = is in cc)
 out_rose c NoMemory is says = absurd (let x = is in cc)
+out_rose c (NoRun line) is says = absurd (let x = is in cc)
 
 written_whole : (c : Call) (before : Ending) → Says c before → MeetsBesideErr (before_err c before) → EndedWhole before (file_of c) c.err c.err_after c.status → WritesErr c
 written_whole c before says met ended = record {

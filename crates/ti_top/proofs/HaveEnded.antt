@@ -6,7 +6,7 @@ use Rattle.ti_lang.specs.Meaning.Processes.{Setting}
 use Rattle.ti_lang.specs.Meaning.Histories.{has_end}
 use Rattle.ti_lang.specs.Meaning.Runs.{IsRun, AllEnded}
 use Rattle.ti_top.specs.declared.ending.Ending.{Ending}
-use Rattle.ti_top.specs.declared.ending.Ending.TheVariants.{Done, Refused, Faulted, NoCommand, CantRead, CantWrite, NoMemory}
+use Rattle.ti_top.specs.declared.ending.Ending.TheVariants.{Done, Refused, Faulted, NoCommand, CantRead, CantWrite, NoMemory, NoRun}
 use Rattle.ti_top.specs.Summary.{summary_line, have_ended, summary}
 use Rattle.ti_top.specs.Mirrors.RunEnds.{RunEnds}
 use Rattle.ti_top.specs.Mirrors.Work.{summary_after}
@@ -66,3 +66,4 @@ summary_is NoCommand s es run ends = absurd ends
 summary_is CantRead s es run ends = absurd ends
 summary_is CantWrite s es run ends = absurd ends
 summary_is NoMemory s es run ends = no_summary s es (λ ended. ends (inr ended))
+summary_is (NoRun line) s es run ends = absurd ends

@@ -3,7 +3,7 @@ use Rattle.std.proofs.Common.{◌≡◌, inl, inr, ℕ, ◌≤◌, ◌*◌, nat_
 use Rattle.std.proofs.lemmas.Bool.Decides.{leb_tells}
 use Rattle.std.proofs.lemmas.Option.{same_Some}
 use Rattle.ti_words.specs.Uses.{Word}
-use Rattle.ti_words.specs.Job.{Values, values_in, mode_of, file_of, seed_of, is_number, number_of, number_in, number_within, most_fuel, procs_of, workers_of, fuel_of, job_by, job_of}
+use Rattle.ti_words.specs.Job.{Values, values_in, mode_of, file_of, against_of, seed_of, is_number, number_of, number_in, number_within, most_fuel, procs_of, workers_of, fuel_of, job_by, job_of}
 use Rattle.ti_words.specs.declared.job.Job.{Job}
 use Rattle.ti_words.specs.declared.job.Mode.{Mode}
 use Rattle.ti_store.specs.Conditions.{IsWithin}
@@ -65,38 +65,42 @@ fuel_within procs values n e =
 
 -- ---- jobs
 
-abbrev job_with : Values → Mode → Word → ℕ → ℕ → ℕ → ℕ → Job
-job_with values mode file seed procs workers fuel =
-    record { mode = mode; procs = procs; workers = workers; fuel = fuel; seed = seed; trace = values.trace; stats = values.stats; races = values.races; file = file }
+abbrev job_with : Values → Mode → Word → Word → ℕ → ℕ → ℕ → ℕ → Job
+job_with values mode file against seed procs workers fuel =
+    record { mode = mode; procs = procs; workers = workers; fuel = fuel; seed = seed; trace = values.trace; stats = values.stats; races = values.races; file = file; against = against }
 
 -- the last steps, of which each takes one more value
-abbrev fueled : Values → Mode → Word → ℕ → ℕ → ℕ → Option Job
-fueled values mode file seed procs workers = option_map (job_with values mode file seed procs workers) (fuel_of procs values)
+abbrev fueled : Values → Mode → Word → Word → ℕ → ℕ → ℕ → Option Job
+fueled values mode file against seed procs workers = option_map (job_with values mode file against seed procs workers) (fuel_of procs values)
 
-abbrev manned : Values → Mode → Word → ℕ → ℕ → Option Job
-manned values mode file seed procs = option_and_then (fueled values mode file seed procs) (workers_of procs values)
+abbrev manned : Values → Mode → Word → Word → ℕ → ℕ → Option Job
+manned values mode file against seed procs = option_and_then (fueled values mode file against seed procs) (workers_of procs values)
 
-abbrev seeded : Values → Mode → Word → ℕ → Option Job
-seeded values mode file seed = option_and_then (manned values mode file seed) (procs_of values)
+abbrev seeded : Values → Mode → Word → Word → ℕ → Option Job
+seeded values mode file against seed = option_and_then (manned values mode file against seed) (procs_of values)
+
+abbrev traced : Values → Mode → Word → Word → Option Job
+traced values mode file against = option_and_then (seeded values mode file against) (seed_of mode values.seed)
 
 abbrev named : Values → Mode → Word → Option Job
-named values mode file = option_and_then (seeded values mode file) (seed_of mode values.seed)
+named values mode file = option_and_then (traced values mode file) (against_of mode values.against)
 
-within : (values : Values) (mode : Mode) (file : Word) (seed procs workers fuel : ℕ) (job : Job) → job_with values mode file seed procs workers fuel ≡ job → IsWithin procs fuel → 1 ≤ workers → IsInRanges job
-within values _ file seed procs workers fuel job same is some = subst IsInRanges same (record { within = is; workers = some })
+within : (values : Values) (mode : Mode) (file against : Word) (seed procs workers fuel : ℕ) (job : Job) → job_with values mode file against seed procs workers fuel ≡ job → IsWithin procs fuel → 1 ≤ workers → IsInRanges job
+within values _ file against seed procs workers fuel job same is some = subst IsInRanges same (record { within = is; workers = some })
 
 ranges : (values : Values) (job : Job) → job_by values ≡ Some job → IsInRanges job
 ranges values job e =
     let mode = stepped (mode_of values.mode) (λ mode. option_and_then (named values mode) (file_of mode values.file)) job e in
     let file = stepped (file_of mode.first values.file) (named values mode.first) job mode.next in
-    let seed = stepped (seed_of mode.first values.seed) (seeded values mode.first file.first) job file.next in
-    let procs = stepped (procs_of values) (manned values mode.first file.first seed.first) job seed.next in
-    let workers = stepped (workers_of procs.first values) (fueled values mode.first file.first seed.first procs.first) job procs.next in
-    let fuel = mapped (job_with values mode.first file.first seed.first procs.first workers.first) (fuel_of procs.first values) job workers.next in
+    let against = stepped (against_of mode.first values.against) (traced values mode.first file.first) job file.next in
+    let seed = stepped (seed_of mode.first values.seed) (seeded values mode.first file.first against.first) job against.next in
+    let procs = stepped (procs_of values) (manned values mode.first file.first against.first seed.first) job seed.next in
+    let workers = stepped (workers_of procs.first values) (fueled values mode.first file.first against.first seed.first procs.first) job procs.next in
+    let fuel = mapped (job_with values mode.first file.first against.first seed.first procs.first workers.first) (fuel_of procs.first values) job workers.next in
     let p = within_range 1 32 1 values.procs procs.first (omega arith) (omega arith) procs.is in
     let w = within_range 1 procs.first procs.first values.workers workers.first p.0 (omega arith) workers.is in
     let f = fuel_within procs.first values fuel.0 fuel.1 in
-    within values mode.first file.first seed.first procs.first workers.first fuel.0 job fuel.2 (record { some = p.0; few = p.1; fueled = f.0; limited = f.1 }) w.0
+    within values mode.first file.first against.first seed.first procs.first workers.first fuel.0 job fuel.2 (record { some = p.0; few = p.1; fueled = f.0; limited = f.1 }) w.0
 
 pub in_ranges : (words : List Word) (job : Job) → job_of words ≡ Some job → IsInRanges job
 in_ranges words job e = let k = stepped (values_in words) job_by job e in ranges k.first job k.next

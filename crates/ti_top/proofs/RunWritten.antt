@@ -16,12 +16,12 @@ use Rattle.ti_lower.specs.Programs.{program_code}
 use Rattle.ti_runtime.specs.Ran.{IsDone}
 use Rattle.ti_words.specs.declared.job.Job.{Job}
 use Rattle.ti_words.specs.declared.job.Mode.{Mode}
-use Rattle.ti_words.specs.declared.job.Mode.TheVariants.{Run, Check, Code, Gen}
+use Rattle.ti_words.specs.declared.job.Mode.TheVariants.{Run, Check, Code, Gen, Verify}
 use Rattle.ti_top.specs.declared.fault.Fault.{Fault}
 use Rattle.ti_top.specs.declared.reports.ReportEnd.{ReportEnd}
 use Rattle.ti_top.specs.declared.reports.ReportEnd.TheVariants as Report
 use Rattle.ti_top.specs.declared.ending.Ending.{Ending}
-use Rattle.ti_top.specs.declared.ending.Ending.TheVariants.{Done, Refused, Faulted, NoCommand, CantRead, CantWrite, NoMemory}
+use Rattle.ti_top.specs.declared.ending.Ending.TheVariants.{Done, Refused, Faulted, NoCommand, CantRead, CantWrite, NoMemory, NoRun}
 use Rattle.ti_top.specs.Reports.{Watcher, reports, output_in}
 use Rattle.ti_top.specs.Run.{Runs, run_of}
 use Rattle.ti_top.specs.Mirrors.Reporting.{Reported}
@@ -134,6 +134,7 @@ run_whole NoCommand s h ends cut = absurd ends
 run_whole CantRead s h ends cut = absurd ends
 run_whole CantWrite s h ends cut = absurd ends
 run_whole NoMemory s h ends cut = refl
+run_whole (NoRun line) s h ends cut = absurd ends
 
 -- the ending of the work is that of the run, where it is neither want of memory nor a failed write
 ending_is : (ended ending e : Ending) → (ending ≡ ended) ⊎ (ending ≡ NoMemory) ⊎ (ending ≡ CantWrite) → ending ≡ e → (NoMemory ≡ e → ⊥) → (CantWrite ≡ e → ⊥) → ended ≡ e
@@ -149,6 +150,7 @@ run_known NoCommand ending s h ends (inl same) = absurd ends
 run_known CantRead ending s h ends (inl same) = absurd ends
 run_known CantWrite ending s h ends (inl same) = absurd ends
 run_known NoMemory ending s h ends (inl same) = inr (inr (inl same))
+run_known (NoRun line) ending s h ends (inl same) = absurd ends
 run_known ended ending s h ends (inr other) = inr (inr other)
 
 -- what is written of a run that ended so
@@ -157,6 +159,7 @@ output_is Run ended s h ws runs run ends = refl
 output_is Check ended s h ws runs run ends = absurd runs
 output_is Code ended s h ws runs run ends = absurd runs
 output_is Gen ended s h ws runs run ends = ap (λ t. t ++ reports ws h) (summary_is ended s h run ends)
+output_is Verify ended s h ws runs run ends = absurd runs
 
 -- the program was run by its code, and the instructions of a run that ended so are counted
 pub record IsByCode (p : NumberedProgram) (job : Job) (ended : Ending) (k : Kept) : Type 0 where

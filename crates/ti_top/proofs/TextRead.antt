@@ -1,5 +1,5 @@
 -- From how the reading ended to the clause on the text.
-use Rattle.std.proofs.Common.{◌≡◌, ◌⊎◌, inl, inr, ℕ, ◌<◌, arith, refl, sym, ◌∙◌, ap}
+use Rattle.std.proofs.Common.{◌≡◌, ◌⊎◌, inl, inr, ℕ, arith, refl, sym, ◌∙◌, ap}
 use Rattle.ti_io.specs.Source.{IsMissing}
 use Rattle.ti_top.specs.declared.reading.ReadEnd.{ReadEnd}
 use Rattle.ti_top.specs.declared.reading.ReadEnd.TheVariants as Read
@@ -10,6 +10,7 @@ use Rattle.ti_top.specs.Mirrors.Reading.{ReadsWhole}
 use Rattle.ti_top.specs.Ending.{status_of}
 use Rattle.ti_top.specs.Call.{Call, Yields}
 use Rattle.ti_top.specs.Clauses.{IsReadWhole, ReadsText}
+use Rattle.ti_top.specs.Run.{Verifies}
 use Rattle.ti_top.proofs.StatusFrom.{StatusFrom, not_five, is_no_command, is_cant_read}
 
 -- the ending that a call may have where its reading ended so
@@ -32,12 +33,11 @@ read_whole before job c read fits from = record {
 }
 
 -- with a status that no failed reading has, the text was read whole
-whole_at : (n : ℕ) (end : ReadEnd) (before : Ending) (job : Job) (c : Call) → ReadsWhole job.file c.source c.source_after c.text end → EndsAs end before → StatusFrom before c → c.status ≡ n → n < 3 → IsReadWhole job c
-whole_at n Read.Whole before job c read fits from is low = read_whole before job c read fits from
-whole_at n Read.CantRead before job c read fits from is low =
-    absurd (let e = not_five before n c from is (λ x. omega arith) in let f = ap status_of fits in omega arith)
-whole_at n Read.NoMemory before job c read fits from is low =
-    absurd (let e = not_five before n c from is (λ x. omega arith) in let f = ap status_of fits in omega arith)
+whole_at : (n : ℕ) (end : ReadEnd) (before : Ending) (job : Job) (c : Call) → ReadsWhole job.file c.source c.source_after c.text end → EndsAs end before → StatusFrom before c → c.status ≡ n
+    → (4 ≡ n → ⊥) → (5 ≡ n → ⊥) → (6 ≡ n → ⊥) → IsReadWhole job c
+whole_at n Read.Whole before job c read fits from is four five six = read_whole before job c read fits from
+whole_at n Read.CantRead before job c read fits from is four five six = absurd (four (sym (ap status_of fits) ∙ not_five before n c from is (λ x. five (sym x))))
+whole_at n Read.NoMemory before job c read fits from is four five six = absurd (six (sym (ap status_of fits) ∙ not_five before n c from is (λ x. five (sym x))))
 
 cause_of_four : (end : ReadEnd) (before : Ending) (job : Job) (c : Call) → ReadsWhole job.file c.source c.source_after c.text end → EndsAs end before → before ≡ CantRead → end ≡ Read.CantRead
 cause_of_four Read.Whole before job c read fits is = absurd (fits.1 is)
@@ -51,15 +51,21 @@ missing_is_told Read.CantRead before job c read fits from missing =
 missing_is_told Read.NoMemory before job c read fits from missing =
     elim from [ inl same ↦ inr (inl (same ∙ ap status_of fits)) | inr cut ↦ inr (inr (cut.0, inr cut.1)) ]
 
-pub reads_text : (end : ReadEnd) (before : Ending) (job : Job) (c : Call) → ReadsWhole job.file c.source c.source_after c.text end → EndsAs end before → StatusFrom before c → ReadsText job c
-reads_text end before job c read fits from = record {
+pub reads_text : (end : ReadEnd) (before : Ending) (job : Job) (c : Call) → (Verifies job.mode → ⊥) → ReadsWhole job.file c.source c.source_after c.text end → EndsAs end before → StatusFrom before c
+    → ReadsText job c
+reads_text end before job c unverified read fits from = record {
   front = read.front;
   bound = read.bound;
-  whole_at_zero = λ is. whole_at 0 end before job c read fits from is (omega arith);
-  whole_at_one = λ is. whole_at 1 end before job c read fits from is (omega arith);
-  whole_at_two = λ is. whole_at 2 end before job c read fits from is (omega arith);
+  whole_at_zero = λ is. whole_at 0 end before job c read fits from is (λ e. omega arith) (λ e. omega arith) (λ e. omega arith);
+  whole_at_one = λ is. whole_at 1 end before job c read fits from is (λ e. omega arith) (λ e. omega arith) (λ e. omega arith);
+  whole_at_two = λ is. whole_at 2 end before job c read fits from is (λ e. omega arith) (λ e. omega arith) (λ e. omega arith);
+  whole_at_seven = λ is. whole_at 7 end before job c read fits from is (λ e. omega arith) (λ e. omega arith) (λ e. omega arith);
   nothing_of_missing = read.nothing;
-  four_only_where = λ is. read.cause (cause_of_four end before job c read fits (is_cant_read before (not_five before 4 c from is (λ e. omega arith))));
+  four_only_where = λ is. elim (read.cause (cause_of_four end before job c read fits (is_cant_read before (not_five before 4 c from is (λ e. omega arith))))) [
+    | inl missing ↦ inl missing
+    | inr rose ↦ inr (inr rose)
+  ];
   missing = missing_is_told end before job c read fits from;
+  lacking = λ lack. absurd (unverified lack.mode);
   same_files = read.same;
 }

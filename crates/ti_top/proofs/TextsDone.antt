@@ -6,15 +6,15 @@ use Rattle.ti_rules.specs.declared.refusal.Refusal.{Refusal}
 use Rattle.ti_rules.specs.RefusalOf.{IsRefusal}
 use Rattle.ti_words.specs.declared.job.Job.{Job}
 use Rattle.ti_words.specs.declared.job.Mode.{Mode}
-use Rattle.ti_words.specs.declared.job.Mode.TheVariants.{Run, Check, Code, Gen}
+use Rattle.ti_words.specs.declared.job.Mode.TheVariants.{Run, Check, Code, Gen, Verify}
 use Rattle.ti_top.specs.declared.fault.Fault.{Fault}
 use Rattle.ti_top.specs.declared.ending.Ending.{Ending}
-use Rattle.ti_top.specs.declared.ending.Ending.TheVariants.{Done, Refused, Faulted, NoCommand, CantRead, CantWrite, NoMemory}
+use Rattle.ti_top.specs.declared.ending.Ending.TheVariants.{Done, Refused, Faulted, NoCommand, CantRead, CantWrite, NoMemory, NoRun}
 use Rattle.ti_top.specs.Run.{Runs}
 use Rattle.ti_top.specs.Reports.{Watcher}
 use Rattle.ti_top.specs.Mirrors.Coding.{CodeSays}
 use Rattle.ti_top.specs.Mirrors.Compiling.{IsCompiled, HasNoProgram}
-use Rattle.ti_top.specs.Mirrors.Work.{Kept, RanNothing, RunSays, WasChecked, RunTextSays, CodeTextSays, TextSays, Work, FileDone, SeedDone, WorkSays}
+use Rattle.ti_top.specs.Mirrors.Work.{Kept, RanNothing, RunSays, WasChecked, RunTextSays, CodeTextSays, TextSays, Work, FileDone, SeedDone, TraceDone, WorkSays}
 
 -- the endings of a run
 abbrev IsOfRun : Ending → Type 0
@@ -38,6 +38,12 @@ not_cant_read (inr (inl e)) = let x = e.1 in cc
 not_cant_read (inr (inr (inl e))) = let x = e in cc
 not_cant_read (inr (inr (inr e))) = let x = e in cc
 
+not_no_run : (line : ℕ) → IsOfRun (NoRun line) → ⊥
+not_no_run line (inl e) = let x = e in cc
+not_no_run line (inr (inl e)) = let x = e.1 in cc
+not_no_run line (inr (inr (inl e))) = let x = e in cc
+not_no_run line (inr (inr (inr e))) = let x = e in cc
+
 -- the program of the text was run
 pub ran_text : (ending : Ending) (p : NumberedProgram) (job : Job) (ws : List Watcher) (text : List ℕ) (out after : SinkState) (k : Kept) → IsCompiled text p → RunSays p job ws out after k ending → RunTextSays ending job ws text out after k
 ran_text Done p job ws text out after k compiled says = record { program = p; compiled = compiled; says = says }
@@ -47,6 +53,7 @@ ran_text NoCommand p job ws text out after k compiled says = absurd (not_no_comm
 ran_text CantRead p job ws text out after k compiled says = absurd (not_cant_read says.known)
 ran_text CantWrite p job ws text out after k compiled says = record { program = p; compiled = compiled; says = says }
 ran_text NoMemory p job ws text out after k compiled says = inr (record { program = p; compiled = compiled; says = says })
+ran_text (NoRun line) p job ws text out after k compiled says = absurd (not_no_run line says.known)
 
 -- the code of the text's program was written
 pub coded_text : (ending : Ending) (p : NumberedProgram) (text : List ℕ) (out after : SinkState) (k : Kept) → IsCompiled text p → k.history ≡ [] → k.done ≡ [] → CodeSays ending p out after k.code → CodeTextSays ending text out after k
@@ -57,6 +64,7 @@ coded_text NoCommand p text out after k compiled none uncounted says = absurd sa
 coded_text CantRead p text out after k compiled none uncounted says = absurd says
 coded_text CantWrite p text out after k compiled none uncounted says = record { program = p; compiled = compiled; wrote = says; no_entry = none; no_count = uncounted }
 coded_text NoMemory p text out after k compiled none uncounted says = record { unwritten = says.0; no_entry = none; no_code = says.1; no_count = uncounted }
+coded_text (NoRun line) p text out after k compiled none uncounted says = absurd says
 
 -- the modes that run
 pub run_or_gen : (mode : Mode) → (mode ≡ Run) ⊎ (mode ≡ Gen) → Runs mode
@@ -73,12 +81,22 @@ done_by_file m job ending w (inr (inr is)) done = subst (λ (m : Mode). WorkSays
 pub done_by_seed : (mode : Mode) (job : Job) (ending : Ending) (w : Work) → mode ≡ Gen → SeedDone job ending w → WorkSays mode job ending w
 done_by_seed m job ending w is done = subst (λ (m : Mode). WorkSays m job ending w) (sym is) done
 
+-- and where a trace is named as well
+pub done_by_trace : (mode : Mode) (job : Job) (ending : Ending) (w : Work) → mode ≡ Verify → TraceDone job ending w → WorkSays mode job ending w
+done_by_trace m job ending w is done = subst (λ (m : Mode). WorkSays m job ending w) (sym is) done
+
 -- what a run says is said in its mode
 pub run_in_mode : (mode : Mode) (ending : Ending) (job : Job) (ws : List Watcher) (text : List ℕ) (out after : SinkState) (k : Kept) → Runs mode → RunTextSays ending job ws text out after k → TextSays mode ending job ws text out after k
 run_in_mode Run ending job ws text out after k runs says = says
 run_in_mode Check ending job ws text out after k runs says = absurd runs
 run_in_mode Code ending job ws text out after k runs says = absurd runs
 run_in_mode Gen ending job ws text out after k runs says = says
+run_in_mode Verify ending job ws text out after k runs says = absurd runs
+
+-- that the text was checked is said in the modes that do no more with it
+pub checked_in_mode : (mode : Mode) (job : Job) (ws : List Watcher) (text : List ℕ) (out after : SinkState) (k : Kept) → (mode ≡ Check) ⊎ (mode ≡ Verify) → WasChecked text out after k → TextSays mode Done job ws text out after k
+checked_in_mode m job ws text out after k (inl is) was = subst (λ (m : Mode). TextSays m Done job ws text out after k) (sym is) was
+checked_in_mode m job ws text out after k (inr is) was = subst (λ (m : Mode). TextSays m Done job ws text out after k) (sym is) was
 
 -- the text has a refusal
 pub refused_text : (mode : Mode) (refusal : Refusal) (job : Job) (ws : List Watcher) (text : List ℕ) (out after : SinkState) (k : Kept) → IsRefusal text refusal × HasNoProgram text → RanNothing out after k → TextSays mode (Refused refusal) job ws text out after k
@@ -86,6 +104,7 @@ refused_text Run refusal job ws text out after k is nothing = record { is = is.0
 refused_text Check refusal job ws text out after k is nothing = record { is = is.0; no_program = is.1; nothing = nothing }
 refused_text Code refusal job ws text out after k is nothing = record { is = is.0; no_program = is.1; nothing = nothing }
 refused_text Gen refusal job ws text out after k is nothing = record { is = is.0; no_program = is.1; nothing = nothing }
+refused_text Verify refusal job ws text out after k is nothing = record { is = is.0; no_program = is.1; nothing = nothing }
 
 -- memory was wanting before a run
 pub unrun_text : (mode : Mode) (job : Job) (ws : List Watcher) (text : List ℕ) (out after : SinkState) (k : Kept) → RanNothing out after k → TextSays mode NoMemory job ws text out after k
@@ -93,6 +112,7 @@ unrun_text Run job ws text out after k nothing = inl nothing
 unrun_text Check job ws text out after k nothing = nothing
 unrun_text Code job ws text out after k nothing = nothing
 unrun_text Gen job ws text out after k nothing = inl nothing
+unrun_text Verify job ws text out after k nothing = nothing
 
 -- the text has a program, and is checked alone
 pub checked_text : (p : NumberedProgram) (text : List ℕ) (out after : SinkState) (k : Kept) → IsCompiled text p → RanNothing out after k → WasChecked text out after k

@@ -17,14 +17,16 @@ use Rattle.ti_rules.specs.declared.refusal.Refusal.{Refusal}
 use Rattle.ti_rules.specs.RefusalOf.{HasNone, HasProgram, IsRefusal}
 use Rattle.ti_words.specs.declared.job.Job.{Job}
 use Rattle.ti_words.specs.declared.job.Mode.{Mode}
-use Rattle.ti_words.specs.declared.job.Mode.TheVariants.{Run, Check, Code, Gen}
+use Rattle.ti_words.specs.declared.job.Mode.TheVariants.{Run, Check, Code, Gen, Verify}
 use Rattle.ti_top.specs.declared.fault.Fault.{Fault}
 use Rattle.ti_top.specs.declared.ending.Ending.{Ending}
-use Rattle.ti_top.specs.declared.ending.Ending.TheVariants.{Done, Refused, Faulted, NoCommand, CantRead, CantWrite, NoMemory}
-use Rattle.ti_top.specs.Run.{HasFile, Runs, HasCode, run_of, EndsWithFault}
+use Rattle.ti_top.specs.declared.ending.Ending.TheVariants.{Done, Refused, Faulted, NoCommand, CantRead, CantWrite, NoMemory, NoRun}
+use Rattle.ti_top.specs.Run.{HasFile, Runs, HasCode, Verifies, HasHistory, run_of, EndsWithFault}
 use Rattle.ti_top.specs.Ending.{status_of, err_line}
+use Rattle.ti_top.specs.Flushing.{FlushesOut, FlushesErr}
 use Rattle.ti_top.specs.Reports.{wanted, output, WroteFew}
 use Rattle.ti_top.specs.Call.{most_read, Call, IsCommand, IsNoCommand, file_of, SourceRose, OutRose, ErrRose, SinkRose, Yields, WantsReport}
+use Rattle.ti_top.specs.Traces.{LacksTrace, IsUnreadable, IsWrongTrace, VerifiesTrace, TraceDecides}
 
 -- The words: status 3 says that they are no command, and then nothing was read.
 pub record AnswersWords (c : Call) : Type 0 where
@@ -56,20 +58,24 @@ IsWholeIn Run job c = IsReadWhole job c
 IsWholeIn Check job c = IsReadWhole job c
 IsWholeIn Code job c = IsReadWhole job c
 IsWholeIn Gen job c = IsMade job c
+IsWholeIn Verify job c = IsReadWhole job c
 
 abbrev pub HasText : Job → Call → Type 0
 HasText job c = IsWholeIn job.mode job c
 
--- The text where a file is named: a front of what the file holds, and the whole with status 0, 1 or 2. Status 4 says that it can't be read.
+-- The text where a file is named: a front of what the file holds, and the whole with status 0, 1, 2 or 7. Status 4 says that it, or in mode
+-- verify the trace, can't be read.
 pub record ReadsText (job : Job) (c : Call) : Type 0 where
   pub front : (bytes : List ℕ) → Holds c.source job.file bytes → IsFront c.text bytes
   pub bound : length c.text ≤ most_read
   pub whole_at_zero : c.status ≡ 0 → IsReadWhole job c
   pub whole_at_one : c.status ≡ 1 → IsReadWhole job c
   pub whole_at_two : c.status ≡ 2 → IsReadWhole job c
+  pub whole_at_seven : c.status ≡ 7 → IsReadWhole job c
   pub nothing_of_missing : IsMissing c.source job.file → c.text ≡ []
-  pub four_only_where : c.status ≡ 4 → IsMissing c.source job.file ⊎ SourceRose c
+  pub four_only_where : c.status ≡ 4 → IsUnreadable job c
   pub missing : IsMissing c.source job.file → (c.status ≡ 4) ⊎ Yields c
+  pub lacking : LacksTrace job c → (c.status ≡ 4) ⊎ Yields c
   pub same_files : SameFiles c.source c.source_after
 
 -- The text in mode gen, where nothing is read: that of the seed, unless it ran out of memory before.
@@ -84,6 +90,7 @@ GetsText Run job c = ReadsText job c
 GetsText Check job c = ReadsText job c
 GetsText Code job c = ReadsText job c
 GetsText Gen job c = MakesText job c
+GetsText Verify job c = ReadsText job c
 
 -- the text has a program
 abbrev pub IsAccepted : List ℕ → Type 0
@@ -94,8 +101,8 @@ pub record IsRefused (job : Job) (c : Call) (refusal : Refusal) : Type 0 where
   pub whole : HasText job c
   pub refused : IsRefusal c.text refusal
 
--- The refusal: status 1 says that the text is refused, and then there is no code, and nothing was run and nothing written; with status 0 or 2
--- it is accepted.
+-- The refusal: status 1 says that the text is refused, and then there is no code, and nothing was run and nothing written; with status 0, 2
+-- or 7 it is accepted.
 pub record RefusesExactly (job : Job) (c : Call) : Type 0 where
   pub only_where : c.status ≡ 1 → (refusal : Refusal) × IsRefused job c refusal
   -- it may run out of memory, and a sink or a reading may fail
@@ -106,14 +113,16 @@ pub record RefusesExactly (job : Job) (c : Call) : Type 0 where
   pub no_output : (refusal : Refusal) → IsRefusal c.text refusal → c.out_after.taken ≡ c.out.taken
   pub accepted_at_zero : c.status ≡ 0 → IsAccepted c.text
   pub accepted_at_two : c.status ≡ 2 → IsAccepted c.text
+  pub accepted_at_seven : c.status ≡ 7 → IsAccepted c.text
 
 -- The run: whatever the status, the history is a run of the text's program, by however many workers, and by one worker, as far as it goes, the one in
--- which each entry is that of the lowest-numbered process that can take one; where there is no program, or the mode isn't one that runs it, it is empty.
+-- which each entry is that of the lowest-numbered process that can take one; where there is no program, or the mode isn't one that runs it or
+-- reads its trace, it is empty.
 pub record KeepsRun (job : Job) (c : Call) : Type 0 where
   pub run : (program : NumberedProgram) → HasProgram c.text program → IsRun (run_of program job) c.history
-  pub solo : job.workers ≡ 1 → (program : NumberedProgram) → HasProgram c.text program → IsSolo (run_of program job) c.history
+  pub solo : Runs job.mode → job.workers ≡ 1 → (program : NumberedProgram) → HasProgram c.text program → IsSolo (run_of program job) c.history
   pub none : ((program : NumberedProgram) → HasProgram c.text program → ⊥) → c.history ≡ []
-  pub unrun : (Runs job.mode → ⊥) → c.history ≡ []
+  pub unrun : (HasHistory job.mode → ⊥) → c.history ≡ []
 
 -- The code: with status 0 or 2 in the modes run, code and gen it is there. One that is there is that of the text's program, and follows it:
 -- for each number of processes, all ticks, each process and all answers that fit, it has next the action, the fault or the end that the
@@ -166,10 +175,11 @@ pub record WritesOutput (c : Call) : Type 0 where
   -- the lines of the kept history or its summary are written, and whole reports
   pub no_memory : c.status ≡ 6 → c.out.tells ≡ true → WhereRun c (λ job program. WroteFew job.mode (run_of program job) (wanted job c.watchers) c.history c.out c.out_after)
 
--- Alignment: with status 0 or 2 the program of the text is aligned.
+-- Alignment: with status 0, 2 or 7 the program of the text is aligned.
 pub record IsAlignedRun (c : Call) : Type 0 where
   pub done : c.status ≡ 0 → (program : NumberedProgram) → HasProgram c.text program → IsAligned program
   pub faulted : c.status ≡ 2 → (program : NumberedProgram) → HasProgram c.text program → IsAligned program
+  pub wrong : c.status ≡ 7 → (program : NumberedProgram) → HasProgram c.text program → IsAligned program
 
 -- Determinacy: where the program is run, all processes have their end and nothing in the history stands in a race, what each process does in
 -- every run of the program, by as many processes with as many ticks each, is a front of what it does in the history. What stands in a race is
@@ -184,7 +194,7 @@ pub record EndsRun (job : Job) (c : Call) : Type 0 where
   pub ended : c.status ≡ 0 → Runs job.mode → (program : NumberedProgram) → HasProgram c.text program → AllEnded (run_of program job) c.history
   pub fault_only_where : c.status ≡ 2 → Runs job.mode × ((fault : Fault) × EndsWithFault c.history fault)
   -- a sink may fail, and memory for a wanted report
-  pub fault_everywhere : (fault : Fault) → EndsWithFault c.history fault → (c.status ≡ 2) ⊎ (((c.status ≡ 5) × SinkRose c) ⊎ ((c.status ≡ 6) × WantsReport job c))
+  pub fault_everywhere : Runs job.mode → (fault : Fault) → EndsWithFault c.history fault → (c.status ≡ 2) ⊎ (((c.status ≡ 5) × SinkRose c) ⊎ ((c.status ≡ 6) × WantsReport job c))
   pub unfinished : c.status ≡ 6 → (program : NumberedProgram) → HasProgram c.text program → IsCompleteRun (run_of program job) c.history → WantsReport job c
 
 -- What the command promises of everything but its line on err.
@@ -196,9 +206,11 @@ pub record MeetsBesideErr (c : Call) : Type 0 where
   pub code : (job : Job) → IsCommand c job → RunsCode job c
   pub count : (job : Job) → IsCommand c job → CountsInstructions job c
   pub output : WritesOutput c
+  pub flushes : FlushesOut c
   pub alignment : IsAlignedRun c
   pub determinacy : (job : Job) → IsCommand c job → IsDeterminate job c
   pub end : (job : Job) → IsCommand c job → EndsRun job c
+  pub trace : (job : Job) → IsCommand c job → VerifiesTrace job c
 
 -- What an ending says of the call.
 abbrev pub Says : Call → Ending → Type 0
@@ -206,9 +218,10 @@ Says c Done = (job : Job) × IsCommand c job × IsAccepted c.text
 Says c (Refused refusal) = (job : Job) × IsCommand c job × IsRefused job c refusal
 Says c (Faulted fault) = (job : Job) × IsCommand c job × EndsWithFault c.history fault
 Says c NoCommand = IsNoCommand c
-Says c CantRead = (job : Job) × IsCommand c job × (IsMissing c.source job.file ⊎ SourceRose c)
+Says c CantRead = (job : Job) × IsCommand c job × IsUnreadable job c
 Says c CantWrite = (job : Job) × IsCommand c job × OutRose c
 Says c NoMemory = Unit {0}
+Says c (NoRun line) = (job : Job) × IsCommand c job × IsWrongTrace job c line
 
 -- the line on err of an ending of the call
 abbrev pub line : Call → Ending → List ℕ
@@ -243,16 +256,19 @@ pub record NothingFailed (job : Job) (c : Call) : Type 0 where
   pub there : HasFile job.mode → IsMissing c.source job.file → ⊥
   pub memory : c.status ≡ 6 → ⊥
 
--- Completeness: where nothing failed the text decides, and one without a refusal has a program; where it is to be run, it is run until
--- all processes have their end, or one has a fault.
+-- Completeness: where nothing failed the whole text is there and decides, and one without a refusal has a program; where it is to be run, it is
+-- run until all processes have their end, or one has a fault; and where a trace is held against it, the trace decides, unless it is missing.
 pub record IsComplete (job : Job) (c : Call) : Type 0 where
+  pub whole : HasText job c
   pub refused : (refusal : Refusal) → IsRefusal c.text refusal → c.status ≡ 1
-  pub accepted : HasNone (IsRefusal c.text) → (c.status ≡ 0) ⊎ (c.status ≡ 2)
+  pub accepted : HasNone (IsRefusal c.text) → (c.status ≡ 0) ⊎ (c.status ≡ 2) ⊎ (c.status ≡ 7) ⊎ ((c.status ≡ 4) × LacksTrace job c)
   pub program : HasNone (IsRefusal c.text) → IsAccepted c.text
   pub ended : Runs job.mode → (program : NumberedProgram) → HasProgram c.text program → IsCompleteRun (run_of program job) c.history
+  pub verified : Verifies job.mode → (program : NumberedProgram) → HasProgram c.text program → (bytes : List ℕ) → Holds c.source job.against bytes → TraceDecides (run_of program job) bytes c
 
 -- What the command promises.
 pub record Meets (c : Call) : Type 0 where
   pub beside_err : MeetsBesideErr c
   pub err : WritesErr c
+  pub flushes : FlushesErr c
   pub completeness : (job : Job) → IsCommand c job → NothingFailed job c → IsComplete job c

@@ -5,7 +5,7 @@ use Rattle.ti_rules.specs.declared.refusal.Refusal.{Refusal}
 use Rattle.ti_rules.specs.Rules.{code_of, text_of}
 use Rattle.ti_top.specs.declared.fault.Fault.{Fault}
 use Rattle.ti_top.specs.declared.ending.Ending.{Ending}
-use Rattle.ti_top.specs.declared.ending.Ending.TheVariants.{Done, Refused, Faulted, NoCommand, CantRead, CantWrite, NoMemory}
+use Rattle.ti_top.specs.declared.ending.Ending.TheVariants.{Done, Refused, Faulted, NoCommand, CantRead, CantWrite, NoMemory, NoRun}
 
 -- the status of an ending
 abbrev pub status_of : Ending → ℕ
@@ -16,6 +16,7 @@ status_of NoCommand = 3
 status_of CantRead = 4
 status_of CantWrite = 5
 status_of NoMemory = 6
+status_of (NoRun line) = 7
 
 -- what stands behind the name of the file in the line of a refused text
 abbrev pub refused_as : Refusal → List ℕ
@@ -27,6 +28,10 @@ abbrev pub fault_line : Fault → List ℕ
 fault_line fault =
     codes "titan: fault " ++ name_of fault.kind ++ codes " in process " ++ decimal fault.proc ++ codes " at " ++ decimal fault.place.line ++ codes ":" ++ decimal fault.place.col ++ codes "\n"
 
+-- the line of a trace that is no run
+abbrev pub no_run_line : ℕ → List ℕ
+no_run_line line = codes "titan: the trace is no run at line " ++ decimal line ++ codes "\n"
+
 -- the line on err of an ending, where the file has this name; a command that was done has none
 abbrev pub err_line : Ending → List ℕ → List ℕ
 err_line Done file = []
@@ -36,3 +41,4 @@ err_line NoCommand file = codes "titan: the words are no command\n"
 err_line CantRead file = codes "titan: the source can't be read\n"
 err_line CantWrite file = codes "titan: the output can't be written\n"
 err_line NoMemory file = codes "titan: no memory\n"
+err_line (NoRun line) file = no_run_line line

@@ -2,7 +2,9 @@ pub mod Agreement
 pub mod Call
 pub mod Clauses
 pub mod Ending
+pub mod Flushing
 pub mod Mirrors
 pub mod Reports
 pub mod Run
 pub mod Summary
+pub mod Traces

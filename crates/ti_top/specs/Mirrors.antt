@@ -2,8 +2,10 @@
 pub mod Coding
 pub mod Compiling
 pub mod Ended
+pub mod Leaving
 pub mod Line
 pub mod Reading
 pub mod Reporting
 pub mod RunEnds
+pub mod Verifying
 pub mod Work

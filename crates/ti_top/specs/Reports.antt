@@ -11,7 +11,7 @@ use Rattle.ti_code.specs.CodeText.{code_text}
 use Rattle.ti_lower.specs.Programs.{program_code}
 use Rattle.ti_words.specs.declared.job.Job.{Job}
 use Rattle.ti_words.specs.declared.job.Mode.{Mode}
-use Rattle.ti_words.specs.declared.job.Mode.TheVariants.{Run, Check, Code, Gen}
+use Rattle.ti_words.specs.declared.job.Mode.TheVariants.{Run, Check, Code, Gen, Verify}
 use Rattle.ti_top.specs.Run.{run_of}
 use Rattle.ti_top.specs.Summary.{summary}
 
@@ -47,6 +47,7 @@ output_in Run run history watchers = lines_of run.program history ++ reports wat
 output_in Check run history watchers = []
 output_in Code run history watchers = code_text (program_code run.program)
 output_in Gen run history watchers = summary run history ++ reports watchers history
+output_in Verify run history watchers = []
 
 -- what is written for a job and a program
 abbrev pub output : Job → NumberedProgram → List Entry → List Watcher → List ℕ

@@ -7,7 +7,7 @@ use Rattle.ti_lang.specs.Program.Classes.{NumberedProgram}
 use Rattle.ti_lang.specs.Meaning.Processes.{Setting}
 use Rattle.ti_words.specs.declared.job.Job.{Job}
 use Rattle.ti_words.specs.declared.job.Mode.{Mode}
-use Rattle.ti_words.specs.declared.job.Mode.TheVariants.{Run, Check, Code, Gen}
+use Rattle.ti_words.specs.declared.job.Mode.TheVariants.{Run, Check, Code, Gen, Verify}
 use Rattle.ti_top.specs.declared.fault.Fault.{Fault}
 
 -- in these modes a file is named, and its text read
@@ -16,6 +16,7 @@ HasFile Run = Unit {0}
 HasFile Check = Unit {0}
 HasFile Code = Unit {0}
 HasFile Gen = ⊥
+HasFile Verify = Unit {0}
 
 -- in these modes the program of the text is run
 abbrev pub Runs : Mode → Type 0
@@ -23,6 +24,7 @@ Runs Run = Unit {0}
 Runs Check = ⊥
 Runs Code = ⊥
 Runs Gen = Unit {0}
+Runs Verify = ⊥
 
 -- in these modes the program has code
 abbrev pub HasCode : Mode → Type 0
@@ -30,6 +32,23 @@ HasCode Run = Unit {0}
 HasCode Check = ⊥
 HasCode Code = Unit {0}
 HasCode Gen = Unit {0}
+HasCode Verify = ⊥
+
+-- in this mode a trace is named, and held against the program of the text
+abbrev pub Verifies : Mode → Type 0
+Verifies Run = ⊥
+Verifies Check = ⊥
+Verifies Code = ⊥
+Verifies Gen = ⊥
+Verifies Verify = Unit {0}
+
+-- in these modes there is a history: that of the run, or that of the trace
+abbrev pub HasHistory : Mode → Type 0
+HasHistory Run = Unit {0}
+HasHistory Check = ⊥
+HasHistory Code = ⊥
+HasHistory Gen = Unit {0}
+HasHistory Verify = Unit {0}
 
 -- the program, run by as many processes as the job asks for, with as many ticks each
 abbrev pub run_of : NumberedProgram → Job → Setting

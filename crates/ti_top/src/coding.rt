@@ -5,6 +5,7 @@ ghost use Rattle.ti_code.specs.Follows.{Follows};
 ghost use Rattle.ti_lang.specs.Program.Views.{program_of};
 ghost use Rattle.ti_lower.specs.Programs.{program_code};
 ghost use Rattle.ti_top.specs.Mirrors.Coding.{CodeSays};
+ghost use Rattle.ti_top.specs.Mirrors.Leaving.{LeavesOut};
 
 use crate::ending::Ending;
 use crate::reports::write_text;
@@ -42,7 +43,8 @@ fn listing_of(alloc: Global, checked: &Checked) -> Result<Listing, Memory>
 
 /// Writes the code of a program, as one piece. Where memory is wanting nothing is written.
 pub fn write_code<K: Sink>(alloc: Global, checked: &Checked, out: &mut K) -> Coded
-    ensures { CodeSays result.ending (program_of checked.now.program.parts) (K.state out.old) (K.state out.new) result.code }
+    ensures says { CodeSays result.ending (program_of checked.now.program.parts) (K.state out.old) (K.state out.new) result.code }
+    ensures leaves { LeavesOut result.ending (K.state out.old) (K.state out.new) }
 {
     match listing_of(alloc, checked) {
         Ok(Listing { code, text }) => match write_text(out, &text) {

@@ -19,14 +19,14 @@ use ti_words::{WordsErr, read_words};
 pub struct Outcome {
     /// How it ended: 0 the command was done, 1 the text is refused, 2 the run ended with a fault, 3 the
     /// words are no command, 4 the source can't be read, 5 the output can't be written, 6 it ran out of
-    /// memory.
+    /// memory, 7 the trace is that of no complete run.
     pub status: u8,
     /// What was read, or in mode gen what was made.
     pub text: Vec<u8>,
-    /// The code of the text's program, which in the modes run and gen was run: there in every mode but check where the status is 0 or 2, and
+    /// The code of the text's program, which in the modes run and gen was run: there in the modes run, code and gen where the status is 0 or 2, and
     /// where a write to out or err failed or the run was out of memory. Else there is none.
     pub code: Option<Code>,
-    /// The entries of the run, in order.
+    /// The entries of the run, in order. In mode verify those of the trace: of its complete run, or of the lines before the wrong one.
     pub history: Vec<Entry>,
     /// For each process, in the order of their numbers, how many instructions of the code it has finished for the answers of its entries,
     /// where the program was run with status 0 or 2. Where nothing was run it is empty.
@@ -56,11 +56,12 @@ impl Outcome {
 /// its text or makes its code and runs it, writes the lines of the run to `out` and behind them the reports of the watchers
 /// whose flag is given, and where it can't be done a line to `err`. In mode check it runs nothing and writes
 /// nothing to `out`. In mode code it runs nothing either, and writes the code of the program. In mode gen no
-/// file is named: it makes the text from a seed, and in place of the lines writes one that sums up the run.
+/// file is named: it makes the text from a seed, and in place of the lines writes one that sums up the run. In mode verify it runs nothing and
+/// writes nothing to `out`: it says whether a trace that is named is that of a complete run, and else which of its lines is wrong.
 ///
-/// The words are `--mode run`, `--mode check`, `--mode code` or `--mode gen`, `--procs`, `--workers`, `--fuel`, each with a
+/// The words are `--mode run`, `--mode check`, `--mode code`, `--mode gen` or `--mode verify`, `--procs`, `--workers`, `--fuel`, each with a
 /// number, and `--trace`, `--stats` and `--races`, each at most once, and a file's name, or in mode gen `--seed` with a
-/// number; `docs/LANGUAGE.md` says their ranges. What the call promises is `Meets`, one record of
+/// number, and in mode verify `--against` with the name of a trace; `docs/LANGUAGE.md` says their ranges. What the call promises is `Meets`, one record of
 /// `specs/Clauses.antt` for each clause.
 pub fn titan_top<R: AllocGlobal + Threads + Wait + Sync, S: Source, K: Sink, G: Gate + Sync>(
     rt: &R,

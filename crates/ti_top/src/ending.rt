@@ -1,10 +1,11 @@
 // The end of a call: its status, and its line on err.
-ghost use Rattle.std.specs.Prelude.{◌≡◌, ◌≤◌, length};
+ghost use Rattle.std.specs.Prelude.{◌≡◌, ◌≤◌, length, OnOk};
 ghost use Rattle.ti_base.specs.FaultNames.{name_of};
 ghost use Rattle.ti_io.specs.Sink.{Writes};
 ghost use Rattle.ti_rules.specs.Rules.{code_of, text_of};
 ghost use Rattle.ti_top.specs.Mirrors.Ended.{Ended};
-ghost use Rattle.ti_top.specs.Ending.{status_of, refused_as, fault_line as fault_spec, err_line};
+ghost use Rattle.ti_top.specs.Mirrors.Leaving.{Unfailed};
+ghost use Rattle.ti_top.specs.Ending.{status_of, refused_as, fault_line as fault_spec, no_run_line as no_run_spec, err_line};
 
 use crate::fault::Fault;
 use ti_base::{FaultKind, fault_name};
@@ -29,6 +30,8 @@ pub enum Ending {
     CantWrite,
     /// Out of memory.
     NoMemory,
+    /// The trace is wrong at this line.
+    NoRun(u64),
 }
 
 impl Ending {
@@ -44,6 +47,7 @@ impl Ending {
             Ending::CantRead => 4,
             Ending::CantWrite => 5,
             Ending::NoMemory => 6,
+            Ending::NoRun(_) => 7,
         }
     }
 }
@@ -106,6 +110,17 @@ fn fault_line(fault: Fault) -> Line
     line
 }
 
+// The line of a trace that is no run.
+fn no_run_line(number: u64) -> Line
+    ensures { result ≡ no_run_spec number }
+{
+    let mut line = Line::new();
+    line.text(b"titan: the trace is no run at line ");
+    line.number(number);
+    line.text(b"\n");
+    line
+}
+
 // Writes the line of a refused text in two pieces, since a name has no bound.
 fn write_refused<K: Sink>(err: &mut K, file: &str, refusal: Refusal) -> Result<(), Failed>
     ensures { Writes (err_line (Ending.Refused refusal) file.now) (K.state err.old) (K.state err.new) result }
@@ -126,12 +141,14 @@ fn write_line<K: Sink>(err: &mut K, ending: Ending, file: &str) -> Result<(), Fa
         Ending::CantRead => write_piece(err, b"titan: the source can't be read\n"),
         Ending::CantWrite => write_piece(err, b"titan: the output can't be written\n"),
         Ending::NoMemory => write_piece(err, b"titan: no memory\n"),
+        Ending::NoRun(line) => write_piece(err, no_run_line(line).as_slice()),
     }
 }
 
 // Writes the line of an ending, and flushes err.
 fn write_through<K: Sink>(err: &mut K, ending: Ending, file: &str) -> Result<(), Failed>
-    ensures { Writes (err_line ending file.now) (K.state err.old) (K.state err.new) result }
+    ensures written { Writes (err_line ending file.now) (K.state err.old) (K.state err.new) result }
+    ensures unfailed { OnOk result (Unfailed (K.state err.old) (K.state err.new)) }
 {
     write_line(err, ending, file)?;
     err.flush()

@@ -13,6 +13,7 @@ mod reading;
 mod reports;
 mod run_line;
 mod summary;
+mod verifying;
 mod work;
 
 pub use command::{Outcome, titan_top};

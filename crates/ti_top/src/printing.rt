@@ -1,8 +1,9 @@
 // Writing the lines of a run, or its summary.
-ghost use Rattle.std.specs.Prelude.{◌≡◌, ◌≤◌, ◌++◌, ◌∷◌, [], length};
+ghost use Rattle.std.specs.Prelude.{◌≡◌, ◌≤◌, ◌++◌, ◌∷◌, [], length, OnOk};
 ghost use Rattle.ti_io.specs.Sink.{Writes};
 ghost use Rattle.ti_lang.specs.Meaning.Lines.{line_of as line_spec, lines_of, literal_text, printed_text};
 ghost use Rattle.ti_lang.specs.Program.Views.{program_of};
+ghost use Rattle.ti_top.specs.Mirrors.Leaving.{Unfailed};
 ghost use Rattle.ti_top.specs.Mirrors.Line.{HasRoom};
 ghost use Rattle.ti_top.specs.Mirrors.Work.{head_after, summary_after};
 
@@ -88,7 +89,8 @@ fn write_lines<K: Sink>(
     history: &[Entry],
 ) -> Result<(), Failed>
     requires { HasRoom program.now.parts.literals.items line.old }
-    ensures { Writes (lines_of (program_of program.now.parts) history.now) (K.state out.old) (K.state out.new) result }
+    ensures written { Writes (lines_of (program_of program.now.parts) history.now) (K.state out.old) (K.state out.new) result }
+    ensures unfailed { OnOk result (Unfailed (K.state out.old) (K.state out.new)) }
 {
     write_entries(out, line, program, history)?;
     out.flush()
@@ -96,7 +98,8 @@ fn write_lines<K: Sink>(
 
 // Writes the summary of a run that ended so, and flushes out.
 fn write_summary<K: Sink>(out: &mut K, ended: Ending, history: &[Entry]) -> Result<(), Failed>
-    ensures { Writes (summary_after ended history.now) (K.state out.old) (K.state out.new) result }
+    ensures written { Writes (summary_after ended history.now) (K.state out.old) (K.state out.new) result }
+    ensures unfailed { OnOk result (Unfailed (K.state out.old) (K.state out.new)) }
 {
     match ended {
         Ending::Done => {
@@ -117,11 +120,12 @@ pub fn write_head<K: Sink>(
     history: &[Entry],
 ) -> Result<(), Failed>
     requires { HasRoom program.now.parts.literals.items line.old }
-    ensures { Writes (head_after mode ended (program_of program.now.parts) history.now) (K.state out.old) (K.state out.new) result }
+    ensures written { Writes (head_after mode ended (program_of program.now.parts) history.now) (K.state out.old) (K.state out.new) result }
+    ensures unfailed { OnOk result (Unfailed (K.state out.old) (K.state out.new)) }
 {
     match mode {
         Mode::Run => write_lines(out, line, program, history),
-        Mode::Check | Mode::Code => Ok(()),
+        Mode::Check | Mode::Code | Mode::Verify => Ok(()),
         Mode::Gen => write_summary(out, ended, history),
     }
 }

@@ -3,6 +3,7 @@ ghost use Rattle.std.specs.Prelude.{◌≡◌, ◌++◌, ◌∷◌, [], map, OnO
 ghost use Rattle.ti_io.specs.Sink.{Writes};
 ghost use Rattle.ti_watch.specs.Reports.{watch_text};
 ghost use Rattle.ti_top.specs.Reports.{Watcher, is_kind_wanted, wanted};
+ghost use Rattle.ti_top.specs.Mirrors.Leaving.{Unfailed, ReportsLeave};
 ghost use Rattle.ti_top.specs.Mirrors.Reporting.{Reported};
 
 use std::alloc::Global;
@@ -76,7 +77,8 @@ fn tell(watcher: &mut Box<dyn Watch>, history: &[Entry]) -> Result<(), Memory>
 
 /// Writes a text as one piece, and flushes out.
 pub fn write_text<K: Sink>(out: &mut K, text: &[u8]) -> Result<(), Failed>
-    ensures { Writes text.now (K.state out.old) (K.state out.new) result }
+    ensures written { Writes text.now (K.state out.old) (K.state out.new) result }
+    ensures unfailed { OnOk result (Unfailed (K.state out.old) (K.state out.new)) }
 {
     write_piece(out, text)?;
     out.flush()
@@ -89,7 +91,8 @@ fn write_report<K: Sink>(
     history: &[Entry],
     out: &mut K,
 ) -> ReportEnd
-    ensures { Reported (record { kind = kind_of watcher; told = told watcher } ∷ []) history.now (K.state out.old) (K.state out.new) result }
+    ensures reported { Reported (record { kind = kind_of watcher; told = told watcher } ∷ []) history.now (K.state out.old) (K.state out.new) result }
+    ensures leaves { ReportsLeave result (K.state out.old) (K.state out.new) }
 {
     let mut watcher = watcher;
     if tell(&mut watcher, history).is_err() {
@@ -112,7 +115,8 @@ pub fn write_reports<K: Sink>(
     history: &[Entry],
     out: &mut K,
 ) -> ReportEnd
-    ensures { Reported (map {B = Watcher} (λ w. record { kind = kind_of w; told = told w }) watchers.items) history.now (K.state out.old) (K.state out.new) result }
+    ensures reported { Reported (map {B = Watcher} (λ w. record { kind = kind_of w; told = told w }) watchers.items) history.now (K.state out.old) (K.state out.new) result }
+    ensures leaves { ReportsLeave result (K.state out.old) (K.state out.new) }
 {
     'watchers: for watcher in watchers {
         match write_report(alloc, watcher, history, out) {

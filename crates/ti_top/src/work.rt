@@ -10,8 +10,10 @@ ghost use Rattle.ti_lang.specs.Program.Views.{program_of};
 ghost use Rattle.ti_lower.specs.Programs.{program_code};
 ghost use Rattle.ti_runtime.specs.Ran.{Ran};
 ghost use Rattle.ti_top.specs.Mirrors.Compiling.{IsCompiled};
+ghost use Rattle.ti_top.specs.Mirrors.Leaving.{LeavesOut};
 ghost use Rattle.ti_top.specs.Mirrors.Line.{HasRoom};
 ghost use Rattle.ti_top.specs.Mirrors.RunEnds.{RunEnds};
+ghost use Rattle.ti_top.specs.Mirrors.Verifying.{Verified as VerifiedBy};
 ghost use Rattle.ti_top.specs.Mirrors.Work.{IsInRanges, kept_of, ending_after as after_spec, ReportsAfter, RunSays, RunTextSays, CodeTextSays, TextSays, SeedSays, FileDone, WorkSays};
 ghost use Rattle.ti_top.specs.Reports.{Watcher, wanted};
 ghost use Rattle.ti_top.specs.Run.{Runs, run_of};
@@ -25,6 +27,7 @@ use crate::printing::write_head;
 use crate::reading::{ReadEnd, read_whole};
 use crate::reports::{ReportEnd, keep_wanted, write_reports};
 use crate::run_line::RunLine;
+use crate::verifying::{Verified, verify_file};
 use std::alloc::Global;
 use std::sync::Wait;
 use std::thread::Threads;
@@ -109,7 +112,8 @@ fn report_after<K: Sink>(
     watchers: Vec<Box<dyn Watch>>,
     out: &mut K,
 ) -> Ending
-    ensures { ReportsAfter ended (map {B = Watcher} (λ w. record { kind = kind_of w; told = told w }) watchers.items) history.now (K.state out.old) (K.state out.new) result }
+    ensures reports { ReportsAfter ended (map {B = Watcher} (λ w. record { kind = kind_of w; told = told w }) watchers.items) history.now (K.state out.old) (K.state out.new) result }
+    ensures leaves { LeavesOut result (K.state out.old) (K.state out.new) }
 {
     match ended {
         Ending::NoMemory => ended,
@@ -167,7 +171,8 @@ fn run_program<R: Threads + Wait + Sync, K: Sink, G: Gate + Sync>(
     requires room { HasRoom checked.now.program.parts.literals.items ready.line }
     requires code { ready.code ≡ program_code (program_of checked.now.program.parts) }
     requires follows { Follows ready.code (program_of checked.now.program.parts) }
-    ensures { RunSays (program_of checked.now.program.parts) job.now (map {B = Watcher} (λ w. record { kind = kind_of w; told = told w }) watchers.items) (K.state out.old) (K.state out.new) (kept_of result.kept) result.ending }
+    ensures says { RunSays (program_of checked.now.program.parts) job.now (map {B = Watcher} (λ w. record { kind = kind_of w; told = told w }) watchers.items) (K.state out.old) (K.state out.new) (kept_of result.kept) result.ending }
+    ensures leaves { LeavesOut result.ending (K.state out.old) (K.state out.new) }
 {
     let Ready { code, mut line } = ready;
     let end = run_by_code(rt, alloc, job, checked, &code, gate);
@@ -226,7 +231,8 @@ fn run_compiled<R: Threads + Wait + Sync, K: Sink, G: Gate + Sync>(
     requires ranges { IsInRanges job.now }
     requires mode { Runs job.now.mode }
     requires aligned { IsAligned (program_of checked.now.program.parts) }
-    ensures { (text : List ℕ) → IsCompiled text (program_of checked.now.program.parts) → RunTextSays result.ending job.now (map {B = Watcher} (λ w. record { kind = kind_of w; told = told w }) watchers.items) text (K.state out.old) (K.state out.new) (kept_of result.kept) }
+    ensures says { (text : List ℕ) → IsCompiled text (program_of checked.now.program.parts) → RunTextSays result.ending job.now (map {B = Watcher} (λ w. record { kind = kind_of w; told = told w }) watchers.items) text (K.state out.old) (K.state out.new) (kept_of result.kept) }
+    ensures leaves { LeavesOut result.ending (K.state out.old) (K.state out.new) }
 {
     match ready_for(alloc, checked) {
         Ok(ready) => run_program(rt, alloc, job, checked, ready, gate, watchers, out),
@@ -236,7 +242,8 @@ fn run_compiled<R: Threads + Wait + Sync, K: Sink, G: Gate + Sync>(
 
 // Writes the code of a text's program.
 fn code_compiled<K: Sink>(alloc: Global, checked: &Checked, out: &mut K) -> Written
-    ensures { (text : List ℕ) → IsCompiled text (program_of checked.now.program.parts) → CodeTextSays result.ending text (K.state out.old) (K.state out.new) (kept_of result.kept) }
+    ensures says { (text : List ℕ) → IsCompiled text (program_of checked.now.program.parts) → CodeTextSays result.ending text (K.state out.old) (K.state out.new) (kept_of result.kept) }
+    ensures leaves { LeavesOut result.ending (K.state out.old) (K.state out.new) }
 {
     let coded = write_code(alloc, checked, out);
     Written {
@@ -260,11 +267,12 @@ fn do_text<R: Threads + Wait + Sync, K: Sink, G: Gate + Sync>(
     out: &mut K,
 ) -> Written
     requires { IsInRanges job.now }
-    ensures { TextSays job.now.mode result.ending job.now (map {B = Watcher} (λ w. record { kind = kind_of w; told = told w }) watchers.items) text.now (K.state out.old) (K.state out.new) (kept_of result.kept) }
+    ensures says { TextSays job.now.mode result.ending job.now (map {B = Watcher} (λ w. record { kind = kind_of w; told = told w }) watchers.items) text.now (K.state out.old) (K.state out.new) (kept_of result.kept) }
+    ensures leaves { LeavesOut result.ending (K.state out.old) (K.state out.new) }
 {
     match compile(alloc, text) {
         Ok(checked) => match job.mode {
-            Mode::Check => Written::nothing(alloc, Ending::Done),
+            Mode::Check | Mode::Verify => Written::nothing(alloc, Ending::Done),
             Mode::Code => code_compiled(alloc, &checked, out),
             Mode::Run | Mode::Gen => run_compiled(rt, alloc, job, &checked, gate, watchers, out),
         },
@@ -284,7 +292,7 @@ fn work_on_file<R: Threads + Wait + Sync, S: Source, K: Sink, G: Gate + Sync>(
     watchers: Vec<Box<dyn Watch>>,
 ) -> Worked
     requires { IsInRanges job.now }
-    ensures { FileDone job.now result.ending (record {
+    ensures done { FileDone job.now result.ending (record {
       watchers = map {B = Watcher} (λ w. record { kind = kind_of w; told = told w }) watchers.items;
       source = S.state source.old;
       source_after = S.state source.new;
@@ -293,6 +301,7 @@ fn work_on_file<R: Threads + Wait + Sync, S: Source, K: Sink, G: Gate + Sync>(
       text = result.text.items;
       kept = kept_of result.kept;
     }) }
+    ensures leaves { LeavesOut result.ending (K.state out.old) (K.state out.new) }
 {
     let mut text = Vec::new(alloc);
     let written = match read_whole(source, job.file.as_str(), &mut text) {
@@ -317,7 +326,8 @@ fn work_on_seed<R: Threads + Wait + Sync, K: Sink, G: Gate + Sync>(
     watchers: Vec<Box<dyn Watch>>,
 ) -> Worked
     requires { IsInRanges job.now }
-    ensures { SeedSays result.ending job.now (map {B = Watcher} (λ w. record { kind = kind_of w; told = told w }) watchers.items) result.text.items (K.state out.old) (K.state out.new) (kept_of result.kept) }
+    ensures says { SeedSays result.ending job.now (map {B = Watcher} (λ w. record { kind = kind_of w; told = told w }) watchers.items) result.text.items (K.state out.old) (K.state out.new) (kept_of result.kept) }
+    ensures leaves { LeavesOut result.ending (K.state out.old) (K.state out.new) }
 {
     match gen_source(alloc, job.seed) {
         Ok(text) => {
@@ -336,9 +346,29 @@ fn work_on_seed<R: Threads + Wait + Sync, K: Sink, G: Gate + Sync>(
     }
 }
 
+// Reads the file of a job, and holds the trace that is named against its program.
+fn work_on_trace<S: Source>(alloc: Global, job: &Job, source: &mut S) -> Worked
+    requires { IsInRanges job.now }
+    ensures verified { VerifiedBy job.now result.ending (S.state source.old) (S.state source.new) result.text.items result.kept.history.items }
+    ensures no_code { result.kept.code ≡ None }
+    ensures no_count { result.kept.done.items ≡ [] }
+{
+    let mut text = Vec::new(alloc);
+    let Verified { ending, history } = verify_file(alloc, job, source, &mut text);
+    Worked {
+        ending,
+        text,
+        kept: Kept {
+            code: None,
+            history,
+            done: Vec::new(alloc),
+        },
+    }
+}
+
 /// Does what a job asks for: reads its file, or in mode gen makes the text of its seed, and checks the text; and where the program is to
-/// be run, runs it and writes the lines of the run or its summary and the reports of the watchers whose flag is given; or writes its code. The
-/// other watchers are dropped first.
+/// be run, runs it and writes the lines of the run or its summary and the reports of the watchers whose flag is given; or writes its code; or
+/// holds a trace against it. The other watchers are dropped first.
 pub fn work<R: Threads + Wait + Sync, S: Source, K: Sink, G: Gate + Sync>(
     rt: &R,
     alloc: Global,
@@ -349,7 +379,7 @@ pub fn work<R: Threads + Wait + Sync, S: Source, K: Sink, G: Gate + Sync>(
     watchers: Vec<Box<dyn Watch>>,
 ) -> Worked
     requires ranges { IsInRanges job.now }
-    ensures { WorkSays job.now.mode job.now result.ending (record {
+    ensures says { WorkSays job.now.mode job.now result.ending (record {
       watchers = wanted job.now (map {B = Watcher} (λ w. record { kind = kind_of w; told = told w }) watchers.items);
       source = S.state source.old;
       source_after = S.state source.new;
@@ -358,6 +388,7 @@ pub fn work<R: Threads + Wait + Sync, S: Source, K: Sink, G: Gate + Sync>(
       text = result.text.items;
       kept = kept_of result.kept;
     }) }
+    ensures leaves { LeavesOut result.ending (K.state out.old) (K.state out.new) }
 {
     let mut watchers = watchers;
     keep_wanted(&mut watchers, job);
@@ -366,5 +397,6 @@ pub fn work<R: Threads + Wait + Sync, S: Source, K: Sink, G: Gate + Sync>(
             rt, alloc, job, source, out, gate, watchers,
         ),
         Mode::Gen => work_on_seed(rt, alloc, job, out, gate, watchers),
+        Mode::Verify => work_on_trace(alloc, job, source),
     }
 }

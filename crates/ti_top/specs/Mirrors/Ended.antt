@@ -6,12 +6,14 @@ use Rattle.ti_io.specs.Sink.{SinkState, GrewBy, GrewByFront}
 use Rattle.ti_top.specs.declared.ending.Ending.{Ending}
 use Rattle.ti_top.specs.declared.ending.Ending.TheVariants.{Done}
 use Rattle.ti_top.specs.Ending.{status_of, err_line}
+use Rattle.ti_top.specs.Mirrors.Leaving.{Unfailed}
 
--- the line was written whole, and the status is that of the ending
+-- the line was written whole and flushed, and the status is that of the ending
 pub record EndedWhole (ending : Ending) (file : List ℕ) (old new : SinkState) (status : ℕ) : Type 0 where
   pub same : status ≡ status_of ending
   pub nothing : ending ≡ Done → new ≡ old
   pub grew : old.tells ≡ true → GrewBy old new (err_line ending file)
+  pub unfailed : Unfailed old new
 
 -- writing the line failed, the status is 5, and a front of the line stands on err
 pub record EndedCut (ending : Ending) (file : List ℕ) (old new : SinkState) (status : ℕ) : Type 0 where

@@ -20,7 +20,7 @@ use Rattle.ti_top.specs.declared.reading.ReadEnd.TheVariants as Read
 use Rattle.ti_top.specs.declared.reports.ReportEnd.{ReportEnd}
 use Rattle.ti_top.specs.declared.reports.ReportEnd.TheVariants as Report
 use Rattle.ti_top.specs.declared.ending.Ending.{Ending}
-use Rattle.ti_top.specs.declared.ending.Ending.TheVariants.{Done, Refused, Faulted, NoCommand, CantRead, CantWrite, NoMemory}
+use Rattle.ti_top.specs.declared.ending.Ending.TheVariants.{Done, Refused, Faulted, NoCommand, CantRead, CantWrite, NoMemory, NoRun}
 use Rattle.ti_code.specs.Follows.{Follows}
 use Rattle.ti_code.specs.Programs as coded
 use Rattle.ti_lower.specs.Programs.{program_code}
@@ -30,7 +30,7 @@ use Rattle.ti_rules.specs.declared.refusal.Refusal.{Refusal}
 use Rattle.ti_rules.specs.RefusalOf.{IsRefusal}
 use Rattle.ti_words.specs.declared.job.Job.{Job}
 use Rattle.ti_words.specs.declared.job.Mode.{Mode}
-use Rattle.ti_words.specs.declared.job.Mode.TheVariants.{Run, Check, Code, Gen}
+use Rattle.ti_words.specs.declared.job.Mode.TheVariants.{Run, Check, Code, Gen, Verify}
 use Rattle.ti_top.specs.Mirrors.Coding.{WroteCode}
 use Rattle.ti_top.specs.Mirrors.Compiling.{IsCompiled, HasNoProgram}
 use Rattle.ti_top.specs.Call.{Call}
@@ -38,6 +38,7 @@ use Rattle.ti_top.specs.Reports.{Watcher, wanted, reports, output, WroteFew}
 use Rattle.ti_top.specs.Summary.{summary_line}
 use Rattle.ti_top.specs.Mirrors.Reading.{ReadsWhole}
 use Rattle.ti_top.specs.Mirrors.Reporting.{Reported}
+use Rattle.ti_top.specs.Mirrors.Verifying.{Verified}
 use Rattle.ti_top.specs.Run.{run_of, EndsWithFault}
 
 -- a run may have so many processes, workers and ticks
@@ -81,6 +82,7 @@ head_after Run ended program history = lines_of program history
 head_after Check ended program history = []
 head_after Code ended program history = []
 head_after Gen ended program history = summary_after ended history
+head_after Verify ended program history = []
 
 -- these watchers reported on a run that ended so, and the work then ends so; where memory was wanting in the run, none did
 pub record ReportedAfter (ended : Ending) (watchers : List Watcher) (history : List Entry) (out out_after : SinkState) (ending : Ending) : Type 0 where
@@ -176,6 +178,7 @@ RunTextSays CantWrite job watchers text out out_after kept = Ran job watchers te
 RunTextSays NoMemory job watchers text out out_after kept = RanNothing out out_after kept ⊎ Ran job watchers text out out_after kept NoMemory
 RunTextSays NoCommand job watchers text out out_after kept = ⊥
 RunTextSays CantRead job watchers text out out_after kept = ⊥
+RunTextSays (NoRun line) job watchers text out out_after kept = ⊥
 
 -- what became of one that is to be checked
 abbrev pub CheckTextSays : Ending → List ℕ → SinkState → SinkState → Kept → Type 0
@@ -198,6 +201,7 @@ TextSays Run ending job watchers text out out_after kept = RunTextSays ending jo
 TextSays Check ending job watchers text out out_after kept = CheckTextSays ending text out out_after kept
 TextSays Code ending job watchers text out out_after kept = CodeTextSays ending text out out_after kept
 TextSays Gen ending job watchers text out out_after kept = RunTextSays ending job watchers text out out_after kept
+TextSays Verify ending job watchers text out out_after kept = CheckTextSays ending text out out_after kept
 
 -- what a reading that ended so leads to
 abbrev pub FileSays : ReadEnd → Ending → Job → Work → Type 0
@@ -221,12 +225,20 @@ pub record SeedDone (job : Job) (ending : Ending) (w : Work) : Type 0 where
   pub unread : w.source_after ≡ w.source
   pub says : SeedSays ending job w.watchers w.text w.out w.out_after w.kept
 
+-- what was done where a trace is named as well
+pub record TraceDone (job : Job) (ending : Ending) (w : Work) : Type 0 where
+  pub verified : Verified job ending w.source w.source_after w.text w.kept.history
+  pub unwritten : w.out_after ≡ w.out
+  pub no_code : w.kept.code ≡ None
+  pub no_count : w.kept.done ≡ []
+
 -- what was done for a command, in a mode
 abbrev pub WorkSays : Mode → Job → Ending → Work → Type 0
 WorkSays Run job ending w = FileDone job ending w
 WorkSays Check job ending w = FileDone job ending w
 WorkSays Code job ending w = FileDone job ending w
 WorkSays Gen job ending w = SeedDone job ending w
+WorkSays Verify job ending w = TraceDone job ending w
 
 -- what is kept of a call
 abbrev pub kept_in : Call → Kept

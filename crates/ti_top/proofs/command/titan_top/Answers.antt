@@ -22,5 +22,5 @@ work-worked-requires-clause-ranges g c = λ _ _. in_ranges (map (string_bytes {Z
 
 pub returns : goal.returns
 returns g c =
-    meets_command c.work-worked.result.ending c.in-Ok.job _ c.in-Ok.ensures.job (in_ranges (map (string_bytes {Z = Global}) c.args.words.now) c.in-Ok.job c.in-Ok.ensures.job).within.some c.work-worked.ensures
+    meets_command c.work-worked.result.ending c.in-Ok.job _ c.in-Ok.ensures.job (in_ranges (map (string_bytes {Z = Global}) c.args.words.now) c.in-Ok.job c.in-Ok.ensures.job).within.some c.work-worked.ensures.says c.work-worked.ensures.leaves
     (subst (λ (file : List ℕ). Ended c.work-worked.result.ending file (g.K.Sink.state c.args.err.now) (g.K.Sink.state c.end_with-status.new.err) c.end_with-status.result) c.as_str.ensures c.end_with-status.ensures)

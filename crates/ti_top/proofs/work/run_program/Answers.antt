@@ -2,6 +2,7 @@ use Rattle.std.proofs.Common.{refl, Some}
 use Rattle.ti_lang.specs.Program.Views.{program_of}
 use Rattle.ti_top.specs.Run.{run_of}
 use Rattle.ti_top.specs.Mirrors.Work.{Kept}
+use Rattle.ti_top.proofs.Leaving.{leaves_then}
 use Rattle.ti_top.proofs.RunCounted.{by_code}
 use Rattle.ti_top.proofs.RunWritten.{wrote_cut, wrote_all, run_says, said_of}
 use Rattle.ti_top.proofs.work.run_program.Goals as goal
@@ -9,8 +10,8 @@ use Rattle.ti_top.proofs.work.run_program.Goals as goal
 pub ending_of-ended-requires : goal.ending_of-ended-requires
 ending_of-ended-requires g c = (run_of (program_of c.args.checked.now.program.parts) c.args.job.now, c.args.job.now.workers, c.run_by_code-end.ensures.ran)
 
-pub returns-in-Ok : goal.returns-in-Ok
-returns-in-Ok g c =
+pub returns-in-Ok-clause-says : goal.returns-in-Ok-clause-says
+returns-in-Ok-clause-says g c =
     let program = program_of c.args.checked.now.program.parts in
     let job = c.args.job.now in
     let ran = c.run_by_code-end.ensures.ran in
@@ -19,10 +20,13 @@ returns-in-Ok g c =
     said_of program job _ _ _ kept _ _ c.kept_of_run.ensures
     (run_says c.ending_of-ended.result program job _ _ _ kept c.report_after.result c.requires.mode ran.run ran.solo c.run_by_code-end.ensures.determines c.run_by_code-end.ensures.told ends
     (by_code program job c.ending_of-ended.result c.args.ready.code c.run_by_code-end.result kept c.requires.code c.requires.follows ran ends refl)
-    (wrote_all _ _ _ _ _ _ _ _ _ (rw c.deref.ensures.value at c.in-Ok.ensures) (rw c.deref-in-Ok.ensures.value at c.report_after.ensures)))
+    (wrote_all _ _ _ _ _ _ _ _ _ (rw c.deref.ensures.value at c.in-Ok.ensures.written) (rw c.deref-in-Ok.ensures.value at c.report_after.ensures.reports)))
 
-pub returns-in-Err : goal.returns-in-Err
-returns-in-Err g c =
+pub returns-in-Ok-clause-leaves : goal.returns-in-Ok-clause-leaves
+returns-in-Ok-clause-leaves g c = leaves_then _ _ _ _ c.in-Ok.ensures.unfailed c.report_after.ensures.leaves
+
+pub returns-in-Err-clause-says : goal.returns-in-Err-clause-says
+returns-in-Err-clause-says g c =
     let program = program_of c.args.checked.now.program.parts in
     let job = c.args.job.now in
     let ran = c.run_by_code-end.ensures.ran in
@@ -31,4 +35,4 @@ returns-in-Err g c =
     said_of program job _ _ _ kept _ _ c.kept_of_run-in-Err.ensures
     (run_says c.ending_of-ended.result program job _ _ _ kept _ c.requires.mode ran.run ran.solo c.run_by_code-end.ensures.determines c.run_by_code-end.ensures.told ends
     (by_code program job c.ending_of-ended.result c.args.ready.code c.run_by_code-end.result kept c.requires.code c.requires.follows ran ends refl)
-    (wrote_cut _ _ _ _ _ _ _ (rw c.deref.ensures.value at c.in-Err.ensures)))
+    (wrote_cut _ _ _ _ _ _ _ (rw c.deref.ensures.value at c.in-Err.ensures.written)))

@@ -1,0 +1,72 @@
+-- From the verdict of the check of a trace to what became of the trace.
+use Rattle.std.proofs.Common.{◌≡◌, ◌⊎◌, ℕ, true, List, [], Option, Some, None, sym, ◌∙◌, subst}
+use Rattle.ti_base.specs.declared.entry.Entry.{Entry}
+use Rattle.ti_io.specs.Faults.{Rose}
+use Rattle.ti_io.specs.Source.{SourceState, IsMissing, Holds, content_of}
+use Rattle.ti_lang.specs.Meaning.Processes.{Setting}
+use Rattle.ti_lang.specs.Meaning.Races.{races}
+use Rattle.ti_lang.specs.Meaning.Spots.{races_told}
+use Rattle.ti_lang.specs.Meaning.Runs.{IsRun}
+use Rattle.ti_trace_check.specs.declared.verdict.Verdict.{Verdict}
+use Rattle.ti_trace_check.specs.declared.verdict.Verdict.TheVariants.{Run, NoRun}
+use Rattle.ti_trace_check.specs.Verdicts.{IsTraceOf, IsWrongAt, Keeps, Judges}
+use Rattle.ti_top.specs.declared.ending.Ending.{Ending}
+use Rattle.ti_top.specs.declared.ending.Ending.TheVariants as ending
+use Rattle.ti_top.specs.Mirrors.Verifying.{ending_by, run_by, HasOneVerdict, TraceSays, WasRead, HeldTrace}
+
+-- the thing with this name was found
+abbrev pub IsFound : SourceState → List ℕ → Type 0
+IsFound source name = source.tells ≡ true → content_of source.files name ≡ Some source.left
+
+some_none : (l : List ℕ) → ◌≡◌ {A = Option (List ℕ)} (Some l) None → ⊥
+some_none l e = cc
+
+same_bytes : (a b : List ℕ) → ◌≡◌ {A = Option (List ℕ)} (Some a) (Some b) → a ≡ b
+same_bytes a b e = cc
+
+not_missing : (source : SourceState) (name : List ℕ) → IsFound source name → IsMissing source name → ⊥
+not_missing source name found gone = some_none source.left (sym (found gone.tells) ∙ gone.none)
+
+held_left : (source : SourceState) (name bytes : List ℕ) → IsFound source name → Holds source name bytes → source.left ≡ bytes
+held_left source name bytes found holds = same_bytes source.left bytes (sym (found holds.tells) ∙ holds.some)
+
+-- what is said of every run and of every text
+pub record Laws (s : Setting) : Type 0 where
+  pub listed : (es : List Entry) → IsRun s es → races_told es ≡ races es
+  pub alone : HasOneVerdict s
+
+says_by : (s : Setting) (name : List ℕ) (old new : SourceState) (v : Verdict) → IsFound old name → Laws s → Keeps s v → (old.tells ≡ true → Judges s old.left v)
+    → TraceSays (ending_by v) s name old new (run_by v)
+says_by s name old new (Run es) found laws keeps judges = record {
+  found = record { there = not_missing old name found; run = keeps.0; listed = laws.listed es.items keeps.0; alone = laws.alone };
+  complete = keeps.1;
+  told = λ bytes holds. subst (λ t. IsTraceOf s t es.items) (held_left old name bytes found holds) (judges holds.tells);
+}
+says_by s name old new (NoRun line es) found laws keeps judges = record {
+  found = record { there = not_missing old name found; run = keeps.0; listed = laws.listed es.items keeps.0; alone = laws.alone };
+  number = keeps.1;
+  told = λ bytes holds. subst (λ t. IsWrongAt s t line es.items) (held_left old name bytes found holds) (judges holds.tells);
+}
+
+-- there is a verdict
+pub judged : (s : Setting) (name : List ℕ) (old new : SourceState) (v : Verdict) (ends : Ending) (es : List Entry) → WasRead old new → IsFound old name → Laws s → Keeps s v
+    → (old.tells ≡ true → Judges s old.left v) → ends ≡ ending_by v → es ≡ run_by v → HeldTrace ends s name old new es
+judged s name old new v ends es read found laws keeps judges is are = record {
+  read = read;
+  says = subst (λ (e : Ending). TraceSays e s name old new es) (sym is) (subst (λ (xs : List Entry). TraceSays (ending_by v) s name old new xs) (sym are) (says_by s name old new v found laws keeps judges));
+}
+
+-- the source failed, or the trace is missing
+pub unread : (s : Setting) (name : List ℕ) (old new : SourceState) (ends : Ending) (es : List Entry) → WasRead old new → IsMissing old name ⊎ Rose old.faults new.faults → ends ≡ ending.CantRead → es ≡ []
+    → HeldTrace ends s name old new es
+unread s name old new ends es read cause is none = record {
+  read = read;
+  says = subst (λ (e : Ending). TraceSays e s name old new es) (sym is) (cause, none);
+}
+
+-- it ran out of memory
+pub unjudged : (s : Setting) (name : List ℕ) (old new : SourceState) (ends : Ending) (es : List Entry) → WasRead old new → ends ≡ ending.NoMemory → es ≡ [] → HeldTrace ends s name old new es
+unjudged s name old new ends es read is none = record {
+  read = read;
+  says = subst (λ (e : Ending). TraceSays e s name old new es) (sym is) none;
+}

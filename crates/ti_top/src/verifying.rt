@@ -1,0 +1,116 @@
+// A trace held against the program of a text.
+ghost use Rattle.std.specs.Prelude.{◌≡◌, [], true, Some};
+ghost use Rattle.ti_io.specs.Source.{content_of};
+ghost use Rattle.ti_lang.specs.Program.Views.{program_of};
+ghost use Rattle.ti_store.specs.Conditions.{IsWithin};
+ghost use Rattle.ti_top.specs.Mirrors.Verifying.{ending_by, run_by, HeldTrace, HeldSays, WasRead, Verified as VerifiedBy};
+ghost use Rattle.ti_top.specs.Run.{run_of};
+
+use crate::compiling::{CompileErr, compile};
+use crate::ending::Ending;
+use crate::reading::{ReadEnd, read_whole};
+use std::alloc::Global;
+use ti_align::actions_formed;
+use ti_base::Entry;
+use ti_io::Source;
+use ti_race::races_are_told;
+use ti_rules::Checked;
+use ti_trace_check::{TraceErr, Verdict, check_trace, one_verdict};
+use ti_words::Job;
+
+/// How the work on a trace ended, and the run that it has.
+#[derive(Drop)]
+pub struct Verified {
+    pub ending: Ending,
+    pub history: Vec<Entry>,
+}
+
+impl Verified {
+    // There is no verdict.
+    fn without(alloc: Global, ending: Ending) -> Self
+        ensures ending { result.ending ≡ ending }
+        ensures history { result.history.items ≡ [] }
+    {
+        Verified {
+            ending,
+            history: Vec::new(alloc),
+        }
+    }
+
+    // By a verdict.
+    fn by(verdict: Verdict) -> Self
+        ensures ending { result.ending ≡ ending_by verdict }
+        ensures history { result.history.items ≡ run_by verdict }
+    {
+        match verdict {
+            Verdict::Run(entries) => Verified {
+                ending: Ending::Done,
+                history: entries,
+            },
+            Verdict::NoRun(line, entries) => Verified {
+                ending: Ending::NoRun(line),
+                history: entries,
+            },
+        }
+    }
+}
+
+// Holds the trace that was found against a program. What is said of its races and of its verdict is the law of every run and every text.
+fn verify_found<S: Source>(alloc: Global, job: &Job, checked: &Checked, source: &mut S) -> Verified
+    requires within { IsWithin job.now.procs job.now.fuel }
+    requires found { (S.state source.old).tells ≡ true → content_of (S.state source.old).files job.now.against ≡ Some (S.state source.old).left }
+    ensures { HeldTrace result.ending (run_of (program_of checked.now.program.parts) job.now) job.now.against (S.state source.old) (S.state source.new) result.history.items }
+{
+    actions_formed(checked);
+    races_are_told();
+    one_verdict();
+    match check_trace(alloc, checked, job.procs, job.fuel, source) {
+        Ok(verdict) => Verified::by(verdict),
+        Err(TraceErr::Read) => Verified::without(alloc, Ending::CantRead),
+        Err(TraceErr::Memory) => Verified::without(alloc, Ending::NoMemory),
+    }
+}
+
+// Finds the trace that a job names, and holds it against a program.
+fn verify_named<S: Source>(alloc: Global, job: &Job, checked: &Checked, source: &mut S) -> Verified
+    requires { IsWithin job.now.procs job.now.fuel }
+    ensures { HeldTrace result.ending (run_of (program_of checked.now.program.parts) job.now) job.now.against (S.state source.old) (S.state source.new) result.history.items }
+{
+    match source.find(job.against.as_str()) {
+        Ok(true) => verify_found(alloc, job, checked, source),
+        Ok(false) => Verified::without(alloc, Ending::CantRead),
+        Err(_) => Verified::without(alloc, Ending::CantRead),
+    }
+}
+
+// Checks a whole text, and holds the trace that a job names against its program.
+fn verify_text<S: Source>(alloc: Global, job: &Job, text: &[u8], source: &mut S) -> Verified
+    requires { IsWithin job.now.procs job.now.fuel }
+    ensures read { WasRead (S.state source.old) (S.state source.new) }
+    ensures says { HeldSays result.ending job.now text.now (S.state source.old) (S.state source.new) result.history.items }
+{
+    match compile(alloc, text) {
+        Ok(checked) => verify_named(alloc, job, &checked, source),
+        Err(CompileErr::Refused(refusal)) => { Verified::without(alloc, Ending::Refused(refusal)) }
+        Err(CompileErr::Memory) => Verified::without(alloc, Ending::NoMemory),
+    }
+}
+
+/// Reads the file of a job and checks the text, and holds the trace that the job names against its program. What was read of the file stands in
+/// the text however the work ended.
+pub fn verify_file<S: Source>(
+    alloc: Global,
+    job: &Job,
+    source: &mut S,
+    text: &mut Vec<u8>,
+) -> Verified
+    requires within { IsWithin job.now.procs job.now.fuel }
+    requires none { text.old.items ≡ [] }
+    ensures { VerifiedBy job.now result.ending (S.state source.old) (S.state source.new) text.new.items result.history.items }
+{
+    match read_whole(source, job.file.as_str(), text) {
+        ReadEnd::Whole => verify_text(alloc, job, text, source),
+        ReadEnd::CantRead => Verified::without(alloc, Ending::CantRead),
+        ReadEnd::NoMemory => Verified::without(alloc, Ending::NoMemory),
+    }
+}
