@@ -9,6 +9,7 @@ use crate::by_code::next_by_code;
 use crate::by_trees::follow;
 use crate::course::{Course, Limits, Stray, is_same, next_in};
 use crate::phases::checked_of;
+use crate::replay::is_replayed;
 use std::alloc::Global;
 use std::sync::Wait;
 use std::thread::Threads;
@@ -32,7 +33,7 @@ pub(crate) struct Parting {
 /// What comes of a program.
 #[derive(Clone, Copy)]
 pub(crate) enum Outcome {
-    /// All processes over trees agree with their entries, of which there are so many.
+    /// All processes over trees agree with their entries, of which there are so many, and make the history again.
     Agrees(usize),
     /// One of them doesn't.
     Parts(Parting),
@@ -42,6 +43,8 @@ pub(crate) enum Outcome {
     Memory,
     /// An entry is of no process.
     Stranger,
+    /// The processes over trees and a store make other entries where they go on in the order of the history.
+    Other,
 }
 
 /// A program, its code and its run by it.
@@ -143,15 +146,29 @@ fn all_compared(alloc: Global, ran: &Ran, limits: Limits) -> Result<usize, Parti
     Ok(entries)
 }
 
+/// What comes of a history of which so many entries are of processes that agree.
+fn judged_whole(alloc: Global, ran: &Ran, limits: Limits, entries: usize) -> Outcome
+    requires { IsWithin limits.procs limits.fuel }
+{
+    let history = ran.end.history.as_slice();
+    if entries != history.len() {
+        return Outcome::Stranger;
+    }
+    if is_replayed(alloc, &ran.checked, limits, history) {
+        Outcome::Agrees(entries)
+    } else {
+        Outcome::Other
+    }
+}
+
 fn judged_run(alloc: Global, ran: &Ran, limits: Limits) -> Outcome
-    requires { limits.procs ≤ 32 }
+    requires { IsWithin limits.procs limits.fuel }
 {
     if matches!(ran.end.how, How::Memory) {
         return Outcome::Memory;
     }
     match all_compared(alloc, ran, limits) {
-        Ok(entries) if entries == ran.end.history.len() => Outcome::Agrees(entries),
-        Ok(_) => Outcome::Stranger,
+        Ok(entries) => judged_whole(alloc, ran, limits, entries),
         Err(parting) => Outcome::Parts(parting),
     }
 }

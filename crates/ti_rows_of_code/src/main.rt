@@ -12,6 +12,7 @@ mod forms;
 mod made_by_hand;
 mod phases;
 mod programs;
+mod replay;
 mod telling;
 
 use made_by_hand::tell_made;

@@ -58,6 +58,7 @@ fn agreeing<R: Print + AllocGlobal + Threads + Wait + Sync>(
         Outcome::Refused => println!(rt; "{name}: no program")?,
         Outcome::Memory => println!(rt; "{name}: the run wants memory")?,
         Outcome::Stranger => println!(rt; "{name}: an entry is of no process")?,
+        Outcome::Other => println!(rt; "{name}: the order of the history makes other entries")?,
     }
     Ok(None)
 }
