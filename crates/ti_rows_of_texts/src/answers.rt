@@ -6,6 +6,7 @@ use crate::phases::{Phase, made_by};
 use crate::slices::{collectives, slice};
 use crate::tables::{Table, found_in};
 use crate::texts::{Frame, text_of};
+use crate::traces::{changed, traced};
 use crate::walks::walk;
 use std::alloc::{AllocError, AllocFailed, Global};
 use std::rt::Files;
@@ -39,6 +40,14 @@ pub(crate) enum Asked {
     Finished,
     /// The status, how many entries there are, and whether a process that was held gave up.
     Holding,
+    /// What holding the trace of the run against its program leaves.
+    Traced,
+    /// The same with each byte of the trace changed, where it isn't refused at the line of the byte.
+    Changed,
+    /// Of each run of a command in which another call fails the status, and how much stands on out and err.
+    Failing,
+    /// What a command comes to over the fronts of the text.
+    CommandFronts,
 }
 
 /// Why a text has no answer.
@@ -96,6 +105,10 @@ fn answer_behind<R: Files + AllocGlobal + Threads + Wait + Sync>(
         Asked::End => command(rt, Shown::LastEntry, given, text),
         Asked::Finished => command(rt, Shown::Finished, given, text),
         Asked::Holding => command(rt, Shown::Holding, given, text),
+        Asked::Traced => traced(rt, given, text),
+        Asked::Changed => changed(rt, given, text),
+        Asked::Failing => command(rt, Shown::Failing, given, text),
+        Asked::CommandFronts => command(rt, Shown::Fronts, given, text),
         _ => Err(Stopped::Row),
     }
 }

@@ -1,7 +1,10 @@
 // Runs of the command over memory, with calls that fail where a row says so.
 
 use crate::answers::Stopped;
-use crate::stages::{Held, Stage, staged};
+use crate::failing::each_failing;
+use crate::fronts::fronts;
+use crate::stages::{Fails, Held, ROOM, Stage, staged};
+use crate::texts::bytes_of;
 use crate::watchers::{Handed, short_of, told_trace};
 use std::alloc::{AllocError, Global};
 use std::sync::Wait;
@@ -25,6 +28,10 @@ pub(crate) enum Shown {
     Finished,
     /// The status, how many entries there are, and whether a process that was held gave up.
     Holding,
+    /// Of each run in which another call fails the status, and how much stands on out and err.
+    Failing,
+    /// What the command comes to over the fronts of the text.
+    Fronts,
 }
 
 /// What the processes pass: nothing, or a gate that holds two of them.
@@ -60,9 +67,9 @@ impl Passage {
 }
 
 #[derive(Drop)]
-struct Sinks {
-    out: MemSink,
-    err: MemSink,
+pub(crate) struct Sinks {
+    pub(crate) out: MemSink,
+    pub(crate) err: MemSink,
 }
 
 #[derive(Drop)]
@@ -80,50 +87,79 @@ struct Call {
 
 /// What the call left.
 #[derive(Drop)]
-struct Left {
-    outcome: Outcome,
-    sinks: Sinks,
+pub(crate) struct Left {
+    pub(crate) outcome: Outcome,
+    pub(crate) sinks: Sinks,
     gave_up: bool,
 }
 
-/// The numbers of the calls that fail.
-fn fails_of(alloc: Global, call: Option<u32>) -> Result<Vec<u32>, Memory> {
-    let mut fails = Vec::new(alloc);
-    if let Some(call) = call {
-        fails.push(call)?;
-    }
-    Ok(fails)
+/// What the files hold: `a.ti` a text, and `t.tr` a trace where there is one.
+#[derive(Drop)]
+pub(crate) struct Texts {
+    pub(crate) text: Vec<u8>,
+    pub(crate) trace: Option<Vec<u8>>,
 }
 
-/// A sink that is written in pieces of 3 bytes.
-fn sink_of(alloc: Global, call: Option<u32>) -> Result<MemSink, Memory> {
-    let fails = fails_of(alloc, call)?;
-    MemSink::new(alloc, 3, 200_000, fails)
+impl Texts {
+    /// A text without a trace.
+    pub(crate) fn of(text: Vec<u8>) -> Texts {
+        Texts { text, trace: None }
+    }
+}
+
+/// The numbers of the calls that fail.
+fn fails_of(alloc: Global, fails: Fails) -> Result<Vec<u32>, Memory> {
+    let mut numbers = Vec::new(alloc);
+    if let Fails::At(number) = fails {
+        numbers.push(number)?;
+    }
+    Ok(numbers)
+}
+
+/// A sink that is written in pieces of 3 bytes, and takes so many.
+fn sink_of(alloc: Global, fails: Fails, room: usize) -> Result<MemSink, Memory> {
+    let fails = fails_of(alloc, fails)?;
+    MemSink::new(alloc, 3, room, fails)
 }
 
 fn sinks_of(alloc: Global, stage: Stage) -> Result<Sinks, Memory> {
-    let out = sink_of(alloc, stage.out)?;
-    let err = sink_of(alloc, stage.err)?;
+    let out = sink_of(alloc, stage.out, stage.room)?;
+    let err = sink_of(alloc, stage.err, ROOM)?;
     Ok(Sinks { out, err })
 }
 
-/// The file `a.ti`, which holds the text.
-fn files_of(alloc: Global, text: Vec<u8>) -> Result<Vec<(String, Vec<u8>)>, Memory> {
-    let name = String::from_str(alloc, "a.ti")?;
-    let mut files = Vec::new(alloc);
+/// Puts a file behind others.
+fn push_file(
+    alloc: Global,
+    files: &mut Vec<(String, Vec<u8>)>,
+    name: &str,
+    text: Vec<u8>,
+) -> Result<(), Memory> {
+    let name = String::from_str(alloc, name)?;
     files.push((name, text))?;
+    Ok(())
+}
+
+/// The files with what they hold.
+fn files_of(alloc: Global, texts: Texts) -> Result<Vec<(String, Vec<u8>)>, Memory> {
+    let Texts { text, trace } = texts;
+    let mut files = Vec::new(alloc);
+    push_file(alloc, &mut files, "a.ti", text)?;
+    if let Some(trace) = trace {
+        push_file(alloc, &mut files, "t.tr", trace)?;
+    }
     Ok(files)
 }
 
-/// A source with this file, which is read in pieces of 8 bytes.
-fn source_of(alloc: Global, text: Vec<u8>, call: Option<u32>) -> Result<MemSource, Memory> {
-    let files = files_of(alloc, text)?;
-    let fails = fails_of(alloc, call)?;
+/// A source with these files, which is read in pieces of 8 bytes.
+fn source_of(alloc: Global, texts: Texts, fails: Fails) -> Result<MemSource, Memory> {
+    let files = files_of(alloc, texts)?;
+    let fails = fails_of(alloc, fails)?;
     Ok(MemSource::new(files, 8, fails))
 }
 
-fn streams_of(alloc: Global, stage: Stage, text: Vec<u8>) -> Result<Streams, Memory> {
-    let source = source_of(alloc, text, stage.source)?;
+fn streams_of(alloc: Global, stage: Stage, texts: Texts) -> Result<Streams, Memory> {
+    let source = source_of(alloc, texts, stage.source)?;
     let sinks = sinks_of(alloc, stage)?;
     Ok(Streams { source, sinks })
 }
@@ -137,8 +173,8 @@ fn words_of(alloc: Global, line: &str) -> Result<Vec<String>, Memory> {
     Ok(words)
 }
 
-fn call_of(alloc: Global, line: &str, stage: Stage, text: Vec<u8>) -> Result<Call, Memory> {
-    let streams = streams_of(alloc, stage, text)?;
+fn call_of(alloc: Global, line: &str, stage: Stage, texts: Texts) -> Result<Call, Memory> {
+    let streams = streams_of(alloc, stage, texts)?;
     let words = words_of(alloc, line)?;
     Ok(Call { words, streams })
 }
@@ -165,12 +201,14 @@ fn called<R: AllocGlobal + Threads + Wait + Sync>(
 }
 
 /// The command with watchers, which are made here, since no function may make them and hand them out.
-fn left_by<R: AllocGlobal + Threads + Wait + Sync>(
+pub(crate) fn left_by<R: AllocGlobal + Threads + Wait + Sync>(
     rt: &R,
-    call: Call,
+    line: &str,
     stage: Stage,
+    texts: Texts,
 ) -> Result<Left, Memory> {
     let alloc = rt.alloc();
+    let call = call_of(alloc, line, stage, texts)?;
     let mut watchers: Vec<Box<dyn Watch>> = Vec::new(alloc);
     for handed in stage.watchers {
         match handed {
@@ -196,7 +234,8 @@ fn push_named(text: &mut Vec<u8>, name: &[u8], bytes: &[u8]) -> Result<(), Memor
     Ok(())
 }
 
-fn shown_ending(alloc: Global, status: u8, sinks: &Sinks) -> Result<Vec<u8>, Memory> {
+/// The status, and what stands on out and err.
+pub(crate) fn shown_ending(alloc: Global, status: u8, sinks: &Sinks) -> Result<Vec<u8>, Memory> {
     let mut text = format!(in alloc; "{status}")?.into_bytes();
     push_named(&mut text, b" out: ", sinks.out.bytes())?;
     push_named(&mut text, b" err: ", sinks.err.bytes())?;
@@ -212,7 +251,7 @@ fn told(alloc: Global, history: &[Entry]) -> Result<TraceWatch, Memory> {
 }
 
 /// Entries as the trace writes them.
-fn traced(alloc: Global, history: &[Entry]) -> Result<Vec<u8>, Memory> {
+pub(crate) fn trace_of(alloc: Global, history: &[Entry]) -> Result<Vec<u8>, Memory> {
     let trace = told(alloc, history)?;
     let mut text = Vec::new(alloc);
     trace.report(&mut text)?;
@@ -222,7 +261,7 @@ fn traced(alloc: Global, history: &[Entry]) -> Result<Vec<u8>, Memory> {
 /// How many entries there are, and the last as the trace writes it where it is alone.
 fn last_of(alloc: Global, history: &[Entry]) -> Result<Vec<u8>, Memory> {
     let behind = history.len().saturating_sub(1);
-    let last = traced(alloc, &history[behind..])?;
+    let last = trace_of(alloc, &history[behind..])?;
     let mut text = format!(in alloc; "{} entries, the last: ", history.len())?.into_bytes();
     text.extend_from_slice(&last)?;
     Ok(text)
@@ -257,11 +296,11 @@ fn shown_holding(alloc: Global, left: &Left) -> Result<Vec<u8>, Memory> {
 
 fn part_of(alloc: Global, asked: Shown, left: &Left) -> Result<Vec<u8>, Memory> {
     match asked {
-        Shown::Ending => shown_ending(alloc, left.outcome.status, &left.sinks),
-        Shown::History => traced(alloc, &left.outcome.history),
+        Shown::History => trace_of(alloc, &left.outcome.history),
         Shown::LastEntry => last_of(alloc, &left.outcome.history),
         Shown::Finished => spaced(alloc, &left.outcome.done),
         Shown::Holding => shown_holding(alloc, left),
+        _ => shown_ending(alloc, left.outcome.status, &left.sinks),
     }
 }
 
@@ -270,22 +309,43 @@ fn done<R: AllocGlobal + Threads + Wait + Sync>(
     asked: Shown,
     line: &str,
     stage: Stage,
-    text: Vec<u8>,
+    texts: Texts,
 ) -> Result<Vec<u8>, Stopped> {
-    let call = call_of(rt.alloc(), line, stage, text)?;
-    let left = left_by(rt, call, stage)?;
+    let left = left_by(rt, line, stage, texts)?;
     Ok(part_of(rt.alloc(), asked, &left)?)
 }
 
-/// What a command leaves over one file `a.ti` that holds a text.
+/// What is given without the trace behind ` |`, and that trace as it is written.
+fn parted(given: &str) -> (&str, Option<&str>) {
+    match given.split_once(" |") {
+        Some((words, trace)) => (words, Some(trace.strip_prefix(" ").unwrap_or(trace))),
+        None => (given, None),
+    }
+}
+
+/// The bytes of a trace that is given.
+fn given_trace(alloc: Global, written: Option<&str>) -> Result<Option<Vec<u8>>, Stopped> {
+    match written {
+        Some(written) => Ok(Some(bytes_of(alloc, written)?)),
+        None => Ok(None),
+    }
+}
+
+/// What a command leaves over a file `a.ti` that holds a text, and a file `t.tr` that holds a trace where one is given behind ` |`.
 pub(crate) fn command<R: AllocGlobal + Threads + Wait + Sync>(
     rt: &R,
     asked: Shown,
     given: &str,
     text: Vec<u8>,
 ) -> Result<Vec<u8>, Stopped> {
-    match staged(given) {
-        Some((line, stage)) => done(rt, asked, line, stage, text),
-        None => Err(Stopped::Row),
+    let (given, written) = parted(given);
+    let trace = given_trace(rt.alloc(), written)?;
+    let Some((line, stage)) = staged(given) else {
+        return Err(Stopped::Row);
+    };
+    match asked {
+        Shown::Failing => each_failing(rt, line, stage, &text),
+        Shown::Fronts => fronts(rt, line, stage, &text),
+        _ => done(rt, asked, line, stage, Texts { text, trace }),
     }
 }

@@ -5,6 +5,8 @@
 mod answers;
 mod commands;
 mod evaluation;
+mod failing;
+mod fronts;
 mod parts;
 mod phases;
 mod rows;
@@ -13,6 +15,7 @@ mod stages;
 mod tables;
 mod texts;
 mod things;
+mod traces;
 mod walks;
 mod watchers;
 

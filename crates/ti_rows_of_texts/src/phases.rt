@@ -234,7 +234,7 @@ fn refusal_of(alloc: Global, text: &[u8]) -> Result<Option<Refusal>, Stopped> {
 }
 
 /// The place behind a byte.
-fn place_behind(place: Place, byte: u8) -> Place {
+pub(crate) fn place_behind(place: Place, byte: u8) -> Place {
     let (line, col) = match byte {
         b'\n' => (place.line.saturating_add(1), 1),
         _ => (place.line, place.col.saturating_add(1)),

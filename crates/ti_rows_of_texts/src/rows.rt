@@ -103,6 +103,10 @@ fn asked_of(word: &str) -> Option<Asked> {
         "finished" => Some(Asked::Finished),
         "end" => Some(Asked::End),
         "holding" => Some(Asked::Holding),
+        "traced" => Some(Asked::Traced),
+        "changed" => Some(Asked::Changed),
+        "failing" => Some(Asked::Failing),
+        "command-fronts" => Some(Asked::CommandFronts),
         _ => match table_of(word) {
             Some(table) => Some(Asked::Table(table)),
             None => Some(Asked::Phase(phase_of(word)?)),

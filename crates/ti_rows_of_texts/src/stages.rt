@@ -10,21 +10,59 @@ pub(crate) struct Held {
     pub(crate) looks: u64,
 }
 
-/// The numbers of the calls of the source, out and err that fail, the watchers that are handed in, and the processes that are held.
+/// Which call of a source or a sink fails.
+#[derive(Clone, Copy)]
+pub(crate) enum Fails {
+    Never,
+    /// The one of this number.
+    At(u32),
+    /// In each of several runs the one that has the run's number.
+    Each,
+}
+
+impl Fails {
+    /// Which call fails in the run of a number.
+    fn in_run(self, number: u32) -> Fails {
+        match self {
+            Fails::Each => Fails::At(number),
+            _ => self,
+        }
+    }
+}
+
+/// The calls of the source, out and err that fail, how many bytes out takes, the watchers that are handed in, and the
+/// processes that are held.
 #[derive(Clone, Copy)]
 pub(crate) struct Stage {
-    pub(crate) source: Option<u32>,
-    pub(crate) out: Option<u32>,
-    pub(crate) err: Option<u32>,
+    pub(crate) source: Fails,
+    pub(crate) out: Fails,
+    pub(crate) err: Fails,
+    pub(crate) room: usize,
     pub(crate) watchers: [Option<Handed>; 3],
     pub(crate) held: Option<Held>,
 }
 
+impl Stage {
+    /// The stage of the run of a number.
+    pub(crate) fn in_run(self, number: u32) -> Stage {
+        Stage {
+            source: self.source.in_run(number),
+            out: self.out.in_run(number),
+            err: self.err.in_run(number),
+            ..self
+        }
+    }
+}
+
+/// So many bytes a sink takes.
+pub(crate) const ROOM: usize = 200_000;
+
 /// No call fails, and the watchers are those that `main` hands in.
 const PLAIN: Stage = Stage {
-    source: None,
-    out: None,
-    err: None,
+    source: Fails::Never,
+    out: Fails::Never,
+    err: Fails::Never,
+    room: ROOM,
     watchers: [
         Some(Handed::Trace),
         Some(Handed::Stats),
@@ -87,15 +125,30 @@ fn with_held(stage: Stage, word: &str) -> Option<Stage> {
     })
 }
 
+/// A stage with an out that takes as many bytes as a word says.
+fn with_room(stage: Stage, word: &str) -> Option<Stage> {
+    let room = word.parse::<u32>().ok()? as usize;
+    Some(Stage { room, ..stage })
+}
+
+/// The call that a word such as `4` or `each` says.
+fn fails_of(word: &str) -> Option<Fails> {
+    match word {
+        "each" => Some(Fails::Each),
+        _ => Some(Fails::At(word.parse::<u32>().ok()?)),
+    }
+}
+
 /// A stage with what a word such as `out:4` says.
 fn with(stage: Stage, word: &str) -> Option<Stage> {
     let (part, value) = word.split_once(':')?;
     match part {
         "watch" => return with_watchers(stage, value),
         "hold" => return with_held(stage, value),
+        "room" => return with_room(stage, value),
         _ => {}
     }
-    let call = Some(value.parse::<u32>().ok()?);
+    let call = fails_of(value)?;
     match part {
         "source" => Some(Stage {
             source: call,

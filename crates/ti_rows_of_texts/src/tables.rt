@@ -153,7 +153,7 @@ fn shown_job(alloc: Global, job: &Job) -> Result<String, AllocError> {
     let trace = if job.trace { " trace" } else { "" };
     let stats = if job.stats { " stats" } else { "" };
     let races = if job.races { " races" } else { "" };
-    format!(in alloc;
+    let mut shown = format!(in alloc;
         "{:?} procs {} workers {} fuel {} seed {}{trace}{stats}{races} file \"{}\"",
         job.mode,
         job.procs,
@@ -161,7 +161,12 @@ fn shown_job(alloc: Global, job: &Job) -> Result<String, AllocError> {
         job.fuel,
         job.seed,
         job.file.as_str()
-    )
+    )?;
+    let against = job.against.as_str();
+    if !against.is_empty() {
+        shown.push_str(&format!(in alloc; " against \"{against}\"")?)?;
+    }
+    Ok(shown)
 }
 
 fn job(alloc: Global, row: &str) -> Result<String, Stopped> {

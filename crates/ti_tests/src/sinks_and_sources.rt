@@ -35,11 +35,12 @@ struct Reading {
     calls: Takes,
 }
 
-/// The numbers of the calls that fail, all calls, and what was taken.
+/// The numbers of the calls that fail, all calls, what was taken, and how much of it is flushed.
 struct Writing {
     fails: &'static [u32],
     calls: Gives,
     taken: &'static str,
+    flushed: usize,
 }
 
 /// The numbers of the calls that fail, whether a piece was written, and what was taken.
@@ -123,6 +124,7 @@ const WRITINGS: &[Writing] = &[
             (Give::Write(b""), Some(0)),
         ],
         taken: "abcab",
+        flushed: 5,
     },
     Writing {
         fails: &[0],
@@ -134,6 +136,7 @@ const WRITINGS: &[Writing] = &[
             (Give::Write(b""), Some(0)),
         ],
         taken: "abcab",
+        flushed: 5,
     },
     Writing {
         fails: &[1, 2],
@@ -145,6 +148,7 @@ const WRITINGS: &[Writing] = &[
             (Give::Write(b""), Some(0)),
         ],
         taken: "abc",
+        flushed: 3,
     },
     Writing {
         fails: &[3],
@@ -156,6 +160,7 @@ const WRITINGS: &[Writing] = &[
             (Give::Write(b""), Some(0)),
         ],
         taken: "abcab",
+        flushed: 0,
     },
     Writing {
         fails: &[4],
@@ -167,6 +172,7 @@ const WRITINGS: &[Writing] = &[
             (Give::Write(b""), None),
         ],
         taken: "abcab",
+        flushed: 5,
     },
 ];
 
@@ -279,7 +285,9 @@ fn reads_in_memory(rt: HostRuntime) -> Result<(), Fail> {
 fn writes_in_memory(rt: HostRuntime) -> Result<(), Fail> {
     for row in WRITINGS {
         let mut sink = sink_of(rt.alloc(), 5, row.fails)?;
-        let holds = gives(&mut sink, row.calls) && has_taken(&sink, row.taken);
+        let holds = gives(&mut sink, row.calls)
+            && has_taken(&sink, row.taken)
+            && sink.flushed() == row.flushed;
         assert!(rt; holds, "{:?}", row.fails);
     }
     Ok(())

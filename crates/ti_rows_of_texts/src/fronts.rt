@@ -1,0 +1,82 @@
+// A command over each front of a text.
+
+use crate::answers::Stopped;
+use crate::commands::{Left, Texts, left_by};
+use crate::phases::place_behind;
+use crate::stages::Stage;
+use std::alloc::{AllocError, Global};
+use std::sync::Wait;
+use std::thread::Threads;
+use ti_base::Place;
+
+/// The place that two numbers such as `1:62` stand for.
+fn place_of(numbers: &str) -> Option<Place> {
+    let (line, col) = numbers.split_once(':')?;
+    Some(Place {
+        line: line.parse::<u32>().ok()?,
+        col: col.parse::<u32>().ok()?,
+    })
+}
+
+/// The rule and the place in a line of `a.ti` such as `a.ti:1:62: G1 an unexpected token`.
+fn refusal_in(line: &str) -> Option<(&str, Place)> {
+    let (place, behind) = line.strip_prefix("a.ti:")?.split_once(": ")?;
+    let (rule, _) = behind.split_once(' ')?;
+    Some((rule, place_of(place)?))
+}
+
+/// Whether a line says that a token is unexpected or a string open, at this place or before it.
+fn stands_by(line: &str, end: Place) -> bool {
+    match refusal_in(line) {
+        Some(("G1" | "X3", place)) => !end.is_before(place),
+        _ => false,
+    }
+}
+
+/// What a command left over a front that isn't refused by its end: `accepted`, or its line on err.
+fn said(left: &Left, end: Place) -> Option<&str> {
+    if left.outcome.status == 0 {
+        return Some("accepted");
+    }
+    match str::from_utf8(left.sinks.err.bytes()) {
+        Ok(line) if stands_by(line, end) => None,
+        Ok(line) => Some(line.trim_end()),
+        Err(_) => Some("no line"),
+    }
+}
+
+/// Puts what a command left over a front behind that of others, but where it is refused by its end.
+fn push_front(
+    alloc: Global,
+    found: &mut String,
+    count: usize,
+    left: &Left,
+    end: Place,
+) -> Result<(), AllocError> {
+    if let Some(said) = said(left, end) {
+        let mark = if found.is_empty() { "" } else { ", " };
+        found.push_str(&format!(in alloc; "{mark}{count} {said}")?)?;
+    }
+    Ok(())
+}
+
+/// What a command comes to over the fronts of a text, by their lengths, but where one is refused by its end.
+pub(crate) fn fronts<R: AllocGlobal + Threads + Wait + Sync>(
+    rt: &R,
+    line: &str,
+    stage: Stage,
+    text: &[u8],
+) -> Result<Vec<u8>, Stopped> {
+    let alloc = rt.alloc();
+    let mut found = String::new(alloc);
+    let mut end = Place::first();
+    for count in 0..=text.len() {
+        let texts = Texts::of(text[..count].to_vec(alloc)?);
+        let left = left_by(rt, line, stage, texts)?;
+        push_front(alloc, &mut found, count, &left, end)?;
+        if let Some(byte) = text.get(count) {
+            end = place_behind(end, *byte);
+        }
+    }
+    Ok(found.into_bytes())
+}
