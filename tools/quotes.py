@@ -7,7 +7,8 @@ A document quotes in three ways:
 - ```java examples/hello.ti        a block whose first line names a file holds that file;
   ```java rules/N4.ti 27-28        or these lines of it, or one line. Each such file is run by a row.
 - $ titan --procs 4 examples/hello.ti
-                                   a block with such lines holds below each of them what the command writes, as a row says: out, then err.
+                                   a block with such lines holds below each of them what the command writes, as a row says: out, then err. The
+                                   file behind --against stands in its row, behind ` |`.
 - <!-- rows -->                    the table below this line has in each row a text, then the rule that it breaks and the token there, then what
                                    is written instead; rows say that the first is refused so, and that the others come to their end.
 
@@ -33,7 +34,7 @@ def unescaped(text):
 
 
 def read_rows():
-    """The rows that ask for a command: what is written, by words and file; and frame, status and what is written, by text."""
+    """The rows that ask for a command: what is written, by words, trace and file; and frame, status and what is written, by text."""
     runs, texts = {}, {}
     for path in sorted(DATA.glob("*.rows")):
         asks, frame = "", ""
@@ -46,7 +47,8 @@ def read_rows():
             words, text, status, out, err = row.groups()
             written = unescaped(out or "") + unescaped(err or "")
             if frame == "file":
-                runs[(words, text)] = written
+                words, _, trace = words.partition(" |")
+                runs[(words, unescaped(trace.removeprefix(" ")), text)] = written
             else:
                 texts.setdefault(unescaped(text), []).append((frame, status, written))
     return runs, texts
@@ -80,9 +82,10 @@ def quoted(number, words, inside, runs):
     if not path.is_file():
         yield number, f"no file {words[1]}"
         return
-    if all(text != words[1] for _, text in runs):
-        yield number, f"no row runs {words[1]}"
-    whole = path.read_text().splitlines()
+    whole = path.read_text()
+    if all(words[1] != text and trace != whole for _, trace, text in runs):
+        yield number, f"no row runs {words[1]}, or holds it against a text"
+    whole = whole.splitlines()
     if len(words) > 2:
         first, _, last = words[2].partition("-")
         whole = whole[int(first) - 1:int(last or first)]
@@ -94,7 +97,11 @@ def written(words, runs, command):
     if command:
         ran = subprocess.run([command, *words], cwd=DATA, capture_output=True, text=True)
         return ran.stdout + ran.stderr
-    found = runs.get((" ".join([*words[:-1], "a.ti"]), words[-1]))
+    asked, trace = [*words[:-1], "a.ti"], ""
+    if "--against" in asked:
+        named = asked.index("--against") + 1
+        trace, asked[named] = (DATA / asked[named]).read_text(), "t.tr"
+    found = runs.get((" ".join(asked), trace, words[-1]))
     return found and re.sub(r"^a\.ti:", words[-1] + ":", found, flags=re.M)
 
 
