@@ -96,6 +96,11 @@ impl<'a> Judge<'a> {
             Expr::Long(_, _) => Some(Judged::sound(Some(Seen::Long))),
             Expr::Truth(_, _) => Some(Judged::sound(Some(Seen::Bool))),
             Expr::Variable(_, v) => Some(Judged::sound(variable_type(scope, v))),
+            Expr::OwnField(_, field) => Some(Judged::sound(own_field_type(
+                self.program,
+                scope.this,
+                *field,
+            ))),
             _ => None,
         }
     }
