@@ -51,7 +51,7 @@ same_kinds kind.Variable kind.Method h = absurd (true_false (sym h))
 same_kinds kind.Variable kind.Result h = absurd (true_false (sym h))
 same_kinds kind.Variable kind.Variable h = refl
 
-mark_is : (m n : Mark) → is_mark m.kind m.place n ≡ true → m ≡ n
+pub mark_is : (m n : Mark) → is_mark m.kind m.place n ≡ true → m ≡ n
 mark_is m n h =
     let g = both (same_kind m.kind n.kind) (same_place m.place n.place) h in
     ap (λ (p : Place). record m { place = p }) (same_places m.place n.place g.1) ∙ ap (λ (k : MarkKind). record n { kind = k }) (same_kinds m.kind n.kind g.0)

@@ -1,5 +1,6 @@
 -- The program with `single` where a marking says so, and, beside `main`, nowhere else.
-use Rattle.std.specs.Prelude.{ℕ, Bool, ◌||◌, if◌then◌else◌, [], ◌∷◌, ◌++◌, map, option_map}
+use Rattle.std.specs.Prelude.{ℕ, Bool, false, ◌||◌, if◌then◌else◌, [], ◌∷◌, ◌++◌, map, option_map, slice_get}
+use Rattle.std.specs.Option.{option_map_or}
 use Rattle.ti_base.specs.declared.place.Place.{Place}
 use Rattle.ti_syntax.specs.declared.tree.types.QualifierWord.TheVariants.{Single}
 use Rattle.ti_syntax.specs.declared.tree.classes.ModifierWord.TheVariants as word
@@ -138,3 +139,7 @@ marked_method marks m = record m {
 -- the program in which what is marked is single
 abbrev pub marked : Marks → NumberedProgram → NumberedProgram
 marked marks p = record p { methods = map (marked_method marks) p.methods }
+
+-- the method where a run begins, which has its word `single` at first, is marked
+abbrev pub marks_main : Marks → NumberedProgram → Bool
+marks_main marks p = option_map_or (λ (m : NumberedMethod). marks.methods m.place) (slice_get p.methods p.main) false

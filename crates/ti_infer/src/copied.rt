@@ -19,7 +19,8 @@ use ti_lang::program::InScope;
 
 // ---- each only once
 
-fn is_mark(a: Mark, b: Mark) -> bool
+/// Whether two marks are one.
+pub fn is_mark(a: Mark, b: Mark) -> bool
     ensures { result ≡ is_mark a.kind a.place b }
 {
     let same_kind = match (a.kind, b.kind) {

@@ -7,9 +7,10 @@ ghost use Rattle.ti_lang.specs.Numbering.{IsNumbered};
 ghost use Rattle.ti_rules.specs.TypeRules.{type_refusals};
 ghost use Rattle.ti_rules.specs.SingleRules.{single_refusals};
 ghost use Rattle.ti_infer.specs.Accepted.{IsAccepted};
+ghost use Rattle.ti_infer.specs.Answer.{IsGreatest, IsFirstUnaligned};
 ghost use Rattle.ti_infer.specs.Fitting.{MarksFit};
 ghost use Rattle.ti_blame.specs.Marks.{Marks, IsPart, union};
-ghost use Rattle.ti_infer.specs.Marked.{marked};
+ghost use Rattle.ti_infer.specs.Marked.{marked, marks_main};
 ghost use Rattle.ti_infer.specs.Stripped.{stripped, HavePlainResults};
 ghost use Rattle.ti_infer.specs.Blame.{program_blamed, KeepsSingle, every_one};
 ghost use Rattle.ti_infer.specs.Collectives.{is_collective_at, program_reasons};
@@ -78,7 +79,27 @@ pub fn stripped_is_numbered()
     ensures { (p : NumberedProgram) → ∥ IsNumbered p ∥₁ → ∥ IsNumbered (stripped p) ∥₁ }
 {}
 
+/// The marked program of the stripped program of a text is the program of a text, which has `single` where a marking says so: each use of
+/// a variable says of it what its declaration does. `main`, whose words are three, isn't marked; where the marked program breaks no rule
+/// of types and qualifiers, it isn't.
+pub fn marked_is_numbered()
+    ensures numbered { (p : NumberedProgram) (m : Marks) → ∥ IsNumbered p ∥₁ → stripped p ≡ p → marks_main m p ≡ false → ∥ IsNumbered (marked m p) ∥₁ }
+    ensures main { (p : NumberedProgram) (m : Marks) → ∥ IsNumbered p ∥₁ → type_refusals (marked m p) ≡ [] → marks_main m p ≡ false }
+{}
+
 /// In the stripped program of a text nothing is to blame in any case, whatever is marked: no statement calls `main`, and no update jumps.
 pub fn nothing_blamed_in_any_case()
     ensures { (p : NumberedProgram) (m : Marks) → ∥ IsNumbered p ∥₁ → type_refusals p ≡ [] → stripped p ≡ p → list_any is_always (program_blamed p m) ≡ false }
+{}
+
+/// A program without its marks has none to take off.
+pub fn stripped_once()
+    ensures { (p : NumberedProgram) → stripped (stripped p) ≡ stripped p }
+{}
+
+/// A program has at most one greatest marking, at most one first collective that no marking aligns, and never both.
+pub fn one_inference()
+    ensures one_marking { (p : NumberedProgram) (m n : List Mark) → IsGreatest p m → IsGreatest p n → m ≡ n }
+    ensures one_place { (p : NumberedProgram) (a b : Place) → IsFirstUnaligned p a → IsFirstUnaligned p b → a ≡ b }
+    ensures never_both { (p : NumberedProgram) (m : List Mark) (a : Place) → IsGreatest p m → IsFirstUnaligned p a → ⊥ }
 {}

@@ -1,0 +1,150 @@
+// Statements in which what is marked is single.
+ghost use Rattle.std.specs.Prelude.{◌≡◌, false, map, get_or, OnOk};
+ghost use Rattle.std.specs.List.{list_any};
+ghost use Rattle.ti_lang.specs.Program.Views.{type_use_of, statement_of};
+ghost use Rattle.ti_single.specs.Mirrors.Maybe.{maybe_in};
+ghost use Rattle.ti_blame.specs.Marks.{is_mark, marks_of};
+ghost use Rattle.ti_infer.specs.Marked.{marked_type, marked_stm, marked_maybe};
+
+use crate::copied::is_mark;
+use crate::fits::mark_type;
+use crate::uses::{Singles, set_in_initial, set_in_maybe, set_in_printed, set_uses};
+use ti_base::{Memory, Place};
+use ti_blame::{Mark, MarkKind};
+use ti_lang::program::{Stmt, TypeUse};
+
+/// Which variables of a method are marked, by their numbers.
+#[derive(Drop)]
+pub struct MarkedVariables {
+    pub singles: Vec<bool>,
+}
+
+impl Singles for MarkedVariables {
+    ghost says = { λ s number. get_or s.singles.items number false };
+
+    fn is_single(&self, number: u32) -> bool {
+        match self.singles.get(number as usize) {
+            Some(single) => *single,
+            None => false,
+        }
+    }
+}
+
+// ---- marks
+
+/// Whether this is one of the marks.
+pub fn is_marked(marks: &[Mark], kind: MarkKind, place: Place) -> bool
+    ensures { result ≡ list_any (is_mark kind place) marks.now }
+{
+    let mark = Mark { place, kind };
+    marks.iter().any(|other| is_mark(mark, *other))
+}
+
+/// Marks a type at a place, or says that it's not single.
+pub fn mark_if(single: bool, place: Place, t: &mut TypeUse) -> Result<(), Memory>
+    ensures { OnOk result (type_use_of t.new ≡ marked_type single place (type_use_of t.old)) }
+{
+    if single {
+        return mark_type(place, t);
+    }
+    t.single = false;
+    Ok(())
+}
+
+// ---- statements
+
+/// Marks the variables that these statements declare, and says of each use of one whether it's marked.
+#[cycle(mark_statement)]
+pub fn mark_statements(
+    marks: &[Mark],
+    variables: &MarkedVariables,
+    xs: &mut Vec<Stmt>,
+) -> Result<(), Memory>
+    ensures { OnOk result (map statement_of xs.new.items ≡ map (marked_stm (λ number. get_or variables.now.singles.items number false) (marks_of marks.now).variables) (map statement_of xs.old.items)) }
+{
+    for i in 0..xs.len() {
+        mark_statement(marks, variables, &mut xs[i])?;
+    }
+    Ok(())
+}
+
+#[cycle(mark_statement)]
+fn mark_maybe(
+    marks: &[Mark],
+    variables: &MarkedVariables,
+    x: &mut Option<Box<Stmt>>,
+) -> Result<(), Memory>
+    ensures { OnOk result (maybe_in x.new ≡ marked_maybe (λ number. get_or variables.now.singles.items number false) (marks_of marks.now).variables (maybe_in x.old)) }
+{
+    if let Some(x) = x {
+        mark_statement(marks, variables, x)?;
+    }
+    Ok(())
+}
+
+#[cycle(mark_statement)]
+fn mark_statement(marks: &[Mark], variables: &MarkedVariables, x: &mut Stmt) -> Result<(), Memory>
+    ensures { OnOk result (statement_of x.new ≡ marked_stm (λ number. get_or variables.now.singles.items number false) (marks_of marks.now).variables (statement_of x.old)) }
+{
+    match x {
+        Stmt::Declare {
+            place,
+            ty,
+            value,
+            ..
+        } => {
+            let place = *place;
+            mark_if(is_marked(marks, MarkKind::Variable, place), place, ty)?;
+            set_in_initial(variables, value);
+        }
+        Stmt::Assign { target, value, .. } => {
+            set_uses(variables, target);
+            set_in_initial(variables, value);
+        }
+        Stmt::Update { target, value, .. } => {
+            set_uses(variables, target);
+            set_uses(variables, value);
+        }
+        Stmt::Step { target, .. } => set_uses(variables, target),
+        Stmt::Call(x) => set_uses(variables, x),
+        Stmt::Print(_, what) => set_in_printed(variables, what),
+        Stmt::Return(_, value) => set_in_maybe(variables, value),
+        Stmt::Block(body) => mark_statements(marks, variables, body)?,
+        Stmt::If {
+            condition,
+            then,
+            otherwise,
+            ..
+        } => {
+            set_uses(variables, condition);
+            mark_statement(marks, variables, then)?;
+            mark_maybe(marks, variables, otherwise)?;
+        }
+        Stmt::While {
+            condition,
+            body,
+            ..
+        } => {
+            set_uses(variables, condition);
+            mark_statement(marks, variables, body)?;
+        }
+        Stmt::For {
+            first,
+            condition,
+            update,
+            body,
+            ..
+        } => {
+            mark_maybe(marks, variables, first)?;
+            set_in_maybe(variables, condition);
+            mark_maybe(marks, variables, update)?;
+            mark_statement(marks, variables, body)?;
+        }
+        Stmt::Foreach { domain, body, .. } => {
+            set_uses(variables, domain);
+            mark_statement(marks, variables, body)?;
+        }
+        Stmt::Empty | Stmt::Barrier(_) | Stmt::Break(_) | Stmt::Continue(_) => {}
+    }
+    Ok(())
+}

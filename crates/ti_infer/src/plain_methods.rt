@@ -1,0 +1,56 @@
+// Methods without `single`, but at `main`.
+ghost use Rattle.std.specs.Prelude.{◌≡◌, map};
+ghost use Rattle.ti_lang.specs.Program.Views.{numbered_param_of, numbered_params_of, numbered_result_of, numbered_method_of};
+ghost use Rattle.ti_infer.specs.Stripped.{plain_type, plain_params, plain_result, plain_method, plain_methods};
+
+use crate::plain_lists::{Stripped, strip_each};
+use crate::plain_stmts::strip_statements;
+use crate::plain_types::{strip_modifiers, strip_type};
+use ti_lang::program::{Method, Param, Params, ResultType};
+
+impl Stripped for Param {
+    ghost plain = { λ a b. numbered_param_of b ≡ record (numbered_param_of a) { ty = plain_type (numbered_param_of a).ty } };
+
+    fn strip(&mut self) {
+        strip_type(&mut self.ty);
+    }
+}
+
+#[tactic(auto, using(crate::proofs::PlainParts::plain_lists))]
+fn strip_params(params: &mut Params)
+    ensures { numbered_params_of params.new ≡ plain_params (numbered_params_of params.old) }
+{
+    if let Params::Typed(params) = params {
+        strip_each(params);
+    }
+}
+
+fn strip_result(ty: &mut ResultType)
+    ensures { numbered_result_of ty.new ≡ plain_result (numbered_result_of ty.old) }
+{
+    if let ResultType::Typed(ty) = ty {
+        strip_type(ty);
+    }
+}
+
+// `main` keeps its words.
+fn strip_method(is_main: bool, m: &mut Method)
+    ensures { numbered_method_of m.new ≡ plain_method is_main (numbered_method_of m.old) }
+{
+    if !is_main {
+        strip_modifiers(&mut m.modifiers);
+        m.single = false;
+    }
+    strip_result(&mut m.result);
+    strip_params(&mut m.params);
+    strip_statements(&mut m.body);
+}
+
+/// Takes the word away from each of these methods, in `main` from what stands in it alone.
+pub fn strip_methods(main: u32, methods: &mut Vec<Method>)
+    ensures { map numbered_method_of methods.new.items ≡ plain_methods main 0 (map numbered_method_of methods.old.items) }
+{
+    for i in 0..methods.len() {
+        strip_method(i == main as usize, &mut methods[i]);
+    }
+}

@@ -1,0 +1,164 @@
+// Where variables are used: whether each is single.
+ghost use Rattle.std.specs.Prelude.{◌≡◌, ℕ, Bool, false, map, option_map};
+ghost use Rattle.ti_syntax.specs.Trees.Views.{maybe_of};
+ghost use Rattle.ti_lang.specs.Program.Views.{expression_of, bound_of, extent_of, initial_of, printed_of, variable_of};
+ghost use Rattle.ti_infer.specs.Marked.{marked_declaration, marked_exp, marked_range, marked_dims, marked_init, marked_print};
+
+use ti_lang::program::{Declared, Dims, Expr, Init, Printed, Range, Variable};
+
+/// Which variables of a method are single, by their numbers.
+pub trait Singles {
+    ghost says: { Self → ℕ → Bool };
+
+    /// Whether the variable of a number is single.
+    fn is_single(&self, number: u32) -> bool
+        ensures { result ≡ says self.now number };
+}
+
+/// No variable is single.
+pub struct NoneSingle;
+
+impl Singles for NoneSingle {
+    ghost says = { λ s number. false };
+
+    fn is_single(&self, _number: u32) -> bool {
+        false
+    }
+}
+
+// ---- expressions
+
+fn set_use<S: Singles>(singles: &S, v: &mut Variable)
+    ensures { variable_of v.new ≡ record (variable_of v.old) { declared = marked_declaration (S.says singles.now (variable_of v.old).number) (variable_of v.old).declared } }
+{
+    let is_single = singles.is_single(v.number);
+    if let Declared::Typed { single, .. } = &mut v.declared {
+        *single = is_single;
+    }
+}
+
+#[cycle(set_uses)]
+fn set_in_all<S: Singles>(singles: &S, xs: &mut Vec<Expr>)
+    ensures { map expression_of xs.new.items ≡ map (marked_exp (S.says singles.now)) (map expression_of xs.old.items) }
+{
+    for i in 0..xs.len() {
+        set_uses(singles, &mut xs[i]);
+    }
+}
+
+#[cycle(set_uses)]
+fn set_in_ranges<S: Singles>(singles: &S, ranges: &mut Vec<Range>)
+    ensures { map bound_of ranges.new.items ≡ map (marked_range (S.says singles.now)) (map bound_of ranges.old.items) }
+{
+    for i in 0..ranges.len() {
+        set_in_range(singles, &mut ranges[i]);
+    }
+}
+
+#[cycle(set_uses)]
+fn set_in_range<S: Singles>(singles: &S, range: &mut Range)
+    ensures { bound_of range.new ≡ marked_range (S.says singles.now) (bound_of range.old) }
+{
+    match range {
+        Range::Plain { low, high } => {
+            set_uses(singles, low);
+            set_uses(singles, high);
+        }
+        Range::Stepped { low, high, step } => {
+            set_uses(singles, low);
+            set_uses(singles, high);
+            set_uses(singles, step);
+        }
+    }
+}
+
+/// Each use of a variable in an expression says whether it is single.
+#[cycle(set_uses)]
+pub fn set_uses<S: Singles>(singles: &S, x: &mut Expr)
+    ensures { expression_of x.new ≡ marked_exp (S.says singles.now) (expression_of x.old) }
+{
+    match x {
+        Expr::Variable(_, variable) => set_use(singles, variable),
+        Expr::Call { args, .. } => set_in_all(singles, args),
+        Expr::OwnCall { args, .. } => set_in_all(singles, args),
+        Expr::Point(_, parts) => set_in_all(singles, parts),
+        Expr::Rect(_, ranges) => set_in_ranges(singles, ranges),
+        Expr::Unary { operand, .. } => set_uses(singles, operand),
+        Expr::Binary { left, right, .. } => {
+            set_uses(singles, left);
+            set_uses(singles, right);
+        }
+        Expr::Cast { operand, .. } => set_uses(singles, operand),
+        Expr::Select { receiver, .. } => set_uses(singles, receiver),
+        Expr::Member { receiver, args, .. } => {
+            set_uses(singles, receiver);
+            set_in_all(singles, args);
+        }
+        Expr::Index {
+            receiver,
+            indices,
+            ..
+        } => {
+            set_uses(singles, receiver);
+            set_in_all(singles, indices);
+        }
+        Expr::Int(_, _)
+        | Expr::Long(_, _)
+        | Expr::Truth(_, _)
+        | Expr::Null(_)
+        | Expr::This(_)
+        | Expr::OwnField(_, _)
+        | Expr::ThisProc(_)
+        | Expr::NumProcs(_) => {}
+    }
+}
+
+/// The same in an expression that may be left out.
+pub fn set_in_maybe<S: Singles>(singles: &S, x: &mut Option<Expr>)
+    ensures { maybe_of expression_of x.new ≡ option_map (marked_exp (S.says singles.now)) (maybe_of expression_of x.old) }
+{
+    if let Some(x) = x {
+        set_uses(singles, x);
+    }
+}
+
+// ---- parts of statements
+
+fn set_in_dims<S: Singles>(singles: &S, dims: &mut Dims)
+    ensures { extent_of dims.new ≡ marked_dims (S.says singles.now) (extent_of dims.old) }
+{
+    match dims {
+        Dims::Domain(x) => set_uses(singles, x),
+        Dims::Ranges(ranges) => set_in_ranges(singles, ranges),
+    }
+}
+
+/// The same in a right side; the type of the elements of a new grid stays.
+pub fn set_in_initial<S: Singles>(singles: &S, value: &mut Init)
+    ensures { initial_of value.new ≡ marked_init (S.says singles.now) (initial_of value.old) }
+{
+    match value {
+        Init::Value(x) => set_uses(singles, x),
+        Init::NewRegion(_) => {}
+        Init::NewObject { region, .. } => set_in_maybe(singles, region),
+        Init::NewGrid { region, dims, .. } => {
+            set_in_maybe(singles, region);
+            set_in_dims(singles, dims);
+        }
+        Init::Broadcast { value, root, .. } => {
+            set_uses(singles, value);
+            set_uses(singles, root);
+        }
+    }
+}
+
+/// The same in what a print writes.
+pub fn set_in_printed<S: Singles>(singles: &S, what: &mut Printed)
+    ensures { printed_of what.new ≡ marked_print (S.says singles.now) (printed_of what.old) }
+{
+    match what {
+        Printed::Nothing | Printed::Text(_) => {}
+        Printed::Value(x) => set_uses(singles, x),
+        Printed::TextAndValue(_, x) => set_uses(singles, x),
+    }
+}
