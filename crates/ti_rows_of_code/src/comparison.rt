@@ -33,7 +33,7 @@ pub(crate) struct Parting {
 /// What comes of a program.
 #[derive(Clone, Copy)]
 pub(crate) enum Outcome {
-    /// All processes over trees agree with their entries, of which there are so many, and make the history again.
+    /// All processes over trees agree with their entries, of which there are so many, and those of code make the history again.
     Agrees(usize),
     /// One of them doesn't.
     Parts(Parting),
@@ -43,7 +43,7 @@ pub(crate) enum Outcome {
     Memory,
     /// An entry is of no process.
     Stranger,
-    /// The processes over trees and a store make other entries where they go on in the order of the history.
+    /// Processes of code and a store make other entries on one thread, where they go on in the order of the history.
     Other,
 }
 

@@ -1,4 +1,4 @@
-// A history, replayed by processes over trees and a store.
+// A history, replayed on one thread by processes of code and a store.
 
 ghost use Rattle.ti_store.specs.Conditions.{IsWithin};
 
@@ -32,7 +32,7 @@ fn source_of(alloc: Global, text: Vec<u8>) -> Option<MemSource> {
     }
 }
 
-/// The entries that processes over trees make with a store, where each line of a text names the one that goes on, and all lines are theirs.
+/// The entries that processes of code make with a store, where each line of a text names the one that goes on, and all lines are theirs.
 fn made(alloc: Global, checked: &Checked, limits: Limits, text: Vec<u8>) -> Option<Vec<Entry>>
     requires { IsWithin limits.procs limits.fuel }
 {
@@ -43,7 +43,7 @@ fn made(alloc: Global, checked: &Checked, limits: Limits, text: Vec<u8>) -> Opti
     }
 }
 
-/// Whether processes over trees and a store make just the entries of a history, where they go on in its order.
+/// Whether processes of code and a store make just the entries of a history, where they go on in its order.
 pub(crate) fn is_replayed(
     alloc: Global,
     checked: &Checked,

@@ -6,16 +6,37 @@ use Rattle.ti_base.specs.declared.entry.Entry.{Entry}
 use Rattle.ti_lang.specs.Meaning.Processes.{Setting}
 use Rattle.ti_lang.specs.Meaning.Histories.{has_end, has_fault}
 use Rattle.ti_lang.specs.Meaning.Runs.{IsRun, IsComplete, AllEnded}
+use Rattle.ti_align.specs.Alignment.{OfEveryRun}
+use Rattle.ti_align.specs.Answering.{AnswersFit}
+use Rattle.ti_code.specs.Programs.{Code}
+use Rattle.ti_code.specs.Follows.{Follows}
+use Rattle.ti_store.specs.Conditions.{IsWithin}
+use Rattle.ti_store.specs.Stores.{StoreState, setting_of}
 use Rattle.ti_watch.specs.Reports.{trace_text}
 use Rattle.ti_trace_check.specs.declared.seat.Seat.{Seat}
 use Rattle.ti_trace_check.specs.declared.following.Followed.{Followed}
 use Rattle.ti_trace_check.specs.declared.verdict.Verdict.{Verdict}
 use Rattle.ti_trace_check.specs.declared.verdict.Verdict.TheVariants.{Run, NoRun}
-use Rattle.ti_trace_check.specs.Mirrors.Seats.{Stands, CameTo, LeavesText, Gives}
+use Rattle.ti_trace_check.specs.Mirrors.Seats.{IsOpen, Stands, CameTo, LeavesText, Gives}
 use Rattle.ti_trace_check.specs.Verdicts.{IsWrong, Judges, Keeps}
 
 true_false : true ≡ false → ⊥
 true_false e = cc
+
+-- ---- before the first line
+
+-- a store of these terms that nothing halted yet
+pub opens : (code : Code) (store : StoreState) (s : Setting) → setting_of store ≡ s → store.halted ≡ false → IsWithin s.procs s.fuel → Follows code s.program → OfEveryRun AnswersFit s.program → IsOpen code store
+opens code store s same unhalted within follows fit = record {
+  unhalted = unhalted;
+  within = subst (λ (t : Setting). IsWithin t.procs t.fuel) (sym same) within;
+  follows = subst (λ (t : Setting). Follows code t.program) (sym same) follows;
+  fit = subst (λ (t : Setting). OfEveryRun AnswersFit t.program) (sym same) fit;
+}
+
+-- the seats stand there
+pub stands_first : (code : Code) (s t : Setting) (es : List Entry) (seats : List Seat) → t ≡ s → es ≡ [] → Stands code s [] seats → Stands code t es seats
+stands_first code s t es seats same none x = subst (λ es. Stands code t es seats) (sym none) (subst (λ t. Stands code t [] seats) (sym same) x)
 
 -- ---- whether all had their end
 
@@ -68,7 +89,7 @@ not_all es k (x ∷ xs) t h all =
     by true e h = h
     by false e h = cc
 
-module _ (s : Setting) (es : List Entry) (seats : List Seat) (x : Stands s es seats) where
+module _ (code : Code) (s : Setting) (es : List Entry) (seats : List Seat) (x : Stands code s es seats) where
   tells : Tells es 0 seats
   tells d i l = subst (λ n. has_end n es ≡ (get_or seats i d).ended) (plain i) (x.seated d i l).ended
     where
@@ -98,7 +119,7 @@ module _ (s : Setting) (es : List Entry) (seats : List Seat) (x : Stands s es se
 
 -- ---- verdicts
 
-module _ (s : Setting) (all : List Entry) (seats : List Seat) (end : Followed) (came : CameTo s all seats end) (b : Bool) (yes : end.is_end ≡ true → b ≡ true → IsComplete s all) (no : end.is_end ≡ true → b ≡ false → IsComplete s all → ⊥) where
+module _ (code : Code) (s : Setting) (all : List Entry) (seats : List Seat) (end : Followed) (came : CameTo code s all seats end) (b : Bool) (yes : end.is_end ≡ true → b ≡ true → IsComplete s all) (no : end.is_end ≡ true → b ≡ false → IsComplete s all → ⊥) where
   whole : end.is_end ≡ true → take end.taken all ≡ all
   whole e = take_all end.taken all (least (length all) end.taken (came.whole e).0)
     where

@@ -3,6 +3,7 @@ pub mod Names
 pub mod LineEnds
 pub mod Texts
 pub mod Entries
+pub mod ByCode
 pub mod Seats
 pub mod Turns
 pub mod OfLines

@@ -4,11 +4,13 @@ use Rattle.std.proofs.lemmas.List.{take_all}
 use Rattle.ti_base.specs.declared.entry.Entry.{Entry}
 use Rattle.ti_lang.specs.Meaning.Processes.{Setting}
 use Rattle.ti_lang.specs.Meaning.Runs.{IsRun}
+use Rattle.ti_code.specs.Programs.{Code}
+use Rattle.ti_store.specs.Stores.{StoreState}
 use Rattle.ti_watch.specs.Lines.{line_room}
 use Rattle.ti_watch.specs.Reports.{entry_text, trace_text}
 use Rattle.ti_trace_check.specs.declared.seat.Seat.{Seat}
 use Rattle.ti_trace_check.specs.Mirrors.Pieces.{TakesLine}
-use Rattle.ti_trace_check.specs.Mirrors.Seats.{Stands, GoesOn, IsOff, CameTo, LeavesText}
+use Rattle.ti_trace_check.specs.Mirrors.Seats.{IsOpen, Stands, GoesOn, IsOff, CameTo, LeavesText}
 use Rattle.ti_trace_check.specs.Lines.{first_line}
 use Rattle.ti_trace_check.specs.Verdicts.{IsTrace}
 use Rattle.ti_trace_check.proofs.FirstLines.{none_more, some_line}
@@ -23,6 +25,10 @@ pub record Goes (text : List ℕ) (es : List Entry) (line rest : List ℕ) : Typ
 no_room : (line : List ℕ) → line ≡ [] → line_room ≤ length line → ⊥
 no_room line e l = absurd (omega (arith, ap length e, l))
 
+-- a store that goes on does so with other entries
+pub open_still : (code : Code) (old now : StoreState) → now ≡ record old { entries = now.entries } → IsOpen code old → IsOpen code now
+open_still code old now same o = subst (IsOpen code) (sym same) (record { unhalted = o.unhalted; within = o.within; follows = o.follows; fit = o.fit })
+
 -- an empty line is taken at the end alone
 pub at_end : (left line rest : List ℕ) → line ≡ [] → TakesLine left line rest → left ≡ []
 at_end left line rest none t = by t.first.whole
@@ -36,8 +42,8 @@ pub begins : (text line rest : List ℕ) (es : List Entry) → es ≡ [] → Tak
 begins text line rest es none t = record { left = text; begins = ap (λ xs. trace_text xs ++ text) (sym none); takes = t }
 
 -- behind a line
-pub goes : (s : Setting) (text : List ℕ) (es : List Entry) (old new : List Seat) (all : List Entry) (line rest next later : List ℕ) → GoesOn s es old all new line → Goes text es line rest → TakesLine rest next later → Goes text all next later
-goes s text es old new all line rest next later g x t = record {
+pub goes : (code : Code) (s : Setting) (text : List ℕ) (es : List Entry) (old new : List Seat) (all : List Entry) (line rest next later : List ℕ) → GoesOn code s es old all new line → Goes text es line rest → TakesLine rest next later → Goes text all next later
+goes code s text es old new all line rest next later g x t = record {
   left = rest;
   begins = x.begins
       ∙ ap (λ l. trace_text es ++ l) (x.takes.off ∙ ap (λ l. l ++ rest) g.text)
@@ -47,8 +53,8 @@ goes s text es old new all line rest next later g x t = record {
 }
 
 -- at the end of the text
-pub came_whole : (s : Setting) (es : List Entry) (seats : List Seat) (taken : ℕ) → Stands s es seats → taken ≡ length es → CameTo s es seats (record { taken = taken; is_end = true })
-came_whole s es seats taken x e = record {
+pub came_whole : (code : Code) (s : Setting) (es : List Entry) (seats : List Seat) (taken : ℕ) → Stands code s es seats → taken ≡ length es → CameTo code s es seats (record { taken = taken; is_end = true })
+came_whole code s es seats taken x e = record {
   within = same taken (length es) e;
   run = subst (IsRun s) (sym (take_all taken es (same (length es) taken (sym e)))) x.run;
   whole = λ _. (e, x);
@@ -72,8 +78,8 @@ left_whole s text line rest es taken e none x = record {
     true_false e = cc
 
 -- at a line that is off
-pub came_off : (s : Setting) (es all : List Entry) (seats : List Seat) (line : List ℕ) (taken : ℕ) → taken ≡ length es → IsRun s es → IsOff s es all line → CameTo s all seats (record { taken = taken; is_end = false })
-came_off s es all seats line taken e ran off = record {
+pub came_off : (code : Code) (s : Setting) (es all : List Entry) (seats : List Seat) (line : List ℕ) (taken : ℕ) → taken ≡ length es → IsRun s es → IsOff s es all line → CameTo code s all seats (record { taken = taken; is_end = false })
+came_off code s es all seats line taken e ran off = record {
   within = subst (λ n. n ≤ length all) (sym e) off.within;
   run = subst (IsRun s) (sym (ap (λ n. take n all) e ∙ off.kept)) ran;
   whole = λ f. absurd (false_true f);
@@ -117,5 +123,5 @@ not_empty_line held line b same is other none = by b is other (ap length (same �
         false_true e = cc
 
 -- the same of a line and a setting that are the same
-pub goes_of : (s t : Setting) (es : List Entry) (old : List Seat) (all : List Entry) (new : List Seat) (line same : List ℕ) → s ≡ t → line ≡ same → GoesOn s es old all new line → GoesOn t es old all new same
-goes_of s t es old all new line same e f x = subst (λ l. GoesOn t es old all new l) f (subst (λ z. GoesOn z es old all new line) e x)
+pub goes_of : (code : Code) (s t : Setting) (es : List Entry) (old : List Seat) (all : List Entry) (new : List Seat) (line same : List ℕ) → s ≡ t → line ≡ same → GoesOn code s es old all new line → GoesOn code t es old all new same
+goes_of code s t es old all new line same e f x = subst (λ l. GoesOn code t es old all new l) f (subst (λ z. GoesOn code z es old all new line) e x)

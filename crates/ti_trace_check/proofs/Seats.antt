@@ -12,22 +12,25 @@ use Rattle.ti_lang.specs.Meaning.Processes.{Setting, Process, begin}
 use Rattle.ti_lang.specs.Meaning.Steps.{Step, To, At, Ends, Faults, step}
 use Rattle.ti_lang.specs.Meaning.NextStep.{shown, IsNext, After}
 use Rattle.ti_lang.specs.Meaning.Histories.{is_end, is_fault, is_answered, entries_of, answers_of, has_end, has_fault}
-use Rattle.ti_lang.specs.Meaning.Runs.{IsReady, CanTake}
+use Rattle.ti_lang.specs.Meaning.Runs.{World, IsReady, CanTake, IsRun, more}
 use Rattle.ti_lang.proofs.MeaningLaws.Limits.{within}
 use Rattle.ti_lang.proofs.MeaningLaws.Requests.{no_end_asked}
 use Rattle.ti_lang.proofs.MeaningLaws.Steps.{next_same, after_same}
+use Rattle.ti_align.specs.Answering.{AnswersFit}
 use Rattle.ti_align.proofs.Paying.{after_pays}
 use Rattle.ti_align.proofs.Vars.{or_right}
-use Rattle.ti_exec.specs.Standing.{Standing, HasNext, is_act}
-use Rattle.ti_exec.specs.Standing as exec
+use Rattle.ti_code.specs.Programs.{Code}
+use Rattle.ti_machine.specs.Standing.{Standing, is_act}
+use Rattle.ti_machine.specs.Standing as machine
 use Rattle.ti_store.specs.Conditions as store
 use Rattle.ti_store.specs.Stores.{StoreState, setting_of, next_of, Becomes, fault_entry, IsDone, IsRefused}
 use Rattle.ti_store.specs.declared.act_err.ActErr.TheVariants as err
 use Rattle.ti_store.proofs.Running.{next_acts}
 use Rattle.ti_store.proofs.OneMore.{fault_more}
 use Rattle.ti_trace_check.specs.declared.seat.Seat.{Seat}
-use Rattle.ti_trace_check.specs.Mirrors.Seats.{doing_of, place_of, action_of, StandsAt, Seated, told_more, Hears, Moves, steps_left, faults_left, TurnLeaves}
+use Rattle.ti_trace_check.specs.Mirrors.Seats.{doing_of, place_of, action_of, standing_of, StandsAt, Seated, told_more, Hears, Moves, steps_left, faults_left, IsOpen, TurnLeaves}
 use Rattle.ti_trace_check.proofs.Entries.{end_more, answers_more, answers_still}
+use Rattle.ti_trace_check.proofs.ByCode.{OneNext, world_more, code_goes_on, seated}
 
 true_false : true ≡ false → ⊥
 true_false e = cc
@@ -67,26 +70,6 @@ end_left (next.Fault kind at) e f = absurd (true_false f)
 
 -- ---- what a seat tells
 
--- what is next hangs on what the process is and was told alone
-same_next : (t u : Standing) (n : Next) → exec.setting_of t ≡ exec.setting_of u → t.number ≡ u.number → t.told ≡ u.told → HasNext t n → HasNext u n
-same_next t u n s i r h = (
-  h.0,
-  subst (λ k. After (begin k u.number) u.told h.0) s
-      (subst (λ k. After (begin (exec.setting_of t) k) u.told h.0) i (subst (λ k. After (begin (exec.setting_of t) t.number) k h.0) r h.1)),
-  h.2,
-)
-
--- a seat that stands at what this process has next tells where it stands
-pub seated_at : (s : Setting) (es : List Entry) (i : ℕ) (t : Standing) (seat : Seat) → exec.setting_of t ≡ s → t.number ≡ i → t.told ≡ answers_of i es → has_end i es ≡ seat.ended → StandsAt t seat → Seated s es i seat
-seated_at s es i t seat x y z e h = record {
-  setting = ap exec.setting_of h.process ∙ x;
-  number = ap (λ (u : Standing). u.number) h.process ∙ y;
-  told = ap (λ (u : Standing). u.told) h.process ∙ z;
-  asks = ap (λ (u : Standing). u.asks) h.process;
-  next = same_next t seat.process seat.next (sym (ap exec.setting_of h.process)) (sym (ap (λ (u : Standing). u.number) h.process)) (sym (ap (λ (u : Standing). u.told) h.process)) h.next;
-  ended = e;
-}
-
 within_ticks : (n s f : ℕ) → 0 + n ≤ s → s ≤ f → n ≤ f
 within_ticks n s f h k = omega arith
 
@@ -95,44 +78,33 @@ answers_few : (s : Setting) (i : ℕ) (rs : List Answer) (p : Process) → After
 answers_few s i rs p x = within_ticks (length rs) p.spent s.fuel (after_pays (begin s i) p rs x) (within s i rs p x).0
 
 -- the seat tells the same where the process got no answer since
-seated_with : (s : Setting) (es all : List Entry) (i : ℕ) (seat : Seat) (ended : Bool) → answers_of i all ≡ answers_of i es → has_end i all ≡ ended → Seated s es i seat → Seated s all i (record seat { ended = ended })
-seated_with s es all i seat ended same e y = record {
-  setting = y.setting;
-  number = y.number;
-  told = y.told ∙ sym same;
-  asks = y.asks;
-  next = y.next;
+seated_with : (code : Code) (s : Setting) (es all : List Entry) (i : ℕ) (seat : Seat) (ended : Bool) → answers_of i all ≡ answers_of i es → has_end i all ≡ ended → Seated code s es i seat
+    → Seated code s all i (record seat { ended = ended })
+seated_with code s es all i seat ended same e y = record {
+  process = y.process ∙ ap (λ rs. record (standing_of code s es i) { told = rs; asks = is_act seat.next }) (sym same);
+  there = y.there;
+  world = subst (λ rs. After (begin s i) rs y.there) (sym same) y.world;
+  is_next = y.is_next;
   ended = e;
 }
 
-module _ (s : Setting) (es : List Entry) (i : ℕ) (seat : Seat) (y : Seated s es i seat) where
-  -- the process of the seat in the world of the entries
-  world : After (begin s i) (answers_of i es) y.next.0
-  world =
-      subst (λ k. After (begin s i) k y.next.0) y.told
-      (subst (λ k. After (begin s k) seat.process.told y.next.0) y.number (subst (λ k. After (begin k seat.process.number) seat.process.told y.next.0) y.setting y.next.1))
-
+module _ (code : Code) (s : Setting) (es : List Entry) (i : ℕ) (seat : Seat) (y : Seated code s es i seat) where
   few : length seat.process.told ≤ s.fuel
-  few = subst (λ xs. length xs ≤ s.fuel) (sym y.told) (answers_few s i (answers_of i es) y.next.0 world)
+  few = subst (λ xs. length xs ≤ s.fuel) (sym (ap (λ (x : Standing). x.told) y.process)) (answers_few s i (answers_of i es) y.there y.world)
 
-  next_taken : IsNext y.next.0 (next_of (place_of seat) (action_of seat))
-  next_taken = subst (IsNext y.next.0) (sym (next_back y.next.0 seat.next y.next.2)) y.next.2
+  next_taken : IsNext y.there (next_of (place_of seat) (action_of seat))
+  next_taken = subst (IsNext y.there) (sym (next_back y.there seat.next y.is_next)) y.is_next
+
+  -- an entry that the process can take is that of what the seat has next
+  only_next : (e : Entry) (t : CanTake s es i e) → t.next ≡ next_of (place_of seat) (action_of seat)
+  only_next e t =
+      let same : t.process ≡ y.there = after_same _ _ _ _ t.world y.world in
+      next_same y.there _ _ (subst (λ p. IsNext p t.next) same t.is_next) next_taken
 
 -- the store takes what the process has next
-pub acting : (st : StoreState) (i : ℕ) (seat : Seat) → Seated (setting_of st) st.entries i seat → seat.ended ≡ false
+pub acting : (code : Code) (st : StoreState) (i : ℕ) (seat : Seat) → Seated code (setting_of st) st.entries i seat → seat.ended ≡ false
     → store.HasNext (setting_of st) i (entries_of i st.entries) (next_of (place_of seat) (action_of seat))
-acting st i seat y u = record {
-  unended = y.ended ∙ u;
-  process = y.next.0;
-  world = world (setting_of st) st.entries i seat y;
-  is_next = next_taken (setting_of st) st.entries i seat y;
-}
-
--- an entry that the process can take is that of what the seat has next
-only_next : (s : Setting) (es : List Entry) (i : ℕ) (seat : Seat) (e : Entry) (y : Seated s es i seat) (t : CanTake s es i e) → t.next ≡ next_of (place_of seat) (action_of seat)
-only_next s es i seat e y t =
-    let same : t.process ≡ y.next.0 = after_same _ _ _ _ t.world (world s es i seat y) in
-    next_same y.next.0 _ _ (subst (λ p. IsNext p t.next) same t.is_next) (next_taken s es i seat y)
+acting code st i seat y u = record { unended = y.ended ∙ u; process = y.there; world = y.world; is_next = next_taken code (setting_of st) st.entries i seat y }
 
 or_none : (a b : Bool) → b ≡ false → (a || b) ≡ a
 or_none true b h = refl
@@ -147,7 +119,7 @@ entry_with i seat answer = record { proc = i; place = place_of seat; act = actio
 
 -- ---- turns
 
-module _ (st : StoreState) (i : ℕ) (l : i < st.procs) (old : Seat) (y : Seated (setting_of st) st.entries i old) (u : old.ended ≡ false) where
+module _ (code : Code) (st : StoreState) (o : IsOpen code st) (run : IsRun (setting_of st) st.entries) (i : ℕ) (l : i < st.procs) (old : Seat) (y : Seated code (setting_of st) st.entries i old) (u : old.ended ≡ false) where
   abbrev s : Setting
   s = setting_of st
 
@@ -159,10 +131,10 @@ module _ (st : StoreState) (i : ℕ) (l : i < st.procs) (old : Seat) (y : Seated
     within = l;
     goes_on = f;
     unended = y.ended ∙ u;
-    process = y.next.0;
-    world = world s es i old y;
+    process = y.there;
+    world = y.world;
     next = next_of (place_of old) (action_of old);
-    is_next = next_taken s es i old y;
+    is_next = next_taken code s es i old y;
     ready = b.ready;
     entry = b.entry;
   }
@@ -185,28 +157,48 @@ module _ (st : StoreState) (i : ℕ) (l : i < st.procs) (old : Seat) (y : Seated
     going = goes st.halted d.becomes.goes_on
 
     -- behind its end a process stands where it stood
-    seated_end : is_act old.next ≡ false → Seated s all i (record old { ended = true })
+    seated_end : is_act old.next ≡ false → Seated code s all i (record old { ended = true })
     seated_end e =
         let end = end_left old.next e d.no_fault in
         let still : answers_of i all ≡ answers_of i es = answers_still i es here refl (ap (λ b. not (b || is_fault (action_of old))) end) in
-        seated_with s es all i old true still (end_more i es here refl ∙ or_right (has_end i es) (is_end (action_of old)) end) y
+        seated_with code s es all i old true still (end_more i es here refl ∙ or_right (has_end i es) (is_end (action_of old)) end) y
 
     answered : is_act old.next ≡ true → is_answered here ≡ true
-    answered e = rw ((answered_act y.next.0 old.next y.next.2 e).0, d.no_fault) refl
+    answered e = rw ((answered_act y.there old.next y.is_next e).0, d.no_fault) refl
 
-    seated_heard : (seat : Seat) → is_act old.next ≡ true → Hears old answer seat → Seated s all i seat
-    seated_heard seat e h =
-        let unended : has_end i all ≡ has_end i es = end_more i es here refl ∙ or_none (has_end i es) (is_end (action_of old)) (answered_act y.next.0 old.next y.next.2 e).0 in
-        seated_at s all i (told_more old.process answer) seat y.setting y.number
-        (ap (λ rs. rs ++ answer ∷ []) y.told ∙ sym (answers_more i es here refl (answered e))) (unended ∙ y.ended ∙ sym h.ended) h.stands
+    world_on : is_act old.next ≡ true → (q : Process) × World s all i q
+    world_on e = by old.next refl
+      where
+        by : (n : Next) → old.next ≡ n → (q : Process) × World s all i q
+        by (next.Act at a) z = world_more s es here y.there at a y.world (subst (IsNext y.there) z y.is_next) (answered e)
+        by (next.End at) z = absurd (true_false (sym e ∙ ap is_act z))
+        by (next.Fault kind at) z = absurd (true_false (sym e ∙ ap is_act z))
+
+    fit : AnswersFit s all
+    fit = o.fit st.procs st.fuel all o.within.some o.within.few o.within.fueled o.within.limited (more run (can_take here going d.becomes) refl)
+
+    told : is_act old.next ≡ true → told_more old.process answer ≡ standing_of code s all i
+    told e =
+        ap (λ t. told_more t answer) y.process ∙ ap (λ rs. record (standing_of code s es i) { told = rs }) (sym (answers_more i es here refl (answered e)))
+
+    pub goes_on : is_act old.next ≡ true → machine.GoesOn (told_more old.process answer)
+    goes_on e =
+        let q = world_on e in
+        subst machine.GoesOn (sym (told e)) (code_goes_on code s o.follows o.within all fit i l q.0 q.1)
+
+    seated_heard : OneNext → (seat : Seat) → is_act old.next ≡ true → Hears old answer seat → Seated code s all i seat
+    seated_heard one seat e h =
+        let q = world_on e in
+        let unended : has_end i all ≡ has_end i es = end_more i es here refl ∙ or_none (has_end i es) (is_end (action_of old)) (answered_act y.there old.next y.is_next e).0 in
+        seated code s o.follows o.within all fit i l q.0 q.1 one seat (subst (λ t. StandsAt t seat) (told e) h.stands) (unended ∙ y.ended ∙ sym h.ended)
 
     -- fewer steps are left
     lighter_end : steps_left s (record old { ended = true }) < steps_left s old
     lighter_end = rw u (omega arith)
 
-    lighter_heard : (seat : Seat) → is_act old.next ≡ true → Hears old answer seat → steps_left s seat < steps_left s old
-    lighter_heard seat e h =
-        let limit : length seat.process.told ≤ s.fuel = few s all i seat (seated_heard seat e h) in
+    lighter_heard : OneNext → (seat : Seat) → is_act old.next ≡ true → Hears old answer seat → steps_left s seat < steps_left s old
+    lighter_heard one seat e h =
+        let limit : length seat.process.told ≤ s.fuel = few code s all i seat (seated_heard one seat e h) in
         let more : length seat.process.told ≡ length old.process.told + 1 = ap (λ (x : Standing). length x.told) h.stands.process ∙ length-append old.process.told (answer ∷ []) in
         rw (h.ended, u) (one_fewer s.fuel (length old.process.told) (length seat.process.told) more limit)
       where
@@ -219,28 +211,28 @@ module _ (st : StoreState) (i : ℕ) (l : i < st.procs) (old : Seat) (y : Seated
         rw (none, going) refl
 
     -- the process went on, and was answered
-    pub went : (seat : Seat) → Moves old answer seat → TurnLeaves s es i old new.entries seat true
-    went seat m = record {
+    pub went : OneNext → (seat : Seat) → Moves old answer seat → TurnLeaves code s es i old new.entries seat true
+    went one seat m = record {
       entry = here;
       can = can_take here going d.becomes;
       after = after;
-      seated = subst (λ xs. Seated s xs i seat) (sym after) (seated_on (is_act old.next) refl);
+      seated = subst (λ xs. Seated code s xs i seat) (sym after) (seated_on (is_act old.next) refl);
       lighter = subst (λ k. steps_left s seat + k < steps_left s old + faults_left es) (sym no_fault_here) (more (steps_left s seat) (steps_left s old) (faults_left es) (lighter_on (is_act old.next) refl));
     }
       where
         more : (a b c : ℕ) → a < b → a + c < b + c
         more a b c h = omega arith
 
-        seated_on : (b : Bool) → is_act old.next ≡ b → Seated s all i seat
-        seated_on false e = subst (Seated s all i) (sym (m.ends e)) (seated_end e)
-        seated_on true e = seated_heard seat e (m.hears e)
+        seated_on : (b : Bool) → is_act old.next ≡ b → Seated code s all i seat
+        seated_on false e = subst (Seated code s all i) (sym (m.ends e)) (seated_end e)
+        seated_on true e = seated_heard one seat e (m.hears e)
 
         lighter_on : (b : Bool) → is_act old.next ≡ b → steps_left s seat < steps_left s old
         lighter_on false e = subst (λ x. steps_left s x < steps_left s old) (sym (m.ends e)) lighter_end
-        lighter_on true e = lighter_heard seat e (m.hears e)
+        lighter_on true e = lighter_heard one seat e (m.hears e)
 
   -- behind a fault it stands where it stood
-  pub faulted : (new : StoreState) (kind : FaultKind) → IsRefused st i (place_of old) (action_of old) (err.Faulted kind) new → TurnLeaves s es i old new.entries old true
+  pub faulted : (new : StoreState) (kind : FaultKind) → IsRefused st i (place_of old) (action_of old) (err.Faulted kind) new → TurnLeaves code s es i old new.entries old true
   faulted new kind r =
       let e = fault_entry i (place_of old) kind in
       let after : new.entries ≡ es ++ e ∷ [] = ap (λ (x : StoreState). x.entries) r.1 in
@@ -251,7 +243,7 @@ module _ (st : StoreState) (i : ℕ) (l : i < st.procs) (old : Seat) (y : Seated
         entry = e;
         can = can_take e going r.0;
         after = after;
-        seated = subst (λ xs. Seated s xs i old) (sym after) (seated_with s es (es ++ e ∷ []) i old old.ended (answers_still i es e refl refl) unended y);
+        seated = subst (λ xs. Seated code s xs i old) (sym after) (seated_with code s es (es ++ e ∷ []) i old old.ended (answers_still i es e refl refl) unended y);
         lighter = rw (fault, going) (last (steps_left s old));
       }
     where
@@ -259,16 +251,16 @@ module _ (st : StoreState) (i : ℕ) (l : i < st.procs) (old : Seat) (y : Seated
       last a = omega arith
 
   -- one that has to wait, or behind a fault, can take none
-  pub waits : (new : StoreState) → IsRefused st i (place_of old) (action_of old) err.NotYet new → TurnLeaves s es i old new.entries old false
-  waits new r = (ap (λ (x : StoreState). x.entries) r.2, λ e t. r.1 (subst (IsReady s es i) (only_next s es i old e y t) t.ready))
+  pub waits : (new : StoreState) → IsRefused st i (place_of old) (action_of old) err.NotYet new → TurnLeaves code s es i old new.entries old false
+  waits new r = (ap (λ (x : StoreState). x.entries) r.2, λ e t. r.1 (subst (IsReady s es i) (only_next code s es i old y e t) t.ready))
 
-  pub stopped : st.halted ≡ false → (new : StoreState) → IsRefused st i (place_of old) (action_of old) err.Halted new → TurnLeaves s es i old new.entries old false
-  stopped unhalted new r = (ap (λ (x : StoreState). x.entries) r.1, λ e t. absurd (either st.halted (has_fault es) unhalted t.goes_on r.0))
+  pub stopped : (new : StoreState) → IsRefused st i (place_of old) (action_of old) err.Halted new → TurnLeaves code s es i old new.entries old false
+  stopped new r = (ap (λ (x : StoreState). x.entries) r.1, λ e t. absurd (either st.halted (has_fault es) o.unhalted t.goes_on r.0))
     where
       either : (a b : Bool) → a ≡ false → b ≡ false → (a || b) ≡ true → ⊥
       either true b x z h = cc
       either false b x z h = cc
 
 -- neither can one that has its end
-pub at_end : (s : Setting) (es : List Entry) (i : ℕ) (old : Seat) → Seated s es i old → old.ended ≡ true → TurnLeaves s es i old es old false
-at_end s es i old y ended = (refl, λ e t. true_false (sym ended ∙ sym y.ended ∙ t.unended))
+pub at_end : (code : Code) (s : Setting) (es : List Entry) (i : ℕ) (old : Seat) → Seated code s es i old → old.ended ≡ true → TurnLeaves code s es i old es old false
+at_end code s es i old y ended = (refl, λ e t. true_false (sym ended ∙ sym y.ended ∙ t.unended))

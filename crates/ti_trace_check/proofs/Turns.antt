@@ -6,41 +6,45 @@ use Rattle.std.proofs.lemmas.Bool.{eqb-false, ltb-false}
 use Rattle.std.proofs.lemmas.List.{get_or_append_left, get_or_push}
 use Rattle.std.proofs.lemmas.List.Sums.{sum_by-set}
 use Rattle.ti_base.specs.declared.entry.Entry.{Entry}
-use Rattle.ti_lang.specs.Meaning.Processes.{Setting}
-use Rattle.ti_lang.specs.Meaning.Histories.{is_end, is_answered, entries_of}
+use Rattle.ti_lang.specs.Meaning.Processes.{Setting, begin}
+use Rattle.ti_lang.specs.Meaning.NextStep.{After}
+use Rattle.ti_lang.specs.Meaning.Histories.{is_end, is_answered, entries_of, answers_of}
 use Rattle.ti_lang.specs.Meaning.Runs.{more}
 use Rattle.ti_lang.proofs.MeaningLaws.Running.{taker}
+use Rattle.ti_code.specs.Programs.{Code}
+use Rattle.ti_machine.specs.Standing.{is_act}
 use Rattle.ti_watch.specs.Reports.{entry_text}
 use Rattle.ti_trace_check.specs.declared.seat.Seat.{Seat}
-use Rattle.ti_trace_check.specs.Mirrors.Seats.{Seated, steps_left, faults_left, Takes, AllSeated, Stands, turns_left, GoesOn}
+use Rattle.ti_trace_check.specs.Mirrors.Seats.{standing_of, Seated, steps_left, faults_left, Takes, AllSeated, Stands, turns_left, GoesOn}
 use Rattle.ti_trace_check.proofs.Entries.{other_more}
 
 -- the seat of a process tells where it stands still, where the run went on elsewhere
-seated_still : (s : Setting) (es all : List Entry) (i : ℕ) (seat : Seat) → entries_of i all ≡ entries_of i es → Seated s es i seat → Seated s all i seat
-seated_still s es all i seat same y = record {
-  setting = y.setting;
-  number = y.number;
-  told = y.told ∙ sym (ap (λ own. map (λ (e : Entry). e.answer) (filter is_answered own)) same);
-  asks = y.asks;
-  next = y.next;
-  ended = ap (list_any (λ (e : Entry). is_end e.act)) same ∙ y.ended;
-}
+seated_still : (code : Code) (s : Setting) (es all : List Entry) (i : ℕ) (seat : Seat) → entries_of i all ≡ entries_of i es → Seated code s es i seat → Seated code s all i seat
+seated_still code s es all i seat same y =
+    let told : answers_of i all ≡ answers_of i es = ap (λ own. map (λ (e : Entry). e.answer) (filter is_answered own)) same in
+    record {
+      process = y.process ∙ ap (λ rs. record (standing_of code s es i) { told = rs; asks = is_act seat.next }) (sym told);
+      there = y.there;
+      world = subst (λ rs. After (begin s i) rs y.there) (sym told) y.world;
+      is_next = y.is_next;
+      ended = ap (list_any (λ (e : Entry). is_end e.act)) same ∙ y.ended;
+    }
 
-module _ (s : Setting) (es all : List Entry) (seats : List Seat) (i : ℕ) (old new : Seat) (g : Takes s es i old all new) (x : Stands s es seats) (inside : i < length seats) (is : old ≡ get_or seats i old) where
+module _ (code : Code) (s : Setting) (es all : List Entry) (seats : List Seat) (i : ℕ) (old new : Seat) (g : Takes code s es i old all new) (x : Stands code s es seats) (inside : i < length seats) (is : old ≡ get_or seats i old) where
   -- nothing changes for another
   other_on : (j : ℕ) → (i == j) ≡ false → entries_of j all ≡ entries_of j es
   other_on j h = ap (entries_of j) g.after ∙ other_more j es g.entry (ap (λ k. k == j) (taker s es i g.entry g.can) ∙ h)
 
-  seated_on : AllSeated s all (slice_set seats i new)
+  seated_on : AllSeated code s all (slice_set seats i new)
   seated_on d j l = by (i == j) refl
     where
-      by : (b : Bool) → (i == j) ≡ b → Seated s all j (get_or (slice_set seats i new) j d)
+      by : (b : Bool) → (i == j) ≡ b → Seated code s all j (get_or (slice_set seats i new) j d)
       by true h =
           let same : i ≡ j = eqb-true i j h in
-          subst (λ k. Seated s all k (get_or (slice_set seats i new) k d)) same (subst (Seated s all i) (sym (get_or-set_same seats i new d inside)) g.seated)
+          subst (λ k. Seated code s all k (get_or (slice_set seats i new) k d)) same (subst (Seated code s all i) (sym (get_or-set_same seats i new d inside)) g.seated)
       by false h =
-          subst (Seated s all j) (sym (get_or-set_other seats i j new d (λ e. eqb-false i j h (sym e))))
-          (seated_still s es all j (get_or seats j d) (other_on j h) (x.seated d j (subst (λ n. j < n) (length-set seats i new) l)))
+          subst (Seated code s all j) (sym (get_or-set_other seats i j new d (λ e. eqb-false i j h (sym e))))
+          (seated_still code s es all j (get_or seats j d) (other_on j h) (x.seated d j (subst (λ n. j < n) (length-set seats i new) l)))
 
   lighter_on : turns_left s all (slice_set seats i new) < turns_left s es seats
   lighter_on =
@@ -52,7 +56,7 @@ module _ (s : Setting) (es all : List Entry) (seats : List Seat) (i : ℕ) (old 
       fewer a b c d e f h k l m = omega arith
 
   -- the run goes on by the entry of the line
-  pub goes_on : (line : List ℕ) → line ≡ entry_text (length es) g.entry → GoesOn s es seats all (slice_set seats i new) line
+  pub goes_on : (line : List ℕ) → line ≡ entry_text (length es) g.entry → GoesOn code s es seats all (slice_set seats i new) line
   goes_on line text = record {
     entry = g.entry;
     after = g.after;
@@ -62,13 +66,13 @@ module _ (s : Setting) (es all : List Entry) (seats : List Seat) (i : ℕ) (old 
   }
 
 -- one seat more, before the first entry
-pub seated_more : (s : Setting) (xs : List Seat) (x : Seat) → Seated s [] (length xs) x → AllSeated s [] xs → AllSeated s [] (xs ++ x ∷ [])
-seated_more s xs x y seated d i l = by (nat_lt i (length xs)) refl
+pub seated_more : (code : Code) (s : Setting) (xs : List Seat) (x : Seat) → Seated code s [] (length xs) x → AllSeated code s [] xs → AllSeated code s [] (xs ++ x ∷ [])
+seated_more code s xs x y seated d i l = by (nat_lt i (length xs)) refl
   where
-    by : (b : Bool) → nat_lt i (length xs) ≡ b → Seated s [] i (get_or (xs ++ x ∷ []) i d)
+    by : (b : Bool) → nat_lt i (length xs) ≡ b → Seated code s [] i (get_or (xs ++ x ∷ []) i d)
     by true h =
         let before = ltb-true i (length xs) h in
-        subst (Seated s [] i) (sym (get_or_append_left xs (x ∷ []) d i before)) (seated d i before)
+        subst (Seated code s [] i) (sym (get_or_append_left xs (x ∷ []) d i before)) (seated d i before)
     by false h =
         let last : length xs ≡ i = omega (arith, ltb-false i (length xs) h, length-append xs (x ∷ [])) in
-        subst (Seated s [] i) (sym (get_or_push xs x d i last)) (subst (λ k. Seated s [] k x) last y)
+        subst (Seated code s [] i) (sym (get_or_push xs x d i last)) (subst (λ k. Seated code s [] k x) last y)

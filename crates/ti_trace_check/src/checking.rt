@@ -1,9 +1,11 @@
 // The check of a trace.
 ghost use Rattle.std.specs.Prelude.{◌≡◌, ◌≤◌, ◌||◌, [], true, length, IfOk, IfErr};
 ghost use Rattle.std.specs.List.{list_all};
+ghost use Rattle.ti_code.specs.Follows.{Follows};
 ghost use Rattle.ti_io.specs.Faults.{Rose};
 ghost use Rattle.ti_io.specs.Source.{SameFiles};
 ghost use Rattle.ti_lang.specs.Meaning.Histories.{has_fault as fault_in};
+ghost use Rattle.ti_lang.specs.Program.Classes.{NumberedProgram};
 ghost use Rattle.ti_lang.specs.Program.Views.{program_of};
 ghost use Rattle.ti_store.specs.Conditions.{IsWithin};
 ghost use Rattle.ti_trace_check.specs.declared.error.TraceErr.TheVariants.{Read};
@@ -16,19 +18,25 @@ use crate::seat::Seat;
 use crate::verdict::Verdict;
 use std::alloc::Global;
 use std::marker::Brand;
+use ti_align::answers_fit;
 use ti_base::{Action, Entry, Memory};
+use ti_code::Code;
 use ti_io::Source;
+use ti_lower::lower;
+use ti_machine::has_one_next;
 use ti_rules::Checked;
 use ti_store::{Store, Terms};
 
-// The processes of a run before the first entry.
-fn seats_of(alloc: Global, c: &Checked, procs: u32, fuel: u32) -> Result<Vec<Seat>, Memory>
-    requires { IsWithin procs fuel }
-    ensures { IfOk result (λ seats. Stands (record { program = program_of c.now.program.parts; procs = procs; fuel = fuel }) [] seats.items) }
+// The processes of a run before the first entry, by code that follows the program.
+fn seats_of(alloc: Global, code: &Code, procs: u32, fuel: u32) -> Result<Vec<Seat>, Memory>
+    requires within { IsWithin procs fuel }
+    requires follows { (program : NumberedProgram) × Follows code.now program }
+    ensures { IfOk result (λ seats. (program : NumberedProgram) → Follows code.now program → Stands code.now (record { program = program; procs = procs; fuel = fuel }) [] seats.items) }
 {
+    has_one_next();
     let mut seats = Vec::with_capacity(alloc, procs as usize)?;
     for number in 0..procs {
-        let seat = Seat::take(alloc, c, number, procs, fuel)?;
+        let seat = Seat::take(alloc, code, number, procs, fuel)?;
         seats.push(seat)?;
     }
     Ok(seats)
@@ -86,9 +94,11 @@ fn check_by<J: Terms, S: Source>(
     ensures judges { IfOk result (λ v. (S.state source.old).tells ≡ true → Judges (record { program = program_of c.now.program.parts; procs = procs; fuel = fuel }) (S.state source.old).left v) }
     ensures read { IfErr result (λ e. e ≡ Read → Rose (S.state source.old).faults (S.state source.new).faults) }
 {
+    answers_fit(c);
+    let code = lower(alloc, c)?;
     let mut store = Store::<J>::new(alloc, c, procs, fuel)?;
-    let mut seats = seats_of(alloc, c, procs, fuel)?;
-    let end = follow(alloc, c, &mut seats, &mut store, source)?;
+    let mut seats = seats_of(alloc, &code, procs, fuel)?;
+    let end = follow(alloc, &code, &mut seats, &mut store, source)?;
     let is_complete = either(have_ended(&seats), has_fault(store.history()));
     Ok(verdict_of(end, is_complete, store.into_history()))
 }

@@ -2,7 +2,6 @@
 ghost use Rattle.std.specs.Prelude.{◌≡◌, ◌≤◌, [], true, IfOk, IfErr};
 ghost use Rattle.ti_io.specs.Faults.{Rose};
 ghost use Rattle.ti_io.specs.Source.{SameFiles};
-ghost use Rattle.ti_lang.specs.Program.Views.{program_of};
 ghost use Rattle.ti_store.specs.Stores.{setting_of};
 ghost use Rattle.ti_trace_check.specs.declared.error.TraceErr.TheVariants.{Read};
 ghost use Rattle.ti_trace_check.specs.Mirrors.Seats.{IsOpen, Stands, Meets, CameTo, LeavesText};
@@ -14,8 +13,8 @@ use crate::pieces::Pieces;
 use crate::seat::Seat;
 use std::alloc::Global;
 use ti_base::Memory;
+use ti_code::Code;
 use ti_io::Source;
-use ti_rules::Checked;
 use ti_store::{Store, Terms};
 
 /// How far a run followed a text: by how many entries, and whether the text ended there.
@@ -28,14 +27,14 @@ pub struct Followed {
 // Lets the process that the line names take its next entry, and tells whether the line is that of the entry.
 fn meet<J: Terms>(
     alloc: Global,
-    c: &Checked,
+    code: &Code,
     seats: &mut Vec<Seat>,
     store: &mut Store<J>,
     line: &[u8],
 ) -> Result<bool, Memory>
-    requires open { IsOpen (program_of c.now.program.parts) store.old }
-    requires stands { Stands (setting_of store.old) store.old.entries seats.old.items }
-    ensures meets { IfOk result (λ met. Meets (setting_of store.old) store.old.entries seats.old.items store.new.entries seats.new.items line.now met) }
+    requires open { IsOpen code.now store.old }
+    requires stands { Stands code.now (setting_of store.old) store.old.entries seats.old.items }
+    ensures meets { IfOk result (λ met. Meets code.now (setting_of store.old) store.old.entries seats.old.items store.new.entries seats.new.items line.now met) }
     ensures store { store.new ≡ record store.old { entries = store.new.entries } }
 {
     let number = store.history().len();
@@ -45,7 +44,7 @@ fn meet<J: Terms>(
     if p as usize >= seats.len() {
         return Ok(false);
     }
-    if !seats[p as usize].take_turn(alloc, c, store, p)? {
+    if !seats[p as usize].take_turn(alloc, code, store, p)? {
         return Ok(false);
     }
     Ok(entry_line(number, &store.history()[number]).as_slice() == line)
@@ -54,17 +53,17 @@ fn meet<J: Terms>(
 /// Lets a run follow the lines of a text, up to its end or its first wrong line.
 pub fn follow<J: Terms, S: Source>(
     alloc: Global,
-    c: &Checked,
+    code: &Code,
     seats: &mut Vec<Seat>,
     store: &mut Store<J>,
     source: &mut S,
 ) -> Result<Followed, TraceErr>
-    requires open { IsOpen (program_of c.now.program.parts) store.old }
+    requires open { IsOpen code.now store.old }
     requires none { store.old.entries ≡ [] }
-    requires stands { Stands (setting_of store.old) store.old.entries seats.old.items }
+    requires stands { Stands code.now (setting_of store.old) store.old.entries seats.old.items }
     ensures never_falls { (S.state source.old).faults ≤ (S.state source.new).faults }
     ensures same { SameFiles (S.state source.old) (S.state source.new) }
-    ensures came { IfOk result (λ end. CameTo (setting_of store.old) store.new.entries seats.new.items end) }
+    ensures came { IfOk result (λ end. CameTo code.now (setting_of store.old) store.new.entries seats.new.items end) }
     ensures leaves { IfOk result (λ end. (S.state source.old).tells ≡ true → LeavesText (setting_of store.old) (S.state source.old).left store.new.entries end) }
     ensures read { IfErr result (λ e. e ≡ Read → Rose (S.state source.old).faults (S.state source.new).faults) }
     ensures store { store.new ≡ record store.old { entries = store.new.entries } }
@@ -73,7 +72,7 @@ pub fn follow<J: Terms, S: Source>(
     let mut line = pieces.next_line(source)?;
     let mut taken = 0;
     'lines: while !line.as_slice().is_empty() {
-        if !meet(alloc, c, seats, store, line.as_slice())? {
+        if !meet(alloc, code, seats, store, line.as_slice())? {
             return Ok(Followed {
                 taken,
                 is_end: false,

@@ -1,22 +1,21 @@
 // A process of a run with what it has next.
 ghost use Rattle.std.specs.Prelude.{◌≡◌, ◌<◌, ◌^◌, [], true, false, IfOk, OnOk};
 ghost use Rattle.ti_eval.specs.Forms.{IsFormedAnswer};
-ghost use Rattle.ti_exec.specs.Standing.{is_act};
 ghost use Rattle.ti_lang.specs.Meaning.Runs.{IsRun};
-ghost use Rattle.ti_lang.specs.Program.Views.{program_of};
+ghost use Rattle.ti_machine.specs.Standing.{GoesOn, is_act};
 ghost use Rattle.ti_store.specs.Stores.{setting_of};
-ghost use Rattle.ti_trace_check.specs.Mirrors.Seats.{doing_of, StandsAt, Seated, Moves, TurnLeaves};
+ghost use Rattle.ti_trace_check.specs.Mirrors.Seats.{doing_of, told_more, StandsAt, Seated, Moves, IsOpen, TurnLeaves};
 
 use std::alloc::Global;
 use ti_base::{Action, Answer, Memory, Next, Place};
-use ti_exec::TreeProc;
-use ti_rules::Checked;
+use ti_code::Code;
+use ti_machine::{Proc, has_one_next};
 use ti_store::{ActErr, Store, Terms};
 
 /// A process of a run with what it has next, and whether it had its end.
 #[derive(Drop)]
 pub struct Seat {
-    pub process: TreeProc,
+    pub process: Proc,
     pub next: Next,
     pub ended: bool,
 }
@@ -36,18 +35,19 @@ impl Seat {
     /// The process of a number before its first entry.
     pub fn take(
         alloc: Global,
-        c: &Checked,
+        code: &Code,
         number: u32,
         procs: u32,
         fuel: u32,
     ) -> Result<Seat, Memory>
         requires number { number < 2 ^ 31 }
         requires procs { procs < 2 ^ 31 }
-        ensures stands { IfOk result (λ seat. StandsAt (record { program = c.now.program.parts; procs = procs; fuel = fuel; number = number; told = []; asks = false }) seat) }
+        requires goes { GoesOn (record { code = code.now; procs = procs; fuel = fuel; number = number; told = []; asks = false }) }
+        ensures stands { IfOk result (λ seat. StandsAt (record { code = code.now; procs = procs; fuel = fuel; number = number; told = []; asks = false }) seat) }
         ensures unended { IfOk result (λ seat. seat.ended ≡ false) }
     {
-        let mut process = TreeProc::start(alloc, c, number, procs, fuel)?;
-        let next = process.advance(alloc, c)?;
+        let mut process = Proc::start(alloc, code, number, procs, fuel)?;
+        let next = process.advance(alloc, code)?;
         Ok(Seat {
             process,
             next,
@@ -56,10 +56,11 @@ impl Seat {
     }
 
     // Goes on behind what it has next, which got this answer.
-    fn go_on(&mut self, alloc: Global, c: &Checked, answer: Answer) -> Result<(), Memory>
-        requires program { program_of c.now.program.parts ≡ program_of self.old.process.program }
+    fn go_on(&mut self, alloc: Global, code: &Code, answer: Answer) -> Result<(), Memory>
+        requires code { code.now ≡ self.old.process.code }
         requires asks { is_act self.old.next ≡ true → self.old.process.asks ≡ true }
         requires form { IsFormedAnswer answer }
+        requires goes { is_act self.old.next ≡ true → GoesOn (told_more self.old.process answer) }
         ensures { OnOk result (Moves self.old answer self.new) }
     {
         let Next::Act(_, _) = self.next else {
@@ -67,7 +68,7 @@ impl Seat {
             return Ok(());
         };
         self.process.answer(answer);
-        self.next = self.process.advance(alloc, c)?;
+        self.next = self.process.advance(alloc, code)?;
         Ok(())
     }
 
@@ -75,24 +76,25 @@ impl Seat {
     pub fn take_turn<J: Terms>(
         &mut self,
         alloc: Global,
-        c: &Checked,
+        code: &Code,
         store: &mut Store<J>,
         number: u32,
     ) -> Result<bool, Memory>
-        requires program { program_of c.now.program.parts ≡ program_of store.old.program }
-        requires unhalted { store.old.halted ≡ false }
+        requires open { IsOpen code.now store.old }
         requires number { number < store.old.procs }
-        requires seated { Seated (setting_of store.old) store.old.entries number self.old }
-        ensures leaves { IfOk result (λ took. TurnLeaves (setting_of store.old) store.old.entries number self.old store.new.entries self.new took) }
+        requires run { IsRun (setting_of store.old) store.old.entries }
+        requires seated { Seated code.now (setting_of store.old) store.old.entries number self.old }
+        ensures leaves { IfOk result (λ took. TurnLeaves code.now (setting_of store.old) store.old.entries number self.old store.new.entries self.new took) }
         ensures store { store.new ≡ record store.old { entries = store.new.entries } }
     {
+        has_one_next();
         if self.ended {
             return Ok(false);
         }
         let (place, action) = doing(self.next);
         match store.act(alloc, number, place, action) {
             Ok(answer) => {
-                self.go_on(alloc, c, answer)?;
+                self.go_on(alloc, code, answer)?;
                 Ok(true)
             }
             Err(ActErr::Faulted(_)) => Ok(true),

@@ -8,15 +8,17 @@ use Rattle.ti_base.specs.declared.entry.Answer.{Answer}
 use Rattle.ti_base.specs.declared.entry.Entry.{Entry}
 use Rattle.ti_base.specs.declared.entry.Next.{Next}
 use Rattle.ti_base.specs.declared.entry.Next.TheVariants as next
-use Rattle.ti_lang.specs.Program.Classes.{NumberedProgram}
-use Rattle.ti_lang.specs.Program.Views.{program_of}
-use Rattle.ti_lang.specs.Meaning.Processes.{Setting}
+use Rattle.ti_lang.specs.Meaning.Processes.{Setting, Process}
+use Rattle.ti_lang.specs.Meaning.NextStep.{IsNext}
 use Rattle.ti_lang.specs.Meaning.Histories.{answers_of, has_end, has_fault}
-use Rattle.ti_lang.specs.Meaning.Runs.{CanTake, IsRun}
-use Rattle.ti_exec.specs.Standing.{Standing, HasNext, is_act}
-use Rattle.ti_exec.specs.Standing as exec
+use Rattle.ti_lang.specs.Meaning.Runs.{World, CanTake, IsRun}
+use Rattle.ti_align.specs.Alignment.{OfEveryRun}
+use Rattle.ti_align.specs.Answering.{AnswersFit}
+use Rattle.ti_code.specs.Programs.{Code}
+use Rattle.ti_code.specs.Follows.{Follows}
+use Rattle.ti_machine.specs.Standing.{Standing, HasNext, is_act}
 use Rattle.ti_store.specs.Conditions.{IsWithin}
-use Rattle.ti_store.specs.Stores.{StoreState}
+use Rattle.ti_store.specs.Stores.{StoreState, setting_of}
 use Rattle.ti_watch.specs.Lines.{line_room}
 use Rattle.ti_watch.specs.Reports.{entry_text, trace_text}
 use Rattle.ti_trace_check.specs.declared.seat.Seat.{Seat}
@@ -45,13 +47,16 @@ pub record StandsAt (t : Standing) (seat : Seat) : Type 0 where
   pub process : seat.process ≡ record t { asks = is_act seat.next }
   pub next : HasNext t seat.next
 
--- the seat tells where process i stands after these entries
-pub record Seated (s : Setting) (es : List Entry) (i : ℕ) (seat : Seat) : Type 0 where
-  pub setting : exec.setting_of seat.process ≡ s
-  pub number : seat.process.number ≡ i
-  pub told : seat.process.told ≡ answers_of i es
-  pub asks : seat.process.asks ≡ is_act seat.next
-  pub next : HasNext seat.process seat.next
+-- process i of the code, after the answers of its entries other than an end and a fault
+abbrev pub standing_of : Code → Setting → List Entry → ℕ → Standing
+standing_of code s es i = record { code = code; procs = s.procs; fuel = s.fuel; number = i; told = answers_of i es; asks = false }
+
+-- the seat tells where process i stands after these entries: what the program has next, with the code there
+pub record Seated (code : Code) (s : Setting) (es : List Entry) (i : ℕ) (seat : Seat) : Type 0 where
+  pub process : seat.process ≡ record (standing_of code s es i) { asks = is_act seat.next }
+  pub there : Process
+  pub world : World s es i there
+  pub is_next : IsNext there seat.next
   pub ended : has_end i es ≡ seat.ended
 
 -- with one answer more
@@ -79,46 +84,47 @@ abbrev pub faults_left : List Entry → ℕ
 faults_left es = if has_fault es then 0 else 1
 
 -- process i took an entry
-pub record Takes (s : Setting) (es : List Entry) (i : ℕ) (old : Seat) (all : List Entry) (new : Seat) : Type 0 where
+pub record Takes (code : Code) (s : Setting) (es : List Entry) (i : ℕ) (old : Seat) (all : List Entry) (new : Seat) : Type 0 where
   pub entry : Entry
   pub can : CanTake s es i entry
   pub after : all ≡ es ++ entry ∷ []
-  pub seated : Seated s all i new
+  pub seated : Seated code s all i new
   pub lighter : steps_left s new + faults_left all < steps_left s old + faults_left es
 
 -- process i took an entry, or there is none that it can take, and nothing changed
-abbrev pub TurnLeaves : Setting → List Entry → ℕ → Seat → List Entry → Seat → Bool → Type 0
-TurnLeaves s es i old all new true = Takes s es i old all new
-TurnLeaves s es i old all new false = (all ≡ es) × ((e : Entry) → CanTake s es i e → ⊥)
+abbrev pub TurnLeaves : Code → Setting → List Entry → ℕ → Seat → List Entry → Seat → Bool → Type 0
+TurnLeaves code s es i old all new true = Takes code s es i old all new
+TurnLeaves code s es i old all new false = (all ≡ es) × ((e : Entry) → CanTake s es i e → ⊥)
 
 -- ---- lines
 
 -- the seats tell where all processes stand after the entries
-abbrev pub AllSeated : Setting → List Entry → List Seat → Type 0
-AllSeated s es seats = (d : Seat) (i : ℕ) → i < length seats → Seated s es i (slice_index_or seats i d)
+abbrev pub AllSeated : Code → Setting → List Entry → List Seat → Type 0
+AllSeated code s es seats = (d : Seat) (i : ℕ) → i < length seats → Seated code s es i (slice_index_or seats i d)
 
 -- so they do after those of a run
-pub record Stands (s : Setting) (es : List Entry) (seats : List Seat) : Type 0 where
+pub record Stands (code : Code) (s : Setting) (es : List Entry) (seats : List Seat) : Type 0 where
   pub run : IsRun s es
   pub count : length seats ≡ s.procs
-  pub seated : AllSeated s es seats
+  pub seated : AllSeated code s es seats
 
 -- how many entries may still come
 abbrev pub turns_left : Setting → List Entry → List Seat → ℕ
 turns_left s es seats = sum_by (steps_left s) seats + faults_left es
 
--- a store of the program that goes on
-pub record IsOpen (program : NumberedProgram) (store : StoreState) : Type 0 where
-  pub program_is : program_of store.program ≡ program
+-- a store that no want of memory halted, of a program that the code follows; with what holds of every run
+pub record IsOpen (code : Code) (store : StoreState) : Type 0 where
   pub unhalted : store.halted ≡ false
   pub within : IsWithin store.procs store.fuel
+  pub follows : Follows code (setting_of store).program
+  pub fit : OfEveryRun AnswersFit (setting_of store).program
 
 -- the run went on by the entry of the line
-pub record GoesOn (s : Setting) (es : List Entry) (old : List Seat) (all : List Entry) (new : List Seat) (line : List ℕ) : Type 0 where
+pub record GoesOn (code : Code) (s : Setting) (es : List Entry) (old : List Seat) (all : List Entry) (new : List Seat) (line : List ℕ) : Type 0 where
   pub entry : Entry
   pub after : all ≡ es ++ entry ∷ []
   pub text : line ≡ entry_text (length es) entry
-  pub stands : Stands s all new
+  pub stands : Stands code s all new
   pub lighter : turns_left s all new < turns_left s es old
 
 -- the line is not, nor as much of it as a line may have bytes, that of an entry which can be taken; one that was taken is the last
@@ -128,17 +134,17 @@ pub record IsOff (s : Setting) (es all : List Entry) (line : List ℕ) : Type 0 
   pub none : (e : Entry) → CanTake s es e.proc e → (more : List ℕ) → entry_text (length es) e ≡ line ++ more → (more ≡ []) ⊎ (line_room ≤ length line) → ⊥
 
 -- what a line makes of the entries and the seats
-abbrev pub Meets : Setting → List Entry → List Seat → List Entry → List Seat → List ℕ → Bool → Type 0
-Meets s es old all new line true = GoesOn s es old all new line
-Meets s es old all new line false = IsOff s es all line
+abbrev pub Meets : Code → Setting → List Entry → List Seat → List Entry → List Seat → List ℕ → Bool → Type 0
+Meets code s es old all new line true = GoesOn code s es old all new line
+Meets code s es old all new line false = IsOff s es all line
 
 -- ---- texts
 
 -- the first so many entries are those that the lines took; where the text ended, they are all, and the seats tell where the processes stand
-pub record CameTo (s : Setting) (all : List Entry) (seats : List Seat) (end : Followed) : Type 0 where
+pub record CameTo (code : Code) (s : Setting) (all : List Entry) (seats : List Seat) (end : Followed) : Type 0 where
   pub within : end.taken ≤ length all
   pub run : IsRun s (take end.taken all)
-  pub whole : end.is_end ≡ true → (end.taken ≡ length all) × Stands s all seats
+  pub whole : end.is_end ≡ true → (end.taken ≡ length all) × Stands code s all seats
 
 -- the text begins with the trace of those entries; behind it there is nothing where it ended, and else a wrong line
 pub record LeavesText (s : Setting) (text : List ℕ) (all : List Entry) (end : Followed) : Type 0 where

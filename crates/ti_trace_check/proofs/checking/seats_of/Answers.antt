@@ -1,22 +1,28 @@
-use Rattle.std.proofs.Common.{◌∙◌, ◌+◌, [], ◌∷◌, length, refl, sym, ap, subst, arith, length-append}
-use Rattle.ti_lang.specs.Program.Views.{program_of}
+use Rattle.std.proofs.Common.{◌∙◌, ◌+◌, [], ◌∷◌, length, sym, ap, subst, arith, length-append}
 use Rattle.ti_lang.specs.Meaning.Processes.{Setting}
 use Rattle.ti_lang.specs.Meaning.Runs.{none}
 use Rattle.ti_trace_check.specs.Mirrors.Seats.{Seated, AllSeated}
-use Rattle.ti_trace_check.proofs.Seats.{seated_at}
+use Rattle.ti_trace_check.proofs.ByCode.{begins_on, begins_seated}
 use Rattle.ti_trace_check.proofs.Turns.{seated_more}
 use Rattle.ti_trace_check.proofs.checking.seats_of.Goals as goal
 
+pub take-requires-clause-goes : goal.take-requires-clause-goes
+take-requires-clause-goes c =
+    begins_on c.args.code.now (record { program = c.requires.follows.0; procs = c.args.procs; fuel = c.args.fuel }) c.requires.follows.1 c.requires.within c.loop-number.number (omega arith)
+
 pub loop-number-preserved : goal.loop-number-preserved
 loop-number-preserved c =
-    let s : Setting = record { program = program_of c.args.c.now.program.parts; procs = c.args.procs; fuel = c.args.fuel } in
+    let code = c.args.code.now in
     let seats = c.loop-number.seats.items in
     let seat = c.in_ok-seat.seat in
-    let one : Seated s [] c.loop-number.number seat = seated_at s [] c.loop-number.number _ seat refl refl refl (sym c.in_ok-seat.ensures.unended) c.in_ok-seat.ensures.stands in
     record {
       count = ap length c.in_ok-push.ensures.items ∙ length-append seats (seat ∷ []) ∙ ap (λ n. n + 1) c.loop-number.invariant.count;
-      seated = subst (AllSeated s []) (sym c.in_ok-push.ensures.items) (seated_more s seats seat (subst (λ n. Seated s [] n seat) (sym c.loop-number.invariant.count) one) c.loop-number.invariant.seated);
+      seated = λ program follows.
+          let s : Setting = record { program = program; procs = c.args.procs; fuel = c.args.fuel } in
+          let one = begins_seated code s follows c.requires.within c.loop-number.number (omega arith) c.has_one_next.ensures seat c.in_ok-seat.ensures.stands c.in_ok-seat.ensures.unended in
+          subst (AllSeated code s []) (sym c.in_ok-push.ensures.items)
+          (seated_more code s seats seat (subst (λ n. Seated code s [] n seat) (sym c.loop-number.invariant.count) one) (c.loop-number.invariant.seated program follows));
     }
 
 pub returns : goal.returns
-returns c = record { run = none; count = omega (arith, c.loop-number.invariant.count); seated = c.loop-number.invariant.seated }
+returns c = λ program follows. record { run = none; count = omega (arith, c.loop-number.invariant.count); seated = c.loop-number.invariant.seated program follows }

@@ -3,8 +3,11 @@ use Rattle.std.proofs.lemmas.List.{nil_from_length}
 use Rattle.ti_store.specs.Stores.{StoreState, setting_of}
 use Rattle.ti_trace_check.specs.Mirrors.Pieces.{held}
 use Rattle.ti_trace_check.proofs.Refusing.{off_of}
-use Rattle.ti_trace_check.proofs.OfLines.{not_empty_line, goes, goes_of, left_whole, left_off}
+use Rattle.ti_trace_check.proofs.OfLines.{open_still, not_empty_line, goes, goes_of, left_whole, left_off}
 use Rattle.ti_trace_check.proofs.following.follow.Goals as goal
+
+pub meet-requires-clause-open : goal.meet-requires-clause-open
+meet-requires-clause-open g c = open_still c.args.code.now c.args.store.now c.lines.store c.lines.invariant.store c.requires.open
 
 pub returns-then-not-branch-clause-leaves : goal.returns-then-not-branch-clause-leaves
 returns-then-not-branch-clause-leaves g c = λ tells.
@@ -18,7 +21,7 @@ pub lines-preserved : goal.lines-preserved
 lines-preserved g c =
     let s = setting_of c.args.store.now in
     let same : setting_of c.lines.store ≡ s = ap setting_of c.lines.invariant.store in
-    let on = goes_of (setting_of c.lines.store) s c.lines.store.entries c.lines.seats.items c.meet.new.store.entries c.meet.new.seats.items c.as_slice-in-lines.result.now c.lines.line same c.as_slice-in-lines.ensures (rw c.if-not-branch.false at c.in_ok-meet.ensures.meets) in
+    let on = goes_of c.args.code.now (setting_of c.lines.store) s c.lines.store.entries c.lines.seats.items c.meet.new.store.entries c.meet.new.seats.items c.as_slice-in-lines.result.now c.lines.line same c.as_slice-in-lines.ensures (rw c.if-not-branch.false at c.in_ok-meet.ensures.meets) in
     record {
       store = c.in_ok-meet.ensures.store ∙ ap (λ (st : StoreState). record st { entries = c.meet.new.store.entries }) c.lines.invariant.store;
       stands = on.stands;
@@ -27,7 +30,7 @@ lines-preserved g c =
       never_falls = omega (arith, c.lines.invariant.never_falls, c.in_ok-line-2.ensures.cause.never_falls);
       same = record { tells = c.in_ok-line-2.ensures.same.tells ∙ c.lines.invariant.same.tells; files = c.in_ok-line-2.ensures.same.files ∙ c.lines.invariant.same.files };
       told = λ tells.
-          goes s (g.S.Source.state c.args.source.now).left c.lines.store.entries c.lines.seats.items c.meet.new.seats.items c.meet.new.store.entries c.lines.line (held c.lines.pieces ++ (g.S.Source.state c.lines.source).left) _ _ on
+          goes c.args.code.now s (g.S.Source.state c.args.source.now).left c.lines.store.entries c.lines.seats.items c.meet.new.seats.items c.meet.new.store.entries c.lines.line (held c.lines.pieces ++ (g.S.Source.state c.lines.source).left) _ _ on
           (c.lines.invariant.told tells) (c.in_ok-line-2.ensures.line (c.lines.invariant.same.tells ∙ tells));
     }
 

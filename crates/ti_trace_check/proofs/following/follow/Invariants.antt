@@ -9,7 +9,7 @@ use Rattle.ti_trace_check.proofs.following.follow.Given as goal
 abbrev pub invariant-lines : goal.invariant-lines
 invariant-lines g l = record {
   store : l.store ≡ record l.fn.store { entries = l.store.entries };
-  stands : Stands (setting_of l.fn.store) l.store.entries l.seats.items;
+  stands : Stands l.code (setting_of l.fn.store) l.store.entries l.seats.items;
   taken : l.taken ≡ length l.store.entries;
   room : IsRoom l.pieces;
   never_falls : (g.S.Source.state l.fn.source).faults ≤ (g.S.Source.state l.source).faults;
