@@ -1,14 +1,12 @@
 -- What is found of a method, from what is found of its head and its body.
-use Rattle.std.proofs.Common.{◌≡◌, List, ◌++◌, flat_map, Option, Some, None, sym, ap, ◌∙◌}
-use Rattle.std.specs.Option.{option_or}
+use Rattle.std.proofs.Common.{◌≡◌, List, ◌++◌, flat_map, Option, sym, ap, ◌∙◌}
 use Rattle.ti_lang.specs.Program.Classes.{NumberedMethod, NumberedProgram}
 use Rattle.ti_rules.specs.declared.refusal.Refusal.{Refusal}
 use Rattle.ti_rules.specs.Mirrors.First.{sooner, first_of}
 use Rattle.ti_rules.specs.Standing.{standing_in_method}
 use Rattle.ti_rules.specs.TypeRules.{class_refusals, head_refusals, end_refusals, method_refusals, type_refusals}
 use Rattle.ti_rules.specs.Broken.Statements.{standing_refusals}
-use Rattle.ti_rules.specs.SingleRules.{effect_refusals, result_refusals, standing_single_refusals, method_single_refusals, single_refusals}
-use Rattle.ti_rules.specs.Mirrors.ProgramRefusal.{program_refusal}
+use Rattle.ti_rules.specs.SingleRules.{effect_refusals, result_refusals, standing_single_refusals, method_single_refusals}
 use Rattle.ti_rules.proofs.First.{first_append}
 use Rattle.ti_check.specs.declared.found.Found.{Found}
 use Rattle.ti_check.specs.Mirrors.Found.{IsFirst, IsFound}
@@ -28,17 +26,7 @@ method_found p m head end effects words own body f is_head is_end own_types is_e
 -- ---- programs
 
 -- what counts of the rules of types
-types_are : (p : NumberedProgram) (c t : Option Refusal) (f : Found) → c ≡ first_of (flat_map class_refusals p.classes) → IsFirst (flat_map (method_refusals p) p.methods) (flat_map (method_single_refusals p) p.methods) f
-    → t ≡ sooner c f.types → t ≡ first_of (type_refusals p)
+pub types_are : (p : NumberedProgram) (c t : Option Refusal) (f : Found) → c ≡ first_of (flat_map class_refusals p.classes)
+    → IsFirst (flat_map (method_refusals p) p.methods) (flat_map (method_single_refusals p) p.methods) f → t ≡ sooner c f.types → t ≡ first_of (type_refusals p)
 types_are p c t f is_c is_f is =
     is ∙ ap (λ z. sooner z f.types) is_c ∙ ap (sooner (first_of (flat_map class_refusals p.classes))) is_f.0 ∙ sym (first_append (flat_map class_refusals p.classes) (flat_map (method_refusals p) p.methods))
-
--- a rule of types is broken
-pub broken_types : (p : NumberedProgram) (c t : Option Refusal) (f : Found) (r : Refusal) → c ≡ first_of (flat_map class_refusals p.classes) → IsFirst (flat_map (method_refusals p) p.methods) (flat_map (method_single_refusals p) p.methods) f
-    → t ≡ sooner c f.types → t ≡ Some r → Some r ≡ program_refusal p
-broken_types p c t f r is_c is_f is found = sym (ap (λ o. option_or o (first_of (single_refusals p))) (sym (types_are p c t f is_c is_f is) ∙ found))
-
--- no rule of types is broken
-pub unbroken_types : (p : NumberedProgram) (c t : Option Refusal) (f : Found) → c ≡ first_of (flat_map class_refusals p.classes) → IsFirst (flat_map (method_refusals p) p.methods) (flat_map (method_single_refusals p) p.methods) f
-    → t ≡ sooner c f.types → t ≡ None → f.single ≡ program_refusal p
-unbroken_types p c t f is_c is_f is none = is_f.1 ∙ sym (ap (λ o. option_or o (first_of (single_refusals p))) (sym (types_are p c t f is_c is_f is) ∙ none))

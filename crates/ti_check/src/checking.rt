@@ -1,10 +1,11 @@
 // Whole programs.
 ghost use Rattle.std.specs.Prelude.{◌≡◌, ◌<◌, map, flat_map, length, slice_get, IfOk};
 ghost use Rattle.ti_lang.specs.Program.Views.{program_of, numbered_method_of};
-ghost use Rattle.ti_rules.specs.TypeRules.{method_refusals};
-ghost use Rattle.ti_rules.specs.SingleRules.{method_single_refusals};
+ghost use Rattle.ti_rules.specs.TypeRules.{method_refusals, type_refusals};
+ghost use Rattle.ti_rules.specs.SingleRules.{method_single_refusals, single_refusals};
+ghost use Rattle.ti_rules.specs.Mirrors.First.{first_of};
 ghost use Rattle.ti_rules.specs.Mirrors.ProgramRefusal.{program_refusal};
-ghost use Rattle.ti_check.specs.Answer.{GivesChecked};
+ghost use Rattle.ti_check.specs.Answer.{GivesChecked, GivesTyped};
 ghost use Rattle.ti_check.specs.Mirrors.Found.{IsFirst};
 
 use crate::declarations::classes;
@@ -14,7 +15,7 @@ use crate::methods::method;
 use std::alloc::Global;
 use ti_base::Memory;
 use ti_lang::program::{Method, Program};
-use ti_rules::{Checked, Refusal, sooner};
+use ti_rules::{Checked, Refusal, first_counts, sooner};
 
 fn numbered(i: usize) -> Result<u32, Memory>
     ensures { IfOk result (λ n. n ≡ i) }
@@ -53,12 +54,24 @@ fn methods(alloc: Global, p: &Program) -> Result<Found, Memory>
     Ok(found)
 }
 
+// What counts of the rules of types and qualifiers, and what counts of those of single values.
+fn broken(alloc: Global, p: &Program) -> Result<Found, Memory>
+    ensures types { IfOk result (λ f. f.types ≡ first_of (type_refusals (program_of p.now.parts))) }
+    ensures single { IfOk result (λ f. f.single ≡ first_of (single_refusals (program_of p.now.parts))) }
+{
+    let found = methods(alloc, p)?;
+    Ok(Found {
+        types: sooner(classes(&p.parts.classes), found.types),
+        single: found.single,
+    })
+}
+
 // What the program is refused for, if it is.
 fn refusal(alloc: Global, p: &Program) -> Result<Option<Refusal>, Memory>
     ensures { IfOk result (λ r. r ≡ program_refusal (program_of p.now.parts)) }
 {
-    let found = methods(alloc, p)?;
-    match sooner(classes(&p.parts.classes), found.types) {
+    let found = broken(alloc, p)?;
+    match found.types {
         Some(refusal) => Ok(Some(refusal)),
         None => Ok(found.single),
     }
@@ -77,5 +90,18 @@ pub fn check(alloc: Global, p: Program) -> Result<Checked, CheckErr>
     match found {
         Some(refusal) => Err(CheckErr::Refused(refusal)),
         None => Ok(Checked::of(p)),
+    }
+}
+
+/// Whether a program breaks no rule of types and qualifiers, whatever its marks of single values are. Where it breaks some, the error is the
+/// refusal that counts: the one at the least place, and at one place the one listed first.
+pub fn check_types(alloc: Global, p: &Program) -> Result<(), CheckErr>
+    ensures { GivesTyped (program_of p.now.parts) result }
+{
+    first_counts();
+    let found = broken(alloc, p)?;
+    match found.types {
+        Some(refusal) => Err(CheckErr::Refused(refusal)),
+        None => Ok(()),
     }
 }

@@ -15,5 +15,5 @@ mod targets;
 mod values;
 mod walk;
 
-pub use checking::check;
+pub use checking::{check, check_types};
 pub use error::CheckErr;

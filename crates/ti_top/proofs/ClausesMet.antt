@@ -23,24 +23,28 @@ use Rattle.ti_top.specs.declared.reading.ReadEnd.{ReadEnd}
 use Rattle.ti_top.specs.declared.reading.ReadEnd.TheVariants as Read
 use Rattle.ti_top.specs.declared.ending.Ending.{Ending}
 use Rattle.ti_top.specs.declared.ending.Ending.TheVariants.{Done, Refused, Faulted, NoCommand, CantRead, CantWrite, NoMemory, NoRun}
+use Rattle.ti_blame.specs.declared.mark.Mark.{Mark}
 use Rattle.ti_words.specs.declared.job.Job.{Job}
 use Rattle.ti_words.specs.declared.job.Mode.{Mode}
-use Rattle.ti_words.specs.declared.job.Mode.TheVariants.{Run, Check, Code, Gen, Verify}
+use Rattle.ti_words.specs.declared.job.Mode.TheVariants.{Run, Check, Code, Gen, Verify, Infer}
 use Rattle.ti_top.specs.Reports.{wanted, output_in, output, WroteFew}
 use Rattle.ti_top.specs.Mirrors.Reading.{ReadsWhole}
 use Rattle.ti_top.specs.Ending.{status_of}
 use Rattle.ti_top.specs.Summary.{summary}
 use Rattle.ti_top.specs.Mirrors.Ended.{Ended}
 use Rattle.ti_top.specs.Mirrors.Leaving.{LeavesOut}
-use Rattle.ti_top.specs.Run.{HasFile, Runs, HasCode, Verifies, HasHistory, run_of, fault_entry, EndsWithFault}
-use Rattle.ti_top.specs.Mirrors.Work.{kept_in, RanNothing, Ran, WasRefused, WasChecked, WasCoded, RunTextSays, CheckTextSays, CodeTextSays, TextSays, FileSays, FileDone, SeedDone, TraceDone, WorkSays, work_of, DidNothing}
+use Rattle.ti_top.specs.Run.{HasFile, Runs, HasCode, Verifies, Infers, HasHistory, run_of, fault_entry, EndsWithFault}
+use Rattle.ti_top.specs.Mirrors.Work.{kept_in, RanNothing, Ran, WasRefused, WasChecked, WasCoded, WasInferred, RunTextSays, CheckTextSays, CodeTextSays, InferTextSays, TextSays, FileSays, FileDone, SeedDone, TraceDone, WorkSays, work_of, DidNothing}
 use Rattle.ti_top.specs.Call.{most_read, Call, IsCommand, IsNoCommand, file_in, file_of, SinkRose, ErrRose, Yields, WantsReport}
-use Rattle.ti_top.specs.Clauses.{IsAccepted, IsReadWhole, IsWholeIn, HasText, ReadsText, MakesText, GetsText, RefusesExactly, KeepsRun, RunsCode, CountsInstructions, WhereAccepted, WhereRun, WritesAll, WritesOutput, IsAlignedRun, IsDeterminate, EndsRun, NothingFailed, IsComplete, MeetsBesideErr, Says, before_err, Meets}
+use Rattle.ti_top.specs.Clauses.{IsAcceptedIn, IsRefusalIn, InfersMarks, IsReadWhole, IsWholeIn, HasText, ReadsText, MakesText, GetsText, RefusesExactly, KeepsRun, RunsCode, CountsInstructions, WhereAccepted, WhereRun, WritesAll, WritesOutput, IsAlignedRun, IsDeterminate, EndsRun, NothingFailed, IsComplete, MeetsBesideErr, Says, before_err, Meets}
 use Rattle.ti_top.specs.Traces.{IsWrongTrace, VerifiesTrace, TraceDecides}
+use Rattle.ti_top.specs.Inference.{marks_text}
+use Rattle.ti_top.specs.Mirrors.Compiling.{HasNoProgram}
 use Rattle.ti_top.specs.Mirrors.Verifying.{WasRead, HeldSays, ReadSays}
 use Rattle.ti_top.proofs.StatusFrom.{StatusFrom, status_from, not_five, is_done, is_no_command, is_cant_read, is_faulted, is_no_memory, is_no_run}
 use Rattle.ti_top.proofs.TraceFound.{Verdict, verdict_run, verdict_wrong, decides}
 use Rattle.ti_top.proofs.TraceRead.{Cause, LacksBehind, unreadable, cause_of, cause_of_read, commanded, whole_of, reads_traced}
+use Rattle.ti_top.proofs.InModes.{runs_marked, verifies_marked, refusal_here, refusal_in, accepted_in, no_inference, nothing_inferred}
 use Rattle.ti_top.proofs.WordsAnswered.{known, not_both, no_command_answers, command_answers}
 use Rattle.ti_top.proofs.TextRead.{EndsAs, read_whole, reads_text}
 use Rattle.ti_top.proofs.TextMade.{makes_text}
@@ -70,6 +74,7 @@ nothing_of_unbegun Check run runs cut = absurd runs
 nothing_of_unbegun Code run runs cut = absurd runs
 nothing_of_unbegun Gen run runs cut = append-nil (summary run []) ∙ no_summary run [] (λ ended. cut (inr ended))
 nothing_of_unbegun Verify run runs cut = absurd runs
+nothing_of_unbegun Infer run runs cut = absurd runs
 
 -- where nothing was written, the status owes nothing, and an empty history isn't complete
 output_nothing : (c : Call) → (c.status ≡ 0 → WhereAccepted c (λ job program. output job program c.history (wanted job c.watchers) ≡ [])) → (c.status ≡ 2 → WhereAccepted c (λ job program. ⊥)) → (c.status ≡ 6 → WhereRun c (λ job program. IsCompleteRun (run_of program job) [] → ⊥)) → RanNothing c.out c.out_after (kept_in c) → WritesOutput c
@@ -77,17 +82,17 @@ output_nothing c done_of_none not_faulted not_complete x =
     let same : c.out_after.taken ≡ c.out.taken = ap (λ s. s.taken) x.unwritten in
     let grew_none : c.out_after.taken ≡ c.out.taken ++ [] = same ∙ sym (append-nil c.out.taken) in
     record {
-      done = λ is _ job command program has. grew_none ∙ ap (λ t. c.out.taken ++ t) (sym (done_of_none is job command program has));
-      faulted = λ is _ job command program has. absurd (not_faulted is job command program has);
+      done = λ is _ job command marked program has. grew_none ∙ ap (λ t. c.out.taken ++ t) (sym (done_of_none is job command marked program has));
+      faulted = λ is _ job command marked program has. absurd (not_faulted is job command marked program has);
       nothing_at_one = λ _. same;
       nothing_at_three = λ _. same;
       nothing_at_four = λ _. same;
       no_command = λ _. same;
       not_whole = λ _ _ _. same;
-      no_program = λ _. same;
+      not_accepted = λ _ _ _. same;
       checked = λ _ _ _. same;
       uncoded = λ _ _ _ _. same;
-      failed = λ _ _ job _ program _. ([], (output job program c.history (wanted job c.watchers), refl), grew_none);
+      failed = λ _ _ job _ _ program _. ([], (output job program c.history (wanted job c.watchers), refl), grew_none);
       no_memory = λ is _ job command mode program has. record {
         few = [];
         others = wanted job c.watchers;
@@ -116,6 +121,7 @@ runs_has Check runs = runs
 runs_has Code runs = absurd runs
 runs_has Gen runs = tt
 runs_has Verify runs = absurd runs
+runs_has Infer runs = absurd runs
 
 -- no mode both runs a program and holds a trace against it
 pub runs_unverified : (mode : Mode) → Runs mode → Verifies mode → ⊥
@@ -124,6 +130,7 @@ runs_unverified Check runs verifies = verifies
 runs_unverified Code runs verifies = verifies
 runs_unverified Gen runs verifies = verifies
 runs_unverified Verify runs verifies = runs
+runs_unverified Infer runs verifies = runs
 
 -- no trace is held against the program
 no_trace : (job : Job) (c : Call) → (Verifies job.mode → ⊥) → (c.status ≡ 7 → ⊥) → VerifiesTrace job c
@@ -198,7 +205,7 @@ beside_no_command c no_job x from = record {
   count = λ job some. absurd (not_both c job some no_job);
   output = output_nothing c (λ _ job some. absurd (not_both c job some no_job)) (λ _ job some. absurd (not_both c job some no_job)) (λ _ job some. absurd (not_both c job some no_job)) x.nothing;
   flushes = flushes_out c NoCommand from (inr (inl x.nothing.unwritten));
-  alignment = record {
+  alignment = λ _ _ _. record {
     done = λ is. absurd (never NoCommand c 0 from (λ e. omega arith) (λ e. omega arith) is);
     faulted = λ is. absurd (never NoCommand c 2 from (λ e. omega arith) (λ e. omega arith) is);
     wrong = λ is. absurd (never NoCommand c 7 from (λ e. omega arith) (λ e. omega arith) is);
@@ -206,6 +213,7 @@ beside_no_command c no_job x from = record {
   determinacy = λ job some. absurd (not_both c job some no_job);
   end = λ job some. absurd (not_both c job some no_job);
   trace = λ job some. absurd (not_both c job some no_job);
+  inference = λ job some. absurd (not_both c job some no_job);
 }
 
 pub meets_no_command : (c : Call) → IsNoCommand c → DidNothing c → Ended NoCommand [] c.err c.err_after c.status → Meets c
@@ -223,10 +231,11 @@ pub record Clauses (job : Job) (c : Call) : Type 0 where
   pub code : RunsCode job c
   pub count : CountsInstructions job c
   pub output : WritesOutput c
-  pub alignment : IsAlignedRun c
+  pub alignment : (Infers job.mode → ⊥) → IsAlignedRun c
   pub determinacy : IsDeterminate job c
   pub end : EndsRun job c
   pub trace : VerifiesTrace job c
+  pub inference : InfersMarks job c
   pub completeness : NothingFailed job c → IsComplete job c
 
 job_same : (c : Call) (a b : Job) → IsCommand c a → IsCommand c b → a ≡ b
@@ -238,45 +247,59 @@ not_no_command Read.CantRead before fits is = let x = sym fits ∙ is in cc
 not_no_command Read.NoMemory before fits is = let x = sym fits ∙ is in cc
 
 -- the text is refused
-clauses_refused : (refusal : Refusal) (job : Job) (c : Call) → StatusFrom (Refused refusal) c → HasText job c → WasRefused c.text c.out c.out_after (kept_in c) refusal → Clauses job c
-clauses_refused refusal job c from whole refused = let x = refused.nothing in record {
+clauses_refused : (refusal : Refusal) (job : Job) (c : Call) → 1 ≤ job.procs → StatusFrom (Refused refusal) c → HasText job c → IsRefusalIn job.mode c.text refusal
+    → ((Infers job.mode → ⊥) → HasNoProgram c.text) → RanNothing c.out c.out_after (kept_in c) → Clauses job c
+clauses_refused refusal job c some from whole is no_program x = record {
   refusal = record {
-    only_where = λ _. (refusal, record { whole = whole; refused = refused.is });
+    only_where = λ _. (refusal, record { whole = whole; refused = is });
     everywhere = λ _ _. yields (Refused refusal) c from (λ same. inl same) (λ y. inr (inl y));
     no_code = λ _ _. x.no_code;
     no_history = λ _ _. x.no_entry;
     no_count = λ _ _. x.no_count;
     no_output = λ _ _. ap (λ s. s.taken) x.unwritten;
-    accepted_at_zero = λ is. absurd (never (Refused refusal) c 0 from (λ e. omega arith) (λ e. omega arith) is);
-    accepted_at_two = λ is. absurd (never (Refused refusal) c 2 from (λ e. omega arith) (λ e. omega arith) is);
-    accepted_at_seven = λ is. absurd (never (Refused refusal) c 7 from (λ e. omega arith) (λ e. omega arith) is);
+    accepted_at_zero = λ is. absurd (not_done is);
+    accepted_at_two = λ is. absurd (not_faulted is);
+    accepted_at_seven = λ is. absurd (not_wrong is);
   };
   run = run_nothing job c x.no_entry;
-  code = no_code job c x.no_code (λ _ _ program has. refused.no_program program has) (λ _ program has. refused.no_program program has);
-  count = no_count job c x.no_count (λ _ _ program has. refused.no_program program has) (λ _ program has. refused.no_program program has);
-  output = output_nothing c (λ _ _ _ program has. absurd (refused.no_program program has)) (λ _ _ _ program has. refused.no_program program has) (λ _ _ _ _ program has. absurd (refused.no_program program has)) x;
-  alignment = record {
-    done = λ _ program has. absurd (refused.no_program program has);
-    faulted = λ _ program has. absurd (refused.no_program program has);
-    wrong = λ _ program has. absurd (refused.no_program program has);
+  code = no_code job c x.no_code (λ is. absurd (not_done is)) (λ is. absurd (not_faulted is));
+  count = no_count job c x.no_count (λ is. absurd (not_done is)) (λ is. absurd (not_faulted is));
+  output = output_nothing c (λ is. absurd (not_done is)) (λ is. absurd (not_faulted is)) (λ is. absurd (not_cut is)) x;
+  alignment = λ _. record {
+    done = λ is. absurd (not_done is);
+    faulted = λ is. absurd (not_faulted is);
+    wrong = λ is. absurd (not_wrong is);
   };
-  determinacy = record { followed = λ _ program has. absurd (refused.no_program program has); told = no_races c x.no_entry };
+  determinacy = nothing_determined job c some x.no_entry;
   end = record {
-    ended = λ _ _ program has. absurd (refused.no_program program has);
-    fault_only_where = λ is. absurd (never (Refused refusal) c 2 from (λ e. omega arith) (λ e. omega arith) is);
+    ended = λ is. absurd (not_done is);
+    fault_only_where = λ is. absurd (not_faulted is);
     fault_everywhere = λ _ fault e. absurd (no_fault_of_nothing c fault x.no_entry e);
-    unfinished = λ _ program has. absurd (refused.no_program program has);
+    unfinished = λ is. absurd (not_cut is);
   };
-  trace = no_verdict job c (never (Refused refusal) c 0 from (λ e. omega arith) (λ e. omega arith)) (never (Refused refusal) c 7 from (λ e. omega arith) (λ e. omega arith)) x;
+  trace = no_verdict job c not_done not_wrong x;
+  inference = nothing_inferred job c not_done x;
   completeness = λ nothing. record {
     whole = whole;
     refused = λ _ _. calm (Refused refusal) c from nothing.err;
-    accepted = λ unrefused. absurd (unrefused refusal refused.is);
-    program = λ unrefused. absurd (unrefused refusal refused.is);
-    ended = λ _ program has. absurd (refused.no_program program has);
-    verified = λ _ program has. absurd (refused.no_program program has);
+    accepted = λ unrefused. absurd (unrefused refusal is);
+    program = λ unrefused. absurd (unrefused refusal is);
+    ended = λ runs program has. absurd (no_program (runs_marked job.mode runs) program has);
+    verified = λ verifies program has. absurd (no_program (verifies_marked job.mode verifies) program has);
   };
 }
+  where
+    not_done : c.status ≡ 0 → ⊥
+    not_done = never (Refused refusal) c 0 from (λ e. omega arith) (λ e. omega arith)
+
+    not_faulted : c.status ≡ 2 → ⊥
+    not_faulted = never (Refused refusal) c 2 from (λ e. omega arith) (λ e. omega arith)
+
+    not_cut : c.status ≡ 6 → ⊥
+    not_cut = never (Refused refusal) c 6 from (λ e. omega arith) (λ e. omega arith)
+
+    not_wrong : c.status ≡ 7 → ⊥
+    not_wrong = never (Refused refusal) c 7 from (λ e. omega arith) (λ e. omega arith)
 
 -- where a file is named, the whole text is there only if it was read whole
 pub was_read : (mode : Mode) (job : Job) (c : Call) → HasFile mode → IsWholeIn mode job c → IsReadWhole job c
@@ -285,6 +308,7 @@ was_read Check job c named whole = whole
 was_read Code job c named whole = whole
 was_read Gen job c named whole = absurd named
 was_read Verify job c named whole = whole
+was_read Infer job c named whole = whole
 
 -- where a file is named, a text that was read whole is whole
 whole_read : (mode : Mode) (job : Job) (c : Call) → HasFile mode → IsReadWhole job c → IsWholeIn mode job c
@@ -293,14 +317,15 @@ whole_read Check job c named whole = whole
 whole_read Code job c named whole = whole
 whole_read Gen job c named whole = absurd named
 whole_read Verify job c named whole = whole
+whole_read Infer job c named whole = whole
 
 -- behind a text without a refusal the trace is missing
 complete_behind : (job : Job) (c : Call) → HasFile job.mode → StatusFrom CantRead c → NothingFailed job c → LacksBehind job c → IsComplete job c
 complete_behind job c named from nothing behind = record {
   whole = whole_read job.mode job c named (behind.whole (never CantRead c 3 from (λ e. omega arith) (λ e. omega arith)));
-  refused = λ refusal is. absurd (behind.lack.unrefused refusal is);
+  refused = λ refusal is. absurd (behind.lack.unrefused refusal (refusal_here job.mode c.text refusal (verifies_marked job.mode behind.lack.mode) is));
   accepted = λ _. inr (inr (inr (calm CantRead c from nothing.err, behind.lack)));
-  program = λ _. behind.accepted;
+  program = λ _. accepted_in job.mode c.text (verifies_marked job.mode behind.lack.mode) behind.accepted;
   ended = λ runs. absurd (runs_unverified job.mode runs behind.lack.mode);
   verified = λ _ program has bytes holds. absurd (none_held bytes (sym behind.lack.missing.none ∙ holds.some));
 }
@@ -316,7 +341,7 @@ clauses_cant_read job c some named from cause x = record {
     everywhere = λ refusal refused. yields CantRead c from
         (λ same. elim cause [
           | inl missing ↦ absurd ((was_read job.mode job c named refused.whole).there missing)
-          | inr (inl behind) ↦ absurd (behind.lack.unrefused refusal refused.refused)
+          | inr (inl behind) ↦ absurd (behind.lack.unrefused refusal (refusal_here job.mode c.text refusal (verifies_marked job.mode behind.lack.mode) refused.refused))
           | inr (inr rose) ↦ inr (inr (same, rose))
         ])
         (λ y. inr (inl y));
@@ -332,7 +357,7 @@ clauses_cant_read job c some named from cause x = record {
   code = no_code job c x.no_code (λ is. absurd (never CantRead c 0 from (λ e. omega arith) (λ e. omega arith) is)) (λ is. absurd (never CantRead c 2 from (λ e. omega arith) (λ e. omega arith) is));
   count = no_count job c x.no_count (λ is. absurd (never CantRead c 0 from (λ e. omega arith) (λ e. omega arith) is)) (λ is. absurd (never CantRead c 2 from (λ e. omega arith) (λ e. omega arith) is));
   output = output_nothing c (λ is. absurd (never CantRead c 0 from (λ e. omega arith) (λ e. omega arith) is)) (λ is. absurd (never CantRead c 2 from (λ e. omega arith) (λ e. omega arith) is)) (λ is. absurd (never CantRead c 6 from (λ e. omega arith) (λ e. omega arith) is)) x;
-  alignment = record {
+  alignment = λ _. record {
     done = λ is. absurd (never CantRead c 0 from (λ e. omega arith) (λ e. omega arith) is);
     faulted = λ is. absurd (never CantRead c 2 from (λ e. omega arith) (λ e. omega arith) is);
     wrong = λ is. absurd (never CantRead c 7 from (λ e. omega arith) (λ e. omega arith) is);
@@ -345,6 +370,7 @@ clauses_cant_read job c some named from cause x = record {
     unfinished = λ is. absurd (never CantRead c 6 from (λ e. omega arith) (λ e. omega arith) is);
   };
   trace = no_verdict job c (never CantRead c 0 from (λ e. omega arith) (λ e. omega arith)) (never CantRead c 7 from (λ e. omega arith) (λ e. omega arith)) x;
+  inference = nothing_inferred job c (never CantRead c 0 from (λ e. omega arith) (λ e. omega arith)) x;
   completeness = λ nothing. elim cause [
     | inl missing ↦ absurd (nothing.there named missing)
     | inr (inl behind) ↦ complete_behind job c named from nothing behind
@@ -370,7 +396,7 @@ clauses_no_memory job c command some from x = record {
   code = no_code job c x.no_code (λ is. absurd (never NoMemory c 0 from (λ e. omega arith) (λ e. omega arith) is)) (λ is. absurd (never NoMemory c 2 from (λ e. omega arith) (λ e. omega arith) is));
   count = no_count job c x.no_count (λ is. absurd (never NoMemory c 0 from (λ e. omega arith) (λ e. omega arith) is)) (λ is. absurd (never NoMemory c 2 from (λ e. omega arith) (λ e. omega arith) is));
   output = output_nothing c (λ is. absurd (never NoMemory c 0 from (λ e. omega arith) (λ e. omega arith) is)) (λ is. absurd (never NoMemory c 2 from (λ e. omega arith) (λ e. omega arith) is)) (λ _ other is _ program _. unbegun (run_of program other) (some other is)) x;
-  alignment = record {
+  alignment = λ _. record {
     done = λ is. absurd (never NoMemory c 0 from (λ e. omega arith) (λ e. omega arith) is);
     faulted = λ is. absurd (never NoMemory c 2 from (λ e. omega arith) (λ e. omega arith) is);
     wrong = λ is. absurd (never NoMemory c 7 from (λ e. omega arith) (λ e. omega arith) is);
@@ -383,6 +409,7 @@ clauses_no_memory job c command some from x = record {
     unfinished = λ _ program _ complete. absurd (unbegun (run_of program job) (some job command) (subst (λ h. IsCompleteRun (run_of program job) h) x.no_entry complete));
   };
   trace = no_verdict job c (never NoMemory c 0 from (λ e. omega arith) (λ e. omega arith)) (never NoMemory c 7 from (λ e. omega arith) (λ e. omega arith)) x;
+  inference = nothing_inferred job c (never NoMemory c 0 from (λ e. omega arith) (λ e. omega arith)) x;
   completeness = λ nothing. absurd (nothing.memory (calm NoMemory c from nothing.err));
 }
 
@@ -417,6 +444,7 @@ runs_history Check runs = runs
 runs_history Code runs = runs
 runs_history Gen runs = tt
 runs_history Verify runs = absurd runs
+runs_history Infer runs = absurd runs
 
 run_or_check : (mode : Mode) → Runs mode → mode ≡ Check → ⊥
 run_or_check m runs check = subst Runs check runs
@@ -432,8 +460,9 @@ clauses_ran : (before : Ending) (job : Job) (c : Call) → Runs job.mode → IsC
 clauses_ran before job c mode command from whole x =
     let says = x.says in
     let only = x.compiled.only in
-    let unrefused = x.compiled.unrefused in
-    let accepted : IsAccepted c.text = (x.program, x.compiled.has) in
+    let marked = runs_marked job.mode mode in
+    let unrefused : (refusal : Refusal) → IsRefusalIn job.mode c.text refusal → ⊥ = λ refusal is. x.compiled.unrefused refusal (refusal_here job.mode c.text refusal marked is) in
+    let accepted : IsAcceptedIn job.mode c.text = accepted_in job.mode c.text marked (x.program, x.compiled.has) in
     record {
       refusal = record {
         only_where = λ is. absurd (other 1 (λ e. omega arith) (λ e. omega arith) (λ e. omega arith) (λ e. omega arith) is);
@@ -475,13 +504,14 @@ clauses_ran before job c mode command from whole x =
         nothing_at_four = λ is. absurd (other 4 (λ e. omega arith) (λ e. omega arith) (λ e. omega arith) (λ e. omega arith) is);
         no_command = λ none. absurd (not_both c job command none);
         not_whole = λ j some cut. absurd (cut (subst (λ j. HasText j c) (job_same c job j command some) whole));
-        no_program = λ h. absurd (h x.program x.compiled.has);
+        not_accepted = λ j some h. absurd (h (subst (λ (k : Job). IsAcceptedIn k.mode c.text) (job_same c job j command some) accepted));
         checked = λ j some check. absurd (run_or_check job.mode mode (subst (λ k. k.mode ≡ Check) (job_same c j job some command) check));
         uncoded = λ j some code _. absurd (run_or_code job.mode mode (subst (λ k. k.mode ≡ Code) (job_same c j job some command) code));
         failed = λ _ told. alone (λ j q. GrewByFront c.out c.out_after (output j q c.history (wanted j c.watchers))) (says.part told);
-        no_memory = λ is told j some _. alone (λ j q. WroteFew j.mode (run_of q j) (wanted j c.watchers) c.history c.out c.out_after) (says.few (no_memory_at before c from is) told) j some;
+        no_memory = λ is told j some runs. alone (λ j q. WroteFew j.mode (run_of q j) (wanted j c.watchers) c.history c.out c.out_after) (says.few (no_memory_at before c from is) told) j some
+            (runs_marked j.mode runs);
       };
-      alignment = record {
+      alignment = λ _. record {
         done = λ _ p has. subst IsAligned (sym (only p has)) x.compiled.aligned;
         faulted = λ _ p has. subst IsAligned (sym (only p has)) x.compiled.aligned;
         wrong = λ _ p has. subst IsAligned (sym (only p has)) x.compiled.aligned;
@@ -514,6 +544,7 @@ clauses_ran before job c mode command from whole x =
         unfinished = λ is p has complete. says.unfinished (no_memory_at before c from is) (subst (λ q. IsCompleteRun (run_of q job) c.history) (only p has) complete);
       };
       trace = no_trace job c (runs_unverified job.mode mode) (other 7 (λ e. omega arith) (λ e. omega arith) (λ e. omega arith) (λ e. omega arith));
+      inference = no_inference job c marked;
       completeness = λ nothing.
           let is = calm before c from nothing.err in
           by_end
@@ -564,7 +595,7 @@ clauses_ran before job c mode command from whole x =
 
     -- what holds of this job and this program holds of each that the call has
     alone : (P : Job → NumberedProgram → Type 0) → P job x.program → WhereAccepted c P
-    alone P it j some p has = subst (λ k. P k p) (job_same c job j command some) (subst (P job) (sym (x.compiled.only p has)) it)
+    alone P it j some _ p has = subst (λ k. P k p) (job_same c job j command some) (subst (P job) (sym (x.compiled.only p has)) it)
 
     all : (before ≡ CantWrite → ⊥) → (before ≡ NoMemory → ⊥) → c.out.tells ≡ true → WritesAll c
     all whole there told = alone (λ j q. GrewBy c.out c.out_after (output j q c.history (wanted j c.watchers))) (x.says.all whole there told)
@@ -573,8 +604,9 @@ clauses_ran before job c mode command from whole x =
 clauses_checked : (job : Job) (c : Call) → IsCommand c job → job.mode ≡ Check → StatusFrom Done c → HasText job c → WasChecked c.text c.out c.out_after (kept_in c) → Clauses job c
 clauses_checked job c command mode from whole x =
     let checks : (other : Job) → IsCommand c other → other.mode ≡ Check = λ other is. subst (λ (k : Job). k.mode ≡ Check) (job_same c job other command is) mode in
-    let unrefused = x.compiled.unrefused in
-    let accepted : IsAccepted c.text = (x.program, x.compiled.has) in
+    let marked : Infers job.mode → ⊥ = λ infers. subst Infers mode infers in
+    let unrefused : (refusal : Refusal) → IsRefusalIn job.mode c.text refusal → ⊥ = λ refusal is. x.compiled.unrefused refusal (refusal_here job.mode c.text refusal marked is) in
+    let accepted : IsAcceptedIn job.mode c.text = accepted_in job.mode c.text marked (x.program, x.compiled.has) in
     let aligned : (p : NumberedProgram) → HasProgram c.text p → IsAligned p = λ p has. subst IsAligned (sym (x.compiled.only p has)) x.compiled.aligned in
     record {
       refusal = record {
@@ -592,10 +624,10 @@ clauses_checked job c command mode from whole x =
       code = no_code job c x.nothing.no_code (λ _ has _ _. subst HasCode mode has) (λ is. absurd (never Done c 2 from (λ e. omega arith) (λ e. omega arith) is));
       count = no_count job c x.nothing.no_count (λ _ run _ _. run_or_check job.mode run mode) (λ is. absurd (never Done c 2 from (λ e. omega arith) (λ e. omega arith) is));
       output = output_nothing c
-          (λ _ other is program _. ap (λ (m : Mode). output_in m (run_of program other) c.history (wanted other c.watchers)) (checks other is))
+          (λ _ other is _ program _. ap (λ (m : Mode). output_in m (run_of program other) c.history (wanted other c.watchers)) (checks other is))
           (λ is. absurd (never Done c 2 from (λ e. omega arith) (λ e. omega arith) is))
           (λ is. absurd (never Done c 6 from (λ e. omega arith) (λ e. omega arith) is)) x.nothing;
-      alignment = record { done = λ _. aligned; faulted = λ _. aligned; wrong = λ _. aligned };
+      alignment = λ _. record { done = λ _. aligned; faulted = λ _. aligned; wrong = λ _. aligned };
       determinacy = record { followed = λ run. absurd (run_or_check job.mode run mode); told = no_races c x.nothing.no_entry };
       end = record {
         ended = λ _ run. absurd (run_or_check job.mode run mode);
@@ -604,6 +636,7 @@ clauses_checked job c command mode from whole x =
         unfinished = λ is. absurd (never Done c 6 from (λ e. omega arith) (λ e. omega arith) is);
       };
       trace = no_trace job c (λ verifies. subst Verifies mode verifies) (never Done c 7 from (λ e. omega arith) (λ e. omega arith));
+      inference = no_inference job c marked;
       completeness = λ nothing. record {
         whole = whole;
         refused = λ refusal is. absurd (unrefused refusal is);
@@ -618,8 +651,9 @@ clauses_checked job c command mode from whole x =
 clauses_coded : (before : Ending) (job : Job) (c : Call) → IsCommand c job → job.mode ≡ Code → (before ≡ Done) ⊎ (before ≡ CantWrite) → StatusFrom before c → HasText job c → WasCoded c.text c.out c.out_after (kept_in c) before → Clauses job c
 clauses_coded before job c command mode either from whole x =
     let only = x.compiled.only in
-    let unrefused = x.compiled.unrefused in
-    let accepted : IsAccepted c.text = (x.program, x.compiled.has) in
+    let marked : Infers job.mode → ⊥ = λ infers. subst Infers mode infers in
+    let unrefused : (refusal : Refusal) → IsRefusalIn job.mode c.text refusal → ⊥ = λ refusal is. x.compiled.unrefused refusal (refusal_here job.mode c.text refusal marked is) in
+    let accepted : IsAcceptedIn job.mode c.text = accepted_in job.mode c.text marked (x.program, x.compiled.has) in
     let aligned : (p : NumberedProgram) → HasProgram c.text p → IsAligned p = λ p has. subst IsAligned (sym (only p has)) x.compiled.aligned in
     record {
       refusal = record {
@@ -652,13 +686,13 @@ clauses_coded before job c command mode either from whole x =
         nothing_at_four = λ is. absurd (other 4 (λ e. omega arith) (λ e. omega arith) is);
         no_command = λ none. absurd (not_both c job command none);
         not_whole = λ j some cut. absurd (cut (subst (λ j. HasText j c) (job_same c job j command some) whole));
-        no_program = λ h. absurd (h x.program x.compiled.has);
+        not_accepted = λ j some h. absurd (h (subst (λ (k : Job). IsAcceptedIn k.mode c.text) (job_same c job j command some) accepted));
         checked = λ j some check. absurd (check_or_code job.mode (subst (λ k. k.mode ≡ Check) (job_same c j job some command) check) mode);
         uncoded = λ _ _ _ gone. absurd (none_some (program_code x.program) (sym gone ∙ x.wrote.there));
         failed = λ _ told. alone (λ j q. GrewByFront c.out c.out_after (output j q c.history (wanted j c.watchers))) (subst (λ t. GrewByFront c.out c.out_after t) (sym text_is) (x.wrote.part told));
         no_memory = λ is. absurd (other 6 (λ e. omega arith) (λ e. omega arith) is);
       };
-      alignment = record { done = λ _. aligned; faulted = λ _. aligned; wrong = λ _. aligned };
+      alignment = λ _. record { done = λ _. aligned; faulted = λ _. aligned; wrong = λ _. aligned };
       determinacy = record { followed = λ run. absurd (run_or_code job.mode run mode); told = no_races c x.no_entry };
       end = record {
         ended = λ _ run. absurd (run_or_code job.mode run mode);
@@ -667,6 +701,7 @@ clauses_coded before job c command mode either from whole x =
         unfinished = λ is. absurd (other 6 (λ e. omega arith) (λ e. omega arith) is);
       };
       trace = no_trace job c (λ verifies. subst Verifies mode verifies) (other 7 (λ e. omega arith) (λ e. omega arith));
+      inference = no_inference job c marked;
       completeness = λ nothing. record {
         whole = whole;
         refused = λ refusal is. absurd (unrefused refusal is);
@@ -697,14 +732,15 @@ clauses_coded before job c command mode either from whole x =
 
     -- what holds of this job and this program holds of each that the call has
     alone : (P : Job → NumberedProgram → Type 0) → P job x.program → WhereAccepted c P
-    alone P it j some p has = subst (λ k. P k p) (job_same c job j command some) (subst (P job) (sym (x.compiled.only p has)) it)
+    alone P it j some _ p has = subst (λ k. P k p) (job_same c job j command some) (subst (P job) (sym (x.compiled.only p has)) it)
 
 -- a trace was held against the program of the text, and there is a verdict
 clauses_verified : (before : Ending) (job : Job) (c : Call) → job.mode ≡ Verify → IsCommand c job → StatusFrom before c → HasText job c → Verdict before job c
     → c.out_after ≡ c.out → c.code ≡ None → c.done ≡ [] → Clauses job c
 clauses_verified before job c mode command from whole x unwritten gone uncounted =
-    let unrefused = x.compiled.unrefused in
-    let accepted : IsAccepted c.text = (x.program, x.compiled.has) in
+    let marked : Infers job.mode → ⊥ = λ infers. subst Infers mode infers in
+    let unrefused : (refusal : Refusal) → IsRefusalIn job.mode c.text refusal → ⊥ = λ refusal is. x.compiled.unrefused refusal (refusal_here job.mode c.text refusal marked is) in
+    let accepted : IsAcceptedIn job.mode c.text = accepted_in job.mode c.text marked (x.program, x.compiled.has) in
     let aligned : (p : NumberedProgram) → HasProgram c.text p → IsAligned p = λ p has. subst IsAligned (sym (x.compiled.only p has)) x.compiled.aligned in
     let same : c.out_after.taken ≡ c.out.taken = ap (λ s. s.taken) unwritten in
     let verifies : Verifies job.mode = subst Verifies (sym mode) tt in
@@ -729,20 +765,20 @@ clauses_verified before job c mode command from whole x unwritten gone uncounted
       code = no_code job c gone (λ _ has _ _. subst HasCode mode has) (λ is. absurd (other 2 (λ e. omega arith) (λ e. omega arith) (λ e. omega arith) is));
       count = no_count job c uncounted (λ _ runs _ _. unrun runs) (λ is. absurd (other 2 (λ e. omega arith) (λ e. omega arith) (λ e. omega arith) is));
       output = record {
-        done = λ _ _ j some program _. nothing_of j some program same;
+        done = λ _ _ j some _ program _. nothing_of j some program same;
         faulted = λ is. absurd (other 2 (λ e. omega arith) (λ e. omega arith) (λ e. omega arith) is);
         nothing_at_one = λ _. same;
         nothing_at_three = λ _. same;
         nothing_at_four = λ _. same;
         no_command = λ _. same;
         not_whole = λ _ _ _. same;
-        no_program = λ _. same;
+        not_accepted = λ _ _ _. same;
         checked = λ _ _ _. same;
         uncoded = λ _ _ _ _. same;
-        failed = λ _ _ j some program _. ([], (output j program c.history (wanted j c.watchers), refl), same ∙ sym (append-nil c.out.taken));
+        failed = λ _ _ j some _ program _. ([], (output j program c.history (wanted j c.watchers), refl), same ∙ sym (append-nil c.out.taken));
         no_memory = λ is. absurd (other 6 (λ e. omega arith) (λ e. omega arith) (λ e. omega arith) is);
       };
-      alignment = record { done = λ _. aligned; faulted = λ _. aligned; wrong = λ _. aligned };
+      alignment = λ _. record { done = λ _. aligned; faulted = λ _. aligned; wrong = λ _. aligned };
       determinacy = record { followed = λ runs. absurd (unrun runs); told = x.listed };
       end = record {
         ended = λ _ runs. absurd (unrun runs);
@@ -757,6 +793,7 @@ clauses_verified before job c mode command from whole x unwritten gone uncounted
         unjudged = λ _ not_done not_wrong. inr (cut not_done not_wrong);
         unwritten = λ _. same;
       };
+      inference = no_inference job c marked;
       completeness = λ nothing. record {
         whole = whole;
         refused = λ refusal is. absurd (unrefused refusal is);
@@ -790,6 +827,89 @@ clauses_verified before job c mode command from whole x unwritten gone uncounted
       | inl is ↦ absurd (by_end (λ e. not_done (is ∙ ap status_of e)) (λ k. not_wrong (is ∙ ap status_of k.1)))
       | inr five ↦ by_end (λ e. absurd (five.2 e)) (λ k. (five.0, five.1, (k.0, x.wrong k.0 k.1)))
     ]
+
+-- the marks of the text were inferred and written
+clauses_inferred : (before : Ending) (job : Job) (c : Call) → IsCommand c job → job.mode ≡ Infer → (before ≡ Done) ⊎ (before ≡ CantWrite) → StatusFrom before c → HasText job c
+    → WasInferred c.text c.out c.out_after (kept_in c) before → Clauses job c
+clauses_inferred before job c command mode either from whole x =
+    let infers : Infers job.mode = subst Infers (sym mode) tt in
+    let unrefused : (refusal : Refusal) → IsRefusalIn job.mode c.text refusal → ⊥ =
+    λ refusal is. x.inferred.unrefused refusal (subst (λ (m : Mode). IsRefusalIn m c.text refusal) mode is) in
+    let accepted : IsAcceptedIn job.mode c.text = subst (λ (m : Mode). IsAcceptedIn m c.text) (sym mode) (x.marks, x.inferred.has) in
+    record {
+      refusal = record {
+        only_where = λ is. absurd (other 1 (λ e. omega arith) (λ e. omega arith) is);
+        everywhere = λ refusal refused. absurd (unrefused refusal refused.refused);
+        no_code = λ _ _. x.no_code;
+        no_history = λ _ _. x.no_entry;
+        no_count = λ _ _. x.no_count;
+        no_output = λ refusal refused. absurd (unrefused refusal refused);
+        accepted_at_zero = λ _. accepted;
+        accepted_at_two = λ _. accepted;
+        accepted_at_seven = λ _. accepted;
+      };
+      run = run_nothing job c x.no_entry;
+      code = no_code job c x.no_code (λ _ has _ _. subst HasCode mode has) (λ is. absurd (other 2 (λ e. omega arith) (λ e. omega arith) is));
+      count = no_count job c x.no_count (λ _ runs _ _. unrun runs) (λ is. absurd (other 2 (λ e. omega arith) (λ e. omega arith) is));
+      output = record {
+        done = λ _ _ j some marked. absurd (marked (infers_too j some));
+        faulted = λ _ _ j some marked. absurd (marked (infers_too j some));
+        nothing_at_one = λ is. absurd (other 1 (λ e. omega arith) (λ e. omega arith) is);
+        nothing_at_three = λ is. absurd (other 3 (λ e. omega arith) (λ e. omega arith) is);
+        nothing_at_four = λ is. absurd (other 4 (λ e. omega arith) (λ e. omega arith) is);
+        no_command = λ none. absurd (not_both c job command none);
+        not_whole = λ j some cut. absurd (cut (subst (λ j. HasText j c) (job_same c job j command some) whole));
+        not_accepted = λ j some h. absurd (h (subst (λ (k : Job). IsAcceptedIn k.mode c.text) (job_same c job j command some) accepted));
+        checked = λ j some check. absurd (subst Infers (check_is j some check) infers);
+        uncoded = λ j some code _. absurd (subst Infers (code_is j some code) infers);
+        failed = λ _ _ j some marked. absurd (marked (infers_too j some));
+        no_memory = λ is. absurd (other 6 (λ e. omega arith) (λ e. omega arith) is);
+      };
+      alignment = λ marked. absurd (marked infers);
+      determinacy = record { followed = λ runs. absurd (unrun runs); told = no_races c x.no_entry };
+      end = record {
+        ended = λ _ runs. absurd (unrun runs);
+        fault_only_where = λ is. absurd (other 2 (λ e. omega arith) (λ e. omega arith) is);
+        fault_everywhere = λ _ fault e. absurd (no_fault_of_nothing c fault x.no_entry e);
+        unfinished = λ is. absurd (other 6 (λ e. omega arith) (λ e. omega arith) is);
+      };
+      trace = no_trace job c (λ verifies. subst Verifies mode verifies) (other 7 (λ e. omega arith) (λ e. omega arith));
+      inference = record {
+        done = λ is _. (x.marks, x.inferred.has, x.wrote.all (done_at before c from is));
+        failed = λ _ _ told marks has. subst (λ (m : List Mark). GrewByFront c.out c.out_after (marks_text m)) (sym (x.inferred.only marks has)) (x.wrote.part told);
+        unwritten = λ _ not_done not_cut. absurd (by_end
+            (λ e. elim from [ inl is ↦ not_done (is ∙ ap status_of e) | inr cut ↦ not_cut cut.0 ])
+            (λ e. elim from [ inl is ↦ not_cut (is ∙ ap status_of e) | inr cut ↦ not_cut cut.0 ]));
+      };
+      completeness = λ nothing. record {
+        whole = whole;
+        refused = λ refusal is. absurd (unrefused refusal is);
+        accepted = λ _. inl (by_end (λ e. calm before c from nothing.err ∙ ap status_of e) (λ e. absurd (nothing.out (x.wrote.rose e))));
+        program = λ _. accepted;
+        ended = λ runs. absurd (unrun runs);
+        verified = λ verifies. absurd (subst Verifies mode verifies);
+      };
+    }
+  where
+    unrun : Runs job.mode → ⊥
+    unrun runs = subst Runs mode runs
+
+    by_end : {P : Type 0} → (before ≡ Done → P) → (before ≡ CantWrite → P) → P
+    by_end f g = elim either [ inl e ↦ f e | inr e ↦ g e ]
+
+    -- a status that none of the two endings has
+    other : (n : ℕ) → (0 ≡ n → ⊥) → (5 ≡ n → ⊥) → c.status ≡ n → ⊥
+    other n a b is = never before c n from (λ s. by_end (λ k. a (sym (ap status_of k) ∙ s)) (λ k. b (sym (ap status_of k) ∙ s))) b is
+
+    -- each job of the call infers
+    infers_too : (j : Job) → IsCommand c j → Infers j.mode
+    infers_too j some = subst (λ (k : Job). Infers k.mode) (job_same c job j command some) (subst Infers (sym mode) tt)
+
+    check_is : (j : Job) → IsCommand c j → j.mode ≡ Check → job.mode ≡ Check
+    check_is j some check = subst (λ (k : Job). k.mode ≡ Check) (job_same c j job some command) check
+
+    code_is : (j : Job) → IsCommand c j → j.mode ≡ Code → job.mode ≡ Code
+    code_is j some code = subst (λ (k : Job). k.mode ≡ Code) (job_same c j job some command) code
 
 -- ---- a call whose words are a command
 
@@ -829,12 +949,23 @@ ends_check CantWrite c says = absurd says
 ends_check NoMemory c says = (λ e. let x = e in cc, λ e. let x = e in cc)
 ends_check (NoRun line) c says = absurd says
 
+ends_infer : (before : Ending) (c : Call) → InferTextSays before c.text c.out c.out_after (kept_in c) → EndsAs Read.Whole before
+ends_infer Done c says = (λ e. let x = e in cc, λ e. let x = e in cc)
+ends_infer (Refused refusal) c says = (λ e. let x = e in cc, λ e. let x = e in cc)
+ends_infer (Faulted fault) c says = absurd says
+ends_infer NoCommand c says = absurd says
+ends_infer CantRead c says = absurd says
+ends_infer CantWrite c says = (λ e. let x = e in cc, λ e. let x = e in cc)
+ends_infer NoMemory c says = (λ e. let x = e in cc, λ e. let x = e in cc)
+ends_infer (NoRun line) c says = absurd says
+
 ends_text : (mode : Mode) (before : Ending) (job : Job) (c : Call) → TextSays mode before job (wanted job c.watchers) c.text c.out c.out_after (kept_in c) → EndsAs Read.Whole before
 ends_text Run before job c says = ends_run before job c says
 ends_text Gen before job c says = ends_run before job c says
 ends_text Code before job c says = ends_code before c says
 ends_text Check before job c says = ends_check before c says
 ends_text Verify before job c says = ends_check before c says
+ends_text Infer before job c says = ends_infer before c says
 
 ends_as : (end : ReadEnd) (before : Ending) (job : Job) (c : Call) → FileSays end before job (work_of job c) → EndsAs end before
 ends_as Read.Whole before job c says = ends_text job.mode before job c says
@@ -857,8 +988,14 @@ record ToldOf (before : Ending) (job : Job) (c : Call) : Type 0 where
 each_has : (job : Job) (c : Call) → IsCommand c job → 1 ≤ job.procs → (other : Job) → IsCommand c other → 1 ≤ other.procs
 each_has job c command some other is = subst (λ (j : Job). 1 ≤ j.procs) (job_same c job other command is) some
 
-told_refused : (refusal : Refusal) (job : Job) (c : Call) → IsCommand c job → StatusFrom (Refused refusal) c → HasText job c → WasRefused c.text c.out c.out_after (kept_in c) refusal → ToldOf (Refused refusal) job c
-told_refused refusal job c command from whole refused = record { clauses = clauses_refused refusal job c from whole refused; says = (job, command, record { whole = whole; refused = refused.is }) }
+told_refused : (refusal : Refusal) (job : Job) (c : Call) → (Infers job.mode → ⊥) → IsCommand c job → 1 ≤ job.procs → StatusFrom (Refused refusal) c → HasText job c
+    → WasRefused c.text c.out c.out_after (kept_in c) refusal → ToldOf (Refused refusal) job c
+told_refused refusal job c marked command some from whole refused =
+    let is = refusal_in job.mode c.text refusal marked refused.is in
+    record {
+      clauses = clauses_refused refusal job c some from whole is (λ _. refused.no_program) refused.nothing;
+      says = (job, command, record { whole = whole; refused = is });
+    }
 
 told_unrun : (job : Job) (c : Call) → IsCommand c job → 1 ≤ job.procs → RanNothing c.out c.out_after (kept_in c) → StatusFrom NoMemory c → ToldOf NoMemory job c
 told_unrun job c command some nothing from = record { clauses = clauses_no_memory job c command (each_has job c command some) from nothing; says = tt }
@@ -867,8 +1004,8 @@ told_unrun job c command some nothing from = record { clauses = clauses_no_memor
 told_run : (before : Ending) (job : Job) (c : Call) → Runs job.mode → IsCommand c job → 1 ≤ job.procs → HasText job c
     → RunTextSays before job (wanted job c.watchers) c.text c.out c.out_after (kept_in c) → StatusFrom before c → ToldOf before job c
 told_run Done job c runs command some whole says from =
-    record { clauses = clauses_ran Done job c runs command from whole says; says = (job, command, (says.program, says.compiled.has)) }
-told_run (Refused refusal) job c runs command some whole says from = told_refused refusal job c command from whole says
+    record { clauses = clauses_ran Done job c runs command from whole says; says = (job, command, accepted_in job.mode c.text (runs_marked job.mode runs) (says.program, says.compiled.has)) }
+told_run (Refused refusal) job c runs command some whole says from = told_refused refusal job c (runs_marked job.mode runs) command some from whole says
 told_run (Faulted fault) job c runs command some whole says from = record { clauses = clauses_ran (Faulted fault) job c runs command from whole says; says = (job, command, says.says.faulted fault refl) }
 told_run NoCommand job c runs command some whole says from = absurd says
 told_run CantRead job c runs command some whole says from = absurd says
@@ -882,8 +1019,8 @@ told_text : (mode : Mode) (before : Ending) (job : Job) (c : Call) → (Verifies
 told_text Run before job c unverified mode command some whole says from = told_run before job c (subst Runs (sym mode) tt) command some whole says from
 told_text Gen before job c unverified mode command some whole says from = told_run before job c (subst Runs (sym mode) tt) command some whole says from
 told_text Check Done job c unverified mode command some whole says from =
-    record { clauses = clauses_checked job c command mode from whole says; says = (job, command, (says.program, says.compiled.has)) }
-told_text Check (Refused refusal) job c unverified mode command some whole says from = told_refused refusal job c command from whole says
+    record { clauses = clauses_checked job c command mode from whole says; says = (job, command, accepted_in job.mode c.text (λ infers. subst Infers mode infers) (says.program, says.compiled.has)) }
+told_text Check (Refused refusal) job c unverified mode command some whole says from = told_refused refusal job c (λ infers. subst Infers mode infers) command some from whole says
 told_text Check (Faulted fault) job c unverified mode command some whole says from = absurd says
 told_text Check NoCommand job c unverified mode command some whole says from = absurd says
 told_text Check CantRead job c unverified mode command some whole says from = absurd says
@@ -891,8 +1028,8 @@ told_text Check CantWrite job c unverified mode command some whole says from = a
 told_text Check NoMemory job c unverified mode command some whole says from = told_unrun job c command some says from
 told_text Check (NoRun line) job c unverified mode command some whole says from = absurd says
 told_text Code Done job c unverified mode command some whole says from =
-    record { clauses = clauses_coded Done job c command mode (inl refl) from whole says; says = (job, command, (says.program, says.compiled.has)) }
-told_text Code (Refused refusal) job c unverified mode command some whole says from = told_refused refusal job c command from whole says
+    record { clauses = clauses_coded Done job c command mode (inl refl) from whole says; says = (job, command, accepted_in job.mode c.text (λ infers. subst Infers mode infers) (says.program, says.compiled.has)) }
+told_text Code (Refused refusal) job c unverified mode command some whole says from = told_refused refusal job c (λ infers. subst Infers mode infers) command some from whole says
 told_text Code (Faulted fault) job c unverified mode command some whole says from = absurd says
 told_text Code NoCommand job c unverified mode command some whole says from = absurd says
 told_text Code CantRead job c unverified mode command some whole says from = absurd says
@@ -901,6 +1038,24 @@ told_text Code CantWrite job c unverified mode command some whole says from =
 told_text Code NoMemory job c unverified mode command some whole says from = told_unrun job c command some says from
 told_text Code (NoRun line) job c unverified mode command some whole says from = absurd says
 told_text Verify before job c unverified mode command some whole says from = absurd (unverified tt)
+told_text Infer Done job c unverified mode command some whole says from =
+    record {
+      clauses = clauses_inferred Done job c command mode (inl refl) from whole says;
+      says = (job, command, subst (λ (m : Mode). IsAcceptedIn m c.text) (sym mode) (says.marks, says.inferred.has));
+    }
+told_text Infer (Refused refusal) job c unverified mode command some whole says from =
+    let is : IsRefusalIn job.mode c.text refusal = subst (λ (m : Mode). IsRefusalIn m c.text refusal) (sym mode) says.is in
+    record {
+      clauses = clauses_refused refusal job c some from whole is (λ marked. absurd (marked (subst Infers (sym mode) tt))) says.nothing;
+      says = (job, command, record { whole = whole; refused = is });
+    }
+told_text Infer (Faulted fault) job c unverified mode command some whole says from = absurd says
+told_text Infer NoCommand job c unverified mode command some whole says from = absurd says
+told_text Infer CantRead job c unverified mode command some whole says from = absurd says
+told_text Infer CantWrite job c unverified mode command some whole says from =
+    record { clauses = clauses_inferred CantWrite job c command mode (inr refl) from whole says; says = (job, command, says.wrote.rose refl) }
+told_text Infer NoMemory job c unverified mode command some whole says from = told_unrun job c command some says from
+told_text Infer (NoRun line) job c unverified mode command some whole says from = absurd says
 
 told_file : (before : Ending) (end : ReadEnd) (job : Job) (c : Call) → HasFile job.mode → (Verifies job.mode → ⊥) → IsCommand c job → 1 ≤ job.procs → ReadsWhole job.file c.source c.source_after c.text end → FileSays end before job (work_of job c) → StatusFrom before c → ToldOf before job c
 told_file before Read.Whole job c named unverified command some read says from =
@@ -919,6 +1074,7 @@ gets_read Check job c named reads = reads
 gets_read Code job c named reads = reads
 gets_read Gen job c named reads = absurd named
 gets_read Verify job c named reads = reads
+gets_read Infer job c named reads = reads
 
 told_read : (before : Ending) (job : Job) (c : Call) → HasFile job.mode → (Verifies job.mode → ⊥) → IsCommand c job → 1 ≤ job.procs → FileDone job before (work_of job c) → StatusFrom before c → Told before job c
 told_read before job c named unverified command some work from =
@@ -943,7 +1099,7 @@ told_held : (before : Ending) (job : Job) (c : Call) (mid : SourceState) → job
     → ReadsWhole job.file c.source mid c.text Read.Whole → WasRead mid c.source_after → HeldSays before job c.text mid c.source_after c.history → StatusFrom before c → ToldOf before job c
 told_held Done job c mid mode command some work read later says from =
     let k = verdict_run job c mid (record { never_falls = read.never_falls; same = read.same }) says in
-    record { clauses = clauses_verified Done job c mode command from (whole_text Done job c mid mode read from (λ e. let x = e in cc) (λ e. let x = e in cc)) k work.unwritten work.no_code work.no_count; says = (job, command, (k.program, k.compiled.has)) }
+    record { clauses = clauses_verified Done job c mode command from (whole_text Done job c mid mode read from (λ e. let x = e in cc) (λ e. let x = e in cc)) k work.unwritten work.no_code work.no_count; says = (job, command, accepted_in job.mode c.text (λ infers. subst Infers mode infers) (k.program, k.compiled.has)) }
 told_held (NoRun line) job c mid mode command some work read later says from =
     let k = verdict_wrong line job c mid (record { never_falls = read.never_falls; same = read.same }) says in
     record { clauses = clauses_verified (NoRun line) job c mode command from (whole_text (NoRun line) job c mid mode read from (λ e. let x = e in cc) (λ e. let x = e in cc)) k work.unwritten work.no_code work.no_count; says = (job, command, k.wrong line refl) }
@@ -954,7 +1110,7 @@ told_held CantRead job c mid mode command some work read later says from =
 told_held NoMemory job c mid mode command some work read later says from =
     told_unrun job c command some (record { unwritten = work.unwritten; no_entry = says; no_code = work.no_code; no_count = work.no_count }) from
 told_held (Refused refusal) job c mid mode command some work read later says from =
-    told_refused refusal job c command from (whole_text (Refused refusal) job c mid mode read from (λ e. let x = e in cc) (λ e. let x = e in cc))
+    told_refused refusal job c (λ infers. subst Infers mode infers) command some from (whole_text (Refused refusal) job c mid mode read from (λ e. let x = e in cc) (λ e. let x = e in cc))
     (record { is = says.0; no_program = says.1; nothing = record { unwritten = work.unwritten; no_entry = says.2; no_code = work.no_code; no_count = work.no_count } })
 told_held (Faulted fault) job c mid mode command some work read later says from = absurd says
 told_held NoCommand job c mid mode command some work read later says from = absurd says
@@ -1010,6 +1166,7 @@ told_in Check before job c mode command some work from = told_read before job c 
 told_in Code before job c mode command some work from = told_read before job c (subst HasFile (sym mode) tt) (λ verifies. subst Verifies mode verifies) command some work from
 told_in Gen before job c mode command some work from = told_made before job c mode command some work from
 told_in Verify before job c mode command some work from = told_traced before job c mode command some work from
+told_in Infer before job c mode command some work from = told_read before job c (subst HasFile (sym mode) tt) (λ verifies. subst Verifies mode verifies) command some work from
 
 told : (before : Ending) (job : Job) (c : Call) → Commanded before job c → StatusFrom before c → Told before job c
 told before job c x from = told_in job.mode before job c refl x.command x.some x.work from
@@ -1027,10 +1184,11 @@ beside_command before job c x leaves from =
       count = λ other some. subst (λ j. CountsInstructions j c) (job_same c job other x.command some) k.count;
       output = k.output;
       flushes = flushes_out c before from leaves;
-      alignment = k.alignment;
+      alignment = λ other some. subst (λ (j : Job). (Infers j.mode → ⊥) → IsAlignedRun c) (job_same c job other x.command some) k.alignment;
       determinacy = λ other some. subst (λ j. IsDeterminate j c) (job_same c job other x.command some) k.determinacy;
       end = λ other some. subst (λ j. EndsRun j c) (job_same c job other x.command some) k.end;
       trace = λ other some. subst (λ j. VerifiesTrace j c) (job_same c job other x.command some) k.trace;
+      inference = λ other some. subst (λ j. InfersMarks j c) (job_same c job other x.command some) k.inference;
     }
 
 -- what was done, and how the line on err was written, meet the clauses
@@ -1074,6 +1232,7 @@ gets_nothing Check job c x from = reads_nothing job c x from
 gets_nothing Code job c x from = reads_nothing job c x from
 gets_nothing Gen job c x from = makes_nothing job c x from
 gets_nothing Verify job c x from = reads_nothing job c x from
+gets_nothing Infer job c x from = reads_nothing job c x from
 
 -- it answers as one whose words are a command, and as one whose words are none
 beside_unread : (c : Call) → ((job : Job) → IsCommand c job → 1 ≤ job.procs) → DidNothing c → StatusFrom NoMemory c → MeetsBesideErr c
@@ -1095,7 +1254,7 @@ beside_unread c some x from = record {
   count = λ job command. (clauses_no_memory job c command some from x.nothing).count;
   output = output_nothing c (λ is. absurd (never NoMemory c 0 from (λ e. omega arith) (λ e. omega arith) is)) (λ is. absurd (never NoMemory c 2 from (λ e. omega arith) (λ e. omega arith) is)) (λ _ other is _ program _. unbegun (run_of program other) (some other is)) x.nothing;
   flushes = flushes_out c NoMemory from (inr (inl x.nothing.unwritten));
-  alignment = record {
+  alignment = λ _ _ _. record {
     done = λ is. absurd (never NoMemory c 0 from (λ e. omega arith) (λ e. omega arith) is);
     faulted = λ is. absurd (never NoMemory c 2 from (λ e. omega arith) (λ e. omega arith) is);
     wrong = λ is. absurd (never NoMemory c 7 from (λ e. omega arith) (λ e. omega arith) is);
@@ -1103,6 +1262,7 @@ beside_unread c some x from = record {
   determinacy = λ job command. (clauses_no_memory job c command some from x.nothing).determinacy;
   end = λ job command. (clauses_no_memory job c command some from x.nothing).end;
   trace = λ job command. (clauses_no_memory job c command some from x.nothing).trace;
+  inference = λ job command. (clauses_no_memory job c command some from x.nothing).inference;
 }
 
 -- the line of want of memory names no file

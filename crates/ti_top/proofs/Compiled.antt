@@ -8,14 +8,13 @@ use Rattle.ti_syntax.specs.declared.tree.text.Tree.{Tree}
 use Rattle.ti_lang.specs.declared.program.numbered.Program.{Program}
 use Rattle.ti_lang.specs.Program.Classes.{NumberedProgram}
 use Rattle.ti_lang.specs.Program.Views.{program_of}
-use Rattle.ti_lang.specs.Numbering.{Numbers}
 use Rattle.ti_align.specs.Alignment.{IsAligned}
 use Rattle.ti_syntax.specs.Trees.Text.{tree_of}
 use Rattle.ti_rules.specs.declared.checked.Checked.{Checked}
 use Rattle.ti_rules.specs.declared.rule.Rule.{Rule}
 use Rattle.ti_rules.specs.declared.refusal.Refusal.{Refusal}
-use Rattle.ti_rules.specs.BrokenNames.{BreaksNames}
-use Rattle.ti_rules.specs.RefusalOf.{HasNone, of_names as of_names_first, of_program, HasTokens, HasTree, rule_of_misfit, IsRefusal, of_bytes, of_tokens, of_tree, HasProgram}
+use Rattle.ti_rules.proofs.OneAnswer.{OneReading}
+use Rattle.ti_rules.specs.RefusalOf.{of_names as of_names_first, of_program, HasTokens, HasTree, rule_of_misfit, IsRefusal, of_bytes, of_tokens, of_tree, HasProgram}
 use Rattle.ti_lex.specs.declared.error.LexErr.{LexErr}
 use Rattle.ti_lex.specs.declared.error.LexErr.TheVariants as lexer
 use Rattle.ti_lex.specs.Answer.{Lexes}
@@ -28,20 +27,16 @@ use Rattle.ti_names.specs.Answer.{Resolves}
 use Rattle.ti_check.specs.Answer.{GivesChecked}
 use Rattle.ti_check.specs.declared.error.CheckErr.{CheckErr}
 use Rattle.ti_check.specs.declared.error.CheckErr.TheVariants as checker
-use Rattle.ti_top.specs.declared.compiling.CompileErr.TheVariants.{Refused}
-use Rattle.ti_top.specs.Mirrors.Compiling.{HasNoProgram, Compiles, of_lexer, of_parser, of_names, of_check}
+use Rattle.ti_top.specs.declared.compiling.CompileErr.{CompileErr}
+use Rattle.ti_top.specs.declared.compiling.CompileErr.TheVariants.{Refused, Memory}
+use Rattle.ti_top.specs.Inference.{of_names as of_unmarked_names, of_text, of_tree as of_unmarked_tree}
+use Rattle.ti_top.specs.Mirrors.Compiling.{IsRead, ReadsProgram, Compiles, of_lexer, of_parser, of_names, of_check}
+use Rattle.ti_top.proofs.OneMarking.{no_tree_of_bytes, no_tree_of_tokens}
 
 -- that a text has one answer
 pub record OneAnswer : Type 0 where
   pub one_program : (text : List ℕ) (p q : NumberedProgram) → HasProgram text p → HasProgram text q → p ≡ q
   pub never_both : (text : List ℕ) (program : NumberedProgram) (refusal : Refusal) → HasProgram text program → IsRefusal text refusal → ⊥
-
--- a refused text has no program
-no_program : OneAnswer → (text : List ℕ) (refusal : Refusal) → IsRefusal text refusal → HasNoProgram text
-no_program known text refusal is = λ program has. known.never_both text program refusal has is
-
-refused : OneAnswer → (text : List ℕ) (refusal : Refusal) → IsRefusal text refusal → Compiles text (Err (Refused refusal))
-refused known text refusal is = (is, no_program known text refusal is)
 
 has_tokens : (text : List ℕ) (tokens : Vec Token Global) → Lexes text (Ok tokens) → HasTokens text tokens.items
 has_tokens text tokens lexed = record { short = lexed.0; tokenized = lexed.1 }
@@ -49,35 +44,50 @@ has_tokens text tokens lexed = record { short = lexed.0; tokenized = lexed.1 }
 pub has_tree : (text : List ℕ) (tokens : Vec Token Global) (tree : Tree) → Lexes text (Ok tokens) → Parsed tokens.items (Ok tree) → HasTree text (tree_of tree)
 has_tree text tokens tree lexed parsed = record { tokens = tokens.items; has_tokens = has_tokens text tokens lexed; spells = parsed.0; shallow = parsed.1 }
 
+-- ---- a text without a program by the rules of bytes, tokens and names
+
 -- the text has no tokens
-pub not_lexed : OneAnswer → (text : List ℕ) (e : LexErr) → Lexes text (Err e) → Compiles text (Err (of_lexer e))
-not_lexed known text (lexer.Refused refusal) lexed = refused known text refusal (of_bytes lexed)
+pub not_lexed : OneReading → (text : List ℕ) (e : LexErr) → Lexes text (Err e) → ReadsProgram text (Err (of_lexer e))
+not_lexed known text (lexer.Refused refusal) lexed = (of_bytes lexed, of_text (no_tree_of_bytes known text refusal lexed) (of_bytes lexed))
 not_lexed known text lexer.Memory lexed = tt
 
 -- its tokens have no tree
-pub not_parsed : OneAnswer → (text : List ℕ) (tokens : Vec Token Global) (e : ParseErr) → Lexes text (Ok tokens) → Parsed tokens.items (Err e) → Compiles text (Err (of_parser e))
+pub not_parsed : OneReading → (text : List ℕ) (tokens : Vec Token Global) (e : ParseErr) → Lexes text (Ok tokens) → Parsed tokens.items (Err e)
+    → ReadsProgram text (Err (of_parser e))
 not_parsed known text tokens (parser.Refused refusal) lexed (misfit, rule, is) =
     let same : rule_of_misfit misfit ≡ refusal.rule = sym rule in
-    refused known text refusal (subst (IsRefusal text) (ap (λ r. refusal_at r refusal.place) same) (of_tokens (has_tokens text tokens lexed) is))
+    let has = has_tokens text tokens lexed in
+    let refused : IsRefusal text refusal = subst (IsRefusal text) (ap (λ r. refusal_at r refusal.place) same) (of_tokens has is) in
+    (refused, of_text (no_tree_of_tokens known text tokens.items (misfit, refusal.place) has is) refused)
   where
     refusal_at : Rule → Place → Refusal
     refusal_at rule place = record { rule = rule; place = place }
 not_parsed known text tokens parser.Memory lexed parsed = tt
 
 -- its tree breaks a rule of names
-pub not_named : OneAnswer → (text : List ℕ) (tree : Tree) (e : NameErr) → HasTree text (tree_of tree) → Resolves (tree_of tree) (Err e) → Compiles text (Err (of_names e))
-not_named known text tree (names.Refused refusal) has first = refused known text refusal (of_tree has (of_names_first first))
-not_named known text tree names.Memory has first = tt
+pub not_named : (text : List ℕ) (tree : Tree) (e : NameErr) → HasTree text (tree_of tree) → Resolves (tree_of tree) (Err e) → ReadsProgram text (Err (of_names e))
+not_named text tree (names.Refused refusal) has first = (of_tree has (of_names_first first), of_unmarked_tree has (of_unmarked_names first))
+not_named text tree names.Memory has first = tt
+
+-- ---- what the compiler answers of a text
+
+-- it has no program by those rules
+pub not_read : OneAnswer → (text : List ℕ) (e : CompileErr) → ReadsProgram text (Err e) → Compiles text (Err e)
+not_read known text (Refused refusal) is = (is.0, λ program has. known.never_both text program refusal has is.0)
+not_read known text Memory is = tt
 
 -- its program breaks a rule
-pub not_checked : OneAnswer → (text : List ℕ) (tree : Tree) (p : Program) (e : CheckErr) → HasTree text (tree_of tree) → HasNone (BreaksNames (tree_of tree)) → Numbers (tree_of tree) (program_of p.parts) → GivesChecked p (Err e) → Compiles text (Err (of_check e))
-not_checked known text tree p (checker.Refused refusal) has named numbers is = refused known text refusal (of_tree has (of_program named numbers is))
-not_checked known text tree p checker.Memory has named numbers is = tt
+pub not_checked : OneAnswer → (text : List ℕ) (p : Program) (e : CheckErr) → IsRead text (program_of p.parts) → GivesChecked p (Err e) → Compiles text (Err (of_check e))
+not_checked known text p (checker.Refused refusal) read is =
+    let refused : IsRefusal text refusal = of_tree read.has_tree (of_program read.named read.numbers is) in
+    (refused, λ program has. known.never_both text program refusal has refused)
+not_checked known text p checker.Memory read is = tt
 
 -- it breaks none
-pub has_program : (text : List ℕ) (tree : Tree) (p : Program) (c : Checked) → HasTree text (tree_of tree) → HasNone (BreaksNames (tree_of tree)) → Numbers (tree_of tree) (program_of p.parts) → GivesChecked p (Ok c) → HasProgram text (program_of c.program.parts)
-has_program text tree p c has named numbers checks =
-    subst (λ (q : Program). HasProgram text (program_of q.parts)) (sym checks.0) (record { tree = tree_of tree; has_tree = has; named = named; numbers = numbers; unbroken = checks.1 })
+pub has_program : (text : List ℕ) (p : Program) (c : Checked) → IsRead text (program_of p.parts) → GivesChecked p (Ok c) → HasProgram text (program_of c.program.parts)
+has_program text p c read checks =
+    subst (λ (q : Program). HasProgram text (program_of q.parts)) (sym checks.0)
+    (record { tree = read.tree; has_tree = read.has_tree; named = read.named; numbers = read.numbers; unbroken = checks.1 })
 
 pub compiled : OneAnswer → (text : List ℕ) (c : Checked) → HasProgram text (program_of c.program.parts) → IsAligned (program_of c.program.parts) → Compiles text (Ok c)
 compiled known text c has aligned = record {

@@ -14,16 +14,22 @@ use Rattle.ti_rules.specs.RefusalOf.{HasProgram, IsRefusal}
 use Rattle.ti_runtime.specs.Ran.{IsDone}
 use Rattle.ti_words.specs.declared.job.Job.{Job}
 use Rattle.ti_words.specs.declared.job.Mode.{Mode}
-use Rattle.ti_words.specs.declared.job.Mode.TheVariants.{Run, Check, Code, Gen, Verify}
+use Rattle.ti_words.specs.declared.job.Mode.TheVariants.{Run, Check, Code, Gen, Verify, Infer}
 use Rattle.ti_words.specs.Job.{job_of}
 use Rattle.ti_top.specs.declared.fault.Fault.{Fault}
-use Rattle.ti_top.specs.Run.{HasFile, Runs, HasCode, Verifies, HasHistory, run_of, EndsWithFault}
+use Rattle.ti_top.specs.Run.{HasFile, Runs, HasCode, Verifies, Infers, HasHistory, run_of, EndsWithFault}
 use Rattle.ti_top.specs.Reports.{wanted, output}
 use Rattle.ti_top.specs.Call.{most_read, Call, IsCommand, IsNoCommand, SinkRose, Yields, WantsReport}
-use Rattle.ti_top.specs.Clauses.{ReadsText, MakesText, GetsText, WritesAll, NothingFailed, IsComplete, Meets}
+use Rattle.ti_top.specs.Clauses.{IsRefusalIn, ReadsText, MakesText, GetsText, WritesAll, NothingFailed, IsComplete, Meets}
 use Rattle.ti_top.specs.Traces.{LacksTrace, TraceDecides}
 use Rattle.ti_top.specs.Agreement.{IsUndisturbed, AskAlike, IsBySeveral, BothGrew, EndSame, EachSame, EndAlike}
+use Rattle.ti_blame.specs.declared.mark.Mark.{Mark}
+use Rattle.ti_top.specs.Ending.{status_of}
+use Rattle.ti_top.specs.Inference.{HasMarking, IsUnmarkedRefusal, marks_text}
+use Rattle.ti_top.specs.declared.ending.Ending.{Ending}
+use Rattle.ti_top.specs.declared.ending.Ending.TheVariants.{Done, Refused, Faulted, NoCommand, CantRead, CantWrite, NoMemory, NoRun}
 use Rattle.ti_top.proofs.ClausesMet.{runs_has, runs_unverified, was_read}
+use Rattle.ti_top.proofs.InModes.{runs_marked, verifies_marked, refusal_here, refusal_in}
 use Rattle.ti_top.proofs.EachAlike.{each_same, none_faults}
 use Rattle.ti_top.proofs.EmptyText.{no_program}
 use Rattle.ti_top.proofs.FaultLast.{fault_is_there}
@@ -50,6 +56,9 @@ pub record OneAnswer : Type 0 where
   pub some : (text : List ℕ) → ((program : NumberedProgram) × HasProgram text program) ⊎ ((refusal : Refusal) × IsRefusal text refusal)
   pub one_list : (text : List ℕ) (a b : List Token) → IsTokenized text a → IsTokenized text b → a ≡ b
   pub never_both : (text : List ℕ) (program : NumberedProgram) (refusal : Refusal) → HasProgram text program → IsRefusal text refusal → ⊥
+  -- and one greatest marking or refusal, whatever marks it has
+  pub one_marking : (text : List ℕ) (a b : List Mark) → HasMarking text a → HasMarking text b → a ≡ b
+  pub never_marked : (text : List ℕ) (marks : List Mark) (refusal : Refusal) → HasMarking text marks → IsUnmarkedRefusal text refusal → ⊥
 
 -- two calls that end the same, of the same text and with the same code
 all_alike : (c d : Call) → c.text ≡ d.text → c.code ≡ d.code → EndSame c d → EndAlike c d
@@ -100,9 +109,9 @@ of_run job c m x unverified (inr (inr (inr four))) = absurd (unverified four.1.m
 
 -- a text is refused
 refused_alike : (job : Job) (c d : Call) → Meets c → Meets d → IsCommand c job → IsCommand d job → IsComplete job c → IsComplete job d
-    → c.text ≡ d.text → (refusal : Refusal) → IsRefusal c.text refusal → EndAlike c d
+    → c.text ≡ d.text → (refusal : Refusal) → IsRefusalIn job.mode c.text refusal → EndAlike c d
 refused_alike job c d m n x y whole all same refusal is =
-    let is_too : IsRefusal d.text refusal = subst (λ text. IsRefusal text refusal) same is in
+    let is_too : IsRefusalIn job.mode d.text refusal = subst (λ text. IsRefusalIn job.mode text refusal) same is in
     let one : c.status ≡ 1 = whole.refused refusal is in
     let first : d.status ≡ 1 = all.refused refusal is_too in
     all_alike c d same ((m.beside_err.refusal job x).no_code refusal is ∙ sym ((n.beside_err.refusal job y).no_code refusal is_too)) (record {
@@ -113,15 +122,15 @@ refused_alike job c d m n x y whole all same refusal is =
     })
 
 -- what two calls with the same history write of a program
-wrote_alike : (job : Job) (c d : Call) → IsCommand c job → IsCommand d job → WritesAll c → WritesAll d → c.text ≡ d.text → c.history ≡ d.history → c.watchers ≡ d.watchers
+wrote_alike : (job : Job) (c d : Call) → (Infers job.mode → ⊥) → IsCommand c job → IsCommand d job → WritesAll c → WritesAll d → c.text ≡ d.text → c.history ≡ d.history → c.watchers ≡ d.watchers
     → (program : NumberedProgram) → HasProgram c.text program → (text : List ℕ) × BothGrew c d text
-wrote_alike job c d x y wrote written same one watchers program has = (
+wrote_alike job c d marked x y wrote written same one watchers program has = (
   output job program c.history (wanted job c.watchers),
   (
-    wrote job x program has,
+    wrote job x marked program has,
     subst (λ es. GrewBy d.out d.out_after (output job program es (wanted job c.watchers))) (sym one)
         (subst (λ ws. GrewBy d.out d.out_after (output job program d.history (wanted job ws))) (sym watchers)
-        (written job y program (subst (λ text. HasProgram text program) same has))),
+        (written job y marked program (subst (λ text. HasProgram text program) same has))),
   ),
 )
 
@@ -134,9 +143,12 @@ unrun_alike job c d m n x y same a b mode program has = all_alike c d same (code
   history = histories;
   done = (m.beside_err.count job x).unrun unrun ∙ sym ((n.beside_err.count job y).unrun unrun);
   output = λ watchers told heard.
-      wrote_alike job c d x y (m.beside_err.output.done (done c m x a) told) (n.beside_err.output.done (done d n y b) heard) same histories watchers program has;
+      wrote_alike job c d marked x y (m.beside_err.output.done (done c m x a) told) (n.beside_err.output.done (done d n y b) heard) same histories watchers program has;
 })
   where
+    marked : Infers job.mode → ⊥
+    marked infers = elim mode [ inl is ↦ subst Infers is infers | inr is ↦ subst Infers is infers ]
+
     unrun : Runs job.mode → ⊥
     unrun runs = elim mode [ inl is ↦ subst Runs is runs | inr is ↦ subst Runs is runs ]
 
@@ -214,7 +226,7 @@ run_alike known job c d m n u v x y whole all same a b runs program has = record
           status = statuses one a b;
           history = one;
           done = one_count (program_code program) (run_of program job) c.history d.history c.done d.done (λ i. ap (entries_of i) one) (counts c m x a program has) (counts d n y b program has_too);
-          output = λ watchers told heard. wrote_alike job c d x y (grew c m a told) (grew d n b heard) same one watchers program has;
+          output = λ watchers told heard. wrote_alike job c d (runs_marked job.mode runs) x y (grew c m a told) (grew d n b heard) same one watchers program has;
         }
 
     each : c.status ≡ 0 → races c.history ≡ [] → EachSame c d
@@ -267,6 +279,7 @@ verified_alike job c d m n ask u v x y whole all same verifies a b program has =
         uncoded Code verifies has = verifies
         uncoded Gen verifies has = verifies
         uncoded Verify verifies has = has
+        uncoded Infer verifies has = verifies
 
     -- the trace is missing
     four : (e : Call) → Meets e → IsUndisturbed e → IsCommand e job → Accepts job e → IsMissing e.source job.against → (e.status ≡ 4) × (e.history ≡ [])
@@ -304,10 +317,10 @@ verified_alike job c d m n ask u v x y whole all same verifies a b program has =
         let f : content_of d.source.files job.against ≡ Some bytes = ap (λ files. content_of files job.against) ask.files.files ∙ e in
         decided bytes (record { tells = ask.told; some = e }) (all.verified verifies program has_too bytes (record { tells = told; some = f })) a
 
--- a text that both have read or made whole
-judged_alike : OneAnswer → (job : Job) (c d : Call) → Meets c → Meets d → AskAlike c d → IsUndisturbed c → IsUndisturbed d → IsCommand c job → IsCommand d job → IsComplete job c → IsComplete job d
-    → c.text ≡ d.text → EndAlike c d
-judged_alike known job c d m n ask u v x y whole all same = by (known.some c.text)
+-- a text with a program or a refusal, in a mode in which its marks count
+marked_alike : OneAnswer → (job : Job) (c d : Call) → Meets c → Meets d → AskAlike c d → IsUndisturbed c → IsUndisturbed d → IsCommand c job → IsCommand d job → IsComplete job c → IsComplete job d
+    → c.text ≡ d.text → (Infers job.mode → ⊥) → EndAlike c d
+marked_alike known job c d m n ask u v x y whole all same marked = by (known.some c.text)
   where
     run_of_both : (unverified : Verifies job.mode → ⊥) → Runs job.mode → Accepts job c → Accepts job d → (program : NumberedProgram) → HasProgram c.text program → EndAlike c d
     run_of_both unverified runs a b program has =
@@ -323,13 +336,99 @@ judged_alike known job c d m n ask u v x y whole all same = by (known.some c.tex
     by_mode Code e a b program has = unrun_of_both (λ verifies. subst Verifies e verifies) (inr e) a b program has
     by_mode Gen e a b program has = run_of_both (λ verifies. subst Verifies e verifies) (subst Runs (sym e) tt) a b program has
     by_mode Verify e a b program has = verified_alike job c d m n ask u v x y whole all same (subst Verifies (sym e) tt) a b program has
+    by_mode Infer e a b program has = absurd (marked (subst Infers (sym e) tt))
 
     by : ((program : NumberedProgram) × HasProgram c.text program) ⊎ ((refusal : Refusal) × IsRefusal c.text refusal) → EndAlike c d
     by (inl found) =
         let has : HasProgram d.text found.0 = subst (λ text. HasProgram text found.0) same found.1 in
-        by_mode job.mode refl (whole.accepted (λ refusal is. known.never_both c.text found.0 refusal found.1 is))
-        (all.accepted (λ refusal is. known.never_both d.text found.0 refusal has is)) found.0 found.1
-    by (inr found) = refused_alike job c d m n x y whole all same found.0 found.1
+        by_mode job.mode refl (whole.accepted (λ refusal is. known.never_both c.text found.0 refusal found.1 (refusal_here job.mode c.text refusal marked is)))
+        (all.accepted (λ refusal is. known.never_both d.text found.0 refusal has (refusal_here job.mode d.text refusal marked is))) found.0 found.1
+    by (inr found) = refused_alike job c d m n x y whole all same found.0 (refusal_in job.mode c.text found.0 marked found.1)
+
+-- the statuses that an undisturbed call can have in a mode that infers
+record IsOfInference (c : Call) : Type 0 where
+  pub not_faulted : c.status ≡ 2 → ⊥
+  pub commanded : c.status ≡ 3 → ⊥
+  pub read : c.status ≡ 4 → ⊥
+  pub written : c.status ≡ 5 → ⊥
+  pub memory : c.status ≡ 6 → ⊥
+  pub not_wrong : c.status ≡ 7 → ⊥
+
+of_two : (c : Call) (ending : Ending) → c.status ≡ status_of ending → IsOfInference c → (c.status ≡ 0) ⊎ (c.status ≡ 1)
+of_two c Done is k = inl is
+of_two c (Refused refusal) is k = inr is
+of_two c (Faulted fault) is k = absurd (k.not_faulted is)
+of_two c NoCommand is k = absurd (k.commanded is)
+of_two c CantRead is k = absurd (k.read is)
+of_two c CantWrite is k = absurd (k.written is)
+of_two c NoMemory is k = absurd (k.memory is)
+of_two c (NoRun line) is k = absurd (k.not_wrong is)
+
+-- a text whose marks are inferred
+inferred_alike : OneAnswer → (job : Job) (c d : Call) → Meets c → Meets d → IsUndisturbed c → IsUndisturbed d → IsCommand c job → IsCommand d job → IsComplete job c → IsComplete job d
+    → c.text ≡ d.text → job.mode ≡ Infer → (c.status ≡ 4 → ⊥) → EndAlike c d
+inferred_alike known job c d m n u v x y whole all same mode readable =
+    elim (of_two c m.beside_err.words.known.0 m.beside_err.words.known.1 kept) [ inl is ↦ accepted is | inr is ↦ refused is ]
+  where
+    infers : Infers job.mode
+    infers = subst Infers (sym mode) tt
+
+    unrun : Runs job.mode → ⊥
+    unrun runs = subst Runs mode runs
+
+    kept : IsOfInference c
+    kept = record {
+      not_faulted = λ is. unrun ((m.beside_err.end job x).fault_only_where is).0;
+      commanded = λ is. some_none job (sym x ∙ m.beside_err.words.only_where is);
+      read = readable;
+      written = λ is. no_yield c u (inr (is, m.err.five_only_where is));
+      memory = u.memory;
+      not_wrong = λ is. subst Verifies mode ((m.beside_err.trace job x).seven_only_where is);
+    }
+      where
+        some_none : (j : Job) → ◌≡◌ {A = Option Job} (Some j) None → ⊥
+        some_none j e = cc
+
+    refused : c.status ≡ 1 → EndAlike c d
+    refused is = let found = (m.beside_err.refusal job x).only_where is in refused_alike job c d m n x y whole all same found.0 found.1.refused
+
+    accepted : c.status ≡ 0 → EndAlike c d
+    accepted is =
+        let first = (m.beside_err.inference job x).done is infers in
+        let has : HasMarking d.text first.0 = subst (λ text. HasMarking text first.0) same first.1 in
+        let zero = done_too (all.accepted (λ refusal refused. known.never_marked d.text first.0 refusal has (subst (λ (mode : Mode). IsRefusalIn mode d.text refusal) mode refused))) in
+        let second = (n.beside_err.inference job y).done zero infers in
+        all_alike c d same ((m.beside_err.code job x).unlowered (subst HasCode mode) ∙ sym ((n.beside_err.code job y).unlowered (subst HasCode mode))) (record {
+          status = is ∙ sym zero;
+          history = (m.beside_err.run job x).unrun (subst HasHistory mode) ∙ sym ((n.beside_err.run job y).unrun (subst HasHistory mode));
+          done = (m.beside_err.count job x).unrun unrun ∙ sym ((n.beside_err.count job y).unrun unrun);
+          output = λ _ told heard. (
+            marks_text first.0,
+            (
+              first.2 told,
+              subst (λ (marks : List Mark). GrewBy d.out d.out_after (marks_text marks)) (known.one_marking d.text second.0 first.0 second.1 has) (second.2 heard),
+            ),
+          );
+        })
+      where
+        done_too : Accepts job d → d.status ≡ 0
+        done_too (inl zero) = zero
+        done_too (inr (inl two)) = absurd (unrun ((n.beside_err.end job y).fault_only_where two).0)
+        done_too (inr (inr (inl seven))) = absurd (subst Verifies mode ((n.beside_err.trace job y).seven_only_where seven))
+        done_too (inr (inr (inr lacks))) = absurd (subst Verifies mode lacks.1.mode)
+
+-- a text that both have read or made whole
+judged_alike : OneAnswer → (job : Job) (c d : Call) → Meets c → Meets d → AskAlike c d → IsUndisturbed c → IsUndisturbed d → IsCommand c job → IsCommand d job → IsComplete job c → IsComplete job d
+    → c.text ≡ d.text → (Infers job.mode → c.status ≡ 4 → ⊥) → EndAlike c d
+judged_alike known job c d m n ask u v x y whole all same readable = by job.mode refl
+  where
+    by : (mode : Mode) → job.mode ≡ mode → EndAlike c d
+    by Run e = marked_alike known job c d m n ask u v x y whole all same (λ infers. subst Infers e infers)
+    by Check e = marked_alike known job c d m n ask u v x y whole all same (λ infers. subst Infers e infers)
+    by Code e = marked_alike known job c d m n ask u v x y whole all same (λ infers. subst Infers e infers)
+    by Gen e = marked_alike known job c d m n ask u v x y whole all same (λ infers. subst Infers e infers)
+    by Verify e = marked_alike known job c d m n ask u v x y whole all same (λ infers. subst Infers e infers)
+    by Infer e = inferred_alike known job c d m n u v x y whole all same e (readable (subst Infers (sym e) tt))
 
 -- ---- the text is read
 
@@ -361,7 +460,11 @@ read_alike known job c d m n ask u v x y named read again = by (content_of c.sou
         let all = n.completeness job y (nothing_failed job d v (λ has gone. some_none bytes (sym f ∙ gone.none))) in
         let first = read_text job c bytes named (record { tells = ask.told; some = e }) whole in
         let second = read_text job d bytes named (record { tells = told; some = f }) all in
-        judged_alike known job c d m n ask u v x y whole all (first ∙ sym second)
+        judged_alike known job c d m n ask u v x y whole all (first ∙ sym second) (λ infers four. elim (read.four_only_where four) [
+          | inl gone ↦ some_none bytes (sym e ∙ gone.none)
+          | inr (inl lacks) ↦ verifies_marked job.mode lacks.mode infers
+          | inr (inr rose) ↦ u.source rose
+        ])
 
 -- ---- the text is made
 
@@ -372,6 +475,7 @@ made_alike known job c d m n ask u v x y e made again =
     let whole = m.completeness job x (nothing_failed job c u (λ has. absurd (no_file has))) in
     let all = n.completeness job y (nothing_failed job d v (λ has. absurd (no_file has))) in
     judged_alike known job c d m n ask u v x y whole all (or_not (λ k. no_yield c u k.1) made.made ∙ sym (or_not (λ k. no_yield d v k.1) again.made))
+    (λ infers _. subst Infers e infers)
 
 -- ---- all calls
 
@@ -384,6 +488,7 @@ ended_alike known c d m n ask u v = by (job_of c.words) refl
     by_mode job Code e x y a b = read_alike known job c d m n ask u v x y (subst HasFile (sym e) tt) a b
     by_mode job Gen e x y a b = made_alike known job c d m n ask u v x y e a b
     by_mode job Verify e x y a b = read_alike known job c d m n ask u v x y (subst HasFile (sym e) tt) a b
+    by_mode job Infer e x y a b = read_alike known job c d m n ask u v x y (subst HasFile (sym e) tt) a b
 
     by : (o : Option Job) → job_of c.words ≡ o → EndAlike c d
     by None e = no_command c d m n u v e (ap job_of (sym ask.words) ∙ e)

@@ -16,7 +16,7 @@ use Rattle.ti_lower.specs.Programs.{program_code}
 use Rattle.ti_runtime.specs.Ran.{IsDone}
 use Rattle.ti_words.specs.declared.job.Job.{Job}
 use Rattle.ti_words.specs.declared.job.Mode.{Mode}
-use Rattle.ti_words.specs.declared.job.Mode.TheVariants.{Run, Check, Code, Gen, Verify}
+use Rattle.ti_words.specs.declared.job.Mode.TheVariants.{Run, Check, Code, Gen, Verify, Infer}
 use Rattle.ti_top.specs.declared.fault.Fault.{Fault}
 use Rattle.ti_top.specs.declared.reports.ReportEnd.{ReportEnd}
 use Rattle.ti_top.specs.declared.reports.ReportEnd.TheVariants as Report
@@ -160,6 +160,7 @@ output_is Check ended s h ws runs run ends = absurd runs
 output_is Code ended s h ws runs run ends = absurd runs
 output_is Gen ended s h ws runs run ends = ap (λ t. t ++ reports ws h) (summary_is ended s h run ends)
 output_is Verify ended s h ws runs run ends = absurd runs
+output_is Infer ended s h ws runs run ends = absurd runs
 
 -- the program was run by its code, and the instructions of a run that ended so are counted
 pub record IsByCode (p : NumberedProgram) (job : Job) (ended : Ending) (k : Kept) : Type 0 where

@@ -1,20 +1,23 @@
 -- From what was done with a program to what became of its text.
-use Rattle.std.proofs.Common.{◌≡◌, ◌⊎◌, inl, inr, ℕ, List, [], sym, subst}
+use Rattle.std.proofs.Common.{◌≡◌, ◌⊎◌, inl, inr, ℕ, List, [], None, Err, sym, subst}
 use Rattle.ti_io.specs.Sink.{SinkState}
 use Rattle.ti_lang.specs.Program.Classes.{NumberedProgram}
 use Rattle.ti_rules.specs.declared.refusal.Refusal.{Refusal}
-use Rattle.ti_rules.specs.RefusalOf.{IsRefusal}
+use Rattle.ti_blame.specs.declared.mark.Mark.{Mark}
 use Rattle.ti_words.specs.declared.job.Job.{Job}
 use Rattle.ti_words.specs.declared.job.Mode.{Mode}
-use Rattle.ti_words.specs.declared.job.Mode.TheVariants.{Run, Check, Code, Gen, Verify}
+use Rattle.ti_words.specs.declared.job.Mode.TheVariants.{Run, Check, Code, Gen, Verify, Infer}
+use Rattle.ti_top.specs.declared.compiling.CompileErr.{CompileErr}
+use Rattle.ti_top.specs.declared.compiling.CompileErr.TheVariants as error
 use Rattle.ti_top.specs.declared.fault.Fault.{Fault}
 use Rattle.ti_top.specs.declared.ending.Ending.{Ending}
 use Rattle.ti_top.specs.declared.ending.Ending.TheVariants.{Done, Refused, Faulted, NoCommand, CantRead, CantWrite, NoMemory, NoRun}
 use Rattle.ti_top.specs.Run.{Runs}
 use Rattle.ti_top.specs.Reports.{Watcher}
 use Rattle.ti_top.specs.Mirrors.Coding.{CodeSays}
-use Rattle.ti_top.specs.Mirrors.Compiling.{IsCompiled, HasNoProgram}
-use Rattle.ti_top.specs.Mirrors.Work.{Kept, RanNothing, RunSays, WasChecked, RunTextSays, CodeTextSays, TextSays, Work, FileDone, SeedDone, TraceDone, WorkSays}
+use Rattle.ti_top.specs.Mirrors.Compiling.{IsCompiled, Compiles, ending_by}
+use Rattle.ti_top.specs.Mirrors.Inferring.{IsInferred, Infers, MarksSay}
+use Rattle.ti_top.specs.Mirrors.Work.{Kept, RanNothing, RunSays, RunTextSays, CheckTextSays, CodeTextSays, InferTextSays, TextSays, Work, FileDone, SeedDone, TraceDone, WorkSays}
 
 -- the endings of a run
 abbrev IsOfRun : Ending → Type 0
@@ -72,10 +75,12 @@ run_or_gen m (inl is) = subst Runs (sym is) tt
 run_or_gen m (inr is) = subst Runs (sym is) tt
 
 -- what was done where a file is named
-pub done_by_file : (mode : Mode) (job : Job) (ending : Ending) (w : Work) → (mode ≡ Run) ⊎ (mode ≡ Check) ⊎ (mode ≡ Code) → FileDone job ending w → WorkSays mode job ending w
+pub done_by_file : (mode : Mode) (job : Job) (ending : Ending) (w : Work) → (mode ≡ Run) ⊎ (mode ≡ Check) ⊎ (mode ≡ Code) ⊎ (mode ≡ Infer)
+    → FileDone job ending w → WorkSays mode job ending w
 done_by_file m job ending w (inl is) done = subst (λ (m : Mode). WorkSays m job ending w) (sym is) done
 done_by_file m job ending w (inr (inl is)) done = subst (λ (m : Mode). WorkSays m job ending w) (sym is) done
-done_by_file m job ending w (inr (inr is)) done = subst (λ (m : Mode). WorkSays m job ending w) (sym is) done
+done_by_file m job ending w (inr (inr (inl is))) done = subst (λ (m : Mode). WorkSays m job ending w) (sym is) done
+done_by_file m job ending w (inr (inr (inr is))) done = subst (λ (m : Mode). WorkSays m job ending w) (sym is) done
 
 -- and where none is
 pub done_by_seed : (mode : Mode) (job : Job) (ending : Ending) (w : Work) → mode ≡ Gen → SeedDone job ending w → WorkSays mode job ending w
@@ -86,34 +91,69 @@ pub done_by_trace : (mode : Mode) (job : Job) (ending : Ending) (w : Work) → m
 done_by_trace m job ending w is done = subst (λ (m : Mode). WorkSays m job ending w) (sym is) done
 
 -- what a run says is said in its mode
-pub run_in_mode : (mode : Mode) (ending : Ending) (job : Job) (ws : List Watcher) (text : List ℕ) (out after : SinkState) (k : Kept) → Runs mode → RunTextSays ending job ws text out after k → TextSays mode ending job ws text out after k
+pub run_in_mode : (mode : Mode) (ending : Ending) (job : Job) (ws : List Watcher) (text : List ℕ) (out after : SinkState) (k : Kept) → Runs mode
+    → RunTextSays ending job ws text out after k → TextSays mode ending job ws text out after k
 run_in_mode Run ending job ws text out after k runs says = says
 run_in_mode Check ending job ws text out after k runs says = absurd runs
 run_in_mode Code ending job ws text out after k runs says = absurd runs
 run_in_mode Gen ending job ws text out after k runs says = says
 run_in_mode Verify ending job ws text out after k runs says = absurd runs
+run_in_mode Infer ending job ws text out after k runs says = absurd runs
 
--- that the text was checked is said in the modes that do no more with it
-pub checked_in_mode : (mode : Mode) (job : Job) (ws : List Watcher) (text : List ℕ) (out after : SinkState) (k : Kept) → (mode ≡ Check) ⊎ (mode ≡ Verify) → WasChecked text out after k → TextSays mode Done job ws text out after k
-checked_in_mode m job ws text out after k (inl is) was = subst (λ (m : Mode). TextSays m Done job ws text out after k) (sym is) was
-checked_in_mode m job ws text out after k (inr is) was = subst (λ (m : Mode). TextSays m Done job ws text out after k) (sym is) was
+-- what was checked is said in the modes that do no more with a text
+pub checked_in_mode : (mode : Mode) (ending : Ending) (job : Job) (ws : List Watcher) (text : List ℕ) (out after : SinkState) (k : Kept)
+    → (mode ≡ Check) ⊎ (mode ≡ Verify) → CheckTextSays ending text out after k → TextSays mode ending job ws text out after k
+checked_in_mode m ending job ws text out after k (inl is) says = subst (λ (m : Mode). TextSays m ending job ws text out after k) (sym is) says
+checked_in_mode m ending job ws text out after k (inr is) says = subst (λ (m : Mode). TextSays m ending job ws text out after k) (sym is) says
 
--- the text has a refusal
-pub refused_text : (mode : Mode) (refusal : Refusal) (job : Job) (ws : List Watcher) (text : List ℕ) (out after : SinkState) (k : Kept) → IsRefusal text refusal × HasNoProgram text → RanNothing out after k → TextSays mode (Refused refusal) job ws text out after k
-refused_text Run refusal job ws text out after k is nothing = record { is = is.0; no_program = is.1; nothing = nothing }
-refused_text Check refusal job ws text out after k is nothing = record { is = is.0; no_program = is.1; nothing = nothing }
-refused_text Code refusal job ws text out after k is nothing = record { is = is.0; no_program = is.1; nothing = nothing }
-refused_text Gen refusal job ws text out after k is nothing = record { is = is.0; no_program = is.1; nothing = nothing }
-refused_text Verify refusal job ws text out after k is nothing = record { is = is.0; no_program = is.1; nothing = nothing }
+-- so it is with code
+pub coded_in_mode : (mode : Mode) (ending : Ending) (job : Job) (ws : List Watcher) (text : List ℕ) (out after : SinkState) (k : Kept) → mode ≡ Code
+    → CodeTextSays ending text out after k → TextSays mode ending job ws text out after k
+coded_in_mode m ending job ws text out after k is says = subst (λ (m : Mode). TextSays m ending job ws text out after k) (sym is) says
 
--- memory was wanting before a run
-pub unrun_text : (mode : Mode) (job : Job) (ws : List Watcher) (text : List ℕ) (out after : SinkState) (k : Kept) → RanNothing out after k → TextSays mode NoMemory job ws text out after k
-unrun_text Run job ws text out after k nothing = inl nothing
-unrun_text Check job ws text out after k nothing = nothing
-unrun_text Code job ws text out after k nothing = nothing
-unrun_text Gen job ws text out after k nothing = inl nothing
-unrun_text Verify job ws text out after k nothing = nothing
+-- and with marks
+pub inferred_in_mode : (mode : Mode) (ending : Ending) (job : Job) (ws : List Watcher) (text : List ℕ) (out after : SinkState) (k : Kept) → mode ≡ Infer
+    → InferTextSays ending text out after k → TextSays mode ending job ws text out after k
+inferred_in_mode m ending job ws text out after k is says = subst (λ (m : Mode). TextSays m ending job ws text out after k) (sym is) says
 
--- the text has a program, and is checked alone
-pub checked_text : (p : NumberedProgram) (text : List ℕ) (out after : SinkState) (k : Kept) → IsCompiled text p → RanNothing out after k → WasChecked text out after k
+-- ---- a text without a program
+
+pub not_run : (e : CompileErr) (job : Job) (ws : List Watcher) (text : List ℕ) (out after : SinkState) (k : Kept) → Compiles text (Err e) → RanNothing out after k
+    → RunTextSays (ending_by e) job ws text out after k
+not_run (error.Refused refusal) job ws text out after k is nothing = record { is = is.0; no_program = is.1; nothing = nothing }
+not_run error.Memory job ws text out after k is nothing = inl nothing
+
+pub not_checked : (e : CompileErr) (text : List ℕ) (out after : SinkState) (k : Kept) → Compiles text (Err e) → RanNothing out after k
+    → CheckTextSays (ending_by e) text out after k
+not_checked (error.Refused refusal) text out after k is nothing = record { is = is.0; no_program = is.1; nothing = nothing }
+not_checked error.Memory text out after k is nothing = nothing
+
+pub not_coded : (e : CompileErr) (text : List ℕ) (out after : SinkState) (k : Kept) → Compiles text (Err e) → RanNothing out after k
+    → CodeTextSays (ending_by e) text out after k
+not_coded (error.Refused refusal) text out after k is nothing = record { is = is.0; no_program = is.1; nothing = nothing }
+not_coded error.Memory text out after k is nothing = nothing
+
+pub not_inferred : (e : CompileErr) (text : List ℕ) (out after : SinkState) (k : Kept) → Infers text (Err e) → RanNothing out after k
+    → InferTextSays (ending_by e) text out after k
+not_inferred (error.Refused refusal) text out after k is nothing = record { is = is.0; nothing = nothing }
+not_inferred error.Memory text out after k is nothing = nothing
+
+-- ---- a text with one
+
+-- it is checked alone
+pub checked_text : (p : NumberedProgram) (text : List ℕ) (out after : SinkState) (k : Kept) → IsCompiled text p → RanNothing out after k → CheckTextSays Done text out after k
 checked_text p text out after k compiled nothing = record { program = p; compiled = compiled; nothing = nothing }
+
+-- its marks were inferred
+pub inferred_text : (ending : Ending) (marks : List Mark) (text : List ℕ) (out after : SinkState) (k : Kept) → IsInferred text marks → k.history ≡ [] → k.code ≡ None → k.done ≡ []
+    → MarksSay ending marks out after → InferTextSays ending text out after k
+inferred_text Done marks text out after k has none uncoded uncounted says =
+    record { marks = marks; inferred = has; wrote = says; no_entry = none; no_code = uncoded; no_count = uncounted }
+inferred_text (Refused refusal) marks text out after k has none uncoded uncounted says = absurd says
+inferred_text (Faulted fault) marks text out after k has none uncoded uncounted says = absurd says
+inferred_text NoCommand marks text out after k has none uncoded uncounted says = absurd says
+inferred_text CantRead marks text out after k has none uncoded uncounted says = absurd says
+inferred_text CantWrite marks text out after k has none uncoded uncounted says =
+    record { marks = marks; inferred = has; wrote = says; no_entry = none; no_code = uncoded; no_count = uncounted }
+inferred_text NoMemory marks text out after k has none uncoded uncounted says = record { unwritten = says; no_entry = none; no_code = uncoded; no_count = uncounted }
+inferred_text (NoRun line) marks text out after k has none uncoded uncounted says = absurd says

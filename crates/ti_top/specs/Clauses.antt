@@ -14,18 +14,20 @@ use Rattle.ti_code.specs.Programs as coded
 use Rattle.ti_lower.specs.Programs.{program_code}
 use Rattle.ti_runtime.specs.Ran.{IsDone}
 use Rattle.ti_rules.specs.declared.refusal.Refusal.{Refusal}
+use Rattle.ti_blame.specs.declared.mark.Mark.{Mark}
 use Rattle.ti_rules.specs.RefusalOf.{HasNone, HasProgram, IsRefusal}
 use Rattle.ti_words.specs.declared.job.Job.{Job}
 use Rattle.ti_words.specs.declared.job.Mode.{Mode}
-use Rattle.ti_words.specs.declared.job.Mode.TheVariants.{Run, Check, Code, Gen, Verify}
+use Rattle.ti_words.specs.declared.job.Mode.TheVariants.{Run, Check, Code, Gen, Verify, Infer}
 use Rattle.ti_top.specs.declared.fault.Fault.{Fault}
 use Rattle.ti_top.specs.declared.ending.Ending.{Ending}
 use Rattle.ti_top.specs.declared.ending.Ending.TheVariants.{Done, Refused, Faulted, NoCommand, CantRead, CantWrite, NoMemory, NoRun}
-use Rattle.ti_top.specs.Run.{HasFile, Runs, HasCode, Verifies, HasHistory, run_of, EndsWithFault}
+use Rattle.ti_top.specs.Run.{HasFile, Runs, HasCode, Verifies, Infers, HasHistory, run_of, EndsWithFault}
 use Rattle.ti_top.specs.Ending.{status_of, err_line}
 use Rattle.ti_top.specs.Flushing.{FlushesOut, FlushesErr}
 use Rattle.ti_top.specs.Reports.{wanted, output, WroteFew}
 use Rattle.ti_top.specs.Call.{most_read, Call, IsCommand, IsNoCommand, file_of, SourceRose, OutRose, ErrRose, SinkRose, Yields, WantsReport}
+use Rattle.ti_top.specs.Inference.{HasMarking, HasSomeMarking, IsUnmarkedRefusal, marks_text}
 use Rattle.ti_top.specs.Traces.{LacksTrace, IsUnreadable, IsWrongTrace, VerifiesTrace, TraceDecides}
 
 -- The words: status 3 says that they are no command, and then nothing was read.
@@ -59,6 +61,7 @@ IsWholeIn Check job c = IsReadWhole job c
 IsWholeIn Code job c = IsReadWhole job c
 IsWholeIn Gen job c = IsMade job c
 IsWholeIn Verify job c = IsReadWhole job c
+IsWholeIn Infer job c = IsReadWhole job c
 
 abbrev pub HasText : Job → Call → Type 0
 HasText job c = IsWholeIn job.mode job c
@@ -91,29 +94,48 @@ GetsText Check job c = ReadsText job c
 GetsText Code job c = ReadsText job c
 GetsText Gen job c = MakesText job c
 GetsText Verify job c = ReadsText job c
+GetsText Infer job c = ReadsText job c
 
 -- the text has a program
 abbrev pub IsAccepted : List ℕ → Type 0
 IsAccepted text = (program : NumberedProgram) × HasProgram text program
 
+-- the text is accepted in a mode: it has a program, or in mode infer, where its marks don't count, a greatest marking
+abbrev pub IsAcceptedIn : Mode → List ℕ → Type 0
+IsAcceptedIn Run text = IsAccepted text
+IsAcceptedIn Check text = IsAccepted text
+IsAcceptedIn Code text = IsAccepted text
+IsAcceptedIn Gen text = IsAccepted text
+IsAcceptedIn Verify text = IsAccepted text
+IsAcceptedIn Infer text = HasSomeMarking text
+
+-- what it is refused for in a mode
+abbrev pub IsRefusalIn : Mode → List ℕ → Refusal → Type 0
+IsRefusalIn Run text refusal = IsRefusal text refusal
+IsRefusalIn Check text refusal = IsRefusal text refusal
+IsRefusalIn Code text refusal = IsRefusal text refusal
+IsRefusalIn Gen text refusal = IsRefusal text refusal
+IsRefusalIn Verify text refusal = IsRefusal text refusal
+IsRefusalIn Infer text refusal = IsUnmarkedRefusal text refusal
+
 -- The whole text is there, and this is its refusal.
 pub record IsRefused (job : Job) (c : Call) (refusal : Refusal) : Type 0 where
   pub whole : HasText job c
-  pub refused : IsRefusal c.text refusal
+  pub refused : IsRefusalIn job.mode c.text refusal
 
 -- The refusal: status 1 says that the text is refused, and then there is no code, and nothing was run and nothing written; with status 0, 2
--- or 7 it is accepted.
+-- or 7 it is accepted. In mode infer the marks of the text don't count.
 pub record RefusesExactly (job : Job) (c : Call) : Type 0 where
   pub only_where : c.status ≡ 1 → (refusal : Refusal) × IsRefused job c refusal
   -- it may run out of memory, and a sink or a reading may fail
   pub everywhere : (refusal : Refusal) → IsRefused job c refusal → (c.status ≡ 1) ⊎ (Yields c ⊎ ((c.status ≡ 4) × SourceRose c))
-  pub no_code : (refusal : Refusal) → IsRefusal c.text refusal → c.code ≡ None
-  pub no_history : (refusal : Refusal) → IsRefusal c.text refusal → c.history ≡ []
-  pub no_count : (refusal : Refusal) → IsRefusal c.text refusal → c.done ≡ []
-  pub no_output : (refusal : Refusal) → IsRefusal c.text refusal → c.out_after.taken ≡ c.out.taken
-  pub accepted_at_zero : c.status ≡ 0 → IsAccepted c.text
-  pub accepted_at_two : c.status ≡ 2 → IsAccepted c.text
-  pub accepted_at_seven : c.status ≡ 7 → IsAccepted c.text
+  pub no_code : (refusal : Refusal) → IsRefusalIn job.mode c.text refusal → c.code ≡ None
+  pub no_history : (refusal : Refusal) → IsRefusalIn job.mode c.text refusal → c.history ≡ []
+  pub no_count : (refusal : Refusal) → IsRefusalIn job.mode c.text refusal → c.done ≡ []
+  pub no_output : (refusal : Refusal) → IsRefusalIn job.mode c.text refusal → c.out_after.taken ≡ c.out.taken
+  pub accepted_at_zero : c.status ≡ 0 → IsAcceptedIn job.mode c.text
+  pub accepted_at_two : c.status ≡ 2 → IsAcceptedIn job.mode c.text
+  pub accepted_at_seven : c.status ≡ 7 → IsAcceptedIn job.mode c.text
 
 -- The run: whatever the status, the history is a run of the text's program, by however many workers, and by one worker, as far as it goes, the one in
 -- which each entry is that of the lowest-numbered process that can take one; where there is no program, or the mode isn't one that runs it or
@@ -144,9 +166,9 @@ pub record CountsInstructions (job : Job) (c : Call) : Type 0 where
   pub none : ((program : NumberedProgram) → HasProgram c.text program → ⊥) → c.done ≡ []
   pub unrun : (Runs job.mode → ⊥) → c.done ≡ []
 
--- this holds of the job and the program wherever the text has one
+-- this holds of the job and the program wherever the text has one, in every mode but infer
 abbrev pub WhereAccepted : Call → (Job → NumberedProgram → Type 0) → Type 0
-WhereAccepted c P = (job : Job) → IsCommand c job → (program : NumberedProgram) → HasProgram c.text program → P job program
+WhereAccepted c P = (job : Job) → IsCommand c job → (Infers job.mode → ⊥) → (program : NumberedProgram) → HasProgram c.text program → P job program
 
 -- wherever it has one, and is to be run
 abbrev pub WhereRun : Call → (Job → NumberedProgram → Type 0) → Type 0
@@ -166,7 +188,7 @@ pub record WritesOutput (c : Call) : Type 0 where
   pub nothing_at_four : c.status ≡ 4 → c.out_after.taken ≡ c.out.taken
   pub no_command : IsNoCommand c → c.out_after.taken ≡ c.out.taken
   pub not_whole : (job : Job) → IsCommand c job → (HasText job c → ⊥) → c.out_after.taken ≡ c.out.taken
-  pub no_program : ((program : NumberedProgram) → HasProgram c.text program → ⊥) → c.out_after.taken ≡ c.out.taken
+  pub not_accepted : (job : Job) → IsCommand c job → (IsAcceptedIn job.mode c.text → ⊥) → c.out_after.taken ≡ c.out.taken
   pub checked : (job : Job) → IsCommand c job → job.mode ≡ Check → c.out_after.taken ≡ c.out.taken
   -- where code is wanted and there is none
   pub uncoded : (job : Job) → IsCommand c job → job.mode ≡ Code → c.code ≡ None → c.out_after.taken ≡ c.out.taken
@@ -174,6 +196,13 @@ pub record WritesOutput (c : Call) : Type 0 where
   pub failed : c.status ≡ 5 → c.out.tells ≡ true → WhereAccepted c (λ job program. GrewByFront c.out c.out_after (output job program c.history (wanted job c.watchers)))
   -- the lines of the kept history or its summary are written, and whole reports
   pub no_memory : c.status ≡ 6 → c.out.tells ≡ true → WhereRun c (λ job program. WroteFew job.mode (run_of program job) (wanted job c.watchers) c.history c.out c.out_after)
+
+-- Inference, in mode infer: with status 0 the text has a greatest marking, and out grew by a line for each of its marks. Where a sink failed, it
+-- grew by a front of these lines, and with no other status it grew.
+pub record InfersMarks (job : Job) (c : Call) : Type 0 where
+  pub done : c.status ≡ 0 → Infers job.mode → (marks : List Mark) × HasMarking c.text marks × (c.out.tells ≡ true → GrewBy c.out c.out_after (marks_text marks))
+  pub failed : c.status ≡ 5 → Infers job.mode → c.out.tells ≡ true → (marks : List Mark) → HasMarking c.text marks → GrewByFront c.out c.out_after (marks_text marks)
+  pub unwritten : Infers job.mode → (c.status ≡ 0 → ⊥) → (c.status ≡ 5 → ⊥) → c.out_after.taken ≡ c.out.taken
 
 -- Alignment: with status 0, 2 or 7 the program of the text is aligned.
 pub record IsAlignedRun (c : Call) : Type 0 where
@@ -207,14 +236,15 @@ pub record MeetsBesideErr (c : Call) : Type 0 where
   pub count : (job : Job) → IsCommand c job → CountsInstructions job c
   pub output : WritesOutput c
   pub flushes : FlushesOut c
-  pub alignment : IsAlignedRun c
+  pub alignment : (job : Job) → IsCommand c job → (Infers job.mode → ⊥) → IsAlignedRun c
   pub determinacy : (job : Job) → IsCommand c job → IsDeterminate job c
   pub end : (job : Job) → IsCommand c job → EndsRun job c
   pub trace : (job : Job) → IsCommand c job → VerifiesTrace job c
+  pub inference : (job : Job) → IsCommand c job → InfersMarks job c
 
 -- What an ending says of the call.
 abbrev pub Says : Call → Ending → Type 0
-Says c Done = (job : Job) × IsCommand c job × IsAccepted c.text
+Says c Done = (job : Job) × IsCommand c job × IsAcceptedIn job.mode c.text
 Says c (Refused refusal) = (job : Job) × IsCommand c job × IsRefused job c refusal
 Says c (Faulted fault) = (job : Job) × IsCommand c job × EndsWithFault c.history fault
 Says c NoCommand = IsNoCommand c
@@ -260,9 +290,9 @@ pub record NothingFailed (job : Job) (c : Call) : Type 0 where
 -- run until all processes have their end, or one has a fault; and where a trace is held against it, the trace decides, unless it is missing.
 pub record IsComplete (job : Job) (c : Call) : Type 0 where
   pub whole : HasText job c
-  pub refused : (refusal : Refusal) → IsRefusal c.text refusal → c.status ≡ 1
-  pub accepted : HasNone (IsRefusal c.text) → (c.status ≡ 0) ⊎ (c.status ≡ 2) ⊎ (c.status ≡ 7) ⊎ ((c.status ≡ 4) × LacksTrace job c)
-  pub program : HasNone (IsRefusal c.text) → IsAccepted c.text
+  pub refused : (refusal : Refusal) → IsRefusalIn job.mode c.text refusal → c.status ≡ 1
+  pub accepted : HasNone (IsRefusalIn job.mode c.text) → (c.status ≡ 0) ⊎ (c.status ≡ 2) ⊎ (c.status ≡ 7) ⊎ ((c.status ≡ 4) × LacksTrace job c)
+  pub program : HasNone (IsRefusalIn job.mode c.text) → IsAcceptedIn job.mode c.text
   pub ended : Runs job.mode → (program : NumberedProgram) → HasProgram c.text program → IsCompleteRun (run_of program job) c.history
   pub verified : Verifies job.mode → (program : NumberedProgram) → HasProgram c.text program → (bytes : List ℕ) → Holds c.source job.against bytes → TraceDecides (run_of program job) bytes c
 

@@ -3,6 +3,7 @@ pub mod Call
 pub mod Clauses
 pub mod Ending
 pub mod Flushing
+pub mod Inference
 pub mod Mirrors
 pub mod Reports
 pub mod Run

@@ -2,6 +2,7 @@
 pub mod Coding
 pub mod Compiling
 pub mod Ended
+pub mod Inferring
 pub mod Leaving
 pub mod Line
 pub mod Reading

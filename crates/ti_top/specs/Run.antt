@@ -7,7 +7,7 @@ use Rattle.ti_lang.specs.Program.Classes.{NumberedProgram}
 use Rattle.ti_lang.specs.Meaning.Processes.{Setting}
 use Rattle.ti_words.specs.declared.job.Job.{Job}
 use Rattle.ti_words.specs.declared.job.Mode.{Mode}
-use Rattle.ti_words.specs.declared.job.Mode.TheVariants.{Run, Check, Code, Gen, Verify}
+use Rattle.ti_words.specs.declared.job.Mode.TheVariants.{Run, Check, Code, Gen, Verify, Infer}
 use Rattle.ti_top.specs.declared.fault.Fault.{Fault}
 
 -- in these modes a file is named, and its text read
@@ -17,6 +17,7 @@ HasFile Check = Unit {0}
 HasFile Code = Unit {0}
 HasFile Gen = ⊥
 HasFile Verify = Unit {0}
+HasFile Infer = Unit {0}
 
 -- in these modes the program of the text is run
 abbrev pub Runs : Mode → Type 0
@@ -25,6 +26,7 @@ Runs Check = ⊥
 Runs Code = ⊥
 Runs Gen = Unit {0}
 Runs Verify = ⊥
+Runs Infer = ⊥
 
 -- in these modes the program has code
 abbrev pub HasCode : Mode → Type 0
@@ -33,6 +35,7 @@ HasCode Check = ⊥
 HasCode Code = Unit {0}
 HasCode Gen = Unit {0}
 HasCode Verify = ⊥
+HasCode Infer = ⊥
 
 -- in this mode a trace is named, and held against the program of the text
 abbrev pub Verifies : Mode → Type 0
@@ -41,6 +44,16 @@ Verifies Check = ⊥
 Verifies Code = ⊥
 Verifies Gen = ⊥
 Verifies Verify = Unit {0}
+Verifies Infer = ⊥
+
+-- in this mode the marks of single values of the text don't count, and are inferred
+abbrev pub Infers : Mode → Type 0
+Infers Run = ⊥
+Infers Check = ⊥
+Infers Code = ⊥
+Infers Gen = ⊥
+Infers Verify = ⊥
+Infers Infer = Unit {0}
 
 -- in these modes there is a history: that of the run, or that of the trace
 abbrev pub HasHistory : Mode → Type 0
@@ -49,6 +62,7 @@ HasHistory Check = ⊥
 HasHistory Code = ⊥
 HasHistory Gen = Unit {0}
 HasHistory Verify = Unit {0}
+HasHistory Infer = ⊥
 
 -- the program, run by as many processes as the job asks for, with as many ticks each
 abbrev pub run_of : NumberedProgram → Job → Setting

@@ -57,9 +57,10 @@ impl Outcome {
 /// whose flag is given, and where it can't be done a line to `err`. In mode check it runs nothing and writes
 /// nothing to `out`. In mode code it runs nothing either, and writes the code of the program. In mode gen no
 /// file is named: it makes the text from a seed, and in place of the lines writes one that sums up the run. In mode verify it runs nothing and
-/// writes nothing to `out`: it says whether a trace that is named is that of a complete run, and else which of its lines is wrong.
+/// writes nothing to `out`: it says whether a trace that is named is that of a complete run, and else which of its lines is wrong. In mode
+/// infer the marks of single values in the text don't count: it writes those of the greatest marking under which the text is accepted.
 ///
-/// The words are `--mode run`, `--mode check`, `--mode code`, `--mode gen` or `--mode verify`, `--procs`, `--workers`, `--fuel`, each with a
+/// The words are `--mode run`, `--mode check`, `--mode code`, `--mode gen`, `--mode verify` or `--mode infer`, `--procs`, `--workers`, `--fuel`, each with a
 /// number, and `--trace`, `--stats` and `--races`, each at most once, and a file's name, or in mode gen `--seed` with a
 /// number, and in mode verify `--against` with the name of a trace; `docs/LANGUAGE.md` says their ranges. What the call promises is `Meets`, one record of
 /// `specs/Clauses.antt` for each clause.

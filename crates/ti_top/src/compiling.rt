@@ -3,11 +3,13 @@ ghost use Rattle.std.specs.Prelude.{◌≡◌, ◌⊎◌, ℕ, List};
 ghost use Rattle.ti_lang.specs.Program.Classes.{NumberedProgram};
 ghost use Rattle.ti_rules.specs.declared.refusal.Refusal.{Refusal as RefusalSeen};
 ghost use Rattle.ti_rules.specs.RefusalOf.{HasProgram, IsRefusal};
-ghost use Rattle.ti_top.specs.Mirrors.Compiling.{Compiles};
+ghost use Rattle.ti_top.specs.Mirrors.Compiling.{ReadsProgram, Compiles};
 
+use crate::ending::Ending;
 use std::alloc::Global;
 use ti_align::aligned;
 use ti_check::{CheckErr, check};
+use ti_lang::program::Program;
 use ti_lex::{LexErr, lex, one_reading};
 use ti_names::{NameErr, one_program, resolve};
 use ti_parse::{ParseErr, one_text, parse};
@@ -20,6 +22,21 @@ pub enum CompileErr {
     Refused(Refusal),
     /// Out of memory.
     Memory,
+}
+
+impl CompileErr {
+    ghost use Rattle.std.specs.Prelude.{◌≡◌};
+    ghost use Rattle.ti_top.specs.Mirrors.Compiling.{ending_by};
+
+    /// How the work ends.
+    pub fn ending(self) -> Ending
+        ensures { result ≡ ending_by self }
+    {
+        match self {
+            CompileErr::Refused(refusal) => Ending::Refused(refusal),
+            CompileErr::Memory => Ending::NoMemory,
+        }
+    }
 }
 
 impl From<LexErr> for CompileErr {
@@ -91,19 +108,28 @@ pub fn one_answer()
     one_program_refusal();
 }
 
-/// The program of a text, which is aligned: the text becomes tokens, these become a tree, the tree becomes a program with a number in
-/// place of each name, and a program is checked against the rules of types, qualifiers and single values. What isn't needed any more
-/// gives its room back at once.
-pub fn compile(alloc: Global, text: &[u8]) -> Result<Checked, CompileErr>
-    ensures { Compiles text.now result }
+/// The program that a text has by the rules of bytes, tokens and names: the text becomes tokens, these become a tree, and the tree becomes a
+/// program with a number in place of each name. What isn't needed any more gives its room back at once.
+pub fn read_program(alloc: Global, text: &[u8]) -> Result<Program, CompileErr>
+    ensures { ReadsProgram text.now result }
 {
-    one_answer();
+    one_reading();
+    one_text();
     one_program();
     let tokens = lex(alloc, text)?;
     let tree = parse(alloc, &tokens)?;
     drop(tokens);
     let program = resolve(alloc, &tree)?;
-    drop(tree);
+    Ok(program)
+}
+
+/// The program of a text, which is aligned: it has one by the rules of bytes, tokens and names, and this is checked against the rules of
+/// types, qualifiers and single values.
+pub fn compile(alloc: Global, text: &[u8]) -> Result<Checked, CompileErr>
+    ensures { Compiles text.now result }
+{
+    one_answer();
+    let program = read_program(alloc, text)?;
     let checked = check(alloc, program)?;
     aligned(&checked);
     Ok(checked)

@@ -2,6 +2,7 @@
 ghost use Rattle.ti_top.specs.Agreement.{OneEnding};
 
 use crate::compiling::one_answer;
+use crate::inferring::one_marking;
 use ti_lex::one_reading;
 
 /// Two calls on the same words, whose sources tell the same names with the same bytes, and of which neither met a fault nor ran out of
@@ -12,4 +13,5 @@ pub fn one_ending()
 {
     one_reading();
     one_answer();
+    one_marking();
 }

@@ -6,6 +6,7 @@ mod command;
 mod compiling;
 mod ending;
 mod fault;
+mod inferring;
 mod kept;
 mod laws;
 mod printing;
@@ -18,4 +19,5 @@ mod work;
 
 pub use command::{Outcome, titan_top};
 pub use compiling::one_answer;
+pub use inferring::one_marking;
 pub use laws::one_ending;

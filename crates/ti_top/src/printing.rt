@@ -125,7 +125,7 @@ pub fn write_head<K: Sink>(
 {
     match mode {
         Mode::Run => write_lines(out, line, program, history),
-        Mode::Check | Mode::Code | Mode::Verify => Ok(()),
+        Mode::Check | Mode::Code | Mode::Verify | Mode::Infer => Ok(()),
         Mode::Gen => write_summary(out, ended, history),
     }
 }

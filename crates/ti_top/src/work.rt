@@ -4,6 +4,7 @@ ghost use Rattle.ti_align.specs.Alignment.{IsAligned};
 ghost use Rattle.ti_code.specs.Follows.{Follows};
 ghost use Rattle.ti_lang.specs.Meaning.Determinacy.{Determines};
 ghost use Rattle.ti_lang.specs.Meaning.Processes.{Setting};
+ghost use Rattle.ti_io.specs.Sink.{SinkState};
 ghost use Rattle.ti_lang.specs.Meaning.Races.{races};
 ghost use Rattle.ti_lang.specs.Meaning.Spots.{races_told};
 ghost use Rattle.ti_lang.specs.Program.Views.{program_of};
@@ -14,14 +15,15 @@ ghost use Rattle.ti_top.specs.Mirrors.Leaving.{LeavesOut};
 ghost use Rattle.ti_top.specs.Mirrors.Line.{HasRoom};
 ghost use Rattle.ti_top.specs.Mirrors.RunEnds.{RunEnds};
 ghost use Rattle.ti_top.specs.Mirrors.Verifying.{Verified as VerifiedBy};
-ghost use Rattle.ti_top.specs.Mirrors.Work.{IsInRanges, kept_of, ending_after as after_spec, ReportsAfter, RunSays, RunTextSays, CodeTextSays, TextSays, SeedSays, FileDone, WorkSays};
+ghost use Rattle.ti_top.specs.Mirrors.Work.{IsInRanges, kept_of, ending_after as after_spec, ReportsAfter, RunSays, RunTextSays, CheckTextSays, CodeTextSays, InferTextSays, TextSays, SeedSays, FileDone, WorkSays};
 ghost use Rattle.ti_top.specs.Reports.{Watcher, wanted};
 ghost use Rattle.ti_top.specs.Run.{Runs, run_of};
 
 use crate::coding::write_code;
-use crate::compiling::{CompileErr, compile};
+use crate::compiling::compile;
 use crate::ending::Ending;
 use crate::fault::Fault;
+use crate::inferring::{infer_marks, write_marks};
 use crate::kept::Kept;
 use crate::printing::write_head;
 use crate::reading::{ReadEnd, read_whole};
@@ -256,7 +258,61 @@ fn code_compiled<K: Sink>(alloc: Global, checked: &Checked, out: &mut K) -> Writ
     }
 }
 
-// Checks a whole text, and runs it or writes its code where the job asks for that.
+// Runs the program of a whole text, if it has one.
+fn run_text<R: Threads + Wait + Sync, K: Sink, G: Gate + Sync>(
+    rt: &R,
+    alloc: Global,
+    job: &Job,
+    text: &[u8],
+    gate: &G,
+    watchers: Vec<Box<dyn Watch>>,
+    out: &mut K,
+) -> Written
+    requires ranges { IsInRanges job.now }
+    requires mode { Runs job.now.mode }
+    ensures says { RunTextSays result.ending job.now (map {B = Watcher} (λ w. record { kind = kind_of w; told = told w }) watchers.items) text.now (K.state out.old) (K.state out.new) (kept_of result.kept) }
+    ensures leaves { LeavesOut result.ending (K.state out.old) (K.state out.new) }
+{
+    match compile(alloc, text) {
+        Ok(checked) => run_compiled(rt, alloc, job, &checked, gate, watchers, out),
+        Err(e) => Written::nothing(alloc, e.ending()),
+    }
+}
+
+// Checks a whole text.
+fn check_text(alloc: Global, text: &[u8]) -> Written
+    ensures says { (out : SinkState) → CheckTextSays result.ending text.now out out (kept_of result.kept) }
+    ensures leaves { (out : SinkState) → LeavesOut result.ending out out }
+{
+    match compile(alloc, text) {
+        Ok(_) => Written::nothing(alloc, Ending::Done),
+        Err(e) => Written::nothing(alloc, e.ending()),
+    }
+}
+
+// Writes the code of the program of a whole text, if it has one.
+fn code_text<K: Sink>(alloc: Global, text: &[u8], out: &mut K) -> Written
+    ensures says { CodeTextSays result.ending text.now (K.state out.old) (K.state out.new) (kept_of result.kept) }
+    ensures leaves { LeavesOut result.ending (K.state out.old) (K.state out.new) }
+{
+    match compile(alloc, text) {
+        Ok(checked) => code_compiled(alloc, &checked, out),
+        Err(e) => Written::nothing(alloc, e.ending()),
+    }
+}
+
+// Infers the marks of a whole text, and writes them.
+fn infer_text<K: Sink>(alloc: Global, text: &[u8], out: &mut K) -> Written
+    ensures says { InferTextSays result.ending text.now (K.state out.old) (K.state out.new) (kept_of result.kept) }
+    ensures leaves { LeavesOut result.ending (K.state out.old) (K.state out.new) }
+{
+    match infer_marks(alloc, text) {
+        Ok(marking) => Written::nothing(alloc, write_marks(alloc, &marking, out)),
+        Err(e) => Written::nothing(alloc, e.ending()),
+    }
+}
+
+// Does what a job asks for with a whole text: checks it, and runs its program or writes its code; or infers its marks.
 fn do_text<R: Threads + Wait + Sync, K: Sink, G: Gate + Sync>(
     rt: &R,
     alloc: Global,
@@ -270,18 +326,15 @@ fn do_text<R: Threads + Wait + Sync, K: Sink, G: Gate + Sync>(
     ensures says { TextSays job.now.mode result.ending job.now (map {B = Watcher} (λ w. record { kind = kind_of w; told = told w }) watchers.items) text.now (K.state out.old) (K.state out.new) (kept_of result.kept) }
     ensures leaves { LeavesOut result.ending (K.state out.old) (K.state out.new) }
 {
-    match compile(alloc, text) {
-        Ok(checked) => match job.mode {
-            Mode::Check | Mode::Verify => Written::nothing(alloc, Ending::Done),
-            Mode::Code => code_compiled(alloc, &checked, out),
-            Mode::Run | Mode::Gen => run_compiled(rt, alloc, job, &checked, gate, watchers, out),
-        },
-        Err(CompileErr::Refused(refusal)) => Written::nothing(alloc, Ending::Refused(refusal)),
-        Err(CompileErr::Memory) => Written::nothing(alloc, Ending::NoMemory),
+    match job.mode {
+        Mode::Run | Mode::Gen => run_text(rt, alloc, job, text, gate, watchers, out),
+        Mode::Check | Mode::Verify => check_text(alloc, text),
+        Mode::Code => code_text(alloc, text, out),
+        Mode::Infer => infer_text(alloc, text, out),
     }
 }
 
-// Reads the file of a job and checks the text, and runs it or writes its code where the job asks for that.
+// Reads the file of a job, and does what the job asks for with the text.
 fn work_on_file<R: Threads + Wait + Sync, S: Source, K: Sink, G: Gate + Sync>(
     rt: &R,
     alloc: Global,
@@ -368,7 +421,7 @@ fn work_on_trace<S: Source>(alloc: Global, job: &Job, source: &mut S) -> Worked
 
 /// Does what a job asks for: reads its file, or in mode gen makes the text of its seed, and checks the text; and where the program is to
 /// be run, runs it and writes the lines of the run or its summary and the reports of the watchers whose flag is given; or writes its code; or
-/// holds a trace against it. The other watchers are dropped first.
+/// infers its marks; or holds a trace against it. The other watchers are dropped first.
 pub fn work<R: Threads + Wait + Sync, S: Source, K: Sink, G: Gate + Sync>(
     rt: &R,
     alloc: Global,
@@ -393,7 +446,7 @@ pub fn work<R: Threads + Wait + Sync, S: Source, K: Sink, G: Gate + Sync>(
     let mut watchers = watchers;
     keep_wanted(&mut watchers, job);
     match job.mode {
-        Mode::Run | Mode::Check | Mode::Code => work_on_file(
+        Mode::Run | Mode::Check | Mode::Code | Mode::Infer => work_on_file(
             rt, alloc, job, source, out, gate, watchers,
         ),
         Mode::Gen => work_on_seed(rt, alloc, job, out, gate, watchers),

@@ -8,7 +8,7 @@ use Rattle.std.specs.Str.Parse.{digits_value}
 use Rattle.ti_words.specs.Uses.{Word, Use, is_each_once, is_used, piece_of, uses_of, value_of}
 use Rattle.ti_words.specs.declared.job.Job.{Job}
 use Rattle.ti_words.specs.declared.job.Mode.{Mode}
-use Rattle.ti_words.specs.declared.job.Mode.TheVariants.{Run, Check, Code, Gen, Verify}
+use Rattle.ti_words.specs.declared.job.Mode.TheVariants.{Run, Check, Code, Gen, Verify, Infer}
 
 -- what the words give each argument
 pub record Values : Type 0 where
@@ -55,6 +55,7 @@ mode_of (Some word) =
     else if bytes_eq word (codes "code") then Some Code
     else if bytes_eq word (codes "gen") then Some Gen
     else if bytes_eq word (codes "verify") then Some Verify
+    else if bytes_eq word (codes "infer") then Some Infer
     else None
 
 -- a word that is a number has 1 to 10 decimal digits and nothing else
@@ -112,6 +113,7 @@ seed_of Run word = unsaid 1 word
 seed_of Check word = unsaid 1 word
 seed_of Code word = unsaid 1 word
 seed_of Verify word = unsaid 1 word
+seed_of Infer word = unsaid 1 word
 
 -- the name of the file, which is there in every mode but gen, and empty in that
 abbrev pub file_of : Mode → Option Word → Option Word
@@ -120,6 +122,7 @@ file_of Run word = word
 file_of Check word = word
 file_of Code word = word
 file_of Verify word = word
+file_of Infer word = word
 
 -- the name of the trace that is held against the program, which is there in mode verify alone, and empty in every other
 abbrev pub against_of : Mode → Option Word → Option Word
@@ -128,6 +131,7 @@ against_of Run word = unsaid [] word
 against_of Check word = unsaid [] word
 against_of Code word = unsaid [] word
 against_of Gen word = unsaid [] word
+against_of Infer word = unsaid [] word
 
 -- the job of these values, of which each has to be one that its argument may have
 abbrev pub job_by : Values → Option Job

@@ -17,6 +17,8 @@ pub enum Mode {
     Gen,
     /// A trace is held against the program of the file.
     Verify,
+    /// The marks of single values of the file are inferred.
+    Infer,
 }
 
 /// The name of a file. Contracts see it as the list of its bytes.

@@ -48,6 +48,7 @@ fn mode_of(word: Option<&str>) -> Option<Mode>
         Some("code") => Some(Mode::Code),
         Some("gen") => Some(Mode::Gen),
         Some("verify") => Some(Mode::Verify),
+        Some("infer") => Some(Mode::Infer),
         Some(_) => None,
     }
 }

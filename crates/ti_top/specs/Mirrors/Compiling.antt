@@ -1,11 +1,15 @@
 -- Nobody has to believe this: it mirrors code, and only contracts of private functions speak of it.
 -- What compiling a text answers.
 use Rattle.std.specs.Prelude.{◌≡◌, ℕ, List, Result, Ok, Err}
+use Rattle.ti_syntax.specs.Trees.Classes.{TextTree}
 use Rattle.ti_lang.specs.Program.Classes.{NumberedProgram}
+use Rattle.ti_lang.specs.declared.program.numbered.Program.{Program}
 use Rattle.ti_lang.specs.Program.Views.{program_of}
+use Rattle.ti_lang.specs.Numbering.{Numbers}
 use Rattle.ti_align.specs.Alignment.{IsAligned}
 use Rattle.ti_rules.specs.declared.checked.Checked.{Checked}
-use Rattle.ti_rules.specs.RefusalOf.{HasNone, HasProgram, IsRefusal}
+use Rattle.ti_rules.specs.BrokenNames.{BreaksNames}
+use Rattle.ti_rules.specs.RefusalOf.{HasNone, HasTree, HasProgram, IsRefusal}
 use Rattle.ti_lex.specs.declared.error.LexErr.{LexErr}
 use Rattle.ti_lex.specs.declared.error.LexErr.TheVariants as lexer
 use Rattle.ti_parse_expr.specs.declared.error.ParseErr.{ParseErr}
@@ -16,6 +20,22 @@ use Rattle.ti_check.specs.declared.error.CheckErr.{CheckErr}
 use Rattle.ti_check.specs.declared.error.CheckErr.TheVariants as checker
 use Rattle.ti_top.specs.declared.compiling.CompileErr.{CompileErr}
 use Rattle.ti_top.specs.declared.compiling.CompileErr.TheVariants.{Refused, Memory}
+use Rattle.ti_top.specs.declared.ending.Ending.{Ending}
+use Rattle.ti_top.specs.declared.ending.Ending.TheVariants as ending
+use Rattle.ti_top.specs.Inference.{IsUnmarkedRefusal}
+
+-- the program that a text has by the rules of bytes, tokens and names
+pub record IsRead (text : List ℕ) (program : NumberedProgram) : Type 0 where
+  pub tree : TextTree
+  pub has_tree : HasTree text tree
+  pub named : HasNone (BreaksNames tree)
+  pub numbers : Numbers tree program
+
+-- it, or the refusal of the text, whatever marks it has; it may run out of memory at any time
+abbrev pub ReadsProgram : List ℕ → Result Program CompileErr → Type 0
+ReadsProgram text (Ok p) = IsRead text (program_of p.parts)
+ReadsProgram text (Err (Refused refusal)) = IsRefusal text refusal × IsUnmarkedRefusal text refusal
+ReadsProgram text (Err Memory) = Unit {0}
 
 -- the program of a text, which has no other one and no refusal; it is aligned
 pub record IsCompiled (text : List ℕ) (program : NumberedProgram) : Type 0 where
@@ -50,3 +70,8 @@ of_names names.Memory = Memory
 abbrev pub of_check : CheckErr → CompileErr
 of_check (checker.Refused refusal) = Refused refusal
 of_check checker.Memory = Memory
+
+-- how the work ends with an error
+abbrev pub ending_by : CompileErr → Ending
+ending_by (Refused refusal) = ending.Refused refusal
+ending_by Memory = ending.NoMemory

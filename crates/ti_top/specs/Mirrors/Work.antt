@@ -28,14 +28,17 @@ use Rattle.ti_runtime.specs.Ran.{IsDone}
 use Rattle.ti_store.specs.Conditions.{IsWithin}
 use Rattle.ti_rules.specs.declared.refusal.Refusal.{Refusal}
 use Rattle.ti_rules.specs.RefusalOf.{IsRefusal}
+use Rattle.ti_blame.specs.declared.mark.Mark.{Mark}
 use Rattle.ti_words.specs.declared.job.Job.{Job}
 use Rattle.ti_words.specs.declared.job.Mode.{Mode}
-use Rattle.ti_words.specs.declared.job.Mode.TheVariants.{Run, Check, Code, Gen, Verify}
+use Rattle.ti_words.specs.declared.job.Mode.TheVariants.{Run, Check, Code, Gen, Verify, Infer}
 use Rattle.ti_top.specs.Mirrors.Coding.{WroteCode}
 use Rattle.ti_top.specs.Mirrors.Compiling.{IsCompiled, HasNoProgram}
 use Rattle.ti_top.specs.Call.{Call}
 use Rattle.ti_top.specs.Reports.{Watcher, wanted, reports, output, WroteFew}
 use Rattle.ti_top.specs.Summary.{summary_line}
+use Rattle.ti_top.specs.Inference.{IsUnmarkedRefusal}
+use Rattle.ti_top.specs.Mirrors.Inferring.{IsInferred, WroteMarks}
 use Rattle.ti_top.specs.Mirrors.Reading.{ReadsWhole}
 use Rattle.ti_top.specs.Mirrors.Reporting.{Reported}
 use Rattle.ti_top.specs.Mirrors.Verifying.{Verified}
@@ -83,6 +86,7 @@ head_after Check ended program history = []
 head_after Code ended program history = []
 head_after Gen ended program history = summary_after ended history
 head_after Verify ended program history = []
+head_after Infer ended program history = []
 
 -- these watchers reported on a run that ended so, and the work then ends so; where memory was wanting in the run, none did
 pub record ReportedAfter (ended : Ending) (watchers : List Watcher) (history : List Entry) (out out_after : SinkState) (ending : Ending) : Type 0 where
@@ -169,6 +173,20 @@ pub record WasCoded (text : List ℕ) (out out_after : SinkState) (kept : Kept) 
   pub no_entry : kept.history ≡ []
   pub no_count : kept.done ≡ []
 
+-- the text is refused, whatever marks it has, and nothing was written
+pub record WasRefusedUnmarked (text : List ℕ) (out out_after : SinkState) (kept : Kept) (refusal : Refusal) : Type 0 where
+  pub is : IsUnmarkedRefusal text refusal
+  pub nothing : RanNothing out out_after kept
+
+-- the marks of the text were inferred, and so they were written
+pub record WasInferred (text : List ℕ) (out out_after : SinkState) (kept : Kept) (ending : Ending) : Type 0 where
+  pub marks : List Mark
+  pub inferred : IsInferred text marks
+  pub wrote : WroteMarks marks out out_after ending
+  pub no_entry : kept.history ≡ []
+  pub no_code : kept.code ≡ None
+  pub no_count : kept.done ≡ []
+
 -- what became of a whole text that is to be run
 abbrev pub RunTextSays : Ending → Job → List Watcher → List ℕ → SinkState → SinkState → Kept → Type 0
 RunTextSays Done job watchers text out out_after kept = Ran job watchers text out out_after kept Done
@@ -195,6 +213,14 @@ CodeTextSays CantWrite text out out_after kept = WasCoded text out out_after kep
 CodeTextSays NoMemory text out out_after kept = RanNothing out out_after kept
 CodeTextSays ending text out out_after kept = ⊥
 
+-- what became of one whose marks are to be inferred
+abbrev pub InferTextSays : Ending → List ℕ → SinkState → SinkState → Kept → Type 0
+InferTextSays Done text out out_after kept = WasInferred text out out_after kept Done
+InferTextSays (Refused refusal) text out out_after kept = WasRefusedUnmarked text out out_after kept refusal
+InferTextSays CantWrite text out out_after kept = WasInferred text out out_after kept CantWrite
+InferTextSays NoMemory text out out_after kept = RanNothing out out_after kept
+InferTextSays ending text out out_after kept = ⊥
+
 -- what became of a whole text, in a mode
 abbrev pub TextSays : Mode → Ending → Job → List Watcher → List ℕ → SinkState → SinkState → Kept → Type 0
 TextSays Run ending job watchers text out out_after kept = RunTextSays ending job watchers text out out_after kept
@@ -202,6 +228,7 @@ TextSays Check ending job watchers text out out_after kept = CheckTextSays endin
 TextSays Code ending job watchers text out out_after kept = CodeTextSays ending text out out_after kept
 TextSays Gen ending job watchers text out out_after kept = RunTextSays ending job watchers text out out_after kept
 TextSays Verify ending job watchers text out out_after kept = CheckTextSays ending text out out_after kept
+TextSays Infer ending job watchers text out out_after kept = InferTextSays ending text out out_after kept
 
 -- what a reading that ended so leads to
 abbrev pub FileSays : ReadEnd → Ending → Job → Work → Type 0
@@ -239,6 +266,7 @@ WorkSays Check job ending w = FileDone job ending w
 WorkSays Code job ending w = FileDone job ending w
 WorkSays Gen job ending w = SeedDone job ending w
 WorkSays Verify job ending w = TraceDone job ending w
+WorkSays Infer job ending w = FileDone job ending w
 
 -- what is kept of a call
 abbrev pub kept_in : Call → Kept

@@ -7,5 +7,7 @@ returns c =
       some = c.one_answer.ensures.some;
       one_list = c.one_reading.ensures.one_list;
       never_both = c.one_answer.ensures.never_both;
+      one_marking = c.one_marking.ensures.one_marking;
+      never_marked = c.one_marking.ensures.never_both;
     } in
     ended_alike known

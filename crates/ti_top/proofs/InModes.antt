@@ -1,0 +1,70 @@
+-- What a text is refused for and accepted as in a mode; in every mode but infer its marks count.
+use Rattle.std.proofs.Common.{◌≡◌, ℕ, List, [], refl, ap, sym, ◌∙◌, append-nil}
+use Rattle.ti_rules.specs.declared.refusal.Refusal.{Refusal}
+use Rattle.ti_rules.specs.RefusalOf.{IsRefusal}
+use Rattle.ti_words.specs.declared.job.Job.{Job}
+use Rattle.ti_words.specs.declared.job.Mode.{Mode}
+use Rattle.ti_words.specs.declared.job.Mode.TheVariants.{Run, Check, Code, Gen, Verify, Infer}
+use Rattle.ti_top.specs.Run.{Runs, Verifies, Infers}
+use Rattle.ti_top.specs.Call.{Call}
+use Rattle.ti_top.specs.Inference.{marks_text}
+use Rattle.ti_top.specs.Clauses.{IsAccepted, IsAcceptedIn, IsRefusalIn, InfersMarks}
+use Rattle.ti_top.specs.Mirrors.Work.{RanNothing, kept_in}
+
+-- no mode both runs a program and infers its marks
+pub runs_marked : (mode : Mode) → Runs mode → Infers mode → ⊥
+runs_marked Run runs infers = infers
+runs_marked Check runs infers = infers
+runs_marked Code runs infers = infers
+runs_marked Gen runs infers = infers
+runs_marked Verify runs infers = infers
+runs_marked Infer runs infers = runs
+
+-- nor holds a trace against it
+pub verifies_marked : (mode : Mode) → Verifies mode → Infers mode → ⊥
+verifies_marked Run verifies infers = infers
+verifies_marked Check verifies infers = infers
+verifies_marked Code verifies infers = infers
+verifies_marked Gen verifies infers = infers
+verifies_marked Verify verifies infers = infers
+verifies_marked Infer verifies infers = verifies
+
+pub refusal_here : (mode : Mode) (text : List ℕ) (refusal : Refusal) → (Infers mode → ⊥) → IsRefusalIn mode text refusal → IsRefusal text refusal
+refusal_here Run text refusal marked is = is
+refusal_here Check text refusal marked is = is
+refusal_here Code text refusal marked is = is
+refusal_here Gen text refusal marked is = is
+refusal_here Verify text refusal marked is = is
+refusal_here Infer text refusal marked is = absurd (marked tt)
+
+pub refusal_in : (mode : Mode) (text : List ℕ) (refusal : Refusal) → (Infers mode → ⊥) → IsRefusal text refusal → IsRefusalIn mode text refusal
+refusal_in Run text refusal marked is = is
+refusal_in Check text refusal marked is = is
+refusal_in Code text refusal marked is = is
+refusal_in Gen text refusal marked is = is
+refusal_in Verify text refusal marked is = is
+refusal_in Infer text refusal marked is = absurd (marked tt)
+
+pub accepted_in : (mode : Mode) (text : List ℕ) → (Infers mode → ⊥) → IsAccepted text → IsAcceptedIn mode text
+accepted_in Run text marked has = has
+accepted_in Check text marked has = has
+accepted_in Code text marked has = has
+accepted_in Gen text marked has = has
+accepted_in Verify text marked has = has
+accepted_in Infer text marked has = absurd (marked tt)
+
+-- marks aren't inferred
+pub no_inference : (job : Job) (c : Call) → (Infers job.mode → ⊥) → InfersMarks job c
+no_inference job c marked = record {
+  done = λ _ infers. absurd (marked infers);
+  failed = λ _ infers. absurd (marked infers);
+  unwritten = λ infers. absurd (marked infers);
+}
+
+-- there are none, and nothing was written
+pub nothing_inferred : (job : Job) (c : Call) → (c.status ≡ 0 → ⊥) → RanNothing c.out c.out_after (kept_in c) → InfersMarks job c
+nothing_inferred job c not_done x = record {
+  done = λ is. absurd (not_done is);
+  failed = λ _ _ _ marks _. ([], (marks_text marks, refl), ap (λ s. s.taken) x.unwritten ∙ sym (append-nil c.out.taken));
+  unwritten = λ _ _ _. ap (λ s. s.taken) x.unwritten;
+}

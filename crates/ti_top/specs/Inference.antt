@@ -1,0 +1,65 @@
+-- Mode infer: which marks of single values a text is given, and what it is refused for.
+use Rattle.std.specs.Prelude.{◌≡◌, ℕ, List, [], ◌++◌, flat_map, Contains, codes, decimal}
+use Rattle.ti_base.specs.declared.place.Place.{Place}
+use Rattle.ti_syntax.specs.Trees.Classes.{TextTree}
+use Rattle.ti_lang.specs.Program.Classes.{NumberedProgram}
+use Rattle.ti_lang.specs.Numbering.{Numbers}
+use Rattle.ti_rules.specs.declared.rule.Rule.TheVariants.{B1}
+use Rattle.ti_rules.specs.declared.refusal.Refusal.{Refusal}
+use Rattle.ti_rules.specs.Refusals.{IsFirstRefusal}
+use Rattle.ti_rules.specs.BrokenNames.{BreaksNames}
+use Rattle.ti_rules.specs.TypeRules.{type_refusals}
+use Rattle.ti_rules.specs.RefusalOf.{HasNone, HasTree, IsRefusal}
+use Rattle.ti_blame.specs.declared.mark.MarkKind.{MarkKind}
+use Rattle.ti_blame.specs.declared.mark.MarkKind.TheVariants as kind
+use Rattle.ti_blame.specs.declared.mark.Mark.{Mark}
+use Rattle.ti_infer.specs.Stripped.{stripped}
+use Rattle.ti_infer.specs.Answer.{IsGreatest, IsFirstUnaligned}
+
+-- ---- what is inferred
+
+-- the greatest marking of a text: that of its program without its own marks, which breaks no rule of types and qualifiers
+pub record HasMarking (text : List ℕ) (marks : List Mark) : Type 0 where
+  pub tree : TextTree
+  pub has_tree : HasTree text tree
+  pub named : HasNone (BreaksNames tree)
+  pub program : NumberedProgram
+  pub numbers : Numbers tree program
+  pub typed : type_refusals (stripped program) ≡ []
+  pub greatest : IsGreatest (stripped program) marks
+
+-- some marking is the greatest
+abbrev pub HasSomeMarking : List ℕ → Type 0
+HasSomeMarking text = (marks : List Mark) × HasMarking text marks
+
+-- ---- refusals
+
+-- what a tree is refused for: by the rules of names; where none of them is broken, by those of types and qualifiers, once its marks are
+-- taken off; and where none of these is broken either, at the first collective that no marking aligns
+pub data IsUnmarkedTreeRefusal (tree : TextTree) : Refusal → Type 0 where
+  of_names : {refusal : Refusal} → IsFirstRefusal (BreaksNames tree) refusal → IsUnmarkedTreeRefusal tree refusal
+  of_types : {program : NumberedProgram} {refusal : Refusal} → HasNone (BreaksNames tree) → Numbers tree program
+      → IsFirstRefusal (Contains (type_refusals (stripped program))) refusal → IsUnmarkedTreeRefusal tree refusal
+  of_marks : {program : NumberedProgram} {place : Place} → HasNone (BreaksNames tree) → Numbers tree program → type_refusals (stripped program) ≡ []
+      → IsFirstUnaligned (stripped program) place → IsUnmarkedTreeRefusal tree (record { rule = B1; place = place })
+
+-- what a text is refused for, whatever marks it has: that of its tree, or where it has none, what every mode refuses it for
+pub data IsUnmarkedRefusal (text : List ℕ) : Refusal → Type 0 where
+  of_text : {refusal : Refusal} → ((tree : TextTree) → HasTree text tree → ⊥) → IsRefusal text refusal → IsUnmarkedRefusal text refusal
+  of_tree : {tree : TextTree} {refusal : Refusal} → HasTree text tree → IsUnmarkedTreeRefusal tree refusal → IsUnmarkedRefusal text refusal
+
+-- ---- what is written
+
+-- what is marked
+abbrev pub kind_name : MarkKind → List ℕ
+kind_name kind.Method = codes "method"
+kind_name kind.Result = codes "result"
+kind_name kind.Variable = codes "variable"
+
+-- the line of a mark: where it is, and what is marked there
+abbrev pub mark_line : Mark → List ℕ
+mark_line m = decimal m.place.line ++ codes ":" ++ decimal m.place.col ++ codes " " ++ kind_name m.kind ++ codes "\n"
+
+-- a line for each mark
+abbrev pub marks_text : List Mark → List ℕ
+marks_text marks = flat_map mark_line marks
