@@ -17,4 +17,6 @@ with_fuel fuel s = record s { fuel = fuel }
 
 -- class Main { static single void f() { f(); Ti.barrier(); } public static single void main(String[] args) { f(); } }
 abbrev pub a_single_recursion : Setting
-a_single_recursion = text 1 100000 (class_of [] ∷ []) (single_method 0 c.Void 11 (c.Params []) ((s.Call (e.Call (pl 1 39) 0 (xs []))) ∷ (s.Barrier (pl 1 47)) ∷ []) (pl 1 58) ∷ single_method 0 c.Void 12 c.Words ((s.Call (e.Call (pl 1 108) 0 (xs []))) ∷ []) (pl 1 113) ∷ []) 1 (codes "f" ∷ codes "main" ∷ []) []
+a_single_recursion = text 1 100000 (class_of [] ∷ []) (single_method 0 c.Void 11 (c.Params [])
+    ((s.Call (e.Call (pl 1 39) 0 (xs []))) ∷ (s.Barrier (pl 1 47)) ∷ []) (pl 1 58) ∷
+    single_method 0 c.Void 12 c.Words ((s.Call (e.Call (pl 1 108) 0 (xs []))) ∷ []) (pl 1 113) ∷ []) 1 (codes "f" ∷ codes "main" ∷ []) []

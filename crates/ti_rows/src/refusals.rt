@@ -70,13 +70,32 @@ pub fn single_values()
 
 /// The rows of each topic.
 pub fn accepted()
-    ensures numbers { AreAccepted (numbers_rows.sums_and_quotients ∷ numbers_rows.shifts ∷ numbers_rows.bits ∷ numbers_rows.long_sums ∷ numbers_rows.long_shifts ∷ numbers_rows.an_update_narrows ∷ numbers_rows.remainders ∷ numbers_rows.an_empty_print ∷ numbers_rows.a_literal_and_a_value ∷ numbers_rows.a_literal_alone ∷ numbers_rows.a_right_side_is_not_needed ∷ numbers_rows.a_zero_divisor ∷ numbers_rows.an_update_by_zero ∷ []) }
-    ensures statements { AreAccepted (statements_rows.blocks ∷ statements_rows.loops ∷ statements_rows.jumps ∷ statements_rows.jumps_in_foreach ∷ statements_rows.an_endless_loop_is_left ∷ statements_rows.fuel_in_a_loop ∷ []) }
-    ensures calls { AreAccepted (calls_rows.an_early_return ∷ calls_rows.a_return_out_of_loops ∷ calls_rows.a_return_of_nothing ∷ calls_rows.recursion ∷ calls_rows.instance_methods ∷ calls_rows.a_method_of_the_own_object ∷ calls_rows.long_parameters ∷ calls_rows.a_domain_as_parameter ∷ calls_rows.a_call_comes_before_its_target ∷ calls_rows.a_single_method ∷ calls_rows.too_deep ∷ calls_rows.fuel_at_a_call ∷ calls_rows.a_call_on_null ∷ []) }
-    ensures objects { AreAccepted (objects_rows.a_local_field ∷ objects_rows.a_field_of_null ∷ objects_rows.a_write_to_null ∷ objects_rows.a_cast_to_local ∷ []) }
-    ensures domains { AreAccepted (domains_rows.points ∷ domains_rows.a_coordinate_out_of_bounds ∷ domains_rows.a_meet ∷ domains_rows.a_difference_and_a_union ∷ domains_rows.equal_domains ∷ domains_rows.least_and_greatest ∷ domains_rows.the_least_point_of_no_points ∷ domains_rows.a_bad_stride ∷ domains_rows.too_many_points_to_count ∷ domains_rows.too_many_points_for_a_domain ∷ []) }
-    ensures grids { AreAccepted (grids_rows.elements ∷ grids_rows.grids_of_grids ∷ grids_rows.a_member_form_alone ∷ grids_rows.the_domain_of_a_grid ∷ grids_rows.views ∷ grids_rows.a_translated_view ∷ grids_rows.a_translation_too_far ∷ grids_rows.a_slice_outside ∷ grids_rows.a_write_outside ∷ grids_rows.a_copy ∷ grids_rows.a_copy_of_null ∷ grids_rows.a_grid_that_is_too_large ∷ []) }
-    ensures collectives { AreAccepted (collectives_rows.barriers ∷ collectives_rows.a_break_under_a_single_condition ∷ collectives_rows.a_broadcast_decides_a_loop ∷ collectives_rows.a_broadcast_of_a_reference ∷ collectives_rows.a_broadcast_of_a_foreach_variable ∷ collectives_rows.a_barrier_in_a_foreach ∷ collectives_rows.a_root_that_is_no_process ∷ collectives_rows.an_exchange ∷ collectives_rows.an_exchange_widens ∷ collectives_rows.an_exchange_into_another_size ∷ []) }
-    ensures regions { AreAccepted (regions_rows.a_region_is_deleted ∷ regions_rows.two_regions ∷ regions_rows.a_region_in_use_by_a_variable ∷ regions_rows.a_region_in_use_by_a_cell ∷ regions_rows.a_region_deleted_twice ∷ []) }
+    ensures numbers { AreAccepted (numbers_rows.sums_and_quotients ∷ numbers_rows.shifts ∷ numbers_rows.bits ∷
+        numbers_rows.long_sums ∷ numbers_rows.long_shifts ∷ numbers_rows.an_update_narrows ∷ numbers_rows.remainders ∷
+        numbers_rows.an_empty_print ∷ numbers_rows.a_literal_and_a_value ∷ numbers_rows.a_literal_alone ∷
+        numbers_rows.a_right_side_is_not_needed ∷ numbers_rows.a_zero_divisor ∷ numbers_rows.an_update_by_zero ∷ []) }
+    ensures statements { AreAccepted (statements_rows.blocks ∷ statements_rows.loops ∷ statements_rows.jumps ∷
+        statements_rows.jumps_in_foreach ∷ statements_rows.an_endless_loop_is_left ∷ statements_rows.fuel_in_a_loop ∷ []) }
+    ensures calls { AreAccepted (calls_rows.an_early_return ∷ calls_rows.a_return_out_of_loops ∷ calls_rows.a_return_of_nothing ∷
+        calls_rows.recursion ∷ calls_rows.instance_methods ∷ calls_rows.a_method_of_the_own_object ∷ calls_rows.long_parameters ∷
+        calls_rows.a_domain_as_parameter ∷ calls_rows.a_call_comes_before_its_target ∷ calls_rows.a_single_method ∷
+        calls_rows.too_deep ∷ calls_rows.fuel_at_a_call ∷ calls_rows.a_call_on_null ∷ []) }
+    ensures objects { AreAccepted (objects_rows.a_local_field ∷ objects_rows.a_field_of_null ∷ objects_rows.a_write_to_null ∷
+        objects_rows.a_cast_to_local ∷ []) }
+    ensures domains { AreAccepted (domains_rows.points ∷ domains_rows.a_coordinate_out_of_bounds ∷ domains_rows.a_meet ∷
+        domains_rows.a_difference_and_a_union ∷ domains_rows.equal_domains ∷ domains_rows.least_and_greatest ∷
+        domains_rows.the_least_point_of_no_points ∷ domains_rows.a_bad_stride ∷ domains_rows.too_many_points_to_count ∷
+        domains_rows.too_many_points_for_a_domain ∷ []) }
+    ensures grids { AreAccepted (grids_rows.elements ∷ grids_rows.grids_of_grids ∷ grids_rows.a_member_form_alone ∷
+        grids_rows.the_domain_of_a_grid ∷ grids_rows.views ∷ grids_rows.a_translated_view ∷ grids_rows.a_translation_too_far ∷
+        grids_rows.a_slice_outside ∷ grids_rows.a_write_outside ∷ grids_rows.a_copy ∷ grids_rows.a_copy_of_null ∷
+        grids_rows.a_grid_that_is_too_large ∷ []) }
+    ensures collectives { AreAccepted (collectives_rows.barriers ∷ collectives_rows.a_break_under_a_single_condition ∷
+        collectives_rows.a_broadcast_decides_a_loop ∷ collectives_rows.a_broadcast_of_a_reference ∷
+        collectives_rows.a_broadcast_of_a_foreach_variable ∷ collectives_rows.a_barrier_in_a_foreach ∷
+        collectives_rows.a_root_that_is_no_process ∷ collectives_rows.an_exchange ∷ collectives_rows.an_exchange_widens ∷
+        collectives_rows.an_exchange_into_another_size ∷ []) }
+    ensures regions { AreAccepted (regions_rows.a_region_is_deleted ∷ regions_rows.two_regions ∷
+        regions_rows.a_region_in_use_by_a_variable ∷ regions_rows.a_region_in_use_by_a_cell ∷ regions_rows.a_region_deleted_twice ∷ []) }
     ensures programs { AreAccepted (programs_rows.grids_are_exchanged ∷ programs_rows.grids_are_exchanged_by_four ∷ []) }
 {}
