@@ -15,7 +15,7 @@ use ti_syntax::tree::Tree;
 
 /// The text is refused, or memory is wanting.
 #[derive(Clone, Copy)]
-struct Stopped;
+pub(crate) struct Stopped;
 
 impl From<LexErr> for Stopped {
     fn from(_error: LexErr) -> Stopped {
@@ -52,7 +52,8 @@ fn parsed(alloc: Global, text: &[u8]) -> Result<Tree, Stopped> {
     Ok(parse(alloc, &list)?)
 }
 
-fn resolved(alloc: Global, text: &[u8]) -> Result<Program, Stopped> {
+/// The program that a text has by the rules of bytes, tokens and names.
+pub(crate) fn resolved(alloc: Global, text: &[u8]) -> Result<Program, Stopped> {
     let tree = parsed(alloc, text)?;
     Ok(resolve(alloc, &tree)?)
 }

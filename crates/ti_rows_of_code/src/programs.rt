@@ -5,18 +5,21 @@ ghost use Rattle.ti_store.specs.Conditions.{IsWithin};
 
 use crate::comparison::{Outcome, judged};
 use crate::course::Limits;
+use crate::inferred::is_remarked;
 use crate::telling::tell_parting;
 use std::rt::Files;
 use std::sync::Wait;
 use std::thread::Threads;
 use std::{fs, io};
 
-/// How many programs agree by one worker, how many entries they have, and how many agree by as many workers as processes.
+/// How many programs agree by one worker, how many entries they have, how many agree by as many workers as processes, and how many break no
+/// rule with the marks that are inferred in place of their own.
 #[derive(Clone, Copy)]
 pub(crate) struct Count {
     pub programs: u64,
     pub entries: usize,
     pub on_threads: u64,
+    pub remarked: u64,
 }
 
 /// The limits that two words say, where a run may have them.
@@ -80,6 +83,9 @@ fn judge<R: Print + AllocGlobal + Threads + Wait + Sync>(
     }
     if agreeing(rt, name, text, limits, limits.procs)?.is_some() {
         found.on_threads = found.on_threads.wrapping_add(1);
+    }
+    if is_remarked(rt.alloc(), text.as_bytes()) {
+        found.remarked = found.remarked.wrapping_add(1);
     }
     Ok(found)
 }

@@ -1,0 +1,40 @@
+// The program of a text with the marks that are inferred for it.
+
+use crate::phases::{Stopped, resolved};
+use std::alloc::Global;
+use ti_base::Memory;
+use ti_check::{check, check_types};
+use ti_infer::{InferErr, infer, marked, marked_is_numbered, stripped, stripped_once};
+use ti_lang::program::Program;
+
+impl From<InferErr> for Stopped {
+    fn from(_error: InferErr) -> Stopped {
+        Stopped
+    }
+}
+
+impl From<Memory> for Stopped {
+    fn from(_error: Memory) -> Stopped {
+        Stopped
+    }
+}
+
+// The program with the inferred marks in place of its own.
+fn remarked(alloc: Global, text: &[u8]) -> Result<Program, Stopped> {
+    stripped_once();
+    marked_is_numbered();
+    let read = resolved(alloc, text)?;
+    let program = stripped(read);
+    check_types(alloc, &program)?;
+    let marking = infer(alloc, &program)?;
+    let found = marked(alloc, program, &marking)?;
+    Ok(found)
+}
+
+/// Whether the program of a text breaks no rule with the marks that are inferred for it in place of its own.
+pub(crate) fn is_remarked(alloc: Global, text: &[u8]) -> bool {
+    match remarked(alloc, text) {
+        Ok(program) => check(alloc, program).is_ok(),
+        Err(Stopped) => false,
+    }
+}
